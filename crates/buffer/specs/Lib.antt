@@ -1,0 +1,2 @@
+-- Text written into a part of a lent buffer. Definitions only: nothing is assumed.
+pub mod Put

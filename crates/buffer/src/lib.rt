@@ -1,0 +1,86 @@
+// Text written into a part of a lent buffer: from a place to the end of the buffer at most, and resumed where an earlier give stopped.
+ghost use Prim.Native.Nat.{_≤_, min};
+ghost use mathlib.Core.Path.{_≡_};
+ghost use mathlib.Core.List.{[], _∷_, _++_};
+ghost use lib.ListN.{length, take, drop};
+ghost use Rattle.grammar.specs.Bytes.{CR, SP};
+ghost use Rattle.buffer.specs.Put.{Puts};
+
+// at: where the next byte goes. skip: how many bytes of the text are still to be passed over, since an earlier give has handed them out.
+pub struct Cursor {
+    pub at: usize,
+    pub skip: usize,
+}
+
+// The first n bytes of src over those of dst.
+fn copy(dst: &mut [u8], src: &[u8], n: usize)
+    requires { ⌜ (n ≤ length (now dst)) × (n ≤ length (now src)) ⌝ }
+    ensures { λ _. ⌜ now (dst .exit) ≡ take n (now (src .entry)) ++ drop n (now (dst .entry)) ⌝ }
+{
+    let mut i = 0;
+    while i < n {
+        dst[i] = src[i];
+        i += 1;
+    }
+}
+
+// What fits of src, over the start of dst; how many bytes that is.
+fn fill(dst: &mut [u8], src: &[u8]) -> usize
+    ensures { λ r. ⌜ (r ≡ min (length (now (dst .entry))) (length (now (src .entry)))) × (now (dst .exit) ≡ take r (now (src .entry)) ++ drop r (now (dst .entry))) ⌝ }
+{
+    let room = dst.len();
+    let n = src.len();
+    if n <= room {
+        copy(dst, src, n);
+        return n;
+    }
+    copy(dst, src, room);
+    room
+}
+
+// A text at the cursor: what of it isn't passed over and fits. A cursor at the buffer's end or past it writes nothing.
+pub fn put(buf: &mut [u8], c: Cursor, src: &[u8]) -> Cursor
+    ensures { λ r. ⌜ Puts (now (buf .entry)) c (now (src .entry)) r (now (buf .exit)) ⌝ }
+{
+    let at = c.at;
+    let skip = c.skip;
+    let n = src.len();
+    if buf.len() <= at {
+        return Cursor { at: at, skip: 0 };
+    }
+    if n <= skip {
+        return Cursor {
+            at: at,
+            skip: skip - n,
+        };
+    }
+    let written = fill(&mut buf[at..], &src[skip..]);
+    Cursor {
+        at: at + written,
+        skip: 0,
+    }
+}
+
+// One byte at the cursor.
+pub fn put_byte(buf: &mut [u8], c: Cursor, b: u8) -> Cursor
+    ensures { λ r. ⌜ Puts (now (buf .entry)) c (b ∷ []) r (now (buf .exit)) ⌝ }
+{
+    let one = [b];
+    put(buf, c, &one)
+}
+
+// A word and the space after it, at the cursor.
+pub fn put_word(buf: &mut [u8], c: Cursor, word: &[u8]) -> Cursor
+    ensures { λ r. ⌜ Puts (now (buf .entry)) c (now (word .entry) ++ (SP ∷ [])) r (now (buf .exit)) ⌝ }
+{
+    let d = put(buf, c, word);
+    put_byte(buf, d, b' ')
+}
+
+// A line's text and the CR that ends it, at the cursor.
+pub fn put_line(buf: &mut [u8], c: Cursor, text: &[u8]) -> Cursor
+    ensures { λ r. ⌜ Puts (now (buf .entry)) c (now (text .entry) ++ (CR ∷ [])) r (now (buf .exit)) ⌝ }
+{
+    let d = put(buf, c, text);
+    put_byte(buf, d, b'\r')
+}

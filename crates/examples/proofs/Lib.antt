@@ -1,0 +1,2 @@
+-- Laws of the examples' line reading.
+pub mod Laws

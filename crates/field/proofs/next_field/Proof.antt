@@ -1,0 +1,19 @@
+use borrow.Author.Needs.{needs}
+use Rattle.field.proofs.Laws.{next-past, next-word}
+use Rattle.field.proofs.next_field.Statement.{statement}
+use Rattle.field.proofs.next_field.Tie as tie
+
+returns : tie.Need-returns
+returns c = (next-past _ _ (c .if1 .taken), search needs, search needs)
+
+skip-spaces-requires : tie.Need-skip-spaces-requires
+skip-spaces-requires c κs = search needs
+
+find-from-requires : tie.Need-find-from-requires
+find-from-requires c κs = search needs
+
+returns-2 : tie.Need-returns-2
+returns-2 c = let s = c .before .skip-spaces .ensures in let w = c .find-from .ensures in (next-word _ (c .before .before .before .before .args .at) _ _ (s .0) (s .1) (s .3) (w .0), w .1, w .2)
+
+pub next-field-spec : {M : Type 1} → statement M
+next-field-spec = tie.close (tie.spec returns skip-spaces-requires find-from-requires returns-2)

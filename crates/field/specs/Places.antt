@@ -1,0 +1,33 @@
+-- Fields by their places in a line.
+use mathlib.Core.Bool.{Bool, true, false, cond}
+use mathlib.Core.Option.{Option, none, some}
+use mathlib.Core.List.{List, [], _∷_}
+use Prim.Native.Nat.{ℕ, suc, _-_}
+use lib.Dec.{eqb, ltb}
+use lib.ListN.{take, drop}
+use Rattle.grammar.specs.Bytes.{Bytes}
+use Rattle.grammar.specs.Fields.{words}
+use Rattle.field.specs.declared.Span.{Span}
+use Rattle.field.specs.declared.Size.{Size}
+
+-- The bytes of a line from a to e.
+abbrev pub between : Bytes → ℕ → ℕ → Bytes
+between l a e = take (e - a) (drop a l)
+
+abbrev pub part : Bytes → Span → Bytes
+part l s = between l (s .start) (s .end)
+
+-- How many bytes stand before the first c.
+unfoldable pub upto : ℕ → Bytes → ℕ
+upto c [] = 0
+upto c (x ∷ xs) = cond (eqb x c) 0 (suc (upto c xs))
+
+-- The words of a line from a place on, by the span of the first of them. Where there is none the span is empty; where an
+-- empty span lies is left free, but it lies in the line.
+abbrev pub wordsBy : Bytes → Span → List Bytes
+wordsBy l s = cond (ltb (s .start) (s .end)) (part l s ∷ words (drop (s .end) l)) []
+
+-- The size that an answer gives.
+abbrev pub sizeIs : Size → Option ℕ
+sizeIs (Size.Value n) = some n
+sizeIs Size.Bad = none

@@ -1,0 +1,260 @@
+-- What the readers give obeys the rules of the fields: what receive keeps passes open's tests. Assumes nothing.
+use mathlib.Core.Path.{_≡_, refl, sym, ap, _∙_, subst}
+use mathlib.Core.Bool.{Bool, true, false, cond, not, _&&_, _||_}
+use mathlib.Core.Option.{Option, none, some}
+use mathlib.Core.List.{List, [], _∷_, _++_, map}
+use Prim.Native.Nat.{ℕ, zero, suc, _+_, _*_, _-_, _%_, _^_, _≤_, _<_}
+use native.Mathlib.Omega.{arith}
+use native.Mathlib.Nat.{mul-le-mul-right, mul-assoc, pow-succ', pow-le-pow-right}
+use lib.Dec.{eqb, ltb, leb}
+use lib.ListN.{length, length-append, length-set, set, getD}
+use borrow.Author.Tests.{ltb-true, ltb-false, not-false}
+use Rattle.grammar.specs.Bytes.{Bytes, CR, CTRLZ, all, before, null, same, splitAt}
+use Rattle.grammar.specs.Fields.{Form, after, bodyFair, digit, file, isAt, isBid, isCall, isHeading, isSize, message, plain, readFrom, sized, starts, upper, words}
+use Rattle.grammar.specs.Sid.{authorByte, authorRead, dataByte, dataRead, hasFeature, isLetter, letterPlace, noFeatures, readFeatures, readLevels, readSid, sidEnd, sidRead, splitLast, withFeature}
+use Rattle.grammar.specs.Turns.{Proposal, fieldsRead, formOf, inMode, isType, readProposal, sevenRead, typeOf}
+use Rattle.grammar.specs.Transfers.{Parsed, blocks, blocksRead, bodyRead, headRead, isHeader, lenRead, offRead, parse, readFramed, spacesCR, titleRead, zeroDigit}
+use Rattle.grammar.proofs.Basics.{and2, both, Field, field-is}
+
+-- ---------------------------------------------------------------- a proposal as read
+
+digit-most : (x : ℕ) → digit x ≡ true → x ≤ 57
+digit-most x e = go (ltb x 48) e
+  where
+    go : (c : Bool) → cond c false (ltb x 58) ≡ true → x ≤ 57
+    go true k = let z : _≡_ {A = ℕ} 0 1 = cc in omega arith
+    go false k = let z = ltb-true x 58 k in omega arith
+
+-- so many digits make a number below that power of ten
+read-bound : (a : ℕ) (w : Bytes) → all digit w ≡ true → readFrom a w < (a + 1) * 10 ^ length w
+unfolding readFrom
+read-bound a [] e = omega arith
+read-bound a (x ∷ w) e =
+    let p = and2 (digit x) (all digit w) e in
+    let d = digit-most x (p .0) in
+    let h = read-bound (a * 10 + (x - 48)) w (p .1) in
+    let k : (a * 10 + (x - 48) + 1) * 10 ^ length w ≤ ((a + 1) * 10) * 10 ^ length w = mul-le-mul-right (10 ^ length w) (omega arith) in
+    let m : ((a + 1) * 10) * 10 ^ length w ≡ (a + 1) * 10 ^ length (x ∷ w) = mul-assoc (a + 1) 10 (10 ^ length w) ∙ ap (λ (n : ℕ). (a + 1) * n) (sym (pow-succ' 10 (length w))) in
+    omega (arith, h, k, m)
+
+pub size-bound : (w : Bytes) → isSize w ≡ true → readFrom 0 w < 10 ^ 9
+unfolding isSize
+size-bound w e =
+    let f = field-is digit 9 w e in
+    let h = read-bound 0 w (f .class) in
+    let k : 10 ^ length w ≤ 10 ^ 9 = pow-le-pow-right (omega arith) (f .most) in
+    omega (arith, h, k)
+
+pub record Proper (md : Bool) (p : Proposal) : Type 0 where
+  pub form : inMode md (p .form) ≡ true
+  pub type : isType (p .type) ≡ true
+  pub from : isCall (p .from) ≡ true
+  pub at : isAt (p .at) ≡ true
+  pub to : isCall (p .to) ≡ true
+  pub bid : isBid (p .bid) ≡ true
+  pub size : p .size < 10 ^ 9
+
+abbrev pub ProperIf : Bool → Option Proposal → Type 0
+ProperIf md none = Unit {0}
+ProperIf md (some p) = Proper md p
+
+abbrev FormIf : Bool → Option Form → Type 0
+FormIf md none = Unit {0}
+FormIf md (some f) = inMode md f ≡ true
+
+abbrev TypeIf : Option ℕ → Type 0
+TypeIf none = Unit {0}
+TypeIf (some t) = isType t ≡ true
+
+form-if : (md : Bool) (w : Bytes) → FormIf md (formOf md w)
+form-if false w = go (same w (70 ∷ 66 ∷ []))
+  where
+    go : (c : Bool) → FormIf false (cond c (some plain) none)
+    go true = refl
+    go false = tt
+form-if true w = go (same w (70 ∷ 65 ∷ [])) (same w (70 ∷ 66 ∷ []))
+  where
+    go : (c d : Bool) → FormIf true (cond c (some message) (cond d (some file) none))
+    go true d = refl
+    go false true = refl
+    go false false = tt
+
+type-if : (w : Bytes) → TypeIf (typeOf w)
+type-if w = go (same w (80 ∷ [])) (same w (66 ∷ []))
+  where
+    go : (c d : Bool) → TypeIf (cond c (some 80) (cond d (some 66) none))
+    go true d = refl
+    go false true = refl
+    go false false = tt
+
+fields-if : (md : Bool) (f : Option Form) (t : Option ℕ) (fr at to bid sz : Bytes) → FormIf md f → TypeIf t → ProperIf md (fieldsRead f t fr at to bid sz)
+fields-if md none t fr at to bid sz h k = tt
+fields-if md (some f) none fr at to bid sz h k = tt
+fields-if md (some f) (some t) fr at to bid sz h k = go ((isCall fr && isAt at) && ((isCall to && isBid bid) && isSize sz)) refl
+  where
+    go : (c : Bool) → (isCall fr && isAt at) && ((isCall to && isBid bid) && isSize sz) ≡ c
+        → ProperIf md (cond c (some (record { form = f; type = t; from = fr; at = at; to = to; bid = bid; size = readFrom 0 sz })) none)
+    go true e =
+        let a = and2 (isCall fr && isAt at) ((isCall to && isBid bid) && isSize sz) e in
+        let b = and2 (isCall fr) (isAt at) (a .0) in
+        let c = and2 (isCall to && isBid bid) (isSize sz) (a .1) in
+        let d = and2 (isCall to) (isBid bid) (c .0) in
+        record { form = h; type = k; from = b .0; at = b .1; to = d .0; bid = d .1; size = size-bound sz (c .1) }
+    go false e = tt
+
+seven-if : (md : Bool) (ws : List Bytes) → ProperIf md (sevenRead md ws)
+seven-if md [] = tt
+seven-if md (a ∷ []) = tt
+seven-if md (a ∷ b ∷ []) = tt
+seven-if md (a ∷ b ∷ c ∷ []) = tt
+seven-if md (a ∷ b ∷ c ∷ d ∷ []) = tt
+seven-if md (a ∷ b ∷ c ∷ d ∷ e ∷ []) = tt
+seven-if md (a ∷ b ∷ c ∷ d ∷ e ∷ f ∷ []) = tt
+seven-if md (a ∷ b ∷ c ∷ d ∷ e ∷ f ∷ g ∷ []) = fields-if md (formOf md (map upper a)) (typeOf (map upper b)) c d e f g (form-if md (map upper a)) (type-if (map upper b))
+seven-if md (a ∷ b ∷ c ∷ d ∷ e ∷ f ∷ g ∷ h ∷ hs) = tt
+
+-- every proposal that is read is proper
+pub proposal-proper : (md : Bool) (ln : Bytes) → ProperIf md (readProposal md ln)
+unfolding readProposal
+proposal-proper md ln = go (starts ln)
+  where
+    go : (c : Bool) → ProperIf md (cond c (sevenRead md (words ln)) none)
+    go true = seven-if md (words ln)
+    go false = tt
+
+-- ---------------------------------------------------------------- features as read
+
+abbrev pub Levels : Option (List ℕ) → Type 0
+Levels none = Unit {0}
+Levels (some fs) = length fs ≡ 27
+
+levels-if : (c : Bool) (a b : Option (List ℕ)) → Levels a → Levels b → Levels (cond c a b)
+levels-if true a b h k = h
+levels-if false a b h k = k
+
+with-27 : (i n : ℕ) (fs : List ℕ) → length fs ≡ 27 → length (withFeature i n fs) ≡ 27
+with-27 i n fs h = go (ltb n 10)
+  where
+    go : (c : Bool) → length (cond c (set fs i (n + 1)) fs) ≡ 27
+    go true = length-set fs i (n + 1) ∙ h
+    go false = h
+
+end-27 : (fs : List ℕ) (r : Bytes) → length fs ≡ 27 → Levels (sidEnd fs r)
+end-27 fs r h = levels-if (same r (93 ∷ [])) (some fs) _ h (levels-if (same r (36 ∷ 93 ∷ [])) (some (withFeature 26 0 fs)) none (with-27 26 0 fs h) tt)
+
+levels-27 : (fs : List ℕ) (r : Bytes) → length fs ≡ 27 → Levels (readLevels fs r)
+levels-27 fs [] h = tt
+levels-27 fs (x ∷ []) h = end-27 fs (x ∷ []) h
+levels-27 fs (x ∷ d ∷ r) h =
+    levels-if (isLetter x) _ _
+    (levels-if (hasFeature (letterPlace x) fs) none _ tt
+    (levels-if (digit d) (readLevels (withFeature (letterPlace x) (d - 48) fs) r) (readLevels (withFeature (letterPlace x) 0 fs) (d ∷ r))
+    (levels-27 (withFeature (letterPlace x) (d - 48) fs) r (with-27 (letterPlace x) (d - 48) fs h))
+    (levels-27 (withFeature (letterPlace x) 0 fs) (d ∷ r) (with-27 (letterPlace x) 0 fs h))))
+    (end-27 fs (x ∷ d ∷ r) h)
+
+features-27 : (r : Bytes) → Levels (readFeatures r)
+features-27 [] = tt
+features-27 (x ∷ r) = levels-if (isLetter x) (readLevels noFeatures (x ∷ r)) none (levels-27 noFeatures (x ∷ r) refl) tt
+
+data-27 : (r : Bytes) (o : Option (Bytes × Bytes)) → Levels (dataRead r o)
+data-27 r none = features-27 r
+data-27 r (some p) = levels-if (all dataByte (p .0) && not (null (p .0))) (readFeatures (p .1)) none (features-27 (p .1)) tt
+
+author-27 : (o : Option (Bytes × Bytes)) → Levels (authorRead o)
+author-27 none = tt
+author-27 (some p) = levels-if (all authorByte (p .0) && not (null (p .0))) (dataRead (p .1) (splitLast (p .1))) none (data-27 (p .1) (splitLast (p .1))) tt
+
+sid-if : (o : Option Bytes) → Levels (sidRead o)
+sid-if none = tt
+sid-if (some r) = author-27 (splitAt 45 r)
+
+-- a SID that is read has 27 levels
+pub sid-27 : (ln : Bytes) → Levels (readSid ln)
+unfolding readSid
+sid-27 ln = sid-if (after (91 ∷ []) ln)
+
+-- ---------------------------------------------------------------- transfers as read
+
+-- what stands before the first c lacks it
+abbrev Before : ℕ → Option (Bytes × Bytes) → Type 0
+Before c none = Unit {0}
+Before c (some p) = all (λ b. not (eqb b c)) (p .0) ≡ true
+
+before-if : (c : ℕ) (xs : Bytes) → Before c (splitAt c xs)
+before-if c [] = tt
+before-if c (x ∷ xs) = go (eqb x c) refl (splitAt c xs) (before-if c xs)
+  where
+    go : (e : Bool) → eqb x c ≡ e → (o : Option (Bytes × Bytes)) → Before c o → Before c (cond e (some ([], xs)) (before x o))
+    go true p o h = refl
+    go false p none h = tt
+    go false p (some q) h = rw p h
+
+pub record Fair (f : Form) (p : Parsed) : Type 0 where
+  pub heading : isHeading (p .heading) ≡ true
+  pub body : bodyFair f (p .body) ≡ true
+
+abbrev pub FairIf : Form → Option Parsed → Type 0
+FairIf f none = Unit {0}
+FairIf f (some p) = Fair f p
+
+body-if : (t : Bytes) (o : Option (Bytes × Bytes)) → isHeading t ≡ true → Before CTRLZ o → FairIf plain (bodyRead t o)
+body-if t none h k = tt
+body-if t (some p) h k = go (spacesCR (p .1))
+  where
+    go : (c : Bool) → FairIf plain (cond c (some (record { heading = t; body = p .0; right = true })) none)
+    go true = record { heading = h; body = k }
+    go false = tt
+
+title-if : (o : Option (Bytes × Bytes)) → FairIf plain (titleRead o)
+title-if none = tt
+title-if (some p) = go (isHeading (p .0)) refl
+  where
+    go : (c : Bool) → isHeading (p .0) ≡ c → FairIf plain (cond c (bodyRead (p .0) (splitAt CTRLZ (p .1))) none)
+    go true e = body-if (p .0) (splitAt CTRLZ (p .1)) e (before-if CTRLZ (p .1))
+    go false e = tt
+
+-- a framed transfer's heading
+abbrev HeadIf : Option Parsed → Type 0
+HeadIf none = Unit {0}
+HeadIf (some p) = isHeading (p .heading) ≡ true
+
+data-if : (h : Bytes) (o : Option (Bytes × ℕ)) → isHeading h ≡ true → HeadIf (blocksRead h o)
+data-if h none k = tt
+data-if h (some p) k = k
+
+off-if : (len : ℕ) (h : Bytes) (o : Option (Bytes × Bytes)) → HeadIf (offRead len h o)
+off-if len h none = tt
+off-if len h (some p) = go (isHeader len h (p .0)) refl
+  where
+    go : (c : Bool) → isHeader len h (p .0) ≡ c → HeadIf (cond c (blocksRead h (blocks 0 (p .1))) none)
+    go true e = data-if h (blocks 0 (p .1)) ((and2 (isHeading h) ((all zeroDigit (p .0) && sized 6 (p .0)) && eqb len (length h + length (p .0) + 2)) e) .0)
+    go false e = tt
+
+head-if : (len : ℕ) (o : Option (Bytes × Bytes)) → HeadIf (headRead len o)
+head-if len none = tt
+head-if len (some p) = off-if len (p .0) (splitAt 0 (p .1))
+
+framed-if : (q : Bytes) → HeadIf (readFramed q)
+framed-if [] = tt
+framed-if (a ∷ r) = go (eqb a 1) r
+  where
+    go : (c : Bool) (r : Bytes) → HeadIf (cond c (lenRead r) none)
+    go true [] = tt
+    go true (len ∷ r) = head-if len (splitAt 0 r)
+    go false r = tt
+
+fair-message : (o : Option Parsed) → HeadIf o → FairIf message o
+fair-message none h = tt
+fair-message (some p) h = record { heading = h; body = refl }
+
+fair-file : (o : Option Parsed) → HeadIf o → FairIf file o
+fair-file none h = tt
+fair-file (some p) h = record { heading = h; body = refl }
+
+-- every transfer that is read has a heading and a body that its form allows
+pub parse-fair : (f : Form) (q : Bytes) → FairIf f (parse f q)
+unfolding parse
+parse-fair plain q = title-if (splitAt CR q)
+parse-fair message q = fair-message (readFramed q) (framed-if q)
+parse-fair file q = fair-file (readFramed q) (framed-if q)

@@ -1,0 +1,12 @@
+-- Theorems about the grammar. What a reader of the rules wants to know first stands in Examples, OurLines, TransferBack, Refusal,
+-- Portions and Spelling; the others carry them.
+pub mod Basics
+pub mod Fields
+pub mod OurLines
+pub mod TransferBack
+pub mod AsRead
+pub mod Exact
+pub mod Refusal
+pub mod Portions
+pub mod Spelling
+pub mod Examples

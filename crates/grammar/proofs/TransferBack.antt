@@ -1,0 +1,106 @@
+-- A transfer that we write reads back, plain and framed. Assumes nothing.
+use mathlib.Core.Path.{_≡_, refl, sym, ap, _∙_, subst}
+use mathlib.Core.Bool.{Bool, true, false, cond, not, _&&_, _||_}
+use mathlib.Core.Option.{Option, none, some}
+use mathlib.Core.List.{List, [], _∷_, _++_, append-assoc, append-nil}
+use Prim.Native.Nat.{ℕ, zero, suc, _+_, _-_, _%_, _≤_, _<_, min}
+use native.Mathlib.Omega.{arith}
+use lib.Dec.{eqb, leb, ltb}
+use lib.ListN.{length, take, drop, length-take, length-drop, take-append-drop}
+use borrow.Author.Tests.{eq-eqb, ne-eqb, eqb-true, eqb-false, leb-true}
+use Rattle.grammar.specs.Bytes.{Bytes, CR, CTRLZ, all}
+use Rattle.grammar.specs.Fields.{Form, file, headingByte, isBody, isHeading, message, notCtrlZ, plain}
+use Rattle.grammar.specs.Transfers.{blockSize, blocks, blocksOut, checksum, consData, parse, readFramed, readPlain, readTransfer, sendable, sum, sumRight, valid, writeFramed, writePlain, writeTransfer}
+use Rattle.grammar.proofs.Basics.{and2, both, not-so, Lacks, all-lacks, split-mid, field-is}
+use Rattle.grammar.proofs.Exact.{onto, onto-nil, header-of}
+
+onto-cons : (x : ℕ) (w : Bytes) (o : Option (Bytes × ℕ)) → consData x (onto w o) ≡ onto (x ∷ w) o
+onto-cons x w none = refl
+onto-cons x w (some p) = refl
+
+onto-append : (v w : Bytes) (o : Option (Bytes × ℕ)) → onto v (onto w o) ≡ onto (v ++ w) o
+onto-append v w none = refl
+onto-append v w (some p) = rw (append-assoc v w (p .0))
+
+-- the bytes of one block
+blocks-data : (k : ℕ) (w r : Bytes) → length w ≡ k → blocks k (w ++ r) ≡ onto w (blocks 0 r)
+blocks-data zero [] r e = sym (onto-nil (blocks 0 r))
+blocks-data zero (x ∷ w) r e = let z : ⊥ = omega arith in absurd z
+blocks-data (suc k) [] r e = let z : ⊥ = omega arith in absurd z
+blocks-data (suc k) (x ∷ w) r e = rw (blocks-data k w r (omega arith)) (onto-cons x w (blocks 0 r))
+
+size-back : (m : ℕ) → 1 ≤ m → m ≤ 256 → blockSize (m % 256) ≡ m
+size-back m h k = go (eqb (m % 256) 0) refl
+  where
+    go : (c : Bool) → eqb (m % 256) 0 ≡ c → cond c 256 (m % 256) ≡ m
+    go true e = let z = eqb-true (m % 256) 0 e in omega arith
+    go false e = let z = eqb-false (m % 256) 0 e in omega arith
+
+-- one block as we write it, and what follows
+block-back : (t d x r b : Bytes) → 1 ≤ length t → length t ≤ 256 → t ++ d ≡ x → blocks 0 (b ++ r) ≡ onto d (blocks 0 r)
+    → blocks 0 ((2 ∷ (length t % 256) ∷ (t ++ b)) ++ r) ≡ onto x (blocks 0 r)
+block-back t d x r b h k e q =
+    rw (size-back (length t) h k)
+    (rw (append-assoc t b r)
+    (rw (blocks-data (length t) t (b ++ r) refl)
+    (rw q (onto-append t d (blocks 0 r) ∙ ap (λ (w : Bytes). onto w (blocks 0 r)) e))))
+
+blocks-back : (f : ℕ) (x r : Bytes) → length x ≤ f → blocks 0 (blocksOut f x ++ r) ≡ onto x (blocks 0 r)
+blocks-back zero [] r h = sym (onto-nil (blocks 0 r))
+blocks-back zero (y ∷ x) r h = let z : ⊥ = omega arith in absurd z
+blocks-back (suc f) [] r h = sym (onto-nil (blocks 0 r))
+blocks-back (suc f) (y ∷ x) r h =
+    let l = length-take 256 (y ∷ x) in
+    let m = length-drop 256 (y ∷ x) in
+    block-back (take 256 (y ∷ x)) (drop 256 (y ∷ x)) (y ∷ x) r (blocksOut f (drop 256 (y ∷ x)))
+    (omega arith) (omega arith) (take-append-drop 256 (y ∷ x)) (blocks-back f (drop 256 (y ∷ x)) r (omega arith))
+
+sum-right : (x : Bytes) → sumRight x (checksum x) ≡ true
+sum-right x = eq-eqb ((sum x + checksum x) % 256) 0 (omega arith)
+
+head-lacks : (c : ℕ) (h : Bytes) → headingByte c ≡ false → isHeading h ≡ true → Lacks c h
+head-lacks c h e k = all-lacks headingByte c h e ((field-is headingByte 80 h k) .class)
+
+pub framed-back : (h x : Bytes) → isHeading h ≡ true → readFramed (writeFramed h x) ≡ some (record { heading = h; body = x; right = true })
+framed-back h x k =
+    let m = (field-is headingByte 80 h k) .most in
+    let l : (length h + 3) % 256 ≡ length h + 3 = omega arith in
+    rw l (rw (append-assoc h (0 ∷ 48 ∷ 0 ∷ []) (blocksOut (length x) x ++ 4 ∷ checksum x ∷ []))
+    (rw (split-mid 0 h (48 ∷ 0 ∷ (blocksOut (length x) x ++ 4 ∷ checksum x ∷ [])) (head-lacks 0 h refl k))
+    (rw (header-of (length h + 3) h (48 ∷ []) k refl (omega arith))
+    (rw (blocks-back (length x) x (4 ∷ checksum x ∷ []) (omega arith)) (rw (append-nil x) (rw (sum-right x)))))))
+
+pub plain-back : (t x : Bytes) → isHeading t ≡ true → all notCtrlZ x ≡ true → readPlain (writePlain t x) ≡ some (record { heading = t; body = x; right = true })
+plain-back t x k e =
+    rw (split-mid CR t (x ++ CTRLZ ∷ CR ∷ []) (head-lacks CR t refl k))
+    (rw k (rw (split-mid CTRLZ x (CR ∷ []) (all-lacks notCtrlZ CTRLZ x refl e))))
+
+sent-back : (h x : Bytes) → isHeading h && isBody message x ≡ true → valid (readFramed (writeFramed h x)) ≡ some (record { heading = h; body = x })
+sent-back h x e =
+    let p = and2 (isHeading h) (leb (length x) 65535 && true) e in
+    let q = and2 (leb (length x) 65535) true (p .1) in
+    rw (framed-back h x (p .0)) (rw (q .0))
+
+-- THE ROUND TRIP: every transfer that we write is read back, in every form
+pub transfer-back : (f : Form) (h x : Bytes) → sendable f h x ≡ true → readTransfer f (writeTransfer f h x) ≡ some (record { heading = h; body = x })
+unfolding readTransfer writeTransfer parse
+transfer-back plain h x e =
+    let p = and2 (isHeading h) (leb (length x) 65535 && all notCtrlZ x) e in
+    let q = and2 (leb (length x) 65535) (all notCtrlZ x) (p .1) in
+    rw (plain-back h x (p .0) (q .1)) (rw (q .0))
+transfer-back message h x e = sent-back h x e
+transfer-back file h x e = sent-back h x e
+
+-- ---------------------------------------------------------------- the checksum as a wrapping sum
+
+pub sum-snoc : (x : Bytes) (b : ℕ) → sum (x ++ (b ∷ [])) ≡ sum x + b
+sum-snoc [] b = omega arith
+sum-snoc (y ∷ x) b = rw (sum-snoc x b) (omega arith)
+
+-- a byte more, kept modulo 256
+pub sum-wraps : (x : Bytes) (b : ℕ) → sum (x ++ (b ∷ [])) % 256 ≡ (sum x % 256 + b) % 256
+sum-wraps x b = rw (sum-snoc x b) (omega arith)
+
+-- the test on the sum kept modulo 256
+pub right-wraps : (x : Bytes) (c : ℕ) → sumRight x c ≡ eqb ((sum x % 256 + c) % 256) 0
+right-wraps x c = let e : (sum x + c) % 256 ≡ (sum x % 256 + c) % 256 = omega arith in rw e

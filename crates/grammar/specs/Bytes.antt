@@ -1,0 +1,61 @@
+-- Lists of bytes, and the few tests on them that every rule of 01 is made of.
+use mathlib.Core.Bool.{Bool, true, false, cond, _&&_}
+use mathlib.Core.Option.{Option, none, some}
+use mathlib.Core.List.{List, [], _∷_}
+use Prim.Native.Nat.{ℕ}
+use lib.Dec.{eqb}
+
+abbrev pub Bytes : Type 0
+Bytes = List ℕ
+
+-- Carriage return: "A line ends with CR."
+abbrev pub CR : ℕ
+CR = 13
+
+-- Line feed: "One LF directly after the CR .. is dropped."
+abbrev pub LF : ℕ
+LF = 10
+
+-- Space: "one or more spaces between".
+abbrev pub SP : ℕ
+SP = 32
+
+-- The byte 0x1A that ends a plain body; operators call it Ctrl-Z.
+abbrev pub CTRLZ : ℕ
+CTRLZ = 26
+
+-- The empty list and a byte in front of a list, by name, for modules in which `[]` and `_∷_` belong to strings.
+abbrev pub nil : Bytes
+nil = []
+
+abbrev pub cons : ℕ → Bytes → Bytes
+cons x xs = x ∷ xs
+
+abbrev pub null {ℓ} : {A : Type ℓ} → List A → Bool
+null [] = true
+null (x ∷ xs) = false
+
+-- Every byte is of the class.
+abbrev pub all : (ℕ → Bool) → Bytes → Bool
+all c [] = true
+all c (x ∷ xs) = c x && all c xs
+
+-- The same bytes in the same order.
+abbrev pub same : Bytes → Bytes → Bool
+same [] [] = true
+same [] (y ∷ ys) = false
+same (x ∷ xs) [] = false
+same (x ∷ xs) (y ∷ ys) = eqb x y && same xs ys
+
+abbrev pub before : ℕ → Option (Bytes × Bytes) → Option (Bytes × Bytes)
+before x none = none
+before x (some p) = some (x ∷ p .0, p .1)
+
+-- What stands before the first c, and what after it.
+abbrev pub splitAt : ℕ → Bytes → Option (Bytes × Bytes)
+splitAt c [] = none
+splitAt c (x ∷ xs) = cond (eqb x c) (some ([], xs)) (before x (splitAt c xs))
+
+abbrev pub isSome {ℓ} : {A : Type ℓ} → Option A → Bool
+isSome none = false
+isSome (some x) = true

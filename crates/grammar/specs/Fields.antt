@@ -1,0 +1,151 @@
+-- 01, "Fields" (under Lent memory): byte classes, and the fields that records, lines and transfers are made of.
+use mathlib.Core.Bool.{Bool, true, false, cond, not, _&&_, _||_}
+use mathlib.Core.Option.{Option, none, some}
+use mathlib.Core.List.{List, [], _∷_, _++_}
+use Prim.Native.Nat.{ℕ, zero, suc, _+_, _*_, _-_, _/_, _%_}
+use lib.Dec.{eqb, ltb, leb}
+use lib.ListN.{length}
+use Rattle.grammar.specs.Bytes.{Bytes, SP, CTRLZ, all, same}
+
+-- "a form (0 plain text, 1 packed message, 2 packed file)"
+pub data Form : Type 0 where
+  plain message file : Form
+
+abbrev pub formNumber : Form → ℕ
+formNumber plain = 0
+formNumber message = 1
+formNumber file = 2
+
+-- The form that a number in a record stands for; open refuses every other number.
+abbrev pub formIs : ℕ → Form
+formIs n = cond (eqb n 1) message (cond (eqb n 2) file plain)
+
+-- ---------------------------------------------------------------- 1 to n bytes of a class
+
+-- "Field rules that differ only in a length": the length is a parameter.
+abbrev pub sized : ℕ → Bytes → Bool
+sized n w = leb 1 (length w) && leb (length w) n
+
+abbrev pub field : (ℕ → Bool) → ℕ → Bytes → Bool
+field c n w = all c w && sized n w
+
+-- ---------------------------------------------------------------- from, to and at
+
+-- "bytes in 0x21-0x7E without `@` and `.`"
+abbrev pub callByte : ℕ → Bool
+callByte b = cond (eqb b 46 || eqb b 64) false (cond (ltb b 33) false (ltb b 127))
+
+-- "from and to have 1 to 6 bytes": a callsign, or a word such as ALL in its place
+unfoldable pub isCall : Bytes → Bool
+isCall w = field callByte 6 w
+
+abbrev pub toFirst : ℕ → List Bytes → List Bytes
+toFirst x [] = (x ∷ []) ∷ []
+toFirst x (w ∷ ws) = (x ∷ w) ∷ ws
+
+-- "parts .. joined by `.`"
+abbrev pub parts : Bytes → List Bytes
+parts [] = [] ∷ []
+parts (x ∷ xs) = cond (eqb x 46) ([] ∷ parts xs) (toFirst x (parts xs))
+
+abbrev pub allCalls : List Bytes → Bool
+allCalls [] = true
+allCalls (w ∷ ws) = isCall w && allCalls ws
+
+-- "after the first `.`"
+abbrev pub afterDot : Bytes → Bytes
+afterDot [] = []
+afterDot (x ∷ xs) = cond (eqb x 46) xs (afterDot xs)
+
+-- "At is one to several parts of 1 to 6 such bytes joined by `.`, 38 bytes in all and 31 after the first `.` at most."
+unfoldable pub isAt : Bytes → Bool
+isAt w = allCalls (parts w) && (leb (length w) 38 && leb (length (afterDot w)) 31)
+
+-- ---------------------------------------------------------------- BID
+
+-- "bytes in 0x21-0xFF"; "BID bytes from 0x80 are a house rule."
+abbrev pub bidByte : ℕ → Bool
+bidByte b = cond (ltb b 33) false (ltb b 256)
+
+-- "A BID has 1 to 12 bytes in 0x21-0xFF."
+unfoldable pub isBid : Bytes → Bool
+isBid w = field bidByte 12 w
+
+-- "BIDs are compared byte by byte."
+unfoldable pub sameBid : Bytes → Bytes → Bool
+sameBid v w = same v w
+
+-- ---------------------------------------------------------------- heading and body
+
+-- "bytes in 0x20-0xFF"
+abbrev pub headingByte : ℕ → Bool
+headingByte b = cond (ltb b 32) false (ltb b 256)
+
+-- "A title or name has 1 to 80 bytes in 0x20-0xFF." The heading of a transfer (01's term) is one of the two.
+abbrev pub isHeading : Bytes → Bool
+isHeading w = field headingByte 80 w
+
+abbrev pub notCtrlZ : ℕ → Bool
+notCtrlZ b = not (eqb b CTRLZ)
+
+-- "a plain body holds no 0x1A"
+abbrev pub bodyFair : Form → Bytes → Bool
+bodyFair plain x = all notCtrlZ x
+bodyFair message x = true
+bodyFair file x = true
+
+-- "A body has at most 65,535 bytes"
+abbrev pub isBody : Form → Bytes → Bool
+isBody f x = leb (length x) 65535 && bodyFair f x
+
+-- ---------------------------------------------------------------- letters, words and numbers of a line
+
+-- "Command, type and feature letters are taken in either case and written as capitals": a letter as a capital, any other byte as it is
+abbrev pub upper : ℕ → ℕ
+upper b = cond (ltb b 97) b (cond (ltb b 123) (b - 32) b)
+
+-- What follows the capitals w, taken in either case.
+abbrev pub after : Bytes → Bytes → Option Bytes
+after [] ys = some ys
+after (x ∷ xs) [] = none
+after (x ∷ xs) (y ∷ ys) = cond (eqb (upper y) x) (after xs ys) none
+
+-- The line begins with a byte other than a space.
+abbrev pub starts : Bytes → Bool
+starts [] = false
+starts (y ∷ ys) = not (eqb y SP)
+
+abbrev pub attach : ℕ → Bool → List Bytes → List Bytes
+attach x false ws = (x ∷ []) ∷ ws
+attach x true [] = (x ∷ []) ∷ []
+attach x true (w ∷ ws) = (x ∷ w) ∷ ws
+
+-- "one or more spaces between": the words of a line
+unfoldable pub words : Bytes → List Bytes
+words [] = []
+words (x ∷ xs) = cond (eqb x SP) (words xs) (attach x (starts xs) (words xs))
+
+abbrev pub digit : ℕ → Bool
+digit b = cond (ltb b 48) false (ltb b 58)
+
+-- "size (1 to 9 digits)"
+unfoldable pub isSize : Bytes → Bool
+isSize w = field digit 9 w
+
+-- The number that decimal digits stand for, after those that gave a.
+unfoldable pub readFrom : ℕ → Bytes → ℕ
+readFrom a [] = a
+readFrom a (x ∷ xs) = readFrom (a * 10 + (x - 48)) xs
+
+-- The size that a word says, where it is one.
+abbrev pub readSize : Bytes → Option ℕ
+readSize w = cond (isSize w) (some (readFrom 0 w)) none
+
+-- The decimal digits of n without leading zeros, f at most.
+unfoldable pub writeNum : ℕ → ℕ → Bytes
+writeNum zero n = []
+writeNum (suc f) n = cond (ltb n 10) ((48 + n) ∷ []) (writeNum f (n / 10) ++ ((48 + n % 10) ∷ []))
+
+-- "no leading zeros"; ten digits hold every 32-bit number
+abbrev pub decimal : ℕ → Bytes
+decimal n = writeNum 10 n

@@ -1,0 +1,96 @@
+-- 01, "SID and opening": the line in brackets by which a mailbox says what it can do.
+use mathlib.Core.Bool.{Bool, true, false, cond, not, _&&_, _||_}
+use mathlib.Core.Option.{Option, none, some}
+use mathlib.Core.List.{List, [], _∷_}
+use Prim.Native.Nat.{ℕ, _+_, _-_}
+use lib.Dec.{eqb, ltb}
+use lib.ListN.{getD, set, replicate}
+use Rattle.grammar.specs.Bytes.{Bytes, null, all, same, splitAt}
+use Rattle.grammar.specs.Ascii.{text}
+use Rattle.grammar.specs.Refusals.{notSid, noForwarding}
+use Rattle.grammar.specs.Fields.{upper, after, digit}
+
+-- ---------------------------------------------------------------- the feature set
+
+-- "Letters have fixed places A = 0 to Z = 25", in either case
+abbrev pub isLetter : ℕ → Bool
+isLetter b = cond (ltb (upper b) 65) false (ltb (upper b) 91)
+
+abbrev pub letterPlace : ℕ → ℕ
+letterPlace b = upper b - 65
+
+-- 27 places: 0 where the feature is not there, else its level and 1 more
+abbrev pub noFeatures : List ℕ
+noFeatures = replicate 27 0
+
+abbrev pub hasFeature : ℕ → List ℕ → Bool
+hasFeature i fs = ltb 0 (getD fs i 0)
+
+-- A level is a digit; what is none adds nothing, and so does a place from 27 on.
+abbrev pub withFeature : ℕ → ℕ → List ℕ → List ℕ
+withFeature i level fs = cond (ltb level 10) (set fs i (level + 1)) fs
+
+-- ---------------------------------------------------------------- the line
+
+-- "at least one byte in 0x20-0x7F without `[`, `]`, `-`"
+abbrev pub authorByte : ℕ → Bool
+authorByte b = cond (eqb b 45 || (eqb b 91 || eqb b 93)) false (cond (ltb b 32) false (ltb b 128))
+
+-- "at least one such byte or hyphen"
+abbrev pub dataByte : ℕ → Bool
+dataByte b = authorByte b || eqb b 45
+
+-- "features `$`? `]`": the end of the SID; "`$` = 26"
+abbrev pub sidEnd : List ℕ → Bytes → Option (List ℕ)
+sidEnd fs r = cond (same r (text "]")) (some fs) (cond (same r (text "$]")) (some (withFeature 26 0 fs)) none)
+
+-- "letters, each with at most one digit; no digit is level 0"; "House rule: a letter given twice is refused (3)."
+abbrev pub readLevels : List ℕ → Bytes → Option (List ℕ)
+readLevels fs [] = none
+readLevels fs (x ∷ []) = sidEnd fs (x ∷ [])
+readLevels fs (x ∷ d ∷ r) =
+    cond (isLetter x)
+    (cond (hasFeature (letterPlace x) fs) none
+    (cond (digit d) (readLevels (withFeature (letterPlace x) (d - 48) fs) r) (readLevels (withFeature (letterPlace x) 0 fs) (d ∷ r))))
+    (sidEnd fs (x ∷ d ∷ r))
+
+-- "Features are one or more letters"
+abbrev pub readFeatures : Bytes → Option (List ℕ)
+readFeatures [] = none
+readFeatures (x ∷ xs) = cond (isLetter x) (readLevels noFeatures (x ∷ xs)) none
+
+abbrev pub orLast : ℕ → Option (Bytes × Bytes) → Bytes → Option (Bytes × Bytes)
+orLast x (some p) xs = some (x ∷ p .0, p .1)
+orLast x none xs = cond (eqb x 45) (some ([], xs)) none
+
+-- What stands before the last hyphen, and what after it.
+abbrev pub splitLast : Bytes → Option (Bytes × Bytes)
+splitLast [] = none
+splitLast (x ∷ xs) = orLast x (splitLast xs) xs
+
+-- "(data `-`)? features"
+abbrev pub dataRead : Bytes → Option (Bytes × Bytes) → Option (List ℕ)
+dataRead r none = readFeatures r
+dataRead r (some p) = cond (all dataByte (p .0) && not (null (p .0))) (readFeatures (p .1)) none
+
+-- "The author runs to the first hyphen, the features start after the last."
+abbrev pub authorRead : Option (Bytes × Bytes) → Option (List ℕ)
+authorRead none = none
+authorRead (some p) = cond (all authorByte (p .0) && not (null (p .0))) (dataRead (p .1) (splitLast (p .1))) none
+
+abbrev pub sidRead : Option Bytes → Option (List ℕ)
+sidRead none = none
+sidRead (some r) = authorRead (splitAt 45 r)
+
+-- "SID = `[` author `-` (data `-`)? features `$`? `]`.": the features of a valid one
+unfoldable pub readSid : Bytes → Option (List ℕ)
+readSid ln = sidRead (after (text "[") ln)
+
+-- "first line isn't a valid SID": 3; "partner's SID has no F": 4
+abbrev pub sidNumber : Option (List ℕ) → ℕ
+sidNumber none = notSid
+sidNumber (some fs) = cond (hasFeature 5 fs) 0 noForwarding
+
+-- "Partner has B: framed mode, at any level. Otherwise plain mode."
+abbrev pub framed : List ℕ → Bool
+framed fs = hasFeature 1 fs

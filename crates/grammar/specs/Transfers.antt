@@ -1,0 +1,147 @@
+-- 01, "Transfers": what a whole transfer is, and how we write ours. Nothing here goes byte by byte: see Scan.
+use mathlib.Core.Bool.{Bool, true, false, cond, _&&_}
+use mathlib.Core.Option.{Option, none, some}
+use mathlib.Core.List.{List, [], _∷_, _++_}
+use Prim.Native.Nat.{ℕ, zero, suc, _+_, _-_, _%_}
+use lib.Dec.{eqb, leb}
+use lib.ListN.{length, take, drop}
+use Rattle.grammar.specs.Bytes.{Bytes, CR, SP, CTRLZ, null, all, splitAt}
+use Rattle.grammar.specs.Fields.{Form, plain, message, file, isHeading, sized, isBody}
+
+-- A transfer right in form: its heading, its body, and whether its checksum is right.
+pub record Parsed : Type 0 where
+  pub heading : Bytes
+  pub body : Bytes
+  pub right : Bool
+
+-- ---------------------------------------------------------------- plain: "title, CR, body, 0x1A, CR"
+
+-- "Spaces between the last two are skipped on reading."
+abbrev pub spacesCR : Bytes → Bool
+spacesCR [] = false
+spacesCR (x ∷ xs) = cond (eqb x CR) (null xs) (eqb x SP && spacesCR xs)
+
+abbrev pub bodyRead : Bytes → Option (Bytes × Bytes) → Option Parsed
+bodyRead t none = none
+bodyRead t (some p) = cond (spacesCR (p .1)) (some (record { heading = t; body = p .0; right = true })) none
+
+abbrev pub titleRead : Option (Bytes × Bytes) → Option Parsed
+titleRead none = none
+titleRead (some p) = cond (isHeading (p .0)) (bodyRead (p .0) (splitAt CTRLZ (p .1))) none
+
+-- "A body may begin with LF.": what follows the title's CR is the body, whatever it is
+abbrev pub readPlain : Bytes → Option Parsed
+readPlain p = titleRead (splitAt CR p)
+
+-- ---------------------------------------------------------------- framed: "01, L, heading, 00, offset digits, 00; blocks 02, n, data; 04, checksum"
+
+-- "n = 00 means 256."
+abbrev pub blockSize : ℕ → ℕ
+blockSize n = cond (eqb n 0) 256 n
+
+abbrev pub sum : Bytes → ℕ
+sum [] = 0
+sum (x ∷ xs) = x + sum xs
+
+-- "The checksum makes the sum of all data bytes plus itself 0 modulo 256."
+abbrev pub sumRight : Bytes → ℕ → Bool
+sumRight x c = eqb ((sum x + c) % 256) 0
+
+abbrev pub consData : ℕ → Option (Bytes × ℕ) → Option (Bytes × ℕ)
+consData x none = none
+consData x (some p) = some (x ∷ p .0, p .1)
+
+-- Blocks, then 04 and the checksum, and nothing after: the data and the checksum. k bytes of a block are still to come.
+abbrev pub blocks : ℕ → Bytes → Option (Bytes × ℕ)
+blocks (suc k) [] = none
+blocks (suc k) (x ∷ xs) = consData x (blocks k xs)
+blocks zero [] = none
+blocks zero (x ∷ []) = none
+blocks zero (x ∷ y ∷ ys) = cond (eqb x 2) (blocks (blockSize y) ys) (cond (eqb x 4 && null ys) (some ([], y)) none)
+
+abbrev pub blocksRead : Bytes → Option (Bytes × ℕ) → Option Parsed
+blocksRead h none = none
+blocksRead h (some p) = some (record { heading = h; body = p .0; right = sumRight (p .0) (p .1) })
+
+abbrev pub zeroDigit : ℕ → Bool
+zeroDigit b = eqb b 48
+
+-- "L = heading + offset + 2. Offset has 1 to 6 digits, value 0."
+abbrev pub isHeader : ℕ → Bytes → Bytes → Bool
+isHeader len h o = isHeading h && ((all zeroDigit o && sized 6 o) && eqb len (length h + length o + 2))
+
+abbrev pub offRead : ℕ → Bytes → Option (Bytes × Bytes) → Option Parsed
+offRead len h none = none
+offRead len h (some p) = cond (isHeader len h (p .0)) (blocksRead h (blocks 0 (p .1))) none
+
+abbrev pub headRead : ℕ → Option (Bytes × Bytes) → Option Parsed
+headRead len none = none
+headRead len (some p) = offRead len (p .0) (splitAt 0 (p .1))
+
+abbrev pub lenRead : Bytes → Option Parsed
+lenRead [] = none
+lenRead (len ∷ r) = headRead len (splitAt 0 r)
+
+abbrev pub readFramed : Bytes → Option Parsed
+readFramed [] = none
+readFramed (a ∷ r) = cond (eqb a 1) (lenRead r) none
+
+-- ---------------------------------------------------------------- either form
+
+-- A transfer right in form, "a wrong checksum (9) or lack of room (10) apart".
+unfoldable pub parse : Form → Bytes → Option Parsed
+parse plain p = readPlain p
+parse message p = readFramed p
+parse file p = readFramed p
+
+-- What a valid transfer brings.
+pub record Content : Type 0 where
+  pub heading : Bytes
+  pub body : Bytes
+
+-- "A body has at most 65,535 bytes"
+abbrev pub valid : Option Parsed → Option Content
+valid none = none
+valid (some p) = cond (p .right && leb (length (p .body)) 65535) (some (record { heading = p .heading; body = p .body })) none
+
+unfoldable pub readTransfer : Form → Bytes → Option Content
+readTransfer f p = valid (parse f p)
+
+-- ---------------------------------------------------------------- how we write a transfer
+
+abbrev pub checksum : Bytes → ℕ
+checksum x = (256 - sum x % 256) % 256
+
+abbrev pub writePlain : Bytes → Bytes → Bytes
+writePlain t x = t ++ CR ∷ (x ++ CTRLZ ∷ CR ∷ [])
+
+-- "blocks of 256 and a shorter last one; an empty body has no block"; f bounds how many
+abbrev pub blocksOut : ℕ → Bytes → Bytes
+blocksOut zero x = []
+blocksOut (suc f) x = cond (null x) [] (2 ∷ (length (take 256 x) % 256) ∷ (take 256 x ++ blocksOut f (drop 256 x)))
+
+-- "We write offset `0`": L is the heading's length and 3, one byte
+abbrev pub headerOut : Bytes → Bytes
+headerOut h = 1 ∷ ((length h + 3) % 256) ∷ (h ++ 0 ∷ 48 ∷ 0 ∷ [])
+
+abbrev pub writeFramed : Bytes → Bytes → Bytes
+writeFramed h x = headerOut h ++ (blocksOut (length x) x ++ 4 ∷ checksum x ∷ [])
+
+unfoldable pub writeTransfer : Form → Bytes → Bytes → Bytes
+writeTransfer plain h x = writePlain h x
+writeTransfer message h x = writeFramed h x
+writeTransfer file h x = writeFramed h x
+
+-- What open checks of a record's heading and body.
+abbrev pub sendable : Form → Bytes → Bytes → Bool
+sendable f h x = isHeading h && isBody f x
+
+-- ---------------------------------------------------------------- where a heading lies
+
+-- The len bytes from start on, or nothing where they run past the end.
+abbrev pub partOf : Bytes → ℕ → ℕ → Bytes
+partOf s start len = cond (leb start (length s)) (cond (leb len (length s - start)) (take len (drop start s)) []) []
+
+-- "The heading of a transfer is the title for a message or the file name for a file, shown where it lies in its store." (01's term)
+abbrev pub headingOf : Bytes → Bytes → ℕ → ℕ → ℕ → Bytes
+headingOf titles names form start len = cond (eqb form 2) (partOf names start len) (partOf titles start len)

@@ -1,0 +1,85 @@
+-- What the pieces of a line come to. Assumes nothing.
+use Prim.Native.Nat.{ℕ, suc, zero, _+_, _-_, _/_, _%_, _^_, _<_, _≤_}
+use mathlib.Core.Path.{_≡_, refl, sym, _∙_}
+use mathlib.Core.Bool.{Bool, true, false, cond}
+use mathlib.Core.List.{List, [], _∷_, _++_, append-assoc, map}
+use native.Mathlib.Omega.{arith}
+use native.Mathlib.Numerals.{add-one}
+use lib.Dec.{eqb}
+use lib.ListN.{length, take, drop, set, length-drop}
+use lib.Seq.{set-split, drop-at, length-take-le, take-all}
+use borrow.Author.Tests.{eq-eqb, ne-eqb, lt-ltb, le-ltb}
+use Rattle.grammar.specs.Bytes.{Bytes, CR, SP}
+use Rattle.grammar.specs.Fields.{plain, file, decimal, writeNum}
+use Rattle.grammar.specs.Turns.{proposalLine, withCr, formLetter}
+use Rattle.grammar.specs.Answers.{Sign, writeSign, fsLine}
+use Rattle.buffer.specs.declared.Cursor.{Cursor}
+use Rattle.buffer.specs.Put.{Puts}
+use Rattle.buffer.proofs.Laws.{puts-as, puts-then}
+use Rattle.our_line.specs.Lines.{formIs, proposalIs, fsText}
+
+-- the line that answers, from the signs as they are meant
+pub fs-text : (ss : List Sign) → fsText (map writeSign ss) ≡ withCr (fsLine ss)
+unfolding fsText fsLine
+fs-text ss = refl
+
+-- `FA` for a packed message, else `FB`
+pub letter-message : (form : ℕ) → form ≡ 1 → 65 ≡ formLetter (formIs form)
+unfolding formIs
+letter-message form e = rw (eq-eqb form 1 e)
+
+pub letter-other : (form : ℕ) → (form ≡ 1 → ⊥) → 66 ≡ formLetter (formIs form)
+unfolding formIs
+letter-other form n = rw (ne-eqb form 1 n) (go (eqb form 2))
+  where
+    go : (b : Bool) → 66 ≡ formLetter (cond b file plain)
+    go true = refl
+    go false = refl
+
+-- the pieces of a proposal line, put one after the other
+module _ (d : Bytes) (c : Cursor) (l form kind : ℕ) (from at to bid : Bytes) (size : ℕ) (t : l ≡ formLetter (formIs form)) where
+  proposal-text : (((((70 ∷ l ∷ SP ∷ kind ∷ SP ∷ []) ++ (from ++ (SP ∷ []))) ++ (at ++ (SP ∷ []))) ++ (to ++ (SP ∷ []))) ++ (bid ++ (SP ∷ []))) ++ (decimal size ++ (CR ∷ []))
+      ≡ withCr (proposalLine (proposalIs form kind from at to bid size))
+  unfolding proposalLine
+  proposal-text = rw t (simp append-assoc)
+
+  pub proposal-puts : {c₁ c₂ c₃ c₄ c₅ r : Cursor} {d₁ d₂ d₃ d₄ d₅ e : Bytes} → Puts d c (70 ∷ l ∷ SP ∷ kind ∷ SP ∷ []) c₁ d₁
+      → Puts d₁ c₁ (from ++ (SP ∷ [])) c₂ d₂ → Puts d₂ c₂ (at ++ (SP ∷ [])) c₃ d₃ → Puts d₃ c₃ (to ++ (SP ∷ [])) c₄ d₄ → Puts d₄ c₄ (bid ++ (SP ∷ [])) c₅ d₅
+      → Puts d₅ c₅ (decimal size ++ (CR ∷ [])) r e → Puts d c (withCr (proposalLine (proposalIs form kind from at to bid size))) r e
+  proposal-puts p₁ p₂ p₃ p₄ p₅ p₆ =
+      puts-as d c proposal-text
+      (puts-then d c _ _ (puts-then d c _ _ (puts-then d c _ _ (puts-then d c _ _ (puts-then d c _ _ p₁ p₂) p₃) p₄) p₅) p₆)
+
+-- ---------------------------------------------------------------- digits
+
+drop-set : (l : Bytes) (i b : ℕ) → i < length l → drop i (set l i b) ≡ b ∷ drop (suc i) l
+drop-set l i b h = rw (set-split l i b h) (drop-at (take i l) (b ∷ drop (suc i) l) i (length-take-le i l (omega arith)))
+
+-- a turn of the loop: the last digit of what is left goes before those that are there
+pub digits-more : (n rest at b : ℕ) (l : Bytes) → 1 ≤ at → at < length l → 10 ≤ rest → b ≡ 48 + rest % 10
+    → writeNum 10 n ≡ writeNum (at + 1) rest ++ drop (at + 1) l → writeNum 10 n ≡ writeNum (at - 1 + 1) (rest / 10) ++ drop (at - 1 + 1) (set l at b)
+unfolding writeNum
+digits-more n rest at b l g h k q e =
+    let z : at - 1 + 1 ≡ at = omega arith in
+    e ∙ rw (z, drop-set l at b h, add-one at, le-ltb rest 10 k, q) (append-assoc (writeNum at (rest / 10)) ((48 + rest % 10) ∷ []) (drop (suc at) l))
+
+-- the digit that is left at the end
+pub digits-end : (n rest at b : ℕ) (l : Bytes) → at < length l → rest < 10 → b ≡ 48 + rest % 10
+    → writeNum 10 n ≡ writeNum (at + 1) rest ++ drop (at + 1) l → drop at (set l at b) ≡ writeNum 10 n
+unfolding writeNum
+digits-end n rest at b l h k q e =
+    let z : rest % 10 ≡ rest = omega arith in
+    sym (e ∙ rw (drop-set l at b h, add-one at, lt-ltb rest 10 k, q, z))
+
+-- as many digits are left to write as there are places for
+pub digits-left : (rest at : ℕ) → rest < 10 ^ (at + 1) → 10 ≤ rest → (1 ≤ at) × (rest / 10 < 10 ^ (at - 1 + 1))
+digits-left rest zero h k = let z : ⊥ = omega arith in absurd z
+digits-left rest (suc at) h k =
+    let z : suc at - 1 + 1 ≡ suc at = omega arith in
+    let y : rest < 10 ^ suc (suc at) = rw (add-one (suc at)) at h in
+    (omega arith, rw z (omega arith))
+
+-- a part that goes to the end of the ten bytes
+pub size-text : (bytes : Bytes) (start size : ℕ) → length bytes ≡ 10 → drop start bytes ≡ decimal size
+    → take (10 - start) (drop start bytes) ++ (CR ∷ []) ≡ decimal size ++ (CR ∷ [])
+size-text bytes start size n e = rw (take-all (10 - start) (drop start bytes) (simp length-drop (omega arith)), e)

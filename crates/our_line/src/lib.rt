@@ -1,0 +1,116 @@
+// Our lines, each with its CR, resumed at any byte with any room: the text at the cursor, what of it isn't passed over and fits.
+use buffer::Cursor;
+ghost use mathlib.Core.Path.{_≡_};
+ghost use mathlib.Core.List.{[], _∷_, _++_};
+ghost use lib.ListN.{length, drop};
+ghost use Prim.Native.Nat.{_+_, _%_, _≤_};
+ghost use Rattle.grammar.specs.Bytes.{CR};
+ghost use Rattle.grammar.specs.Fields.{decimal};
+ghost use Rattle.grammar.specs.Turns.{fixedText, proposalLine, withCr, formLetter};
+ghost use Rattle.buffer.specs.Put.{Puts};
+ghost use Rattle.our_line.specs.Lines.{fixedIs, formIs, proposalIs, fsText};
+
+// The lines that never differ: our SID, the prompt, `FF`, `FQ`, and `F>`, which ends a block.
+pub enum Fixed {
+    Sid,
+    Prompt,
+    FF,
+    FQ,
+    End,
+}
+
+// One of the lines that never differ.
+pub fn write_fixed(which: Fixed, buf: &mut [u8], c: Cursor) -> Cursor
+    ensures { λ r. ⌜ Puts (now (buf .entry)) c (withCr (fixedText (fixedIs which))) r (now (buf .exit)) ⌝ }
+{
+    match which {
+        Fixed::Sid => buffer::put(buf, c, b"[NOD-1-BFH$]\r"),
+        Fixed::Prompt => buffer::put(buf, c, b">\r"),
+        Fixed::FF => buffer::put(buf, c, b"FF\r"),
+        Fixed::FQ => buffer::put(buf, c, b"FQ\r"),
+        Fixed::End => buffer::put(buf, c, b"F>\r"),
+    }
+}
+
+// A number's decimal digits: the bytes from start on.
+struct Decimal {
+    bytes: [u8; 10],
+    start: usize,
+}
+
+// The last decimal digit.
+fn last_digit(n: u32) -> u8
+    ensures { λ r. ⌜ r ≡ 48 + n % 10 ⌝ }
+{
+    48 + (n % 10) as u8
+}
+
+// The digits of a size, without leading zeros.
+fn digits(size: u32) -> Decimal
+    ensures { λ r. ⌜ (length (r .bytes) ≡ 10) × (r .start ≤ 10) × (drop (r .start) (r .bytes) ≡ decimal size) ⌝ }
+{
+    let mut bytes = [0u8; 10];
+    let mut at = 9;
+    let mut rest = size;
+    while 10 <= rest {
+        bytes[at] = last_digit(rest);
+        rest = rest / 10;
+        at -= 1;
+    }
+    bytes[at] = last_digit(rest);
+    Decimal {
+        bytes: bytes,
+        start: at,
+    }
+}
+
+// The size, which ends the line.
+fn put_size(buf: &mut [u8], c: Cursor, size: u32) -> Cursor
+    ensures { λ r. ⌜ Puts (now (buf .entry)) c (decimal size ++ (CR ∷ [])) r (now (buf .exit)) ⌝ }
+{
+    let d = digits(size);
+    let bytes = d.bytes;
+    let start = d.start;
+    buffer::put_line(buf, c, &bytes[start..])
+}
+
+// The second letter of a proposal: A for a packed message, else B.
+fn letter(form: u8) -> u8
+    ensures { λ r. ⌜ r ≡ formLetter (formIs form) ⌝ }
+{
+    if form == 1 {
+        return b'A';
+    }
+    b'B'
+}
+
+// A proposal with these fields as they are, none judged; its form is 1 for a packed message, 2 for a packed file, else plain.
+pub fn write_proposal(
+    buf: &mut [u8],
+    c: Cursor,
+    form: u8,
+    kind: u8,
+    from: &[u8],
+    at: &[u8],
+    to: &[u8],
+    bid: &[u8],
+    size: u32,
+) -> Cursor
+    ensures { λ r. ⌜ Puts (now (buf .entry)) c (withCr (proposalLine (proposalIs form kind (now (from .entry)) (now (at .entry)) (now (to .entry)) (now (bid .entry)) size))) r (now (buf .exit)) ⌝ }
+{
+    let start = [b'F', letter(form), b' ', kind, b' '];
+    let c1 = buffer::put(buf, c, &start);
+    let c2 = buffer::put_word(buf, c1, from);
+    let c3 = buffer::put_word(buf, c2, at);
+    let c4 = buffer::put_word(buf, c3, to);
+    let c5 = buffer::put_word(buf, c4, bid);
+    put_size(buf, c5, size)
+}
+
+// The line that answers a block: the sign bytes as they are, none judged.
+pub fn write_fs(buf: &mut [u8], c: Cursor, signs: &[u8]) -> Cursor
+    ensures { λ r. ⌜ Puts (now (buf .entry)) c (fsText (now (signs .entry))) r (now (buf .exit)) ⌝ }
+{
+    let d = buffer::put(buf, c, b"FS ");
+    buffer::put_line(buf, d, signs)
+}

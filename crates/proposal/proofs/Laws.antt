@@ -1,0 +1,210 @@
+-- Words of a turn's line: compared in either case, counted to seven, and read as a proposal.
+use mathlib.Core.Path.{_≡_, refl, sym, ap, _∙_, subst}
+use mathlib.Core.Bool.{Bool, true, false, cond, not, _&&_}
+use mathlib.Core.Option.{Option, none, some}
+use mathlib.Core.List.{List, [], _∷_, _++_, map, append-nil}
+use Prim.Native.Nat.{ℕ, suc, _+_, _<_, _≤_}
+use native.Mathlib.Omega.{arith}
+use native.Mathlib.Numerals.{add-one}
+use lib.Dec.{eqb}
+use lib.ListN.{length, getD, set, take, drop, length-set, length-append, length-map, drop-of-length-le}
+use lib.Seq.{drop-cons, take-all, take-suc-set, length-take-le}
+use borrow.Author.Tests.{eq-eqb, ne-eqb, lt-ltb, le-ltb, not-true, not-false}
+use Rattle.grammar.specs.Bytes.{Bytes, SP, same}
+use Rattle.grammar.specs.Fields.{formIs, upper, words, starts, isCall, isAt, isBid, isSize, readFrom, readSize, sameBid}
+use Rattle.grammar.specs.Turns as turns
+use Rattle.field.specs.declared.Span.{Span}
+use Rattle.field.specs.declared.Size.{Size}
+use Rattle.field.specs.Places.{part, wordsBy, sizeIs}
+use Rattle.field.proofs.Laws.{same-length}
+use Rattle.proposal.specs.declared.TurnLine.{TurnLine}
+use Rattle.proposal.specs.declared.Seven.{Seven}
+use Rattle.proposal.specs.declared.Split.{Split}
+use Rattle.proposal.specs.Meaning.{turnLineIs, LiesIn, Within, SevenLie, wordsOf, SplitIs, formBy, typeBy, fieldsHold, sevenBy}
+
+-- ---------------------------------------------------------------- a word in either case
+
+pub word-length : (s w : Bytes) → (length s ≡ length w → ⊥) → false ≡ same (map upper s) w
+unfolding sameBid
+word-length s w n = same-length (map upper s) w (λ e. n (sym (length-map s upper) ∙ e))
+
+module _ (s w : Bytes) (i : ℕ) (h : i < length s) (k : length s ≡ length w) (u : ℕ) (f : u ≡ upper (getD s i 0)) where
+  pub word-more : u ≡ getD w i 0 → same (map upper (drop i s)) (drop i w) ≡ same (map upper (drop (i + 1) s)) (drop (i + 1) w)
+  word-more e = rw (drop-cons s i 0 h, drop-cons w i 0 (omega arith), ← f, eq-eqb _ _ e, add-one i)
+
+  pub word-stop : (u ≡ getD w i 0 → ⊥) → false ≡ same (map upper (drop i s)) (drop i w)
+  word-stop e = rw (drop-cons s i 0 h, drop-cons w i 0 (omega arith), ← f, ne-eqb _ _ e)
+
+pub word-end : (s w : Bytes) (i : ℕ) → length s ≤ i → length s ≡ length w → true ≡ same (map upper (drop i s)) (drop i w)
+word-end s w i h k = rw (drop-of-length-le s {i = i} h, drop-of-length-le w {i = i} (omega arith))
+
+-- ---------------------------------------------------------------- seven words
+
+-- every span lies in the line
+abbrev pub AllLie : Bytes → List Span → Type 0
+AllLie l [] = Unit {0}
+AllLie l (s ∷ ss) = Within l s × AllLie l ss
+
+lie-snoc : (l : Bytes) (ss : List Span) (s : Span) → AllLie l ss → Within l s → AllLie l (ss ++ (s ∷ []))
+lie-snoc l [] s a w = (w, tt)
+lie-snoc l (x ∷ ss) s a w = (a .0, lie-snoc l ss s (a .1) w)
+
+map-snoc : (l : Bytes) (ss : List Span) (s : Span) (r : List Bytes) → map (part l) (ss ++ (s ∷ [])) ++ r ≡ map (part l) ss ++ part l s ∷ r
+map-snoc l [] s r = refl
+map-snoc l (x ∷ ss) s r = ap (λ (t : List Bytes). part l x ∷ t) (map-snoc l ss s r)
+
+-- the first i words are those of the first i spans, which lie in the line, and the others come from a place on
+pub record Read (l : Bytes) (ss : List Span) (at i : ℕ) : Type 0 where
+  pub places : length ss ≡ 7
+  pub count : i ≤ 7
+  pub said : words l ≡ map (part l) (take i ss) ++ words (drop at l)
+  pub lie : AllLie l (take i ss)
+
+module _ (l : Bytes) (ss : List Span) (at i : ℕ) (h : Read l ss at i) (s : Span) (f : words (drop at l) ≡ wordsBy l s) where
+  pub read-more : i < 7 → s .start < s .end → s .end ≤ length l → Read l (set ss i s) (s .end) (i + 1)
+  read-more k e b =
+      let p = h .places in
+      let t : take (i + 1) (set ss i s) ≡ take i ss ++ (s ∷ []) = rw (add-one i) (take-suc-set ss i s (omega arith)) in
+      record {
+        places = rw (length-set ss i s) p;
+        count = omega arith;
+        said = rw (t, map-snoc l (take i ss) s (words (drop (s .end) l))) (h .said ∙ rw (f, lt-ltb _ _ e));
+        lie = subst (AllLie l) (sym t) (lie-snoc l (take i ss) s (h .lie) (omega arith, b));
+      }
+
+  pub read-few : i < 7 → s .end ≤ s .start → eqb (length (words l)) 7 ≡ false
+  read-few k e = rw (h .said, f, le-ltb _ _ e, append-nil (map (part l) (take i ss)), length-map (take i ss) (part l), length-take-le i ss (let p = h .places in omega arith)) (ne-eqb i 7 (λ z. omega arith))
+
+  pub read-many : s .start < s .end → 7 ≤ i → eqb (length (words l)) 7 ≡ false
+  read-many e k = rw (h .said, f, lt-ltb _ _ e, length-append (map (part l) (take i ss)) (part l s ∷ words (drop (s .end) l)), length-map (take i ss) (part l), length-take-le i ss (let p = h .places in omega arith)) (ne-eqb (i + suc (length (words (drop (s .end) l)))) 7 (λ z. omega arith))
+
+-- seven spans by their names
+abbrev pub sevenOf : List Span → Seven
+sevenOf ss =
+    let z : Span = record { start = 0; end = 0 } in
+    record { letters = getD ss 0 z; kind = getD ss 1 z; from = getD ss 2 z; at = getD ss 3 z; to = getD ss 4 z; bid = getD ss 5 z; size = getD ss 6 z }
+
+seven-named : (l : Bytes) (ss : List Span) → length ss ≡ 7 → AllLie l ss → (map (part l) ss ≡ wordsOf l (sevenOf ss)) × SevenLie l (sevenOf ss)
+seven-named l [] n h = let z : ⊥ = omega arith in absurd z
+seven-named l (a ∷ []) n h = let z : ⊥ = omega arith in absurd z
+seven-named l (a ∷ b ∷ []) n h = let z : ⊥ = omega arith in absurd z
+seven-named l (a ∷ b ∷ c ∷ []) n h = let z : ⊥ = omega arith in absurd z
+seven-named l (a ∷ b ∷ c ∷ d ∷ []) n h = let z : ⊥ = omega arith in absurd z
+seven-named l (a ∷ b ∷ c ∷ d ∷ e ∷ []) n h = let z : ⊥ = omega arith in absurd z
+seven-named l (a ∷ b ∷ c ∷ d ∷ e ∷ f ∷ []) n h = let z : ⊥ = omega arith in absurd z
+seven-named l (a ∷ b ∷ c ∷ d ∷ e ∷ f ∷ g ∷ []) n h =
+    (refl, record { letters = h .0; kind = h .1 .0; from = h .1 .1 .0; at = h .1 .1 .1 .0; to = h .1 .1 .1 .1 .0; bid = h .1 .1 .1 .1 .1 .0; size = h .1 .1 .1 .1 .1 .1 .0 })
+seven-named l (a ∷ b ∷ c ∷ d ∷ e ∷ f ∷ g ∷ x ∷ ss) n h = let z : ⊥ = omega arith in absurd z
+
+pub read-start : (l : Bytes) (ss : List Span) → length ss ≡ 7 → Read l ss 0 0
+read-start l ss n = record { places = n; count = omega arith; said = refl; lie = tt }
+
+pub read-seven : (l : Bytes) (ss : List Span) (at i : ℕ) → Read l ss at i → (s : Span) → words (drop at l) ≡ wordsBy l s → s .end ≤ s .start → 7 ≤ i → SplitIs l (Split.Words (sevenOf ss))
+read-seven l ss at i h s f e k =
+    let p = h .places in
+    let t : take i ss ≡ ss = take-all i ss (omega arith) in
+    let n = seven-named l ss p (subst (AllLie l) t (h .lie)) in
+    (h .said ∙ rw (f, le-ltb _ _ e, append-nil (map (part l) (take i ss)), t) (n .0), n .1)
+
+-- ---------------------------------------------------------------- what seven words say
+
+-- the size is judged last
+size-last : {A : Type 0} (p q e : Bool) (x y : A) → cond (p && (q && e)) x y ≡ cond (p && q) (cond e x y) y
+size-last true true e x y = refl
+size-last true false e x y = refl
+size-last false q e x y = refl
+
+module _ (framed : Bool) (l : Bytes) (w : Seven) (form : ℕ) (f : formBy form ≡ turns.formOf framed (map upper (part l (w .letters)))) where
+  pub no-form : form ≡ 3 → turns.notAllowed ≡ turns.orNotAllowed (sevenBy framed l w)
+  unfolding sevenBy
+  no-form e = rw (← f, eq-eqb _ _ e)
+
+  module _ (n : form ≡ 3 → ⊥) (kind : ℕ) (g : typeBy kind ≡ turns.typeOf (map upper (part l (w .kind)))) where
+    pub no-type : kind ≡ 0 → turns.notAllowed ≡ turns.orNotAllowed (sevenBy framed l w)
+    unfolding sevenBy
+    no-type e = rw (← f, ne-eqb _ _ n, ← g, eq-eqb _ _ e)
+
+    -- the proposal with this size
+    abbrev sized : ℕ → turns.Proposal
+    sized z =
+        record { form = formIs form; type = kind; from = part l (w .from); at = part l (w .at); to = part l (w .to); bid = part l (w .bid); size = z }
+
+    abbrev perhaps : Option ℕ → Option turns.Proposal
+    perhaps none = none
+    perhaps (some z) = some (sized z)
+
+    module _ (m : kind ≡ 0 → ⊥) (r : Bool) (h : r ≡ fieldsHold l w) where
+      by-size : sevenBy framed l w ≡ cond r (perhaps (readSize (part l (w .size)))) none
+      unfolding sevenBy
+      by-size =
+          rw (← f, ne-eqb _ _ n, ← g, ne-eqb _ _ m, h)
+          (size-last (isCall (part l (w .from)) && isAt (part l (w .at))) (isCall (part l (w .to)) && isBid (part l (w .bid))) (isSize (part l (w .size))) (some (sized (readFrom 0 (part l (w .size))))) none
+          ∙ ap (λ (o : Option turns.Proposal). cond (fieldsHold l w) o none) (go (isSize (part l (w .size)))))
+        where
+          go : (e : Bool) → cond e (some (sized (readFrom 0 (part l (w .size))))) none ≡ perhaps (cond e (some (readFrom 0 (part l (w .size)))) none)
+          go true = refl
+          go false = refl
+
+      pub no-fields : not r ≡ true → turns.notAllowed ≡ turns.orNotAllowed (sevenBy framed l w)
+      no-fields e = rw (by-size, not-true r e)
+
+      module _ (e : not r ≡ false) (z : Size) (k : sizeIs z ≡ readSize (part l (w .size))) where
+        pub no-size : z ≡ Size.Bad → turns.notAllowed ≡ turns.orNotAllowed (sevenBy framed l w)
+        no-size q = rw (by-size, not-false r e, sym k ∙ ap sizeIs q)
+
+        pub proposed : (v : ℕ) → z ≡ Size.Value v → turns.proposes (sized v) ≡ turns.orNotAllowed (sevenBy framed l w)
+        proposed v q = rw (by-size, not-false r e, sym k ∙ ap sizeIs q)
+
+-- ---------------------------------------------------------------- a proposal line
+
+not-seven : (framed : Bool) (ws : List Bytes) → eqb (length ws) 7 ≡ false → turns.sevenRead framed ws ≡ none
+not-seven md [] e = refl
+not-seven md (a ∷ []) e = refl
+not-seven md (a ∷ b ∷ []) e = refl
+not-seven md (a ∷ b ∷ c ∷ []) e = refl
+not-seven md (a ∷ b ∷ c ∷ d ∷ []) e = refl
+not-seven md (a ∷ b ∷ c ∷ d ∷ f ∷ []) e = refl
+not-seven md (a ∷ b ∷ c ∷ d ∷ f ∷ g ∷ []) e = refl
+not-seven md (a ∷ b ∷ c ∷ d ∷ f ∷ g ∷ h ∷ []) e = cc
+not-seven md (a ∷ b ∷ c ∷ d ∷ f ∷ g ∷ h ∷ i ∷ r) e = refl
+
+pub line-empty : (framed : Bool) (l : Bytes) → length l < 1 → turns.notAllowed ≡ turns.orNotAllowed (turns.readProposal framed l)
+unfolding turns.readProposal
+line-empty framed [] h = refl
+line-empty framed (x ∷ l) h = let z : ⊥ = omega arith in absurd z
+
+module _ (framed : Bool) (l : Bytes) (h : 1 ≤ length l) where
+  begins : turns.readProposal framed l ≡ cond (eqb (getD l 0 0) SP) none (turns.sevenRead framed (words l))
+  unfolding turns.readProposal
+  begins = go l h
+    where
+      no : {A : Type 0} (t : Bool) (x y : A) → cond (not t) x y ≡ cond t y x
+      no true x y = refl
+      no false x y = refl
+
+      go : (l : Bytes) → 1 ≤ length l → cond (starts l) (turns.sevenRead framed (words l)) none ≡ cond (eqb (getD l 0 0) SP) none (turns.sevenRead framed (words l))
+      go [] h = let z : ⊥ = omega arith in absurd z
+      go (x ∷ l) h = no (eqb x SP) (turns.sevenRead framed (words (x ∷ l))) none
+
+  pub line-space : getD l 0 0 ≡ SP → turns.notAllowed ≡ turns.orNotAllowed (turns.readProposal framed l)
+  line-space e = rw (begins, eq-eqb _ _ e)
+
+  module _ (n : getD l 0 0 ≡ SP → ⊥) (s : Split) (f : SplitIs l s) where
+    pub line-other : s ≡ Split.NotSeven → turns.notAllowed ≡ turns.orNotAllowed (turns.readProposal framed l)
+    line-other e = rw (begins, ne-eqb _ _ n, not-seven framed (words l) (subst (SplitIs l) e f))
+
+    pub line-seven : (w : Seven) → s ≡ Split.Words w → sevenBy framed l w ≡ turns.readProposal framed l
+    unfolding sevenBy
+    line-seven w e = rw (begins, ne-eqb _ _ n, (subst (SplitIs l) e f) .0)
+
+    pub line-lies : (w : Seven) → s ≡ Split.Words w → SevenLie l w
+    line-lies w e = (subst (SplitIs l) e f) .1
+
+-- ---------------------------------------------------------------- for callers
+
+-- what is promised of an answer, where its case is known
+pub says-as : (framed : Bool) (l : Bytes) (t u : TurnLine) → t ≡ u → turnLineIs l t ≡ turns.readTurnLine framed l → turns.readTurnLine framed l ≡ turnLineIs l u
+says-as framed l t u e f = sym f ∙ ap (turnLineIs l) e
+
+pub lies-as : (l : Bytes) (t u : TurnLine) → t ≡ u → LiesIn l t → LiesIn l u
+lies-as l t u e h = subst (LiesIn l) e h

@@ -1,0 +1,244 @@
+// The lines of a turn: FF, FQ, F> and proposals, whose fields are shown where they lie in the line.
+use byte::upper_of;
+use field::Size;
+use field::Span;
+use field::is_at;
+use field::is_bid;
+use field::is_call;
+use field::next_field;
+use field::read_size;
+ghost use mathlib.Core.Path.{_≡_};
+ghost use mathlib.Core.List.{map};
+ghost use Prim.Native.Nat.{_≤_};
+ghost use Rattle.grammar.specs.Bytes.{same};
+ghost use Rattle.grammar.specs.Fields.{upper};
+ghost use Rattle.grammar.specs.Turns.{formOf, typeOf, orNotAllowed, readProposal, readTurnLine};
+ghost use Rattle.proposal.specs.Meaning.{turnLineIs, LiesIn, formBy, typeBy, SplitIs, SevenLie, fieldsHold, sevenBy};
+
+// A proposal as read: its form by 01's number, its type as the capital P or B, and its fields where they lie in the line.
+pub struct Proposal {
+    pub form: u8,
+    pub kind: u8,
+    pub from: Span,
+    pub at: Span,
+    pub to: Span,
+    pub bid: Span,
+    pub size: u32,
+}
+
+// What a line says in a turn; End is F>.
+pub enum TurnLine {
+    FF,
+    FQ,
+    End,
+    NotAllowed,
+    Proposed(Proposal),
+}
+
+// The seven fields of a proposal, in their order.
+struct Seven {
+    letters: Span,
+    kind: Span,
+    from: Span,
+    at: Span,
+    to: Span,
+    bid: Span,
+    size: Span,
+}
+
+// A line by its words: seven of them, or not seven.
+enum Split {
+    Words(Seven),
+    NotSeven,
+}
+
+// What form_of and type_of answer where there is none.
+const NO_FORM: u8 = 3;
+
+const NO_TYPE: u8 = 0;
+
+// The bytes are the word, in either case; the word is given in capitals.
+fn is_word(s: &[u8], word: &[u8]) -> bool
+    ensures { λ r. ⌜ r ≡ same (map upper (now (s .entry))) (now (word .entry)) ⌝ }
+{
+    if s.len() != word.len() {
+        return false;
+    }
+    let mut i = 0;
+    while i < s.len() {
+        if upper_of(s[i]) != word[i] {
+            return false;
+        }
+        i += 1;
+    }
+    true
+}
+
+// The form that the letters of a proposal stand for in this mode.
+fn form_of(framed: bool, w: &[u8]) -> u8
+    ensures { λ r. ⌜ (formBy r ≡ formOf framed (map upper (now (w .entry)))) × (r ≤ 3) ⌝ }
+{
+    if framed {
+        if is_word(w, b"FA") {
+            return 1;
+        }
+        if is_word(w, b"FB") {
+            return 2;
+        }
+        return NO_FORM;
+    }
+    if !is_word(w, b"FB") {
+        return NO_FORM;
+    }
+    0
+}
+
+// The type, P or B.
+fn type_of(w: &[u8]) -> u8
+    ensures { λ r. ⌜ typeBy r ≡ typeOf (map upper (now (w .entry))) ⌝ }
+{
+    if is_word(w, b"P") {
+        return b'P';
+    }
+    if is_word(w, b"B") {
+        return b'B';
+    }
+    NO_TYPE
+}
+
+// The seven words of a line, where it has seven.
+fn seven_words(line: &[u8]) -> Split
+    ensures { λ r. ⌜ SplitIs (now (line .entry)) r ⌝ }
+{
+    let mut w = [Span { start: 0, end: 0 }; 7];
+    let mut place = 0;
+    let mut i = 0;
+    while i < 7 {
+        let s = next_field(line, place);
+        if s.end <= s.start {
+            return Split::NotSeven;
+        }
+        w[i] = s;
+        place = s.end;
+        i += 1;
+    }
+    let more = next_field(line, place);
+    if more.start < more.end {
+        return Split::NotSeven;
+    }
+    let letters = w[0];
+    let kind = w[1];
+    let from = w[2];
+    let at = w[3];
+    let to = w[4];
+    let bid = w[5];
+    let size = w[6];
+    Split::Words(Seven {
+        letters: letters,
+        kind: kind,
+        from: from,
+        at: at,
+        to: to,
+        bid: bid,
+        size: size,
+    })
+}
+
+// From, at, to and BID obey their rules.
+fn fields_hold(line: &[u8], w: Seven) -> bool
+    requires { ⌜ SevenLie (now line) w ⌝ }
+    ensures { λ r. ⌜ r ≡ fieldsHold (now (line .entry)) w ⌝ }
+{
+    let a3 = w.from.start;
+    let e3 = w.from.end;
+    if !is_call(&line[a3..e3]) {
+        return false;
+    }
+    let a4 = w.at.start;
+    let e4 = w.at.end;
+    if !is_at(&line[a4..e4]) {
+        return false;
+    }
+    let a5 = w.to.start;
+    let e5 = w.to.end;
+    if !is_call(&line[a5..e5]) {
+        return false;
+    }
+    let a6 = w.bid.start;
+    let e6 = w.bid.end;
+    is_bid(&line[a6..e6])
+}
+
+// The proposal that seven words say.
+fn judged(line: &[u8], framed: bool, w: Seven) -> TurnLine
+    requires { ⌜ SevenLie (now line) w ⌝ }
+    ensures { λ r. ⌜ (turnLineIs (now (line .entry)) r ≡ orNotAllowed (sevenBy framed (now (line .entry)) w)) × LiesIn (now (line .entry)) r ⌝ }
+{
+    let a1 = w.letters.start;
+    let e1 = w.letters.end;
+    let form = form_of(framed, &line[a1..e1]);
+    if form == NO_FORM {
+        return TurnLine::NotAllowed;
+    }
+    let a2 = w.kind.start;
+    let e2 = w.kind.end;
+    let kind = type_of(&line[a2..e2]);
+    if kind == NO_TYPE {
+        return TurnLine::NotAllowed;
+    }
+    if !fields_hold(line, w) {
+        return TurnLine::NotAllowed;
+    }
+    let a7 = w.size.start;
+    let e7 = w.size.end;
+    let read = read_size(&line[a7..e7]);
+    let Size::Value(size) = read else {
+        return TurnLine::NotAllowed;
+    };
+    let from = w.from;
+    let at = w.at;
+    let to = w.to;
+    let bid = w.bid;
+    TurnLine::Proposed(Proposal {
+        form: form,
+        kind: kind,
+        from: from,
+        at: at,
+        to: to,
+        bid: bid,
+        size: size,
+    })
+}
+
+// A proposal, or nothing that is allowed.
+fn read_proposal(line: &[u8], framed: bool) -> TurnLine
+    ensures { λ r. ⌜ (turnLineIs (now (line .entry)) r ≡ orNotAllowed (readProposal framed (now (line .entry)))) × LiesIn (now (line .entry)) r ⌝ }
+{
+    if line.len() < 1 {
+        return TurnLine::NotAllowed;
+    }
+    if line[0] == b' ' {
+        return TurnLine::NotAllowed;
+    }
+    let s = seven_words(line);
+    let Split::Words(w) = s else {
+        return TurnLine::NotAllowed;
+    };
+    judged(line, framed, w)
+}
+
+// What a line, its spaces at the end removed, says in a turn; a proposal's fields lie in the line.
+pub fn read_turn_line(line: &[u8], framed: bool) -> TurnLine
+    ensures { λ r. ⌜ (turnLineIs (now (line .entry)) r ≡ readTurnLine framed (now (line .entry))) × LiesIn (now (line .entry)) r ⌝ }
+{
+    if is_word(line, b"FF") {
+        return TurnLine::FF;
+    }
+    if is_word(line, b"FQ") {
+        return TurnLine::FQ;
+    }
+    if is_word(line, b"F>") {
+        return TurnLine::End;
+    }
+    read_proposal(line, framed)
+}

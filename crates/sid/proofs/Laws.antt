@@ -1,0 +1,200 @@
+-- The SID by places: each reader of the grammar by the tests that the code makes, in the code's order.
+use mathlib.Core.Path.{_≡_, refl, sym, ap, _∙_}
+use mathlib.Core.Bool.{Bool, true, false, cond, not, _&&_}
+use mathlib.Core.Option.{Option, none, some}
+use mathlib.Core.List.{List, [], _∷_, _++_, append-nil}
+use Prim.Native.Nat.{ℕ, zero, suc, _+_, _-_, _<_, _≤_}
+use native.Mathlib.Omega.{arith}
+use native.Mathlib.Numerals.{add-one, add-two}
+use lib.Dec.{eqb, ltb}
+use lib.ListN.{length, getD, set, take, drop, length-drop, drop-of-length-le, List·getD-eq-default}
+use lib.Seq.{drop-cons, take-all, set-out}
+use borrow.Author.Tests.{eq-eqb, ne-eqb, lt-ltb, le-ltb, ltb-true, ltb-false, not-true, not-false}
+use Rattle.grammar.specs.Bytes.{Bytes, null, all, splitAt}
+use Rattle.grammar.specs.Fields.{upper, digit}
+use Rattle.grammar.specs.Sid.{isLetter, letterPlace, noFeatures, hasFeature, withFeature, sidEnd, readLevels, readFeatures, orLast, splitLast, dataRead, authorRead, sidRead, readSid}
+use Rattle.byte.specs.declared.Class.{Class}
+use Rattle.byte.specs.Classes.{classOf}
+use Rattle.field.specs.Places.{upto}
+use Rattle.field.proofs.Laws.{split-upto}
+use Rattle.sid.specs.Meaning.{lastBy}
+
+-- a part that runs to the end
+rest : (l : Bytes) (p : ℕ) → take (length l - p) (drop p l) ≡ drop p l
+rest l p = take-all (length l - p) (drop p l) (simp length-drop (omega arith))
+
+-- ---------------------------------------------------------------- the features
+
+-- a place from 27 on has no feature and takes none
+module _ (i : ℕ) (fs : Bytes) (n : length fs ≡ 27) (h : 27 ≤ i) where
+  pub has-outside : false ≡ hasFeature i fs
+  has-outside = rw (List·getD-eq-default fs 0 {n = i} (omega arith))
+
+  pub with-outside : (level : ℕ) → fs ≡ withFeature i level fs
+  with-outside level = rw (set-out fs i (level + 1) (omega arith)) (go (ltb level 10))
+    where
+      go : (t : Bool) → fs ≡ cond t fs fs
+      go true = refl
+      go false = refl
+
+pub letter-is : (x : ℕ) → isLetter x ≡ true → (65 ≤ upper x) × (upper x < 91)
+letter-is x e = go (ltb (upper x) 65) refl e
+  where
+    go : (c : Bool) → ltb (upper x) 65 ≡ c → cond c false (ltb (upper x) 91) ≡ true → (65 ≤ upper x) × (upper x < 91)
+    go true q k = let z : _≡_ {A = ℕ} 0 1 = cc in (omega arith, omega arith)
+    go false q k = (ltb-false (upper x) 65 q, ltb-true (upper x) 91 k)
+
+-- the end of a SID, by its length and then its bytes
+pub end-by : (fs l : Bytes) → sidEnd fs l
+    ≡ cond (eqb (length l) 1) (cond (eqb (getD l 0 0) 93) (some fs) none)
+    (cond (eqb (length l) 2) (cond (eqb (getD l 0 0) 36) (cond (eqb (getD l 1 0) 93) (some (withFeature 26 0 fs)) none) none) none)
+end-by fs [] = refl
+end-by fs (x ∷ []) = go (eqb x 93) (eqb x 36)
+  where
+    go : (t u : Bool) → cond (t && true) (some fs) (cond (u && false) (some (withFeature 26 0 fs)) none) ≡ cond t (some fs) none
+    go true u = refl
+    go false true = refl
+    go false false = refl
+end-by fs (x ∷ y ∷ []) = go (eqb x 93) (eqb x 36) (eqb y 93)
+  where
+    go : (t u v : Bool) → cond (t && false) (some fs) (cond (u && (v && true)) (some (withFeature 26 0 fs)) none) ≡ cond u (cond v (some (withFeature 26 0 fs)) none) none
+    go true true true = refl
+    go true true false = refl
+    go true false v = refl
+    go false true true = refl
+    go false true false = refl
+    go false false v = refl
+end-by fs (x ∷ y ∷ z ∷ l) = rw (ne-eqb (length (x ∷ y ∷ z ∷ l)) 1 (λ e. omega arith), ne-eqb (length (x ∷ y ∷ z ∷ l)) 2 (λ e. omega arith)) (go (eqb x 93) (eqb x 36) (eqb y 93))
+  where
+    go : (t u v : Bool) → _≡_ {A = Option (List ℕ)} (cond (t && false) (some fs) (cond (u && (v && false)) (some (withFeature 26 0 fs)) none)) none
+    go true true true = refl
+    go true true false = refl
+    go true false v = refl
+    go false true true = refl
+    go false true false = refl
+    go false false v = refl
+
+-- fewer than two bytes left: the end
+pub levels-end : (fs s : Bytes) (i : ℕ) → length s ≤ i + 1 → sidEnd fs (take (length s - i) (drop i s)) ≡ readLevels fs (drop i s)
+levels-end fs s i h = rw (rest s i) (go (drop i s) (length-drop i s))
+  where
+    go : (t : Bytes) → length t ≡ length s - i → sidEnd fs t ≡ readLevels fs t
+    go [] e = refl
+    go (x ∷ []) e = refl
+    go (x ∷ y ∷ t) e = let z : ⊥ = omega (arith, e) in absurd z
+
+-- a letter or the end, two bytes or more left
+module _ (fs s : Bytes) (i : ℕ) (h : i + 1 < length s) (r : Bool) (l : r ≡ isLetter (getD s i 0)) where
+  next : drop (i + 1) s ≡ getD s (i + 1) 0 ∷ drop (i + 2) s
+  next = rw (add-one i, add-two i) (drop-cons s (suc i) 0 (omega arith))
+
+  pair : drop i s ≡ getD s i 0 ∷ getD s (i + 1) 0 ∷ drop (i + 2) s
+  pair = drop-cons s i 0 (omega arith) ∙ ap (λ (t : Bytes). getD s i 0 ∷ t) (rw (← add-one i) next)
+
+  pub levels-stop : not r ≡ true → sidEnd fs (take (length s - i) (drop i s)) ≡ readLevels fs (drop i s)
+  levels-stop e = rw (rest s i, pair, sym l ∙ not-true r e)
+
+  module _ (e : not r ≡ false) (p : ℕ) (q : p ≡ letterPlace (getD s i 0)) (f : Bool) (g : f ≡ hasFeature p fs) where
+    pub levels-twice : f ≡ true → none ≡ readLevels fs (drop i s)
+    levels-twice k = rw (pair, sym l ∙ not-false r e, ← q, sym g ∙ k)
+
+    module _ (k : f ≡ false) (d : Bool) (m : d ≡ digit (getD s (i + 1) 0)) (more : Bytes) where
+      pub with-digit : d ≡ true → more ≡ withFeature p (getD s (i + 1) 0 - 48) fs → readLevels fs (drop i s) ≡ readLevels more (drop (i + 2) s)
+      with-digit n w = rw (w, pair, sym l ∙ not-false r e, ← q, sym g ∙ k, sym m ∙ n)
+
+      pub no-digit : d ≡ false → more ≡ withFeature p 0 fs → readLevels fs (drop i s) ≡ readLevels more (drop (i + 1) s)
+      no-digit n w = rw (w, pair, sym l ∙ not-false r e, ← q, sym g ∙ k, sym m ∙ n, next)
+
+-- "one or more letters"
+pub features-by : (l : Bytes) → 1 ≤ length l → readFeatures l ≡ cond (isLetter (getD l 0 0)) (readLevels noFeatures l) none
+features-by [] h = let z : ⊥ = omega arith in absurd z
+features-by (x ∷ l) h = refl
+
+pub features-empty : (l : Bytes) → length l < 1 → none ≡ readFeatures l
+features-empty [] h = refl
+features-empty (x ∷ l) h = let z : ⊥ = omega arith in absurd z
+
+-- ---------------------------------------------------------------- the last hyphen
+
+-- a hyphen further on stays the last one
+split-drop : (j : ℕ) (l : Bytes) (p : Bytes × Bytes) → j ≤ length l → splitLast (drop j l) ≡ some p → splitLast l ≡ some (take j l ++ p .0, p .1)
+split-drop zero l p h e = e
+split-drop (suc j) [] p h e = let z : ⊥ = omega arith in absurd z
+split-drop (suc j) (x ∷ l) p h e = rw (split-drop j l p (omega arith) e)
+
+-- one byte back, where there is no hyphen from i on
+module _ (l : Bytes) (i : ℕ) (h : 0 < i) (k : i ≤ length l) (n : splitLast (drop i l) ≡ none) where
+  back : drop (i - 1) l ≡ getD l (i - 1) 0 ∷ drop i l
+  back =
+      let e : suc (i - 1) ≡ i = omega arith in
+      drop-cons l (i - 1) 0 (omega arith) ∙ rw e
+
+  pub hyphen-more : (getD l (i - 1) 0 ≡ 45 → ⊥) → splitLast (drop (i - 1) l) ≡ none
+  hyphen-more e = rw (back, n, ne-eqb _ _ e)
+
+  pub hyphen-stop : getD l (i - 1) 0 ≡ 45 → splitLast l ≡ lastBy l i
+  hyphen-stop e =
+      let f : splitLast (drop (i - 1) l) ≡ some ([], drop i l) = rw (back, n, eq-eqb _ _ e) in
+      rw (split-drop (i - 1) l ([], drop i l) (omega arith) f, append-nil (take (i - 1) l), ne-eqb i 0 (λ z. omega arith))
+
+pub hyphen-start : (l : Bytes) → splitLast (drop (length l) l) ≡ none
+hyphen-start l = rw (drop-of-length-le l {i = length l} (omega arith))
+
+pub hyphen-none : (l : Bytes) (i : ℕ) → i ≤ 0 → splitLast (drop i l) ≡ none → splitLast l ≡ lastBy l 0
+hyphen-none l i h n = let e : i ≡ 0 = omega arith in rw (← n, e)
+
+-- ---------------------------------------------------------------- data, author, and the whole line
+
+pub not-empty : (l : Bytes) → ltb 0 (length l) ≡ not (null l)
+not-empty [] = refl
+not-empty (x ∷ l) = lt-ltb 0 (length (x ∷ l)) (omega arith)
+
+-- "(data `-`)? features"
+module _ (l : Bytes) (p : ℕ) (f : splitLast l ≡ lastBy l p) where
+  pub data-none : p ≡ 0 → readFeatures l ≡ dataRead l (splitLast l)
+  data-none e = rw (f, eq-eqb p 0 e)
+
+  pub data-by : (r : Bool) → (p ≡ 0 → ⊥) → r ≡ (all (classOf Class.Data) (take (p - 1 - 0) l) && not (null (take (p - 1 - 0) l)))
+      → dataRead l (splitLast l) ≡ cond r (readFeatures (take (length l - p) (drop p l))) none
+  unfolding classOf
+  data-by r n g =
+      let z : p - 1 - 0 ≡ p - 1 = omega arith in
+      rw (f, ne-eqb p 0 n, g, z, rest l p)
+
+-- "The author runs to the first hyphen"
+module _ (l : Bytes) (h : ℕ) (f : h ≡ upto 45 l) where
+  pub author-none : length l ≤ h → none ≡ authorRead (splitAt 45 l)
+  author-none k = rw (split-upto 45 l, ← f, le-ltb _ _ k)
+
+  pub author-by : (r : Bool) → h < length l → r ≡ (all (classOf Class.Author) (take (h - 0) l) && not (null (take (h - 0) l)))
+      → authorRead (splitAt 45 l) ≡ cond r (let t = take (length l - (h + 1)) (drop (h + 1) l) in dataRead t (splitLast t)) none
+  unfolding classOf
+  author-by r k g =
+      let z : h - 0 ≡ h = omega arith in
+      rw (split-upto 45 l, ← f, lt-ltb _ _ k, g, z, rest l (h + 1), add-one h)
+
+-- the bracket has no small letter
+bracket : (x : ℕ) → eqb (upper x) 91 ≡ eqb x 91
+bracket x = go (ltb x 97) refl (ltb x 123) refl
+  where
+    go : (t : Bool) → ltb x 97 ≡ t → (u : Bool) → ltb x 123 ≡ u → eqb (cond t x (cond u (x - 32) x)) 91 ≡ eqb x 91
+    go true e u k = refl
+    go false e false k = refl
+    go false e true k =
+        let a = ltb-false x 97 e in
+        let b = ltb-true x 123 k in
+        rw (ne-eqb (x - 32) 91 (λ z. omega arith), ne-eqb x 91 (λ z. omega arith))
+
+pub sid-empty : (l : Bytes) → length l < 1 → none ≡ readSid l
+unfolding readSid
+sid-empty [] h = refl
+sid-empty (x ∷ l) h = let z : ⊥ = omega arith in absurd z
+
+pub sid-by : (l : Bytes) → 1 ≤ length l → readSid l ≡ cond (eqb (getD l 0 0) 91) (authorRead (splitAt 45 (take (length l - 1) (drop 1 l)))) none
+unfolding readSid
+sid-by [] h = let z : ⊥ = omega arith in absurd z
+sid-by (x ∷ l) h = rw (rest (x ∷ l) 1, bracket x) (go (eqb x 91))
+  where
+    go : (t : Bool) → sidRead (cond t (some l) none) ≡ cond t (authorRead (splitAt 45 l)) none
+    go true = refl
+    go false = refl

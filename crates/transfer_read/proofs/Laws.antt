@@ -1,0 +1,90 @@
+-- Laws that the proofs of several functions cite.
+use mathlib.Core.Path.{_≡_, sym, ap, _∙_}
+use mathlib.Core.Bool.{Bool, true, false, not}
+use Prim.Native.Nat.{ℕ, suc, _+_, _%_, _<_, _≤_}
+use native.Mathlib.Omega.{arith}
+use native.Mathlib.Numerals.{add-one}
+use lib.Dec.{eqb}
+use lib.ListN.{length, getD, drop, set, drop-of-length-le}
+use lib.Seq.{drop-cons}
+use borrow.Author.Tests.{eq-eqb, ne-eqb, not-true, not-false}
+use Rattle.grammar.specs.Bytes.{Bytes}
+use Rattle.grammar.specs.Fields.{headingByte}
+use Rattle.transfer_read.specs.declared.Reader.{Reader}
+use Rattle.transfer_read.specs.declared.Stepped.{Stepped}
+use Rattle.transfer_read.specs.declared.Outcome.the-variants.{More}
+use Rattle.transfer_read.specs.Step.{goesOn, stepAt, stepOf}
+use Rattle.transfer_read.specs.Feed.{Run, run, after, headingPut, storePut, feedOf}
+
+-- the code's test `!heading_byte(b)`
+pub no-heading-byte : {h : Bool} (b : ℕ) → h ≡ headingByte b → not h ≡ true → headingByte b ≡ false
+no-heading-byte {h} b e t = sym e ∙ not-true h t
+
+pub a-heading-byte : {h : Bool} (b : ℕ) → h ≡ headingByte b → not h ≡ false → headingByte b ≡ true
+a-heading-byte {h} b e t = sym e ∙ not-false h t
+
+-- where a step's byte goes
+module _ (put : ℕ) (r : Reader) (b : ℕ) (l : Bytes) where
+  pub to-heading : put ≡ 1 → headingPut put r b l ≡ set l (r .head) b
+  unfolding headingPut
+  to-heading e = rw e
+
+  pub heading-stays : (put ≡ 1 → ⊥) → headingPut put r b l ≡ l
+  unfolding headingPut
+  heading-stays n = rw (ne-eqb put 1 n)
+
+  pub to-body : put ≡ 2 → storePut put r b l ≡ set l (r .body) b
+  unfolding storePut
+  to-body e = rw e
+
+  pub store-stays : (put ≡ 2 → ⊥) → storePut put r b l ≡ l
+  unfolding storePut
+  store-stays n = rw (ne-eqb put 2 n)
+
+  pub store-stays-1 : put ≡ 1 → storePut put r b l ≡ l
+  unfolding storePut
+  store-stays-1 e = rw e
+
+-- the wrapping negation n of a sum s, and the byte b that makes the sum 0 modulo 256
+pub sum-closes : (s b : ℕ) {n : ℕ} → s < 256 → b < 256 → (n + s) % 256 ≡ 0 → b ≡ n → eqb ((s + b) % 256) 0 ≡ true
+sum-closes s b hs hb e t = eq-eqb ((s + b) % 256) 0 (omega arith)
+
+pub sum-open : (s b : ℕ) {n : ℕ} → s < 256 → b < 256 → (n + s) % 256 ≡ 0 → n < 256 → (b ≡ n → ⊥) → eqb ((s + b) % 256) 0 ≡ false
+sum-open s b hs hb e hn t = ne-eqb ((s + b) % 256) 0 (λ z. t (omega arith))
+
+-- the dispatch on the place
+pub at-place : {s : Stepped} (room : ℕ) (r : Reader) (k b : ℕ) → r .place ≡ k → s ≡ stepAt k room r b → s ≡ stepOf room r b
+unfolding stepOf
+at-place room r k b e f = f ∙ ap (λ (p : ℕ). stepAt p room r b) (sym e)
+
+-- ---------------------------------------------------------------- counts
+
+pub after-zero : (u : Run) → after 0 u ≡ u
+after-zero u = let e : 0 + u .fed .count ≡ u .fed .count = omega arith in rw e
+
+pub after-after : (n m : ℕ) (u : Run) → after n (after m u) ≡ after (n + m) u
+after-after n m u = let e : n + (m + u .fed .count) ≡ n + m + u .fed .count = omega arith in rw e
+
+-- ---------------------------------------------------------------- a turn of the loop in `feed`
+
+-- the step's byte is the head of what is left
+module _ (room : ℕ) (t : Reader) (input hd st : Bytes) (i : ℕ) (s : Stepped) (hd′ st′ : Bytes) (h : i < length input)
+    (e : s ≡ stepOf room t (getD input i 0)) (f : hd′ ≡ headingPut (s .put) t (getD input i 0) hd)
+    (g : st′ ≡ storePut (s .put) t (getD input i 0) st) where
+  pub feed-more : goesOn (s .outcome) ≡ true
+      → after i (feedOf room t (drop i input) hd st) ≡ after (i + 1) (feedOf room (s .reader) (drop (i + 1) input) hd′ st′)
+  unfolding feedOf
+  feed-more n =
+      let u = feedOf room (s .reader) (drop (suc i) input) hd′ st′ in
+      rw (drop-cons input i 0 h, ← e, n, ← f, ← g, add-one i) (after-after i 1 u ∙ ap (λ (k : ℕ). after k u) (add-one i))
+
+  pub feed-stop : goesOn (s .outcome) ≡ false
+      → run (record { outcome = s .outcome; reader = s .reader; count = i + 1 }) hd′ st′ ≡ after i (feedOf room t (drop i input) hd st)
+  unfolding feedOf
+  feed-stop n = rw (drop-cons input i 0 h, ← e, n, f, g)
+
+-- nothing is left
+pub feed-end : (room : ℕ) (t : Reader) (input hd st : Bytes) (i : ℕ) → length input ≤ i
+    → run (record { outcome = More; reader = t; count = i }) hd st ≡ after i (feedOf room t (drop i input) hd st)
+unfolding feedOf
+feed-end room t input hd st i h = let e : i + 0 ≡ i = omega arith in rw (drop-of-length-le input h, e)

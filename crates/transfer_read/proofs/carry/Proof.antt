@@ -1,0 +1,60 @@
+-- The store is what the buffer's writer leaves where all bytes fit (Runs, put-sets); the sum is a wrapping sum of wrapping sums (block-along).
+use mathlib.Core.Path.{_∙_}
+use native.Mathlib.Omega.{arith}
+use Rattle.transfer_read.proofs.Runs.{put-sets, block-along, body-along}
+use borrow.Author.Needs.{needs}
+use Rattle.transfer_read.proofs.carry.Statement.{statement}
+use Rattle.transfer_read.proofs.carry.Tie as tie
+
+cast-t7 : tie.Need-cast-t7
+cast-t7 c = search needs
+
+put-requires : tie.Need-put-requires
+put-requires c κs = search needs
+
+cast-t : tie.Need-cast-t
+cast-t c = search needs
+
+add-t : tie.Need-add-t
+add-t c = search needs
+
+cast-t-2 : tie.Need-cast-t-2
+cast-t-2 c = search needs
+
+sub-t : tie.Need-sub-t
+sub-t c = omega (arith, c .before .before .before .before .before .before .before .before .before .before .before .pre .1 (c .before .if1 .taken))
+
+sum-requires : tie.Need-sum-requires
+sum-requires c κs = search needs
+
+wrapping-add-u8-requires : tie.Need-wrapping-add-u8-requires
+wrapping-add-u8-requires c κs = search needs
+
+same-length : tie.Need-same-length
+same-length c = search needs
+
+returns : tie.Need-returns
+returns c = let a = c .before .before .before .before .before .before .before .before .before .before .before .before .before .args in (block-along (a .r) (a .bytes .now) (c .before .sum .result) (c .wrapping-add-u8 .result) (c .before .before .before .if1 .taken) (c .before .sum .ensures) (c .wrapping-add-u8 .ensures), c .before .before .before .before .before .before .before .before .put .ensures .1 ∙ put-sets (a .store .now) (a .r .body) (a .bytes .now) (search needs))
+
+same-length-2 : tie.Need-same-length-2
+same-length-2 c = search needs
+
+returns-2 : tie.Need-returns-2
+returns-2 c = let a = c .before .before .before .before .before .before .before .before .before .before .args in (body-along (a .r) (a .bytes .now) (c .if1 .left), c .before .before .before .before .before .put .ensures .1 ∙ put-sets (a .store .now) (a .r .body) (a .bytes .now) (search needs))
+
+pub carry-spec : {M : Type 1} → statement M
+carry-spec =
+    tie.close
+    (tie.spec
+    cast-t7
+    put-requires
+    cast-t
+    add-t
+    cast-t-2
+    sub-t
+    sum-requires
+    wrapping-add-u8-requires
+    same-length
+    returns
+    same-length-2
+    returns-2)

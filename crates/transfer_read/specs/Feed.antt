@@ -1,0 +1,46 @@
+-- A portion of a transfer, read byte by byte into the array of the heading and the store of the body.
+use mathlib.Core.Bool.{cond}
+use mathlib.Core.List.{[], _∷_}
+use Prim.Native.Nat.{ℕ, _+_, min}
+use lib.Dec.{eqb}
+use lib.ListN.{length, set}
+use Rattle.grammar.specs.Bytes.{Bytes}
+use Rattle.transfer_read.specs.declared.Reader.{Reader}
+use Rattle.transfer_read.specs.declared.Fed.{Fed}
+use Rattle.transfer_read.specs.declared.Outcome.the-variants.{More}
+use Rattle.transfer_read.specs.Step.{goesOn, stepOf}
+
+-- What a portion comes to, with the heading's array and the store as they are then.
+pub record Run : Type 0 where
+  pub fed : Fed
+  pub heading : Bytes
+  pub store : Bytes
+
+abbrev pub run : Fed → Bytes → Bytes → Run
+run f hd st = record { fed = f; heading = hd; store = st }
+
+-- How many bytes a store takes of a body: "A body has at most 65,535 bytes".
+abbrev pub roomOf : Bytes → ℕ
+roomOf st = min (length st) 65535
+
+-- The heading's array after a byte: at index head of the reading before it. (`set` past the end changes nothing.)
+unfoldable pub headingPut : ℕ → Reader → ℕ → Bytes → Bytes
+headingPut put r b hd = cond (eqb put 1) (set hd (r .head) b) hd
+
+-- The store after a byte: at index body of the reading before it.
+unfoldable pub storePut : ℕ → Reader → ℕ → Bytes → Bytes
+storePut put r b st = cond (eqb put 2) (set st (r .body) b) st
+
+-- The same after n bytes more.
+abbrev pub after : ℕ → Run → Run
+after n u = run (record { outcome = u .fed .outcome; reader = u .fed .reader; count = n + u .fed .count }) (u .heading) (u .store)
+
+-- A portion, up to its end or an outcome; the byte of the outcome is counted.
+unfoldable pub feedOf : ℕ → Reader → Bytes → Bytes → Bytes → Run
+feedOf room r [] hd st = run (record { outcome = More; reader = r; count = 0 }) hd st
+feedOf room r (b ∷ bs) hd st =
+    let s = stepOf room r b in
+    let hd′ = headingPut (s .put) r b hd in
+    let st′ = storePut (s .put) r b st in
+    let u = feedOf room (s .reader) bs hd′ st′ in
+    cond (goesOn (s .outcome)) (after 1 u) (run (record { outcome = s .outcome; reader = s .reader; count = 1 }) hd′ st′)

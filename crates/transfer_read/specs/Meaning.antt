@@ -1,0 +1,150 @@
+-- What the numbers, the heading's array and the store mean in the words of the grammar's scan (grammar, specs/Scan).
+use mathlib.Core.Path.{_≡_}
+use mathlib.Core.Bool.{true, cond}
+use mathlib.Core.List.{List, [], _∷_, _++_}
+use Prim.Native.Nat.{ℕ, zero, suc, _+_, _%_, _≤_}
+use lib.Dec.{eqb}
+use lib.ListN.{length, take, drop}
+use Rattle.grammar.specs.Bytes.{Bytes, CR, CTRLZ}
+use Rattle.grammar.specs.Transfers.{Parsed, sum}
+use Rattle.grammar.specs.Scan.{Scan, inTitle, inBody, inMark, atStart, atLen, inHead, inOff, inData, atSize, atSum, Scanned, goes, got, malformed, wrongSum, noRoom, scanByte, scanOn, bodyOf}
+use Rattle.transfer_read.specs.declared.Reader.{Reader}
+use Rattle.transfer_read.specs.declared.Stepped.{Stepped}
+use Rattle.transfer_read.specs.declared.Outcome.{Outcome}
+use Rattle.transfer_read.specs.declared.Outcome.the-variants.{More, Whole, Malformed, WrongSum, NoRoom}
+use Rattle.transfer_read.specs.Step.{goesOn, reader, onward, ended}
+use Rattle.transfer_read.specs.Feed.{Run, after, feedOf}
+
+-- ---------------------------------------------------------------- one byte
+
+-- The heading so far.
+abbrev pub headingSoFar : Scan → Bytes
+headingSoFar (inTitle t) = t
+headingSoFar (inBody t x) = t
+headingSoFar (inMark t x) = t
+headingSoFar atStart = []
+headingSoFar atLen = []
+headingSoFar (inHead len h) = h
+headingSoFar (inOff len h o) = h
+headingSoFar (inData h x k) = h
+headingSoFar (atSize h x) = h
+headingSoFar (atSum h x) = h
+
+-- A scan in numbers: place, L, bytes of heading, of offset, of the block to come, sum of the data modulo 256, bytes of the body.
+abbrev pub numbersOf : Scan → Reader
+numbersOf (inTitle t) = reader 0 0 (length t) 0 0 0 0
+numbersOf (inBody t x) = reader 1 0 (length t) 0 0 0 (length x)
+numbersOf (inMark t x) = reader 2 0 (length t) 0 0 0 (length x)
+numbersOf atStart = reader 3 0 0 0 0 0 0
+numbersOf atLen = reader 4 0 0 0 0 0 0
+numbersOf (inHead len h) = reader 5 len (length h) 0 0 0 0
+numbersOf (inOff len h o) = reader 6 len (length h) (length o) 0 0 0
+numbersOf (inData h x k) = reader 7 0 (length h) 0 k (sum x % 256) (length x)
+numbersOf (atSize h x) = reader 8 0 (length h) 0 0 (sum x % 256) (length x)
+numbersOf (atSum h x) = reader 9 0 (length h) 0 0 (sum x % 256) (length x)
+
+-- Where a byte goes at which the scan goes on: 0 nowhere, 1 to the heading, 2 to the body.
+abbrev pub placeOf : Scan → ℕ → ℕ
+placeOf (inTitle t) b = cond (eqb b CR) 0 1
+placeOf (inBody t x) b = cond (eqb b CTRLZ) 0 2
+placeOf (inMark t x) b = 0
+placeOf atStart b = 0
+placeOf atLen b = 0
+placeOf (inHead len h) b = cond (eqb b 0) 0 1
+placeOf (inOff len h o) b = 0
+placeOf (inData h x zero) b = 0
+placeOf (inData h x (suc k)) b = 2
+placeOf (atSize h x) b = 0
+placeOf (atSum h x) b = 0
+
+-- The code's name for each outcome of the scan.
+abbrev pub outcomeOf : Scanned → Outcome
+outcomeOf (goes sc) = More
+outcomeOf (got h x) = Whole
+outcomeOf malformed = Malformed
+outcomeOf wrongSum = WrongSum
+outcomeOf noRoom = NoRoom
+
+-- What the step on the numbers of sc must give where the scan of sc gives this.
+abbrev pub steppedOf : Scan → ℕ → Scanned → Stepped
+steppedOf sc b (goes sc′) = onward (numbersOf sc′) (placeOf sc b)
+steppedOf sc b (got h x) = ended (numbersOf sc) Whole
+steppedOf sc b malformed = ended (numbersOf sc) Malformed
+steppedOf sc b wrongSum = ended (numbersOf sc) WrongSum
+steppedOf sc b noRoom = ended (numbersOf sc) NoRoom
+
+-- ---------------------------------------------------------------- a portion
+
+-- A reader, a heading's array and a store stand where the scan does: the numbers are its numbers, and the bytes so far lie in the buffers.
+pub record Stands (room : ℕ) (r : Reader) (hd st : Bytes) (sc : Scan) : Type 0 where
+  pub numbers : r ≡ numbersOf sc
+  pub heading : take (r .head) hd ≡ headingSoFar sc
+  pub body : take (r .body) st ≡ bodyOf sc
+  pub short : r .head ≤ 80
+  pub fits : r .body ≤ room
+  pub array : length hd ≡ 80
+  pub store : room ≤ length st
+
+-- A portion bs, read from the scan sc on, that has come to an outcome o: at which byte, where the reading stood before it,
+-- and that this is what was reported, counted, and left in the buffers.
+pub record Ended (room : ℕ) (sc : Scan) (bs : Bytes) (o : Scanned) (u : Run) : Type 0 where
+  pub before : Bytes
+  pub byte : ℕ
+  pub rest : Bytes
+  pub last : Scan
+  pub bytes : bs ≡ before ++ byte ∷ rest
+  pub onto : scanOn room (goes sc) before ≡ goes last
+  pub judged : scanByte room last byte ≡ o
+  pub outcome : u .fed .outcome ≡ outcomeOf o
+  pub count : u .fed .count ≡ length before + 1
+  pub stands : Stands room (u .fed .reader) (u .heading) (u .store) last
+
+-- A whole transfer lies in the buffers.
+pub record Holds (h x : Bytes) (u : Run) : Type 0 where
+  pub heading : take (u .fed .reader .head) (u .heading) ≡ h
+  pub body : take (u .fed .reader .body) (u .store) ≡ x
+  pub headingLength : u .fed .reader .head ≡ length h
+  pub bodyLength : u .fed .reader .body ≡ length x
+
+-- A whole transfer has come, its last byte the n-th, and lies in the buffers.
+pub record Received (n : ℕ) (h x : Bytes) (u : Run) : Type 0 where
+  pub outcome : u .fed .outcome ≡ Whole
+  pub count : u .fed .count ≡ n
+  pub holds : Holds h x u
+
+-- What lies in the buffers, as a right transfer.
+abbrev pub contents : Run → Parsed
+contents u = record { heading = take (u .fed .reader .head) (u .heading); body = take (u .fed .reader .body) (u .store); right = true }
+
+-- What a portion bs, read from the scan sc on, must come to where the scan of the same bytes gives this.
+abbrev pub FedAs : ℕ → Scan → Bytes → Run → Scanned → Type 0
+FedAs room sc bs u (goes sc′) = (u .fed .outcome ≡ More) × (u .fed .count ≡ length bs) × Stands room (u .fed .reader) (u .heading) (u .store) sc′
+FedAs room sc bs u (got h x) = Ended room sc bs (got h x) u × Holds h x u
+FedAs room sc bs u malformed = Ended room sc bs malformed u
+FedAs room sc bs u wrongSum = Ended room sc bs wrongSum u
+FedAs room sc bs u noRoom = Ended room sc bs noRoom u
+
+-- Of a buffer: what lay before index i, and from index j on, is as it was.
+pub record Kept (i j : ℕ) (was is : Bytes) : Type 0 where
+  pub on : i ≤ j
+  pub before : take i is ≡ take i was
+  pub past : drop j is ≡ drop j was
+  pub size : length is ≡ length was
+
+-- Both buffers after a portion: what lay before the heading and the body that it brings, and past them, is as it was.
+abbrev pub Untouched : Reader → Bytes → Bytes → Run → Type 0
+Untouched r hd st u = Kept (r .head) (u .fed .reader .head) hd (u .heading) × Kept (r .body) (u .fed .reader .body) st (u .store)
+
+-- A portion more, where the one before goes on.
+abbrev pub thenFeed : ℕ → Run → Bytes → Run
+thenFeed room u ys = cond (goesOn (u .fed .outcome)) (after (u .fed .count) (feedOf room (u .fed .reader) ys (u .heading) (u .store))) u
+
+-- Any portions, one after the other.
+abbrev pub feedEach : ℕ → Run → List Bytes → Run
+feedEach room u [] = u
+feedEach room u (p ∷ ps) = feedEach room (thenFeed room u p) ps
+
+-- All bytes of the portions.
+abbrev pub joined : List Bytes → Bytes
+joined [] = []
+joined (p ∷ ps) = p ++ joined ps

@@ -1,0 +1,168 @@
+// Our transfers, resumed at any byte with any room: the text at the cursor, what of it isn't passed over and fits. Nothing is judged.
+use buffer::Cursor;
+ghost use Prim.Native.Nat.{_+_, _*_, _%_, _≤_, _<_, min};
+ghost use mathlib.Core.Path.{_≡_};
+ghost use mathlib.Core.List.{[], _∷_};
+ghost use lib.ListN.{length};
+ghost use Rattle.grammar.specs.Transfers.{writePlain, writeFramed, headerOut, blocksOut, checksum, partOf, headingOf};
+ghost use Rattle.buffer.specs.Put.{Puts};
+
+// A plain transfer: title, CR, body, 0x1A, CR.
+pub fn write_plain(buf: &mut [u8], c: Cursor, title: &[u8], body: &[u8]) -> Cursor
+    ensures { λ r. ⌜ Puts (now (buf .entry)) c (writePlain (now (title .entry)) (now (body .entry))) r (now (buf .exit)) ⌝ }
+{
+    let c1 = buffer::put_line(buf, c, title);
+    let c2 = buffer::put(buf, c1, body);
+    buffer::put(buf, c2, b"\x1a\r")
+}
+
+// A length in one byte, modulo 256.
+fn length_byte(n: usize) -> u8
+    ensures { λ r. ⌜ r ≡ n % 256 ⌝ }
+{
+    (n % 256) as u8
+}
+
+// The header: 01, L, heading, 00, offset `0`, 00.
+fn put_header(buf: &mut [u8], c: Cursor, heading: &[u8]) -> Cursor
+    ensures { λ r. ⌜ Puts (now (buf .entry)) c (headerOut (now (heading .entry))) r (now (buf .exit)) ⌝ }
+{
+    let n = heading.len();
+    let start = [1, length_byte(n % 256 + 3)];
+    let c1 = buffer::put(buf, c, &start);
+    let c2 = buffer::put(buf, c1, heading);
+    buffer::put(buf, c2, b"\x000\x00")
+}
+
+// One block: 02, n, data.
+fn put_block(buf: &mut [u8], c: Cursor, bytes: &[u8]) -> Cursor
+    ensures { λ r. ⌜ Puts (now (buf .entry)) c (2 ∷ length (now (bytes .entry)) % 256 ∷ now (bytes .entry)) r (now (buf .exit)) ⌝ }
+{
+    let start = [2, length_byte(bytes.len())];
+    let d = buffer::put(buf, c, &start);
+    buffer::put(buf, d, bytes)
+}
+
+// Where the block that starts at i ends.
+fn block_end(i: usize, len: usize) -> usize
+    requires { ⌜ i < len ⌝ }
+    ensures { λ r. ⌜ r ≡ min (i + 256) len ⌝ }
+{
+    if 256 < len - i {
+        return i + 256;
+    }
+    len
+}
+
+// The blocks of a body, up to the end of the buffer.
+fn put_blocks(buf: &mut [u8], c: Cursor, body: &[u8]) -> Cursor
+    ensures { λ r. ⌜ Puts (now (buf .entry)) c (blocksOut (length (now (body .entry))) (now (body .entry))) r (now (buf .exit)) ⌝ }
+{
+    let len = body.len();
+    let mut d = c;
+    let mut i = 0;
+    while i < len {
+        let at = d.at;
+        if buf.len() <= at {
+            return Cursor { at: at, skip: 0 };
+        }
+        let e = block_end(i, len);
+        d = put_block(buf, d, &body[i..e]);
+        i = e;
+    }
+    let at = d.at;
+    if buf.len() <= at {
+        return Cursor { at: at, skip: 0 };
+    }
+    d
+}
+
+// How many whole blocks of a body lie in the bytes that are passed over: 258 bytes a block, of which 256 are data.
+fn passed_blocks(skip: usize, len: usize) -> usize
+    ensures { λ r. ⌜ (258 * r ≤ skip) × (256 * r ≤ len) ⌝ }
+{
+    let k = skip / 258;
+    let n = len / 256;
+    if k < n {
+        return k;
+    }
+    n
+}
+
+// The blocks of a body; those that are passed over whole aren't looked at.
+fn put_body(buf: &mut [u8], c: Cursor, body: &[u8]) -> Cursor
+    ensures { λ r. ⌜ Puts (now (buf .entry)) c (blocksOut (length (now (body .entry))) (now (body .entry))) r (now (buf .exit)) ⌝ }
+{
+    let at = c.at;
+    let skip = c.skip;
+    if buf.len() <= at {
+        return Cursor { at: at, skip: 0 };
+    }
+    let k = passed_blocks(skip, body.len());
+    let i = 256 * k;
+    let d = Cursor {
+        at: at,
+        skip: skip - 258 * k,
+    };
+    put_blocks(buf, d, &body[i..])
+}
+
+// The end: 04, checksum. The sum is taken only where its byte is written.
+fn put_end(buf: &mut [u8], c: Cursor, body: &[u8]) -> Cursor
+    ensures { λ r. ⌜ Puts (now (buf .entry)) c (4 ∷ checksum (now (body .entry)) ∷ []) r (now (buf .exit)) ⌝ }
+{
+    let d = buffer::put_byte(buf, c, 4);
+    let at = d.at;
+    let skip = d.skip;
+    if buf.len() <= at {
+        return Cursor { at: at, skip: 0 };
+    }
+    if 1 <= skip {
+        return Cursor {
+            at: at,
+            skip: skip - 1,
+        };
+    }
+    buffer::put_byte(buf, d, checksum::checksum(body))
+}
+
+// A framed transfer: header, blocks of 256 data bytes and a shorter last one, 04, checksum.
+pub fn write_framed(buf: &mut [u8], c: Cursor, heading: &[u8], body: &[u8]) -> Cursor
+    ensures { λ r. ⌜ Puts (now (buf .entry)) c (writeFramed (now (heading .entry)) (now (body .entry))) r (now (buf .exit)) ⌝ }
+{
+    let c1 = put_header(buf, c, heading);
+    let c2 = put_body(buf, c1, body);
+    put_end(buf, c2, body)
+}
+
+// The len bytes from start on, or nothing where they run past the end.
+fn part(s: &[u8], start: usize, len: usize) -> &[u8]
+    ensures { λ r. ⌜ now r ≡ partOf (now (s .entry)) start len ⌝ }
+{
+    if start <= s.len() {
+        if len <= s.len() - start {
+            &s[start..start + len]
+        } else {
+            &s[..0]
+        }
+    } else {
+        &s[..0]
+    }
+}
+
+// The heading of a record's transfer, where it lies: the file name for a file (form 2), else the title.
+pub fn heading<'a>(
+    titles: &'a [u8],
+    names: &'a [u8],
+    form: u8,
+    start: usize,
+    len: usize,
+) -> &'a [u8]
+    ensures { λ r. ⌜ now r ≡ headingOf (now (titles .entry)) (now (names .entry)) form start len ⌝ }
+{
+    if form == 2 {
+        part(names, start, len)
+    } else {
+        part(titles, start, len)
+    }
+}

@@ -1,0 +1,120 @@
+-- The questions and answers of the readers as numbers, for callers from C and Rust.
+use mathlib.Core.Path.{_≡_}
+use mathlib.Core.Bool.{Bool, true, false, cond, not}
+use mathlib.Core.Option.{Option, none, some}
+use mathlib.Core.List.{List, [], _∷_}
+use Prim.Native.Nat.{ℕ}
+use lib.Dec.{eqb}
+use lib.ListN.{replicate}
+use Rattle.grammar.specs.Bytes.{Bytes}
+use Rattle.grammar.specs.Fields.{plain, message, formNumber, isCall, isAt, isBid, isHeading, isSize, isBody}
+use Rattle.grammar.specs.Lines.{LineByte, dropped, ends, grows, overruns}
+use Rattle.grammar.specs.Sid.{noFeatures}
+use Rattle.grammar.specs.Turns.{Proposal, TurnLine, saysFF, saysFQ, endsBlock, notAllowed, proposes}
+use Rattle.byte.specs.declared.Class.{Class}
+use Rattle.field.specs.declared.Span.{Span}
+use Rattle.field.specs.Places.{part}
+use Rattle.proposal.specs.declared.Proposal as code
+use Rattle.proposal.specs.declared.TurnLine as told
+use Rattle.proposal.specs.Meaning.{Within}
+
+-- A test's answer: 1 where it holds.
+abbrev pub flag : Bool → ℕ
+flag true = 1
+flag false = 0
+
+-- A flag that is lent: any number but 0 says that it holds.
+abbrev pub holds : ℕ → Bool
+holds n = not (eqb n 0)
+
+-- A class of bytes by its number: 0 from and to, 1 BID, 2 title or name, 3 digit, 4 SID author, any other: SID data.
+unfoldable pub classBy : ℕ → Class
+classBy k =
+    cond (eqb k 0) Class.Call
+    (cond (eqb k 1) Class.Bid
+    (cond (eqb k 2) Class.Heading
+    (cond (eqb k 3) Class.Digit
+    (cond (eqb k 4) Class.Author
+    Class.Data))))
+
+-- A field's rule by its number: 0 from and to, 1 at, 2 BID, 3 title or name, 4 size, 5 plain body, any other: packed body.
+unfoldable pub fieldIs : ℕ → Bytes → Bool
+fieldIs k w =
+    cond (eqb k 0) (isCall w)
+    (cond (eqb k 1) (isAt w)
+    (cond (eqb k 2) (isBid w)
+    (cond (eqb k 3) (isHeading w)
+    (cond (eqb k 4) (isSize w)
+    (cond (eqb k 5) (isBody plain w)
+    (isBody message w))))))
+
+-- What a byte does where a line is awaited: 0 it is dropped, 1 it ends the line, 2 it is one byte more, 3 it is the 257th.
+abbrev pub lineByteCode : LineByte → ℕ
+lineByteCode dropped = 0
+lineByteCode ends = 1
+lineByteCode grows = 2
+lineByteCode overruns = 3
+
+-- The 27 levels of a SID; zeros where the line is none.
+abbrev pub sidLevels : Option (List ℕ) → List ℕ
+sidLevels none = noFeatures
+sidLevels (some fs) = fs
+
+-- What a line says in a turn: 0 FF, 1 FQ, 2 F>, 3 a proposal, 5 nothing that is allowed.
+abbrev pub turnLineCode : TurnLine → ℕ
+turnLineCode saysFF = 0
+turnLineCode saysFQ = 1
+turnLineCode endsBlock = 2
+turnLineCode (proposes p) = 3
+turnLineCode notAllowed = 5
+
+-- The eleven numbers of a proposal: form, type, start and end of from, at, to and BID, and size.
+abbrev pub eleven : ℕ → ℕ → Span → Span → Span → Span → ℕ → List ℕ
+eleven form type from at to bid size =
+    form ∷ type ∷ from .start ∷ from .end ∷ at .start ∷ at .end ∷ to .start ∷ to .end ∷ bid .start ∷ bid .end ∷ size ∷ []
+
+-- The field w lies in the line l from a start to an end.
+abbrev pub Lies : Bytes → Bytes → Span → Type 0
+Lies l w s = (part l s ≡ w) × Within l s
+
+-- The eleven numbers are those of the proposal p in the line l: its form, type and size, and where its fields lie.
+pub record Numbers (l : Bytes) (p : Proposal) (out : List ℕ) : Type 0 where
+  pub from : Span
+  pub at : Span
+  pub to : Span
+  pub bid : Span
+  pub numbers : out ≡ eleven (formNumber (p .form)) (p .type) from at to bid (p .size)
+  pub fromLies : Lies l (p .from) from
+  pub atLies : Lies l (p .at) at
+  pub toLies : Lies l (p .to) to
+  pub bidLies : Lies l (p .bid) bid
+
+abbrev pub zeros : List ℕ
+zeros = replicate 11 0
+
+-- The eleven numbers of what a line says: those of a proposal, else zeros.
+abbrev pub NumbersOf : Bytes → TurnLine → List ℕ → Type 0
+NumbersOf l saysFF out = out ≡ zeros
+NumbersOf l saysFQ out = out ≡ zeros
+NumbersOf l endsBlock out = out ≡ zeros
+NumbersOf l notAllowed out = out ≡ zeros
+NumbersOf l (proposes p) out = Numbers l p out
+
+-- ---------------------------------------------------------------- on the way there: the same of the code's own answer
+
+abbrev pub proposalNumbers : code.Proposal → List ℕ
+proposalNumbers p = eleven (p .form) (p .kind) (p .from) (p .at) (p .to) (p .bid) (p .size)
+
+abbrev pub toldNumbers : told.TurnLine → List ℕ
+toldNumbers told.TurnLine.FF = zeros
+toldNumbers told.TurnLine.FQ = zeros
+toldNumbers told.TurnLine.End = zeros
+toldNumbers told.TurnLine.NotAllowed = zeros
+toldNumbers (told.TurnLine.Proposed p) = proposalNumbers p
+
+abbrev pub toldCode : told.TurnLine → ℕ
+toldCode told.TurnLine.FF = 0
+toldCode told.TurnLine.FQ = 1
+toldCode told.TurnLine.End = 2
+toldCode (told.TurnLine.Proposed p) = 3
+toldCode told.TurnLine.NotAllowed = 5

@@ -1,0 +1,42 @@
+-- A transfer under way as eight numbers, and a portion's outcome as a number, for callers from C and Rust.
+use mathlib.Core.Path.{_≡_}
+use mathlib.Core.List.{List, [], _∷_, _++_}
+use Prim.Native.Nat.{ℕ, _%_}
+use lib.ListN.{length, take, drop, getD}
+use Rattle.grammar.specs.Bytes.{Bytes}
+use Rattle.grammar.specs.Refusals.{badTransfer, badChecksum, storeFull}
+use Rattle.transfer_read.specs.declared.Reader.{Reader}
+use Rattle.transfer_read.specs.declared.Outcome.{Outcome}
+use Rattle.transfer_read.specs.declared.Outcome.the-variants.{More, Whole, Malformed, WrongSum, NoRoom}
+use Rattle.transfer_read.specs.Step.{reader}
+use Rattle.transfer_read.specs.Feed.{Run, feedOf, roomOf}
+
+-- A reader's numbers in the order: place, L, bytes of heading, of offset, of the body, of the block to come, sum; and how many bytes were consumed.
+abbrev pub stateOf : Reader → ℕ → List ℕ
+stateOf r n = r .place ∷ r .len ∷ r .head ∷ r .off ∷ r .body ∷ r .left ∷ r .sum ∷ n ∷ []
+
+-- The reader that such numbers stand for, each taken modulo what its field holds.
+unfoldable pub readerBy : List ℕ → Reader
+readerBy s =
+    reader (getD s 0 0 % 256) (getD s 1 0 % 256) (getD s 2 0 % 256) (getD s 3 0 % 256) (getD s 5 0 % 65536) (getD s 6 0 % 256) (getD s 4 0 % 4294967296)
+
+-- 0 goes on, 1 whole, else 01's number of the refusal.
+abbrev pub outcomeCode : Outcome → ℕ
+outcomeCode More = 0
+outcomeCode Whole = 1
+outcomeCode Malformed = badTransfer
+outcomeCode WrongSum = badChecksum
+outcomeCode NoRoom = storeFull
+
+-- A portion read from a state on, into the heading's array and the store.
+abbrev pub portion : List ℕ → Bytes → Bytes → Bytes → Run
+portion s bs heading store = feedOf (roomOf store) (readerBy s) bs heading store
+
+-- What is answered and left of a portion: its outcome, the state after it, the heading's array and the store.
+abbrev pub Leaves : Run → ℕ → List ℕ → Bytes → Bytes → Type 0
+Leaves u r s heading store =
+    (r ≡ outcomeCode (u .fed .outcome)) × (s ≡ stateOf (u .fed .reader) (u .fed .count)) × (heading ≡ u .heading) × (store ≡ u .store)
+
+-- The buffer d with what fits of p over its start is e; n bytes fit.
+abbrev pub Copied : Bytes → Bytes → ℕ → Bytes → Type 0
+Copied d p n e = (n ≡ length (take (length d) p)) × (e ≡ take (length d) p ++ drop n d)

@@ -1,0 +1,112 @@
+// Transfers for callers from C and Rust: read byte by byte in any portions, the checksum, and where a heading lies. They serve tests and
+// benchmarks; the product's own calls are in the crate fringemole.
+use buffer::Cursor;
+use transfer_read::Outcome;
+use transfer_read::Reader;
+ghost use mathlib.Core.Path.{_≡_};
+ghost use Prim.Native.Nat.{_%_};
+ghost use Rattle.grammar.specs.Transfers.{checksum, headingOf};
+ghost use Rattle.transfer_read.specs.Step.{startOf};
+ghost use Rattle.words_transfer.specs.State.{stateOf, readerBy, outcomeCode, portion, Leaves, Copied};
+
+// The numbers of a reader, and how many bytes were consumed.
+fn state_of(r: Reader, count: usize) -> [u64; 8]
+    ensures { λ s. ⌜ s ≡ stateOf r count ⌝ }
+{
+    [
+        r.place as u64,
+        r.len as u64,
+        r.head as u64,
+        r.off as u64,
+        r.body as u64,
+        r.left as u64,
+        r.sum as u64,
+        count as u64,
+    ]
+}
+
+// A number modulo 256.
+fn low_byte(n: u64) -> u8
+    ensures { λ r. ⌜ r ≡ n % 256 ⌝ }
+{
+    (n % 256) as u8
+}
+
+// The reader that the numbers of a state stand for, each taken modulo what its field holds.
+fn reader_by(s: [u64; 8]) -> Reader
+    ensures { λ r. ⌜ r ≡ readerBy s ⌝ }
+{
+    Reader {
+        place: low_byte(s[0]),
+        len: low_byte(s[1]),
+        head: low_byte(s[2]),
+        off: low_byte(s[3]),
+        left: (s[5] % 65536) as u16,
+        sum: low_byte(s[6]),
+        body: (s[4] % 4294967296) as u32,
+    }
+}
+
+// 0 goes on, 1 whole, else 01's number.
+fn outcome_code(o: Outcome) -> u8
+    ensures { λ r. ⌜ r ≡ outcomeCode o ⌝ }
+{
+    match o {
+        Outcome::More => 0,
+        Outcome::Whole => 1,
+        Outcome::Malformed => 8,
+        Outcome::WrongSum => 9,
+        Outcome::NoRoom => 10,
+    }
+}
+
+// The state before a transfer's first byte. form: 0 plain, any other number framed.
+#[no_mangle]
+pub extern "C" fn words_transfer_start(form: u8, state: &mut [u64; 8])
+    ensures { λ _. ⌜ now (state .exit) ≡ stateOf (startOf form) 0 ⌝ }
+{
+    *state = state_of(transfer_read::start(form), 0);
+}
+
+// Reads a portion, up to its end or an outcome: 0 goes on, 1 whole, 8, 9, 10 refused. The heading goes to `heading`, the body to `store`.
+#[no_mangle]
+pub extern "C" fn words_transfer_feed(
+    state: &mut [u64; 8],
+    input: &[u8],
+    heading: &mut [u8; 80],
+    store: &mut [u8],
+) -> u8
+    ensures { λ r. ⌜ Leaves (portion (now (state .entry)) (now (input .entry)) (now (heading .entry)) (now (store .entry))) r (now (state .exit)) (now (heading .exit)) (now (store .exit)) ⌝ }
+{
+    let before = *state;
+    let fed = transfer_read::feed(reader_by(before), input, heading, store);
+    let reader = fed.reader;
+    *state = state_of(reader, fed.count);
+    let outcome = fed.outcome;
+    outcome_code(outcome)
+}
+
+// The checksum byte of framed data.
+#[no_mangle]
+pub extern "C" fn words_checksum(bytes: &[u8]) -> u8
+    ensures { λ r. ⌜ r ≡ checksum (now (bytes .entry)) ⌝ }
+{
+    checksum::checksum(bytes)
+}
+
+// The heading of a record where it lies: what fits of it, to the start of buf; how many bytes that is.
+#[no_mangle]
+pub extern "C" fn words_heading<'a>(
+    titles: &'a [u8],
+    names: &'a [u8],
+    form: u8,
+    start: usize,
+    len: usize,
+    buf: &mut [u8],
+) -> usize
+    ensures { λ r. ⌜ Copied (now (buf .entry)) (headingOf (now (titles .entry)) (now (names .entry)) form start len) r (now (buf .exit)) ⌝ }
+{
+    let heading = transfer_write::heading(titles, names, form, start, len);
+    let c = buffer::put(buf, Cursor { at: 0, skip: 0 }, heading);
+    c.at
+}

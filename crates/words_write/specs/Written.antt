@@ -1,0 +1,27 @@
+-- A text handed out to callers from C and Rust: into a lent buffer from a place on, what of it isn't passed over and fits.
+use mathlib.Core.Path.{_≡_}
+use mathlib.Core.Bool.{cond}
+use mathlib.Core.List.{[]}
+use Prim.Native.Nat.{ℕ, _-_}
+use lib.Dec.{eqb, ltb}
+use lib.ListN.{length}
+use Rattle.grammar.specs.Bytes.{Bytes}
+use Rattle.grammar.specs.Turns.{FixedLine, ourSid, ourPrompt, ourFF, ourFQ, ourEnd, fixedText, withCr}
+use Rattle.buffer.specs.declared.Cursor.{Cursor}
+use Rattle.buffer.specs.Put.{putBytes, cut}
+
+-- The place where the next byte goes, and how many bytes of the text are passed over.
+abbrev pub cursor : ℕ → ℕ → Cursor
+cursor place skip = record { at = place; skip = skip }
+
+-- The contract of every writer: of the text p, put into the buffer d from place on with skip bytes passed over, n bytes fit and leave e.
+abbrev pub Writes : Bytes → ℕ → ℕ → Bytes → ℕ → Bytes → Type 0
+Writes d place skip p n e = (n ≡ length (cut (length d - place) skip p)) × (e ≡ putBytes d (cursor place skip) p)
+
+-- The lines that never differ by their numbers: 0 our SID, 1 the prompt, 2 FF, 3 FQ, any other F>.
+unfoldable pub fixedBy : ℕ → FixedLine
+fixedBy k = cond (eqb k 0) ourSid (cond (eqb k 1) ourPrompt (cond (eqb k 2) ourFF (cond (eqb k 3) ourFQ ourEnd)))
+
+-- The text of such a line with its CR; nothing for a number from 5 on.
+unfoldable pub fixedBytes : ℕ → Bytes
+fixedBytes k = cond (ltb 4 k) [] (withCr (fixedText (fixedBy k)))

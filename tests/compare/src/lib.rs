@@ -1,0 +1,7 @@
+//! What the comparison and the benchmark share: the proved library behind a
+//! safe wrapper, and random numbers that a seed repeats.
+
+#![deny(unsafe_code)]
+
+pub mod random;
+pub mod words;

@@ -1,0 +1,270 @@
+//! The lent buffers as bytes (docs/MEMORY.md): records, known BIDs and messages
+//! written and read, so that both implementations run on the same bytes.
+//!
+//! "Entries are bytes of one fixed size, numbers are little end first, nothing
+//! is padded. A field is one byte for its length, then its bytes, then bytes
+//! that don't matter (zeros where the library writes them)."
+
+use crate::field::{AT_LIMIT, BID_LIMIT, CALL_LIMIT, HEADING_LIMIT};
+use crate::memory::{Envelope, Message, Record, Span, State};
+use crate::record::{Form, Kind};
+
+/// "session memory | exactly 876 bytes"
+pub const SESSION_BYTES: usize = 876;
+/// "0 to 64 records of 89 bytes"
+pub const RECORD_BYTES: usize = 89;
+/// "0 to 1,024 entries of 13 bytes"
+pub const KNOWN_BYTES: usize = 13;
+/// "0 to 64 places of 155 bytes"
+pub const MESSAGE_BYTES: usize = 155;
+/// "A host needs one number of it: the count of messages kept, at 66."
+pub const SESSION_KEPT: usize = 66;
+
+/// An entry being written.
+#[derive(Default)]
+struct Out(Vec<u8>);
+
+impl Out {
+    /// A number of so many bytes.
+    fn number(&mut self, value: usize, bytes: usize) {
+        self.0.extend_from_slice(&value.to_le_bytes()[..bytes]);
+    }
+
+    /// A field of at most so many bytes.
+    fn field(&mut self, field: &[u8], limit: usize) {
+        let end = self.0.len() + 1 + limit;
+        self.number(field.len(), 1);
+        self.0.extend_from_slice(&field[..field.len().min(limit)]);
+        self.0.resize(end, 0);
+    }
+
+    /// Form and type, then from, at, to and BID.
+    fn envelope(&mut self, envelope: &Envelope) {
+        self.0.push(envelope.form as u8);
+        self.0.push(envelope.kind.byte());
+        self.field(&envelope.from, CALL_LIMIT);
+        self.field(&envelope.at, AT_LIMIT);
+        self.field(&envelope.to, CALL_LIMIT);
+        self.field(&envelope.bid, BID_LIMIT);
+    }
+
+    /// A start of four bytes and a length of so many.
+    fn span(&mut self, span: Span, bytes: usize) {
+        self.number(span.start, 4);
+        self.number(span.length, bytes);
+    }
+}
+
+/// "A record of the table (89 bytes)". A field over its limit is cut, but not
+/// its length, so that it is bad in bytes too.
+pub fn write_record(record: &Record) -> Vec<u8> {
+    let mut out = Out(vec![record.state as u8]);
+    out.envelope(&record.envelope);
+    out.number(record.size as usize, 4);
+    out.span(record.title, 1);
+    out.span(record.name, 1);
+    out.span(record.body, 2);
+    out.0
+}
+
+/// "A known BID (13 bytes): its length (1 to 12), then its bytes."
+pub fn write_known(bid: &[u8]) -> Vec<u8> {
+    let mut out = Out::default();
+    out.field(bid, BID_LIMIT);
+    out.0
+}
+
+/// "A message of the inbox (155 bytes)".
+pub fn write_message(message: &Message) -> Vec<u8> {
+    let mut out = Out::default();
+    out.envelope(&message.envelope);
+    out.field(&message.heading, HEADING_LIMIT);
+    out.span(message.body, 2);
+    out.0
+}
+
+/// An entry being read. `None` where its bytes stand for nothing.
+struct In<'a>(&'a [u8]);
+
+impl<'a> In<'a> {
+    fn bytes(&mut self, count: usize) -> Option<&'a [u8]> {
+        let (bytes, rest) = self.0.split_at_checked(count)?;
+        self.0 = rest;
+        Some(bytes)
+    }
+
+    fn number(&mut self, bytes: usize) -> Option<usize> {
+        let bytes = self.bytes(bytes)?;
+        Some(bytes.iter().rev().fold(0, |value, &byte| value << 8 | usize::from(byte)))
+    }
+
+    fn field(&mut self, limit: usize) -> Option<Vec<u8>> {
+        let length = self.number(1)?;
+        let bytes = self.bytes(limit)?;
+        Some(bytes.get(..length)?.to_vec())
+    }
+
+    fn envelope(&mut self) -> Option<Envelope> {
+        Some(Envelope {
+            form: form(self.number(1)?)?,
+            kind: kind(self.number(1)?)?,
+            from: self.field(CALL_LIMIT)?,
+            at: self.field(AT_LIMIT)?,
+            to: self.field(CALL_LIMIT)?,
+            bid: self.field(BID_LIMIT)?,
+        })
+    }
+
+    fn span(&mut self, bytes: usize) -> Option<Span> {
+        Some(Span { start: self.number(4)?, length: self.number(bytes)? })
+    }
+}
+
+fn state(number: usize) -> Option<State> {
+    match number {
+        0 => Some(State::Waiting),
+        1 => Some(State::Forwarded),
+        2 => Some(State::Declined),
+        _ => None,
+    }
+}
+
+fn form(number: usize) -> Option<Form> {
+    match number {
+        0 => Some(Form::Plain),
+        1 => Some(Form::Message),
+        2 => Some(Form::File),
+        _ => None,
+    }
+}
+
+/// Reading 42: in memory, types are the capitals P and B.
+fn kind(number: usize) -> Option<Kind> {
+    let byte = u8::try_from(number).ok()?;
+    Kind::read(byte).filter(|kind| kind.byte() == byte)
+}
+
+/// A record, whether it obeys the rules of its fields or not.
+pub fn read_record(entry: &[u8]) -> Option<Record> {
+    let mut entry = In(entry);
+    Some(Record {
+        state: state(entry.number(1)?)?,
+        envelope: entry.envelope()?,
+        size: entry.number(4)? as u32,
+        title: entry.span(1)?,
+        name: entry.span(1)?,
+        body: entry.span(2)?,
+    })
+}
+
+/// A known BID, whether it obeys the BID rule or not.
+pub fn read_known(entry: &[u8]) -> Option<Vec<u8>> {
+    In(entry).field(BID_LIMIT)
+}
+
+/// A message of the inbox.
+pub fn read_message(entry: &[u8]) -> Option<Message> {
+    let mut entry = In(entry);
+    Some(Message {
+        envelope: entry.envelope()?,
+        heading: entry.field(HEADING_LIMIT)?,
+        body: entry.span(2)?,
+    })
+}
+
+#[cfg(test)]
+mod tests {
+    use super::*;
+
+    fn envelope() -> Envelope {
+        Envelope {
+            form: Form::File,
+            kind: Kind::Bulletin,
+            from: b"F6FBB".to_vec(),
+            at: b"FC1GHV.FFPC.FRA.EU".to_vec(),
+            to: b"FC1MVP".to_vec(),
+            bid: b"24657_F6FBB".to_vec(),
+        }
+    }
+
+    fn record() -> Record {
+        Record {
+            state: State::Declined,
+            envelope: envelope(),
+            size: 0x0003_0201,
+            title: Span { start: 0x1413_1211, length: 0x15 },
+            name: Span { start: 0x2423_2221, length: 0x25 },
+            body: Span { start: 0x3433_3231, length: 0x3635 },
+        }
+    }
+
+    #[test]
+    fn a_record_has_the_offsets_of_the_table() {
+        let entry = write_record(&record());
+        assert_eq!(entry.len(), RECORD_BYTES);
+        assert_eq!(entry[..3], [2, 2, b'B']);
+        assert_eq!(entry[3..10], *b"\x05F6FBB\0");
+        assert_eq!(entry[10..29], *b"\x12FC1GHV.FFPC.FRA.EU");
+        assert_eq!(entry[29..49], [0; 20]);
+        assert_eq!(entry[49..56], *b"\x06FC1MVP");
+        assert_eq!(entry[56..69], *b"\x0B24657_F6FBB\0");
+        assert_eq!(entry[69..73], [1, 2, 3, 0]);
+        assert_eq!(entry[73..78], [0x11, 0x12, 0x13, 0x14, 0x15]);
+        assert_eq!(entry[78..83], [0x21, 0x22, 0x23, 0x24, 0x25]);
+        assert_eq!(entry[83..], [0x31, 0x32, 0x33, 0x34, 0x35, 0x36]);
+        assert_eq!(read_record(&entry), Some(record()));
+    }
+
+    #[test]
+    fn a_message_has_the_offsets_of_the_table() {
+        let message = Message {
+            envelope: envelope(),
+            heading: b"r\xE9sum\xE9".to_vec(),
+            body: Span { start: 0x0403_0201, length: 0x0605 },
+        };
+        let entry = write_message(&message);
+        assert_eq!(entry.len(), MESSAGE_BYTES);
+        assert_eq!(entry[..2], [2, b'B']);
+        assert_eq!(entry[2..9], *b"\x05F6FBB\0");
+        assert_eq!(entry[9..11], *b"\x12F");
+        assert_eq!(entry[48..55], *b"\x06FC1MVP");
+        assert_eq!(entry[55..68], *b"\x0B24657_F6FBB\0");
+        assert_eq!(entry[68..76], *b"\x06r\xE9sum\xE9\0");
+        assert_eq!(entry[149..], [1, 2, 3, 4, 5, 6]);
+        assert_eq!(read_message(&entry), Some(message));
+    }
+
+    #[test]
+    fn a_known_bid_is_its_length_and_its_bytes() {
+        assert_eq!(write_known(b"1_A"), *b"\x031_A\0\0\0\0\0\0\0\0\0");
+        assert_eq!(read_known(&write_known(b"1_A")), Some(b"1_A".to_vec()));
+        assert_eq!(read_known(&[13; KNOWN_BYTES]), None);
+    }
+
+    #[test]
+    fn bytes_past_a_field_do_not_matter() {
+        let mut entry = write_record(&record());
+        entry[9] = 0xFF;
+        entry[40] = 0x20;
+        entry[68] = 0x07;
+        assert_eq!(read_record(&entry), Some(record()));
+    }
+
+    #[test]
+    fn bytes_that_stand_for_nothing_are_no_record() {
+        for (place, bad) in [(0, 3), (1, 3), (2, b'p'), (2, b'T'), (3, 7), (10, 39), (56, 13)] {
+            let mut entry = write_record(&record());
+            entry[place] = bad;
+            assert_eq!(read_record(&entry), None);
+        }
+    }
+
+    #[test]
+    fn a_field_over_its_limit_is_bad_in_bytes_too() {
+        let mut long = record();
+        long.envelope.bid = b"1234567890123".to_vec();
+        let entry = write_record(&long);
+        assert_eq!(entry.len(), RECORD_BYTES);
+        assert_eq!(read_record(&entry), None);
+    }
+}

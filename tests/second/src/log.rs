@@ -1,0 +1,188 @@
+//! The log: what the bytes of a whole session mean, read from its end.
+//!
+//! Nothing here knows a session, a portion or a lent buffer. The log has all
+//! bytes that went over the link before it starts, cuts the next whole line,
+//! turn or transfer from them, and applies what 01 says of it under "The log".
+//! It ends where no whole one is left, or at what the rules forbid.
+//!
+//! Reading 47: it knows no store sizes, inbox places or known list, so it judges
+//! neither room nor our signs.
+
+use crate::fs::{self, Sign};
+use crate::line::is_prompt;
+use crate::memory::{Envelope, Record, State, Stores};
+use crate::proposal::{self, Proposal, TurnLine, BLOCK_LIMIT};
+use crate::sid::{self, Mode};
+use crate::transfer::writer::{write_framed, write_plain};
+
+mod link;
+#[cfg(test)]
+mod tests;
+mod trace;
+
+use link::Link;
+pub use trace::{Side, Trace};
+
+/// A message kept: "with its proposal's form and fields as read, and its own
+/// heading and body".
+#[derive(Clone, Debug, PartialEq, Eq)]
+pub struct Kept {
+    pub envelope: Envelope,
+    pub heading: Vec<u8>,
+    pub body: Vec<u8>,
+}
+
+/// "It keeps each record's state, as open found it, and, empty at first, [...]
+/// messages kept". Records sent, last proposals and transfers owed live where
+/// they are read.
+#[derive(Clone, Debug, PartialEq, Eq)]
+pub struct Log {
+    pub states: Vec<State>,
+    pub kept: Vec<Kept>,
+}
+
+/// Reads the log of a session that called us, or that we called, on this table.
+pub fn read(we_called: bool, table: &[Record], stores: &Stores, trace: &Trace) -> Log {
+    let log = Log { states: table.iter().map(|record| record.state).collect(), kept: Vec::new() };
+    let link = Link::new(trace);
+    let mut reading = Reading { link, table, stores, mode: Mode::Plain, sent: Vec::new(), log };
+    // Nothing left, FQ, or a thing forbidden: the log is what it is by then.
+    let _ = reading.follow(we_called);
+    reading.log
+}
+
+/// A whole turn, or FQ in the place of one.
+enum Turn<'a> {
+    Nothing,
+    Quit,
+    Block(Vec<Proposal<'a>>),
+}
+
+struct Reading<'a> {
+    link: Link<'a>,
+    table: &'a [Record],
+    stores: &'a Stores,
+    mode: Mode,
+    /// Records sent.
+    sent: Vec<usize>,
+    log: Log,
+}
+
+impl<'a> Reading<'a> {
+    /// The session from its first line to FQ. `None`: it broke off before.
+    fn follow(&mut self, we_called: bool) -> Option<()> {
+        let mut side = self.opening(we_called)?;
+        let mut after_ff = false;
+        loop {
+            match self.turn(side)? {
+                // "FQ is allowed only in answer to our FF. FF in answer to our FF
+                // gets 5."
+                Turn::Quit => return after_ff.then_some(()),
+                Turn::Nothing if after_ff => return None,
+                Turn::Nothing => {
+                    self.turn_is_whole(side);
+                    after_ff = true;
+                }
+                Turn::Block(proposals) => {
+                    self.turn_is_whole(side);
+                    self.exchange(side, &proposals)?;
+                    after_ff = false;
+                }
+            }
+            // "The right to propose passes to whoever sent the FS."
+            side = side.other();
+        }
+    }
+
+    /// "Lines under SID and opening only choose the mode." Says whose turn is
+    /// first.
+    fn opening(&mut self, we_called: bool) -> Option<Side> {
+        if we_called {
+            self.mode = sid::judge(self.link.line(Side::Partner)?).ok()?.mode();
+            while !is_prompt(self.link.line(Side::Partner)?) {}
+            self.link.exactly(Side::Us, &[sid::OURS, b"\r"].concat())?;
+            return Some(Side::Us);
+        }
+        self.link.exactly(Side::Us, &[sid::OURS, b"\r>\r"].concat())?;
+        self.mode = sid::judge(self.link.line(Side::Partner)?).ok()?.mode();
+        Some(Side::Partner)
+    }
+
+    /// Cuts the next whole turn: "`FF`, or one to five proposals and `F>`".
+    fn turn(&mut self, side: Side) -> Option<Turn<'a>> {
+        let mut proposals = Vec::new();
+        loop {
+            match proposal::read(self.link.line(side)?, self.mode).ok()? {
+                TurnLine::Nothing if proposals.is_empty() => return Some(Turn::Nothing),
+                TurnLine::Quit if proposals.is_empty() => return Some(Turn::Quit),
+                TurnLine::Proposal(next) if proposals.len() < BLOCK_LIMIT => proposals.push(next),
+                TurnLine::BlockEnd if !proposals.is_empty() => return Some(Turn::Block(proposals)),
+                _ => return None,
+            }
+        }
+    }
+
+    /// "Turn, at its last CR: [...] The partner's makes every sent record 1."
+    fn turn_is_whole(&mut self, side: Side) {
+        if side == Side::Partner {
+            for place in self.sent.drain(..) {
+                self.log.states[place] = State::Forwarded;
+            }
+        }
+    }
+
+    /// What follows a block: the other side's FS line, and the accepted
+    /// transfers. "FS line, at its CR: the other side owes the accepted transfers
+    /// in order."
+    fn exchange(&mut self, side: Side, proposals: &[Proposal<'_>]) -> Option<()> {
+        // "ours are the records with those BIDs"
+        let ours: Option<Vec<usize>> = match side {
+            Side::Us => proposals.iter().map(|proposal| self.place(proposal.bid)).collect(),
+            Side::Partner => Some(Vec::new()),
+        };
+        let ours = ours?;
+        let signs = fs::read(self.link.line(side.other())?, proposals.len()).ok()?;
+        match side {
+            Side::Us => self.our_transfers(&ours, &signs),
+            Side::Partner => self.partner_transfers(proposals, &signs),
+        }
+    }
+
+    fn place(&self, bid: &[u8]) -> Option<usize> {
+        self.table.iter().position(|record| record.envelope.bid == bid)
+    }
+
+    /// The partner's FS line "makes declined records 2". "Our owed transfer, as
+    /// we write it, given whole: its record is sent."
+    fn our_transfers(&mut self, ours: &[usize], signs: &[Sign]) -> Option<()> {
+        for (&place, sign) in ours.iter().zip(signs) {
+            if *sign == Sign::Decline {
+                self.log.states[place] = State::Declined;
+            }
+        }
+        for (&place, sign) in ours.iter().zip(signs) {
+            if *sign == Sign::Accept {
+                let record = &self.table[place];
+                let (heading, body) = (record.heading(self.stores), record.body(self.stores));
+                let transfer = match self.mode {
+                    Mode::Plain => write_plain(heading, body),
+                    Mode::Framed => write_framed(heading, body),
+                };
+                self.link.exactly(Side::Us, &transfer)?;
+                self.sent.push(place);
+            }
+        }
+        Some(())
+    }
+
+    /// "Partner's owed transfer, at its last byte: kept".
+    fn partner_transfers(&mut self, proposals: &[Proposal<'_>], signs: &[Sign]) -> Option<()> {
+        for (proposal, sign) in proposals.iter().zip(signs) {
+            if *sign == Sign::Accept {
+                let (heading, body) = self.link.transfer(Side::Partner, self.mode)?;
+                self.log.kept.push(Kept { envelope: proposal.into(), heading, body });
+            }
+        }
+        Some(())
+    }
+}

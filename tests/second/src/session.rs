@@ -1,0 +1,172 @@
+//! One end of one session with one partner: open, receive and give.
+//!
+//! At each moment either bytes of ours wait for give, or one thing is awaited
+//! from the partner. [`Phase`] says which, with all that belongs to it. Bytes
+//! come in by [`receive`]: those of a line are gathered until its CR, then the
+//! line is judged; those of a transfer go to the inbox store as they come. What
+//! a line or a transfer makes us say is written down whole at once and waits;
+//! give hands it out. Nothing else changes the phase.
+//!
+//! | Awaited | comes from | and then |
+//! |---|---|---|
+//! | SID | open | called: the partner's turn; caller: the prompt |
+//! | prompt | SID | our SID and turn |
+//! | turn | SID; our FF; an FS line; our transfers | FS line and transfers, or our turn |
+//! | FS line | our block | our transfers, then the partner's turn |
+//! | transfers | our FS line, if it accepts any | our turn |
+//!
+//! The session's state lives in [`Session`], not in the 876 bytes that a host
+//! lends: this side is compared by what it answers and leaves, nothing else.
+
+use crate::buffer;
+use crate::memory::{Envelope, Memory, Sizes};
+use crate::sid::Mode;
+use crate::transfer::reader::Reader;
+use std::collections::VecDeque;
+
+mod answer;
+mod incoming;
+mod lines;
+mod open;
+mod our_turn;
+mod receive;
+mod reply;
+#[cfg(test)]
+mod tests;
+
+pub use open::{open, Lent};
+pub use reply::Reply;
+
+/// "role (0 called, 1 caller)"
+#[derive(Clone, Copy, Debug, PartialEq, Eq)]
+pub enum Role {
+    Called,
+    Caller,
+}
+
+impl Role {
+    pub fn read(number: u8) -> Option<Role> {
+        match number {
+            0 => Some(Role::Called),
+            1 => Some(Role::Caller),
+            _ => None,
+        }
+    }
+}
+
+/// A proposal of the partner.
+#[derive(Clone, Debug, PartialEq, Eq)]
+pub struct Offer {
+    pub envelope: Envelope,
+    pub size: u32,
+}
+
+/// What is awaited from the partner, once nothing of ours waits.
+#[derive(Clone, Debug)]
+pub enum Phase {
+    /// Its first line.
+    Sid,
+    /// At the calling end, the line that ends its greeting.
+    Prompt,
+    /// Its turn, of which these proposals are there.
+    Turn { block: Vec<Offer> },
+    /// The FS line to the records at these places.
+    Answer { proposed: Vec<usize> },
+    /// The transfers of these proposals, the first of them under way.
+    Transfers { owed: VecDeque<Offer>, reader: Reader },
+    /// Nothing: our FQ is said, and once it is given the session is over.
+    Quit,
+    /// Nothing: the session has ended.
+    Over,
+}
+
+/// One end of a session.
+#[derive(Clone, Debug)]
+pub struct Session {
+    role: Role,
+    /// Receive and give are lent the same sizes as open was.
+    sizes: Sizes,
+    phase: Phase,
+    mode: Mode,
+    /// Our turn just now was FF.
+    our_ff: bool,
+    /// The byte before was a CR after which an LF is dropped.
+    after_cr: bool,
+    /// The line under way.
+    line: Vec<u8>,
+    /// What waits for give, and how much of it is given.
+    waiting: Vec<u8>,
+    given: usize,
+    /// Records that the partner's next whole turn marks as forwarded.
+    sent: Vec<usize>,
+    /// Records deferred in this session.
+    deferred: Vec<usize>,
+    /// Messages kept, and the store bytes that they use.
+    kept: usize,
+    used: usize,
+}
+
+impl Session {
+    pub fn phase(&self) -> &Phase {
+        &self.phase
+    }
+
+    pub fn mode(&self) -> Mode {
+        self.mode
+    }
+
+    /// Our turn just now was FF, so the partner may say FQ and not FF.
+    pub fn our_turn_was_ff(&self) -> bool {
+        self.our_ff
+    }
+
+    /// How many messages of the inbox are kept.
+    pub fn kept(&self) -> usize {
+        self.kept
+    }
+
+    /// Store bytes that the kept messages use.
+    pub fn used(&self) -> usize {
+        self.used
+    }
+
+    /// How many bytes wait for give.
+    pub fn waiting(&self) -> usize {
+        self.waiting.len() - self.given
+    }
+
+    pub fn is_over(&self) -> bool {
+        matches!(self.phase, Phase::Over)
+    }
+
+    /// "Besides ending the session": "waiting bytes are dropped", and "after a
+    /// refusal nothing more is sent".
+    fn end(&mut self) {
+        self.phase = Phase::Over;
+        self.waiting.clear();
+        self.given = 0;
+    }
+
+    fn say(&mut self, bytes: &[u8]) {
+        self.waiting.extend_from_slice(bytes);
+    }
+
+    /// "It writes as many waiting bytes as fit, and no other byte of the buffer
+    /// changes." "Our FQ ends it when give has handed out its CR." "Give on an
+    /// ended session writes nothing and answers 0 with count 0."
+    pub fn give(&mut self, memory: &Memory, buffer: &mut [u8], place: usize) -> Reply {
+        if memory.sizes != self.sizes {
+            return Reply::BAD_BUFFERS;
+        }
+        let count = buffer::put(&self.waiting, self.given, buffer, place);
+        self.given += count;
+        if self.waiting() == 0 {
+            self.waiting.clear();
+            self.given = 0;
+            if matches!(self.phase, Phase::Quit) {
+                self.end();
+            }
+        }
+        Reply::ok(count)
+    }
+}
