@@ -10,13 +10,13 @@ use lib.ListN.{length, take, drop, set, length-drop}
 use lib.Seq.{set-split, drop-at, length-take-le, take-all}
 use borrow.Author.Tests.{eq-eqb, ne-eqb, lt-ltb, le-ltb}
 use Rattle.grammar.specs.Bytes.{Bytes, CR, SP}
-use Rattle.grammar.specs.Fields.{plain, file, decimal, writeNum}
+use Rattle.grammar.specs.Fields.{plain, file, formIs, decimal, writeNum}
 use Rattle.grammar.specs.Turns.{proposalLine, withCr, formLetter}
 use Rattle.grammar.specs.Answers.{Sign, writeSign, fsLine}
 use Rattle.buffer.specs.declared.Cursor.{Cursor}
 use Rattle.buffer.specs.Put.{Puts}
 use Rattle.buffer.proofs.Laws.{puts-as, puts-then}
-use Rattle.our_line.specs.Lines.{formIs, proposalIs, fsText}
+use Rattle.our_line.specs.Lines.{proposalIs, fsText}
 
 -- the line that answers, from the signs as they are meant
 pub fs-text : (ss : List Sign) → fsText (map writeSign ss) ≡ withCr (fsLine ss)
@@ -25,11 +25,9 @@ fs-text ss = refl
 
 -- `FA` for a packed message, else `FB`
 pub letter-message : (form : ℕ) → form ≡ 1 → 65 ≡ formLetter (formIs form)
-unfolding formIs
 letter-message form e = rw (eq-eqb form 1 e)
 
 pub letter-other : (form : ℕ) → (form ≡ 1 → ⊥) → 66 ≡ formLetter (formIs form)
-unfolding formIs
 letter-other form n = rw (ne-eqb form 1 n) (go (eqb form 2))
   where
     go : (b : Bool) → 66 ≡ formLetter (cond b file plain)

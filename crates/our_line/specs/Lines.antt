@@ -1,11 +1,9 @@
 -- What the writers of our lines are given, in the grammar's terms. A line's text itself is the grammar's.
 use Prim.Native.Nat.{ℕ}
-use mathlib.Core.Bool.{cond}
 use mathlib.Core.List.{[], _∷_, _++_}
-use lib.Dec.{eqb}
 use Rattle.grammar.specs.Bytes.{Bytes, CR}
 use Rattle.grammar.specs.Ascii.{text}
-use Rattle.grammar.specs.Fields.{Form, plain, message, file}
+use Rattle.grammar.specs.Fields.{formIs}
 use Rattle.grammar.specs.Turns.{FixedLine, ourSid, ourPrompt, ourFF, ourFQ, ourEnd, Proposal}
 use Rattle.our_line.specs.declared.Fixed.{Fixed}
 use Rattle.our_line.specs.declared.Fixed.the-variants.{Sid, Prompt, FF, FQ, End}
@@ -17,10 +15,6 @@ fixedIs Prompt = ourPrompt
 fixedIs FF = ourFF
 fixedIs FQ = ourFQ
 fixedIs End = ourEnd
-
--- "a form (0 plain text, 1 packed message, 2 packed file)"; any other number is written as plain text
-unfoldable pub formIs : ℕ → Form
-formIs n = cond (eqb n 1) message (cond (eqb n 2) file plain)
 
 -- The proposal with these fields: form, type, from, at, to, BID, size.
 abbrev pub proposalIs : ℕ → ℕ → Bytes → Bytes → Bytes → Bytes → ℕ → Proposal

@@ -5,10 +5,10 @@ ghost use mathlib.Core.List.{[], _∷_, _++_};
 ghost use lib.ListN.{length, drop};
 ghost use Prim.Native.Nat.{_+_, _%_, _≤_};
 ghost use Rattle.grammar.specs.Bytes.{CR};
-ghost use Rattle.grammar.specs.Fields.{decimal};
+ghost use Rattle.grammar.specs.Fields.{formIs, decimal};
 ghost use Rattle.grammar.specs.Turns.{fixedText, proposalLine, withCr, formLetter};
 ghost use Rattle.buffer.specs.Put.{Puts};
-ghost use Rattle.our_line.specs.Lines.{fixedIs, formIs, proposalIs, fsText};
+ghost use Rattle.our_line.specs.Lines.{fixedIs, proposalIs, fsText};
 
 // The lines that never differ: our SID, the prompt, `FF`, `FQ`, and `F>`, which ends a block.
 pub enum Fixed {

@@ -1,6 +1,5 @@
 //! FS lines: the answers to a block.
 
-use crate::inputs;
 use crate::lent::Lent;
 use crate::report::{same, same_bytes, Checked, Input};
 use crate::run::Run;

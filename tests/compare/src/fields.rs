@@ -1,6 +1,5 @@
 //! Fields: byte classes, whole fields, BIDs side by side.
 
-use crate::inputs;
 use crate::report::{same, Checked, Input};
 use crate::run::Run;
 use compare::random::Random;

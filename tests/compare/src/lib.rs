@@ -3,5 +3,6 @@
 
 #![deny(unsafe_code)]
 
-pub mod random;
 pub mod words;
+
+pub use inputs::random;

@@ -1,6 +1,5 @@
 //! Lines: the step on one byte, the spaces at the end, comments and prompts.
 
-use crate::inputs;
 use crate::report::{same, Checked, Input};
 use crate::run::Run;
 use compare::words;

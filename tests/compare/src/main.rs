@@ -6,7 +6,6 @@
 mod answers;
 mod examples;
 mod fields;
-mod inputs;
 mod lent;
 mod lines;
 mod report;

@@ -2,7 +2,6 @@
 //! fields. "A proposal or transfer that we write reads back as the same fields
 //! and the same bytes." (demand 2)
 
-use crate::inputs;
 use crate::report::{same, same_bytes, Checked, Input};
 use crate::run::Run;
 use crate::turns::library_answer;

@@ -1,6 +1,5 @@
 //! SIDs: valid or not, with F or without, and every level.
 
-use crate::inputs;
 use crate::lent::Lent;
 use crate::report::{same, same_bytes, Checked, Input};
 use crate::run::Run;

@@ -1,6 +1,5 @@
 //! The checksum of data, and the heading where it lies in its store.
 
-use crate::inputs;
 use crate::lent::Lent;
 use crate::report::{same, same_bytes, Checked, Input};
 use crate::run::Run;

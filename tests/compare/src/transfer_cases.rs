@@ -1,6 +1,5 @@
 //! Which transfers are compared: every limit, and random ones.
 
-use crate::inputs;
 use crate::report::Checked;
 use crate::run::Run;
 use crate::transfers::{check, Case};

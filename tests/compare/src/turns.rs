@@ -1,6 +1,5 @@
 //! Turn lines: FF, FQ, `F>` and proposals, in both modes.
 
-use crate::inputs;
 use crate::report::{same, Checked, Input};
 use crate::run::Run;
 use compare::words;

@@ -1,6 +1,5 @@
 //! Writers: any place, any skip, any buffer; and piece by piece.
 
-use crate::inputs;
 use crate::lent::Lent;
 use crate::report::{same, same_bytes, Checked, Difference, Input};
 use crate::run::Run;

@@ -179,7 +179,7 @@ impl<'a> Reading<'a> {
     fn partner_transfers(&mut self, proposals: &[Proposal<'_>], signs: &[Sign]) -> Option<()> {
         for (proposal, sign) in proposals.iter().zip(signs) {
             if *sign == Sign::Accept {
-                let (heading, body) = self.link.transfer(Side::Partner, self.mode)?;
+                let (heading, body) = self.link.transfer(self.mode)?;
                 self.log.kept.push(Kept { envelope: proposal.into(), heading, body });
             }
         }

@@ -107,6 +107,10 @@ pub struct Session {
 }
 
 impl Session {
+    pub fn role(&self) -> Role {
+        self.role
+    }
+
     pub fn phase(&self) -> &Phase {
         &self.phase
     }

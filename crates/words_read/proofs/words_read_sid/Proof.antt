@@ -8,7 +8,7 @@ read-sid-requires : tie.Need-read-sid-requires
 read-sid-requires c κs = search needs
 
 returns : tie.Need-returns
-returns c = sid-numbers _ (c .before .before .read-sid .ensures)
+returns c = search sid-numbers
 
 pub words-read-sid-spec : {M : Type 1} → statement M
 words-read-sid-spec = tie.close (tie.spec read-sid-requires returns)

@@ -82,10 +82,10 @@ impl<'a> Link<'a> {
         self.cut(side, bytes.len()).map(drop)
     }
 
-    /// The next whole transfer: heading and body. "A body over 65,535 bytes is
+    /// The partner's next whole transfer: heading and body. "A body over 65,535 bytes is
     /// not valid" (reading 47), whatever room there was.
-    pub(super) fn transfer(&mut self, side: Side, mode: Mode) -> Option<(Vec<u8>, Vec<u8>)> {
-        let rest = self.rest(side);
+    pub(super) fn transfer(&mut self, mode: Mode) -> Option<(Vec<u8>, Vec<u8>)> {
+        let rest = self.rest(Side::Partner);
         let reading = match mode {
             Mode::Plain => read_plain(rest, usize::MAX),
             Mode::Framed => read_framed(rest, usize::MAX),
@@ -93,7 +93,7 @@ impl<'a> Link<'a> {
         if reading.outcome != Outcome::Whole {
             return None;
         }
-        self.cut(side, reading.consumed)?;
+        self.cut(Side::Partner, reading.consumed)?;
         if mode == Mode::Plain {
             self.drop_lf();
         }

@@ -59,9 +59,7 @@ impl Session {
     /// in answer to our FF. FF in answer to our FF gets 5." "A malformed or
     /// forbidden line gets 5 before 6 is thought of."
     fn judge_turn_line(&mut self, memory: &mut Memory, line: &[u8]) -> Judged {
-        let Phase::Turn { block } = &mut self.phase else {
-            unreachable!("a turn is awaited")
-        };
+        let Phase::Turn { block } = &mut self.phase else { unreachable!("a turn is awaited") };
         match proposal::read(line, self.mode)? {
             TurnLine::Nothing if block.is_empty() && !self.our_ff => {
                 self.mark_sent(memory);

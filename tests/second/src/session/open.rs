@@ -60,9 +60,8 @@ pub fn open(role: u8, lent: &Lent<'_>) -> Result<(Session, Memory), Reply> {
 /// no whole number of them, or session memory hasn't its fixed size; stores may
 /// have any size."
 fn are_valid(sizes: &Sizes) -> bool {
-    let whole = |bytes: usize, entry: usize, limit: usize| {
-        bytes.is_multiple_of(entry) && bytes / entry <= limit
-    };
+    let whole =
+        |bytes: usize, entry: usize, limit: usize| bytes % entry == 0 && bytes / entry <= limit;
     sizes.session == SESSION_BYTES
         && whole(sizes.table, RECORD_BYTES, RECORD_LIMIT)
         && whole(sizes.known, KNOWN_BYTES, KNOWN_LIMIT)

@@ -168,7 +168,7 @@ fn read_end<'a>(bytes: &'a [u8], at: usize, reading: Reading<'a>) -> Reading<'a>
         [] | [BLOCK] | [END] => reading.more(bytes.len()),
         [END, check, ..] => {
             let data: u64 = reading.body.iter().map(|&byte| u64::from(byte)).sum();
-            if (data + u64::from(check)).is_multiple_of(256) {
+            if (data + u64::from(check)) % 256 == 0 {
                 reading.ended(Outcome::Whole, at + 2)
             } else {
                 reading.refused(Refusal::WrongChecksum, at + 1)

@@ -1,0 +1,25 @@
+-- The session's choices on lent memory. No choice depends on titles, names and bodies, so these are left out.
+use mathlib.Core.Bool.{Bool}
+use mathlib.Core.List.{List, [], _∷_, map}
+use Prim.Native.Nat.{ℕ, _-_, min}
+use Rattle.grammar.specs.Bytes.{Bytes}
+use Rattle.grammar.specs.Answers.{writeSign}
+use Rattle.session.specs.Choices.{Shelf, chosen, answersTo}
+use Rattle.state.specs.State.{fiveOf}
+use Rattle.state.specs.declared.Five.{Five}
+use Rattle.state.specs.declared.Await.{Await}
+use Rattle.state.specs.declared.Keep.{Keep}
+use Rattle.choice.specs.Decoded.{recordsOf, statesOf, knownBids, headsOf, proposalsOf, placeCount}
+
+-- The places of the records that we propose now.
+unfoldable pub chooseOf : Bytes → Bool → Bytes → Five
+chooseOf table framed deferred = fiveOf (chosen (recordsOf [] [] [] table) framed (statesOf table) deferred)
+
+-- A shelf whose store has so many bytes left for bodies.
+abbrev pub shelfOf : Bytes → Bytes → Bytes → ℕ → Shelf
+shelfOf table known inbox free = record { table = recordsOf [] [] [] table; known = knownBids known; places = placeCount inbox; bytes = free }
+
+-- The sign bytes of our answers to the proposals in the block; store: how many bytes the inbox store has
+unfoldable pub answersOf : Await → Keep → Bytes → Bytes → Bytes → ℕ → Five
+answersOf w k table known inbox store =
+    fiveOf (map writeSign (answersTo (shelfOf table known inbox (store - k .used)) (headsOf inbox (k .kept)) (proposalsOf (w .block) (min 5 (w .proposals)))))

@@ -1,0 +1,93 @@
+-- WHAT A BYTE DOES: each event leaves the session that it names (`happens`). That there are no others is `complete` of proofs/Refusals.
+-- Idea: the step of each kind of byte (proofs/Steps), with what the event says put in.
+use mathlib.Core.Path.{_≡_, refl, sym, ap, _∙_}
+use mathlib.Core.Bool.{Bool, true, false, cond}
+use mathlib.Core.List.{List, [], _∷_, _++_}
+use Prim.Native.Nat.{ℕ, _<_}
+use lib.Dec.{eqb, ltb}
+use lib.ListN.{length}
+use borrow.Author.Tests.{eq-eqb, lt-ltb}
+use Rattle.grammar.specs.Bytes.{Bytes, CR}
+use Rattle.grammar.specs.Refusals as number
+use Rattle.grammar.specs.Lines.{ends, grows, overruns, trim, isComment}
+use Rattle.grammar.specs.Turns.{Proposal, fixedText, ourSid, withCr}
+use Rattle.grammar.specs.Answers.{Sign, fsLine}
+use Rattle.grammar.specs.Scan.{Scan, Scanned, goes, got, scanByte}
+use Rattle.grammar.proofs.Basics.{no-both}
+use Rattle.grammar.proofs.Refusal.{whole-got}
+use Rattle.mail.specs.Mail.{messageOf, accepted}
+use Rattle.session.specs.Choices.{Shelf, answersTo}
+use Rattle.session.specs.Session.{Phase, awaitsSid, awaitsPrompt, leaving, over, awaitsTurn, awaitsAnswer, awaitsTransfer, Memory, Session, goesOn, speaking, turnMarks, answering, lineJudged, moved, settled, lineMoved, isPlain, keptIn, nextTransfer, transferMoved, roomFor, freeStep, lfDropped, step}
+use Rattle.demand2.specs.Refusals.{isDropped, Heeded, awaitsLine, SoFar, TransferByte}
+use Rattle.demand2.specs.Events.{session, proposed, turnSaid, turnAwaits, transfersOr, Event, lfGoes, lineGrows, ignored, callerSid, calledSid, textLine, prompt, proposal, ffTurn, fqTurn, blockEnd, fsLineComes, transferGrows, transferWhole}
+use Rattle.demand2.proofs.Steps.{line-step, phase-step, transfer-step, turn-step, scan-more}
+
+-- ---------------------------------------------------------------- our turn
+
+speaks : (E : Shelf) (s : Session) (cr : Bool) (o : Bytes) (ff : Bool) (is : List ℕ) (m : Memory)
+    → settled s cr (speaking E o ff is m) ≡ moved (session (turnAwaits ff is) cr (o ++ turnSaid E ff is) m)
+speaks E s cr o true [] m = refl
+speaks E s cr o false [] m = refl
+speaks E s cr o ff (i ∷ is) m = refl
+
+answers : (E : Shelf) (s : Session) (cr : Bool) (ss : List Sign) (ps : List Proposal) (m : Memory)
+    → settled s cr (answering E ss ps m) ≡ moved (transfersOr E cr (withCr (fsLine ss)) ps m)
+answers E s cr ss [] m = speaks E s cr (withCr (fsLine ss)) false (proposed E m) m
+answers E s cr ss (p ∷ ps) m = refl
+
+pub next : (E : Shelf) (s : Session) (cr : Bool) (ps : List Proposal) (m : Memory) → settled s cr (nextTransfer E ps m) ≡ moved (transfersOr E cr [] ps m)
+next E s cr [] m = speaks E s cr [] false (proposed E m) m
+next E s cr (p ∷ ps) m = refl
+
+-- ---------------------------------------------------------------- each event leaves its session
+
+module _ (E : Shelf) (q : Bytes) (s : Session) (b : ℕ) where
+  goes-lf : isDropped s b ≡ true → step E s b ≡ moved (lfDropped s)
+  goes-lf e = ap (λ (c : Bool). cond c (moved (lfDropped s)) (freeStep E (s .out) s b)) e
+
+  goes-line : Heeded s b → awaitsLine (s .phase) ≡ true → eqb b CR ≡ false → length (s .part) < 256
+      → step E s b ≡ moved (record { phase = s .phase; part = s .part ++ (b ∷ []); afterCr = false; out = s .out; memory = s .memory })
+  goes-line h a e l =
+      line-step E s b h a
+      ∙ ap (λ (c : Bool). lineMoved E s b (cond c ends (cond (ltb (length (s .part)) 256) grows overruns))) e
+      ∙ ap (λ (c : Bool). lineMoved E s b (cond c grows overruns)) (lt-ltb (length (s .part)) 256 l)
+
+  goes-ignored : Heeded s b → awaitsLine (s .phase) ≡ true → b ≡ CR → isComment (trim (s .part)) ≡ true → step E s b ≡ moved (session (s .phase) true [] (s .memory))
+  goes-ignored h a e c =
+      line-step E s b h a
+      ∙ ap (λ (d : Bool). lineMoved E s b (cond d ends (cond (ltb (length (s .part)) 256) grows overruns))) (eq-eqb b CR e)
+      ∙ ap (settled s true) (go (s .phase) a)
+    where
+      go : (p : Phase) → awaitsLine p ≡ true → lineJudged E p (s .memory) (trim (s .part)) ≡ goesOn p (s .memory) []
+      go (awaitsSid x) a = rw c
+      go awaitsPrompt a = rw c
+      go (awaitsTurn ff ps) a = rw c
+      go (awaitsAnswer is) a = rw c
+      go (awaitsTransfer p ps sc) a = absurd (no-both false a refl)
+      go leaving a = absurd (no-both false a refl)
+      go over a = absurd (no-both false a refl)
+
+  module _ (S : SoFar E (s .phase) (s .memory) q) where
+    goes-transfer : (p : Proposal) (sc : Scan) (t : TransferByte s b p sc) (o : Scanned) → scanByte (roomFor E (s .memory)) sc b ≡ o → step E s b ≡ transferMoved E p (t .others) s o
+    goes-transfer p sc t o e = transfer-step E s b p sc t ∙ ap (transferMoved E p (t .others) s) e
+
+    pub happens : (t : Session) → Event E q s b t → step E s b ≡ moved t
+    happens t (lfGoes e) = goes-lf e
+    happens t (lineGrows h a e l) = goes-line h a e l
+    happens t (ignored h a e c) = goes-ignored h a e c
+    happens t (callerSid ln w p fs r f) = phase-step E s b ln (awaitsSid false) w p refl ∙ rw (w .judged, r, f)
+    happens t (calledSid ln w p fs r f) = phase-step E s b ln (awaitsSid true) w p refl ∙ rw (w .judged, r, f)
+    happens t (textLine ln w p r) = phase-step E s b ln awaitsPrompt w p refl ∙ rw (w .judged, r)
+    happens t (prompt ln w p r) =
+        phase-step E s b ln awaitsPrompt w p refl ∙ rw (w .judged, r) (speaks E s true (withCr (fixedText ourSid)) false (proposed E (s .memory)) (s .memory))
+    happens t (proposal ln ff ps w p r l) = turn-step E s b ff ps ln w ∙ rw (r, lt-ltb (length ps) 5 l)
+    happens t (ffTurn ln w r) = turn-step E s b false [] ln w ∙ rw r (speaks E s true [] true (proposed E (turnMarks (s .memory))) (turnMarks (s .memory)))
+    happens t (fqTurn ln w r) = turn-step E s b true [] ln w ∙ rw r
+    happens t (blockEnd ln ff p ps w r) =
+        turn-step E s b ff (p ∷ ps) ln w
+        ∙ rw r (answers E s true (answersTo E (s .memory .inbox) (p ∷ ps)) (accepted (answersTo E (s .memory .inbox) (p ∷ ps)) (p ∷ ps)) (turnMarks (s .memory)))
+    happens t (fsLineComes ln is w p ss r) = phase-step E s b ln (awaitsAnswer is) w p refl ∙ rw (w .judged, r)
+    happens t (transferGrows p sc sc′ u e) = goes-transfer p sc u (goes sc′) (sym (scan-more E s b q p sc u S) ∙ e)
+    happens t (transferWhole p sc u h x e l) =
+        goes-transfer p sc u (got h x) (sym (scan-more E s b q p sc u S) ∙ whole-got (roomFor E (s .memory)) (p .form) (q ++ (b ∷ [])) h x e l)
+        ∙ next E s (isPlain (p .form)) (u .others) (keptIn (s .memory) (messageOf p (record { heading = h; body = x })))

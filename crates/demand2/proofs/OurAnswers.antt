@@ -1,0 +1,160 @@
+-- OUR ANSWERS ARE EXACT. Idea: the answers to the proposals before one are the same whatever follows, and those accepted so far are the
+-- accepted ones of these; the tests of each sign say what 01 says.
+use mathlib.Core.Path.{_≡_, refl, sym, ap, _∙_, subst}
+use mathlib.Core.Bool.{Bool, true, false, cond, not, _||_}
+use mathlib.Core.List.{List, [], _∷_, _++_, append-assoc, append-nil}
+use Prim.Native.Nat.{ℕ, zero, suc, _+_, _-_, _<_}
+use native.Mathlib.Omega.{arith}
+use lib.Dec.{eqb, ltb}
+use lib.ListN.{length, getD}
+use lib.Seq.{getD-at}
+use borrow.Author.Tests.{eqb-true, eq-eqb, ltb-true, ltb-false, lt-ltb, le-ltb, not-true}
+use Rattle.grammar.specs.Bytes.{Bytes, same}
+use Rattle.grammar.specs.Fields.{sameBid}
+use Rattle.grammar.specs.Turns.{Proposal}
+use Rattle.grammar.specs.Answers.{Sign, accept, decline, defer}
+use Rattle.grammar.proofs.Basics.{and2, or-left, or-right, no-both}
+use Rattle.mail.specs.Mail.{Message, accepted}
+use Rattle.session.specs.Choices.{Shelf, among, recordBids, messageBids, proposalBids, bodyBytes, announced, haveBid, noRoomFor, signFor, withAccepted, answersAfter, answersTo}
+use Rattle.session.proofs.Choices.{one-sign-each}
+use Rattle.demand2.specs.OurAnswers.{Among, HaveBid, inTable, isKnown, inInbox, inBlock, NoRoomFor, tooLong, noStore, noPlace, SignExact, AnswersExact}
+
+-- ---------------------------------------------------------------- the tests say what 01 says
+
+same-is : (v w : Bytes) → same v w ≡ true → v ≡ w
+same-is [] [] e = refl
+same-is [] (y ∷ w) e = cc
+same-is (x ∷ v) [] e = cc
+same-is (x ∷ v) (y ∷ w) e =
+    let p = and2 (eqb x y) (same v w) e in
+    let a = eqb-true x y (p .0) in
+    let c = same-is v w (p .1) in
+    cc
+
+same-self : (v : Bytes) → same v v ≡ true
+same-self [] = refl
+same-self (x ∷ v) = rw (eq-eqb x x refl) (same-self v)
+
+among-in : (b : Bytes) (xs : List Bytes) → among b xs ≡ true → Among b xs
+unfolding sameBid
+among-in b [] e = absurd (no-both false e refl)
+among-in b (x ∷ xs) e = go (same x b) refl e (λ k. among-in b xs k)
+  where
+    go : (c : Bool) → same x b ≡ c → c || among b xs ≡ true → (among b xs ≡ true → Among b xs) → Among b (x ∷ xs)
+    go true f e ih = record { at = 0; within = omega arith; same = same-is x b f }
+    go false f e ih = let h = ih e in record { at = suc (h .at); within = omega (arith, h .within); same = h .same }
+
+among-out : (b : Bytes) (xs : List Bytes) (i : ℕ) → i < length xs → getD xs i [] ≡ b → among b xs ≡ true
+unfolding sameBid
+among-out b [] i l e = absurd (omega arith)
+among-out b (x ∷ xs) zero l e = or-left (same x b) (among b xs) (rw e (same-self b))
+among-out b (x ∷ xs) (suc i) l e = or-right (same x b) (among b xs) (among-out b xs i (omega arith) e)
+
+module _ (E : Shelf) (inbox : List Message) (acc : List Proposal) where
+  have-in : (b : Bytes) → haveBid E inbox acc b ≡ true → HaveBid E inbox acc b
+  have-in b e = go (among b (recordBids (E .table))) (among b (E .known)) (among b (messageBids inbox)) refl refl refl e
+    where
+      go : (x y z : Bool) → among b (recordBids (E .table)) ≡ x → among b (E .known) ≡ y → among b (messageBids inbox) ≡ z
+          → x || (y || (z || among b (proposalBids acc))) ≡ true → HaveBid E inbox acc b
+      go true y z p q r e = inTable (among-in b (recordBids (E .table)) p)
+      go false true z p q r e = isKnown (among-in b (E .known) q)
+      go false false true p q r e = inInbox (among-in b (messageBids inbox) r)
+      go false false false p q r e = inBlock (among-in b (proposalBids acc) e)
+
+  have-out : (b : Bytes) → HaveBid E inbox acc b → haveBid E inbox acc b ≡ true
+  have-out b (inTable h) = or-left (among b (recordBids (E .table))) _ (among-out b (recordBids (E .table)) (h .at) (h .within) (h .same))
+  have-out b (isKnown h) = or-right (among b (recordBids (E .table))) _ (or-left (among b (E .known)) _ (among-out b (E .known) (h .at) (h .within) (h .same)))
+  have-out b (inInbox h) =
+      or-right (among b (recordBids (E .table))) _ (or-right (among b (E .known)) _ (or-left (among b (messageBids inbox)) _ (among-out b (messageBids inbox) (h .at) (h .within) (h .same))))
+  have-out b (inBlock h) =
+      or-right (among b (recordBids (E .table))) _ (or-right (among b (E .known)) _ (or-right (among b (messageBids inbox)) _ (among-out b (proposalBids acc) (h .at) (h .within) (h .same))))
+
+  room-in : (n : ℕ) → noRoomFor E inbox acc n ≡ true → NoRoomFor E inbox acc n
+  room-in n e = go (ltb 65535 n) (ltb (E .bytes - bodyBytes inbox - announced acc) n) refl refl e
+    where
+      go : (x y : Bool) → ltb 65535 n ≡ x → ltb (E .bytes - bodyBytes inbox - announced acc) n ≡ y
+          → x || (y || not (ltb (length inbox + length acc) (E .places))) ≡ true → NoRoomFor E inbox acc n
+      go true y p q e = tooLong (ltb-true 65535 n p)
+      go false true p q e = noStore (ltb-true (E .bytes - bodyBytes inbox - announced acc) n q)
+      go false false p q e = noPlace (ltb-false (length inbox + length acc) (E .places) (not-true (ltb (length inbox + length acc) (E .places)) e))
+
+  room-out : (n : ℕ) → NoRoomFor E inbox acc n → noRoomFor E inbox acc n ≡ true
+  room-out n (tooLong h) = or-left (ltb 65535 n) _ (lt-ltb 65535 n h)
+  room-out n (noStore h) = or-right (ltb 65535 n) _ (or-left (ltb (E .bytes - bodyBytes inbox - announced acc) n) _ (lt-ltb (E .bytes - bodyBytes inbox - announced acc) n h))
+  room-out n (noPlace h) =
+      or-right (ltb 65535 n) _ (or-right (ltb (E .bytes - bodyBytes inbox - announced acc) n) _ (ap not (le-ltb (length inbox + length acc) (E .places) h)))
+
+  -- ---------------------------------------------------------------- one sign
+
+  pub sign-exact : (p : Proposal) → SignExact E inbox acc p (signFor E inbox acc p)
+  sign-exact p = go (haveBid E inbox acc (p .bid)) (noRoomFor E inbox acc (p .size)) refl refl
+    where
+      go : (x y : Bool) → haveBid E inbox acc (p .bid) ≡ x → noRoomFor E inbox acc (p .size) ≡ y → SignExact E inbox acc p (cond x decline (cond y defer accept))
+      go true y e f =
+          record {
+            declines = λ k. have-in (p .bid) e;
+            declined = λ k. refl;
+            defers = λ k. absurd (let z : _≡_ {A = ℕ} 0 1 = cc in omega arith);
+            deferred = λ n k. absurd (n (have-in (p .bid) e));
+            accepts = λ k. absurd (let z : _≡_ {A = ℕ} 0 1 = cc in omega arith);
+            accepted = λ n k. absurd (n (have-in (p .bid) e));
+          }
+      go false true e f =
+          record {
+            declines = λ k. absurd (let z : _≡_ {A = ℕ} 0 1 = cc in omega arith);
+            declined = λ k. absurd (no-both (haveBid E inbox acc (p .bid)) (have-out (p .bid) k) e);
+            defers = λ k. (λ h. no-both (haveBid E inbox acc (p .bid)) (have-out (p .bid) h) e, room-in (p .size) f);
+            deferred = λ n k. refl;
+            accepts = λ k. absurd (let z : _≡_ {A = ℕ} 0 1 = cc in omega arith);
+            accepted = λ n k. absurd (k (room-in (p .size) f));
+          }
+      go false false e f =
+          record {
+            declines = λ k. absurd (let z : _≡_ {A = ℕ} 0 1 = cc in omega arith);
+            declined = λ k. absurd (no-both (haveBid E inbox acc (p .bid)) (have-out (p .bid) k) e);
+            defers = λ k. absurd (let z : _≡_ {A = ℕ} 0 1 = cc in omega arith);
+            deferred = λ n k. absurd (no-both (noRoomFor E inbox acc (p .size)) (room-out (p .size) k) f);
+            accepts = λ k. (λ h. no-both (haveBid E inbox acc (p .bid)) (have-out (p .bid) h) e, λ h. no-both (noRoomFor E inbox acc (p .size)) (room-out (p .size) h) f);
+            accepted = λ n k. refl;
+          }
+
+-- ---------------------------------------------------------------- sign by sign
+
+-- the answers to those before, then this one, then the others
+module _ (E : Shelf) (inbox : List Message) where
+  -- accepted so far, with these after them
+  abbrev sofar : List Proposal → List Proposal → List Proposal
+  sofar acc xs = acc ++ accepted (answersAfter E inbox acc xs) xs
+
+  sofar-cons : (acc : List Proposal) (x : Proposal) (xs : List Proposal) → sofar (withAccepted (signFor E inbox acc x) x acc) xs ≡ sofar acc (x ∷ xs)
+  sofar-cons acc x xs = go (signFor E inbox acc x)
+    where
+      go : (s : Sign) → withAccepted s x acc ++ accepted (answersAfter E inbox (withAccepted s x acc) xs) xs
+          ≡ acc ++ accepted (s ∷ answersAfter E inbox (withAccepted s x acc) xs) (x ∷ xs)
+      go accept = append-assoc acc (x ∷ []) (accepted (answersAfter E inbox (acc ++ (x ∷ [])) xs) xs)
+      go decline = refl
+      go defer = refl
+
+  split : (acc xs : List Proposal) (p : Proposal) (ys : List Proposal)
+      → answersAfter E inbox acc (xs ++ p ∷ ys)
+      ≡ answersAfter E inbox acc xs ++ (signFor E inbox (sofar acc xs) p ∷ answersAfter E inbox (withAccepted (signFor E inbox (sofar acc xs) p) p (sofar acc xs)) ys)
+  split acc [] p ys = rw (append-nil acc)
+  split acc (x ∷ xs) p ys =
+      ap (λ (l : List Sign). signFor E inbox acc x ∷ l)
+      (split (withAccepted (signFor E inbox acc x) x acc) xs p ys
+      ∙ ap (λ (a : List Proposal). answersAfter E inbox (withAccepted (signFor E inbox acc x) x acc) xs ++ (signFor E inbox a p ∷ answersAfter E inbox (withAccepted (signFor E inbox a p) p a) ys))
+      (sofar-cons acc x xs))
+
+-- OUR ANSWERS ARE EXACT
+pub answers-exact : (E : Shelf) (inbox : List Message) (ps : List Proposal) → AnswersExact E inbox ps
+unfolding answersTo
+answers-exact E inbox ps =
+    record {
+      each = one-sign-each E inbox ps;
+      sign = λ before p after e.
+          subst (SignExact E inbox (accepted (answersTo E inbox before) before) p)
+          (sym (ap (λ (l : List Proposal). getD (answersTo E inbox l) (length before) defer) e
+          ∙ ap (λ (l : List Sign). getD l (length before) defer) (split E inbox [] before p after)
+          ∙ getD-at (answersTo E inbox before) _ _ defer (length before) (one-sign-each E inbox before)))
+          (sign-exact E inbox (accepted (answersTo E inbox before) before) p);
+    }

@@ -1,0 +1,393 @@
+-- OUR TURN IS 01's. Idea: the candidates are all places that may be proposed, in table order; our block is the longest beginning of them that
+-- the two limits allow, and a list with the facts of OurBlock is that beginning.
+use mathlib.Core.Path.{_≡_, refl, sym, ap, _∙_, subst}
+use mathlib.Core.Bool.{Bool, true, false, cond, _&&_, _||_}
+use mathlib.Core.Logic.{_⊎_, inl, inr}
+use mathlib.Core.List.{List, [], _∷_, _++_, map}
+use Prim.Native.Nat.{ℕ, zero, suc, _+_, _≤_, _<_}
+use native.Mathlib.Omega.{arith}
+use lib.Dec.{eqb, ltb, leb}
+use lib.ListN.{length, getD}
+use borrow.Author.Tests.{eqb-true, eq-eqb, ne-eqb, ltb-true, ltb-false, lt-ltb, le-ltb, leb-true, le-leb}
+use Rattle.grammar.specs.Bytes.{Bytes, all}
+use Rattle.grammar.specs.Fields.{Form, plain, message, file}
+use Rattle.grammar.specs.Turns.{Proposal, ourBlock, formLetter, proposalLine, fixedText, ourFF, ourFQ, withCr}
+use Rattle.grammar.proofs.Basics.{and2, both, or-left, or-right, or-second, no-both, not-so}
+use Rattle.mail.specs.Mail.{Record, recordAt, proposalOf, turnText}
+use Rattle.session.specs.Choices.{Shelf, wanted, candidates, sizeAt, chosen}
+use Rattle.session.specs.Session.{Memory}
+use Rattle.session.proofs.Choices.{few}
+use Rattle.demand2.specs.OurTurn.{mayPropose, isIn, rising, sizes, OurBlock, TurnExact}
+use Rattle.demand2.specs.Events.{proposed, turnSaid}
+
+-- ---------------------------------------------------------------- lists of places
+
+in-append : (i : ℕ) (xs ys : List ℕ) → isIn i (xs ++ ys) ≡ isIn i xs || isIn i ys
+in-append i [] ys = refl
+in-append i (x ∷ xs) ys = go (eqb i x) (in-append i xs ys)
+  where
+    go : (c : Bool) → isIn i (xs ++ ys) ≡ isIn i xs || isIn i ys → c || isIn i (xs ++ ys) ≡ (c || isIn i xs) || isIn i ys
+    go true h = refl
+    go false h = h
+
+all-in : (c : ℕ → Bool) (xs : List ℕ) (i : ℕ) → all c xs ≡ true → isIn i xs ≡ true → c i ≡ true
+all-in c [] i a e = absurd (no-both false e refl)
+all-in c (x ∷ xs) i a e = let p = and2 (c x) (all c xs) a in go (eqb i x) refl e (p .0) (λ k. all-in c xs i (p .1) k)
+  where
+    go : (d : Bool) → eqb i x ≡ d → d || isIn i xs ≡ true → c x ≡ true → (isIn i xs ≡ true → c i ≡ true) → c i ≡ true
+    go true q e h ih = ap c (eqb-true i x q) ∙ h
+    go false q e h ih = ih e
+
+rising-first : (x : ℕ) (xs : List ℕ) → rising (x ∷ xs) ≡ true → (i : ℕ) → isIn i xs ≡ true → x < i
+rising-first x xs r i e = ltb-true x i (all-in (λ (y : ℕ). ltb x y) xs i (and2 (all (λ (y : ℕ). ltb x y) xs) (rising xs) r .0) e)
+
+rising-rest : (x : ℕ) (xs : List ℕ) → rising (x ∷ xs) ≡ true → rising xs ≡ true
+rising-rest x xs r = and2 (all (λ (y : ℕ). ltb x y) xs) (rising xs) r .1
+
+-- the beginning of a rising list rises, and what follows it is later
+rising-front : (xs ys : List ℕ) → rising (xs ++ ys) ≡ true → rising xs ≡ true
+rising-front [] ys r = refl
+rising-front (x ∷ xs) ys r =
+    both (all (λ (y : ℕ). ltb x y) xs) (rising xs) (front xs (and2 (all (λ (y : ℕ). ltb x y) (xs ++ ys)) (rising (xs ++ ys)) r .0)) (rising-front xs ys (rising-rest x (xs ++ ys) r))
+  where
+    front : (xs : List ℕ) → all (λ (y : ℕ). ltb x y) (xs ++ ys) ≡ true → all (λ (y : ℕ). ltb x y) xs ≡ true
+    front [] a = refl
+    front (z ∷ xs) a = let p = and2 (ltb x z) (all (λ (y : ℕ). ltb x y) (xs ++ ys)) a in both (ltb x z) (all (λ (y : ℕ). ltb x y) xs) (p .0) (front xs (p .1))
+
+rising-later : (xs ys : List ℕ) → rising (xs ++ ys) ≡ true → (j i : ℕ) → isIn j xs ≡ true → isIn i ys ≡ true → j < i
+rising-later [] ys r j i e f = absurd (no-both false e refl)
+rising-later (x ∷ xs) ys r j i e f = go (eqb j x) refl e (λ k. rising-later xs ys (rising-rest x (xs ++ ys) r) j i k f)
+  where
+    go : (c : Bool) → eqb j x ≡ c → c || isIn j xs ≡ true → (isIn j xs ≡ true → j < i) → j < i
+    go true q e ih = let z = eqb-true j x q in omega (arith, rising-first x (xs ++ ys) r i (in-append i xs ys ∙ or-right (isIn i xs) (isIn i ys) f))
+    go false q e ih = ih e
+
+-- ---------------------------------------------------------------- the candidates
+
+module _ (md : Bool) (states flags : List ℕ) where
+  -- none before the place from which they are counted
+  from : (R : List Record) (i k : ℕ) → k < i → isIn k (candidates md states flags i R) ≡ false
+  from [] i k h = refl
+  from (r ∷ R) i k h = go (wanted md r (getD states i 0) (getD flags i 0)) (from R (suc i) k (omega arith))
+    where
+      go : (c : Bool) → isIn k (candidates md states flags (suc i) R) ≡ false
+          → isIn k (cond c (i ∷ candidates md states flags (suc i) R) (candidates md states flags (suc i) R)) ≡ false
+      go true e = rw (ne-eqb k i (λ q. omega arith)) e
+      go false e = e
+
+  -- place i + j is one exactly if the record there may be proposed
+  at : (R : List Record) (i j : ℕ) → isIn (i + j) (candidates md states flags i R)
+      ≡ (ltb j (length R) && wanted md (recordAt R j) (getD states (i + j) 0) (getD flags (i + j) 0))
+  at [] i j = rw (le-ltb j 0 (omega arith))
+  at (r ∷ R) i zero =
+      let z : i + 0 ≡ i = omega arith in
+      rw (z, lt-ltb 0 (suc (length R)) (omega arith)) (go (wanted md r (getD states i 0) (getD flags i 0)) (from R (suc i) i (omega arith)))
+    where
+      go : (c : Bool) → isIn i (candidates md states flags (suc i) R) ≡ false
+          → isIn i (cond c (i ∷ candidates md states flags (suc i) R) (candidates md states flags (suc i) R)) ≡ c
+      go true e = rw (eq-eqb i i refl)
+      go false e = e
+  at (r ∷ R) i (suc j) =
+      let z : i + suc j ≡ suc i + j = omega arith in
+      rw z (go (wanted md r (getD states i 0) (getD flags i 0)) ∙ at R (suc i) j ∙ ap (λ (c : Bool). c && wanted md (recordAt R j) (getD states (suc i + j) 0) (getD flags (suc i + j) 0)) (less j (length R)))
+    where
+      less : (a b : ℕ) → ltb a b ≡ ltb (suc a) (suc b)
+      less a b = go (ltb a b) refl
+        where
+          go : (c : Bool) → ltb a b ≡ c → c ≡ ltb (suc a) (suc b)
+          go true e = sym (lt-ltb (suc a) (suc b) (omega (arith, ltb-true a b e)))
+          go false e = sym (le-ltb (suc a) (suc b) (omega (arith, ltb-false a b e)))
+
+      go : (c : Bool) → isIn (suc i + j) (cond c (i ∷ candidates md states flags (suc i) R) (candidates md states flags (suc i) R))
+          ≡ isIn (suc i + j) (candidates md states flags (suc i) R)
+      go true = rw (ne-eqb (suc i + j) i (λ q. omega arith))
+      go false = refl
+
+  -- THE CANDIDATES are the places that may be proposed
+  pub candidate-is : (T : List Record) (i : ℕ) → isIn i (candidates md states flags 0 T) ≡ mayPropose T md states flags i
+  candidate-is T i =
+      subst (λ (k : ℕ). isIn k (candidates md states flags 0 T) ≡ (ltb i (length T) && wanted md (recordAt T i) (getD states k 0) (getD flags k 0)))
+      (let z : 0 + i ≡ i = omega arith in z) (at T 0 i)
+
+  later : (R : List Record) (i k : ℕ) → k < i → all (λ (y : ℕ). ltb k y) (candidates md states flags i R) ≡ true
+  later [] i k h = refl
+  later (r ∷ R) i k h = go (wanted md r (getD states i 0) (getD flags i 0)) (later R (suc i) k (omega arith))
+    where
+      go : (c : Bool) → all (λ (y : ℕ). ltb k y) (candidates md states flags (suc i) R) ≡ true
+          → all (λ (y : ℕ). ltb k y) (cond c (i ∷ candidates md states flags (suc i) R) (candidates md states flags (suc i) R)) ≡ true
+      go true e = both (ltb k i) (all (λ (y : ℕ). ltb k y) (candidates md states flags (suc i) R)) (lt-ltb k i h) e
+      go false e = e
+
+  in-order : (R : List Record) (i : ℕ) → rising (candidates md states flags i R) ≡ true
+  in-order [] i = refl
+  in-order (r ∷ R) i = go (wanted md r (getD states i 0) (getD flags i 0)) (in-order R (suc i))
+    where
+      go : (c : Bool) → rising (candidates md states flags (suc i) R) ≡ true
+          → rising (cond c (i ∷ candidates md states flags (suc i) R) (candidates md states flags (suc i) R)) ≡ true
+      go true e =
+          both (all (λ (y : ℕ). ltb i y) (candidates md states flags (suc i) R)) (rising (candidates md states flags (suc i) R)) (later R (suc i) i (omega arith)) e
+      go false e = e
+
+-- ---------------------------------------------------------------- a beginning of them
+
+module _ (T : List Record) where
+  -- what is left of the candidates, and why
+  record Rest (n s : ℕ) (xs block : List ℕ) : Type 0 where
+    rest : List ℕ
+    split : xs ≡ block ++ rest
+    full : (y : ℕ) (ys : List ℕ) → rest ≡ y ∷ ys → leb 5 (n + length block) || leb 10240 (s + sizes T block) ≡ true
+
+  -- one of the two limits is met
+  limit : (n s : ℕ) → ltb n 5 && ltb s 10240 ≡ false → leb 5 n || leb 10240 s ≡ true
+  limit n s e = go (ltb n 5) (ltb s 10240) refl refl e
+    where
+      go : (a b : Bool) → ltb n 5 ≡ a → ltb s 10240 ≡ b → a && b ≡ false → leb 5 n || leb 10240 s ≡ true
+      go true true p q e = absurd (no-both true refl e)
+      go true false p q e = or-right (leb 5 n) (leb 10240 s) (le-leb 10240 s (ltb-false s 10240 q))
+      go false b p q e = or-left (leb 5 n) (leb 10240 s) (le-leb 5 n (ltb-false n 5 p))
+
+  no-limit : (n s : ℕ) → n < 5 → s < 10240 → ltb n 5 && ltb s 10240 ≡ true
+  no-limit n s h k = both (ltb n 5) (ltb s 10240) (lt-ltb n 5 h) (lt-ltb s 10240 k)
+
+  met : (n s : ℕ) → leb 5 n || leb 10240 s ≡ true → ltb n 5 && ltb s 10240 ≡ false
+  met n s e = not-so (ltb n 5 && ltb s 10240) (λ k. go k (leb 5 n) refl e)
+    where
+      go : ltb n 5 && ltb s 10240 ≡ true → (c : Bool) → leb 5 n ≡ c → c || leb 10240 s ≡ true → ⊥
+      go k true q e = let p = and2 (ltb n 5) (ltb s 10240) k in omega (arith, leb-true 5 n q, ltb-true n 5 (p .0))
+      go k false q e = let p = and2 (ltb n 5) (ltb s 10240) k in omega (arith, leb-true 10240 s e, ltb-true s 10240 (p .1))
+
+  block-rest : (n s : ℕ) (xs : List ℕ) → Rest n s xs (ourBlock (sizeAt T) n s xs)
+  block-rest n s [] = record { rest = []; split = refl; full = λ y ys e. absurd (let z : _≡_ {A = ℕ} 0 1 = cc in omega arith) }
+  block-rest n s (x ∷ xs) = go (ltb n 5 && ltb s 10240) refl (block-rest (n + 1) (s + sizeAt T x) xs)
+    where
+      go : (c : Bool) → ltb n 5 && ltb s 10240 ≡ c → Rest (n + 1) (s + sizeAt T x) xs (ourBlock (sizeAt T) (n + 1) (s + sizeAt T x) xs)
+          → Rest n s (x ∷ xs) (cond c (x ∷ ourBlock (sizeAt T) (n + 1) (s + sizeAt T x) xs) [])
+      go true e h =
+          let b : List ℕ = ourBlock (sizeAt T) (n + 1) (s + sizeAt T x) xs in
+          let p : n + 1 + length b ≡ n + suc (length b) = omega arith in
+          let q : s + sizeAt T x + sizes T b ≡ s + (sizeAt T x + sizes T b) = omega arith in
+          record {
+            rest = h .rest;
+            split = ap (λ (l : List ℕ). x ∷ l) (h .split);
+            full = λ y ys f. ap (λ (k : ℕ). leb 5 k || leb 10240 (s + (sizeAt T x + sizes T b))) (sym p) ∙ ap (λ (k : ℕ). leb 5 (n + 1 + length b) || leb 10240 k) (sym q) ∙ h .full y ys f;
+          }
+      go false e h =
+          let p : n + 0 ≡ n = omega arith in
+          let q : s + 0 ≡ s = omega arith in
+          record { rest = x ∷ xs; split = refl; full = λ y ys f. rw (p, q) (limit n s e) }
+
+  -- a record is added only while the sizes so far are below 10,240
+  Below : ℕ → List ℕ → Type 0
+  Below s is = (xs : List ℕ) (i : ℕ) (ys : List ℕ) → is ≡ xs ++ i ∷ ys → s + sizes T xs < 10240
+
+  below-cons : (s x : ℕ) (is : List ℕ) → s < 10240 → Below (s + sizeAt T x) is → Below s (x ∷ is)
+  unfolding Below
+  below-cons s x is h k [] i ys e = omega arith
+  below-cons s x is h k (z ∷ xs) i ys e =
+      let p : x ≡ z = cc in
+      let q : is ≡ xs ++ i ∷ ys = cc in
+      let m = k xs i ys q in
+      subst (λ (y : ℕ). s + (sizeAt T y + sizes T xs) < 10240) p (omega arith)
+
+  below-none : (s : ℕ) → Below s []
+  unfolding Below
+  below-none s [] i ys e = absurd (let z : _≡_ {A = ℕ} 0 1 = cc in omega arith)
+  below-none s (z ∷ zs) i ys e = absurd (let z : _≡_ {A = ℕ} 0 1 = cc in omega arith)
+
+  block-below : (n s : ℕ) (xs : List ℕ) → Below s (ourBlock (sizeAt T) n s xs)
+  block-below n s [] = below-none s
+  block-below n s (x ∷ xs) = go (ltb n 5 && ltb s 10240) refl (block-below (n + 1) (s + sizeAt T x) xs)
+    where
+      go : (c : Bool) → ltb n 5 && ltb s 10240 ≡ c → Below (s + sizeAt T x) (ourBlock (sizeAt T) (n + 1) (s + sizeAt T x) xs)
+          → Below s (cond c (x ∷ ourBlock (sizeAt T) (n + 1) (s + sizeAt T x) xs) [])
+      go true e h = below-cons s x (ourBlock (sizeAt T) (n + 1) (s + sizeAt T x) xs) (ltb-true s 10240 (and2 (ltb n 5) (ltb s 10240) e .1)) h
+      go false e h = below-none s
+
+-- ---------------------------------------------------------------- our block
+
+module _ (T : List Record) (md : Bool) (states flags : List ℕ) where
+  abbrev all-of : List ℕ
+  all-of = candidates md states flags 0 T
+
+  -- in the candidates and not in their beginning: in the rest
+  in-rest : (is rest : List ℕ) → all-of ≡ is ++ rest → (i : ℕ) → mayPropose T md states flags i ≡ true → isIn i is ≡ false → isIn i rest ≡ true
+  in-rest is rest e i m n =
+      or-second (isIn i is) (isIn i rest) n (sym (in-append i is rest) ∙ ap (isIn i) (sym e) ∙ candidate-is md states flags T i ∙ m)
+
+  -- OUR BLOCK
+  pub block-exact : OurBlock T md states flags (chosen T md states flags)
+  unfolding chosen Below
+  block-exact =
+      let is : List ℕ = ourBlock (sizeAt T) 0 0 all-of in
+      let h = block-rest T 0 0 all-of in
+      let r = subst (λ (l : List ℕ). rising l ≡ true) (h .split) (in-order md states flags T 0) in
+      let b = block-below T 0 0 all-of in
+      record {
+        order = rising-front is (h .rest) r;
+        allowed = λ i e. sym (candidate-is md states flags T i) ∙ ap (isIn i) (h .split) ∙ in-append i is (h .rest) ∙ or-left (isIn i is) (isIn i (h .rest)) e;
+        few = few T md states flags;
+        below = λ xs i ys e. omega (arith, b xs i ys e);
+        first = λ i m n j e. rising-later is (h .rest) r j i e (in-rest is (h .rest) (h .split) i m n);
+        full = λ i m n. limited is (h .rest) (h .full) i (in-rest is (h .rest) (h .split) i m n);
+      }
+    where
+      limited : (is rest : List ℕ) → ((y : ℕ) (ys : List ℕ) → rest ≡ y ∷ ys → leb 5 (0 + length is) || leb 10240 (0 + sizes T is) ≡ true) → (i : ℕ)
+          → isIn i rest ≡ true → leb 5 (length is) || leb 10240 (sizes T is) ≡ true
+      limited is [] f i e = absurd (no-both false e refl)
+      limited is (y ∷ rest) f i e =
+          let p : 0 + length is ≡ length is = omega arith in
+          let q : 0 + sizes T is ≡ sizes T is = omega arith in
+          rw (p, q) at (f y rest refl)
+
+-- ---------------------------------------------------------------- and no other list is
+
+-- a rising list of candidates that passes none over is a beginning of them
+beginning : (c is : List ℕ) → rising c ≡ true → rising is ≡ true → ((i : ℕ) → isIn i is ≡ true → isIn i c ≡ true)
+    → ((i : ℕ) → isIn i c ≡ true → isIn i is ≡ false → (j : ℕ) → isIn j is ≡ true → j < i) → (rest : List ℕ) × (c ≡ is ++ rest)
+beginning c [] r t a f = (c, refl)
+beginning [] (j ∷ is) r t a f = absurd (no-both false (a j (or-left (eqb j j) (isIn j is) (eq-eqb j j refl))) refl)
+beginning (x ∷ c) (j ∷ is) r t a f =
+    let p : x ≡ j = head in
+    let h = beginning c is (rising-rest x c r) (rising-rest j is t) (λ i e. inner p i e) (λ i e n k g. outer p i e n k g) in
+    (h .0, subst (λ (y : ℕ). x ∷ c ≡ y ∷ (is ++ h .0)) p (ap (λ (l : List ℕ). x ∷ l) (h .1)))
+  where
+    here : isIn j (j ∷ is) ≡ true
+    here = or-left (eqb j j) (isIn j is) (eq-eqb j j refl)
+
+    first : isIn x (x ∷ c) ≡ true
+    first = or-left (eqb x x) (isIn x c) (eq-eqb x x refl)
+
+    -- x is no later than any candidate, j no later than any of the list
+    least : (i : ℕ) → isIn i (x ∷ c) ≡ true → x ≤ i
+    least i e = go (eqb i x) refl e
+      where
+        go : (d : Bool) → eqb i x ≡ d → d || isIn i c ≡ true → x ≤ i
+        go true q e = omega (arith, eqb-true i x q)
+        go false q e = omega (arith, rising-first x c r i e)
+
+    least-in : (i : ℕ) → isIn i (j ∷ is) ≡ true → j ≤ i
+    least-in i e = go (eqb i j) refl e
+      where
+        go : (d : Bool) → eqb i j ≡ d → d || isIn i is ≡ true → j ≤ i
+        go true q e = omega (arith, eqb-true i j q)
+        go false q e = omega (arith, rising-first j is t i e)
+
+    head : x ≡ j
+    head = go (isIn x (j ∷ is)) refl
+      where
+        go : (d : Bool) → isIn x (j ∷ is) ≡ d → x ≡ j
+        go true q = let u = least-in x q in let v = least j (a j here) in omega arith
+        go false q = let u = f x first q j here in let v = least j (a j here) in absurd (omega arith)
+
+    inner : x ≡ j → (i : ℕ) → isIn i is ≡ true → isIn i c ≡ true
+    inner p i e =
+        let l = rising-first j is t i e in
+        or-second (eqb i x) (isIn i c) (ne-eqb i x (λ q. omega arith)) (a i (or-right (eqb i j) (isIn i is) e))
+
+    outer : x ≡ j → (i : ℕ) → isIn i c ≡ true → isIn i is ≡ false → (k : ℕ) → isIn k is ≡ true → k < i
+    outer p i e n k g =
+        let l = rising-first x c r i e in
+        let m : isIn i (j ∷ is) ≡ false = rw (ne-eqb i j (λ q. omega arith)) n in
+        f i (or-right (eqb i x) (isIn i c) e) m k (or-right (eqb k j) (isIn k is) g)
+
+module _ (T : List Record) where
+  -- a beginning within the limits that is as long as they allow
+  longest : (is rest : List ℕ) (n s : ℕ) → n + length is ≤ 5 → Below T s is
+      → ((y : ℕ) (ys : List ℕ) → rest ≡ y ∷ ys → leb 5 (n + length is) || leb 10240 (s + sizes T is) ≡ true) → is ≡ ourBlock (sizeAt T) n s (is ++ rest)
+  unfolding Below
+  longest [] [] n s l b f = refl
+  longest [] (y ∷ rest) n s l b f =
+      let p : n + 0 ≡ n = omega arith in
+      let q : s + 0 ≡ s = omega arith in
+      rw (met T n s (rw (p, q) at (f y rest refl)))
+  longest (x ∷ is) rest n s l b f =
+      let h = b [] x is refl in
+      let p : n + suc (length is) ≡ n + 1 + length is = omega arith in
+      let q : s + (sizeAt T x + sizes T is) ≡ s + sizeAt T x + sizes T is = omega arith in
+      rw (no-limit T n s (omega arith) (omega arith))
+      (ap (λ (l : List ℕ). x ∷ l)
+      (longest is rest (n + 1) (s + sizeAt T x) (omega arith)
+      (λ xs i ys e. let k = b (x ∷ xs) i ys (ap (λ (l : List ℕ). x ∷ l) e) in omega arith)
+      (λ y ys e. rw (p, q) at (f y ys e))))
+
+-- OUR BLOCK is the only list of which these facts hold
+pub block-only : (T : List Record) (md : Bool) (states flags is : List ℕ) → OurBlock T md states flags is → is ≡ chosen T md states flags
+unfolding chosen Below
+block-only T md states flags is h =
+    let c : List ℕ = candidates md states flags 0 T in
+    let b = beginning c is (in-order md states flags T 0) (h .order) (λ i e. candidate-is md states flags T i ∙ h .allowed i e)
+    (λ i e n j f. h .first i (sym (candidate-is md states flags T i) ∙ e) n j f) in
+    longest T is (b .0) 0 0 (omega (arith, h .few)) (λ xs i ys e. let k = h .below xs i ys e in omega arith) (λ y ys e. left y ys (b .0) (b .1) e)
+    ∙ ap (ourBlock (sizeAt T) 0 0) (sym (b .1))
+  where
+    -- a candidate that is left out
+    left : (y : ℕ) (ys rest : List ℕ) → candidates md states flags 0 T ≡ is ++ rest → rest ≡ y ∷ ys → leb 5 (0 + length is) || leb 10240 (0 + sizes T is) ≡ true
+    left y ys rest e f =
+        let p : 0 + length is ≡ length is = omega arith in
+        let q : 0 + sizes T is ≡ sizes T is = omega arith in
+        let g : candidates md states flags 0 T ≡ is ++ y ∷ ys = e ∙ ap (λ (l : List ℕ). is ++ l) f in
+        let m : mayPropose T md states flags y ≡ true =
+        sym (candidate-is md states flags T y) ∙ ap (isIn y) g ∙ in-append y is (y ∷ ys) ∙ or-right (isIn y is) (isIn y (y ∷ ys)) (or-left (eqb y y) (isIn y ys) (eq-eqb y y refl)) in
+        let n : isIn y is ≡ false =
+        not-so (isIn y is) (λ k. let z = rising-later is (y ∷ ys) (subst (λ (l : List ℕ). rising l ≡ true) g (in-order md states flags T 0)) y y k (or-left (eqb y y) (isIn y ys) (eq-eqb y y refl)) in omega arith) in
+        rw (p, q) (h .full y m n)
+
+-- ---------------------------------------------------------------- what we say
+
+-- the second byte tells the lines apart
+second : Bytes → ℕ
+second o = getD o 1 0
+
+block-second : (p : Proposal) (ps : List Proposal) → (second (turnText (p ∷ ps)) ≡ 65) ⊎ (second (turnText (p ∷ ps)) ≡ 66)
+unfolding second turnText proposalLine
+block-second p ps = go (p .form)
+  where
+    go : (f : Form) → (formLetter f ≡ 65) ⊎ (formLetter f ≡ 66)
+    go plain = inr refl
+    go message = inl refl
+    go file = inr refl
+
+-- OUR TURN
+pub turn-exact : (E : Shelf) (ff : Bool) (m : Memory) → TurnExact E ff m
+unfolding second
+turn-exact E ff m =
+    record {
+      block = B;
+      none = λ e i. not-so (may i) (λ k. no-both false (rw e at (B .full i k (rw e))) refl);
+      remains = λ n. empty (proposed E m) (λ i e. no-both (may i) (B .allowed i e) (n i));
+      saysFf = λ e f. rw (e, f);
+      onlyFf = λ e. is-ff (proposed E m) ff e;
+      saysFq = λ e f. rw (e, f);
+      onlyFq = λ e. is-fq (proposed E m) ff e;
+      says = λ i is e. ap (turnSaid E ff) e ∙ block-said ff i is;
+    }
+  where
+    may : ℕ → Bool
+    may i = mayPropose (E .table) (m .framed) (m .states) (m .deferred) i
+
+    B : OurBlock (E .table) (m .framed) (m .states) (m .deferred) (proposed E m)
+    B = block-exact (E .table) (m .framed) (m .states) (m .deferred)
+
+    empty : (is : List ℕ) → ((i : ℕ) → isIn i is ≡ true → ⊥) → is ≡ []
+    empty [] n = refl
+    empty (i ∷ is) n = absurd (n i (or-left (eqb i i) (isIn i is) (eq-eqb i i refl)))
+
+    block-said : (ff : Bool) (i : ℕ) (is : List ℕ) → turnSaid E ff (i ∷ is) ≡ turnText (map (λ (k : ℕ). proposalOf (recordAt (E .table) k)) (i ∷ is))
+    block-said ff i is = refl
+
+    other : (i : ℕ) (is : List ℕ) (n : ℕ) → second (turnText (map (λ (k : ℕ). proposalOf (recordAt (E .table) k)) (i ∷ is))) ≡ n → (n ≡ 65 → ⊥) → (n ≡ 66 → ⊥) → ⊥
+    other i is n e a b = go (block-second (proposalOf (recordAt (E .table) i)) (map (λ (k : ℕ). proposalOf (recordAt (E .table) k)) is))
+      where
+        go : (second (turnText (map (λ (k : ℕ). proposalOf (recordAt (E .table) k)) (i ∷ is))) ≡ 65) ⊎ (second (turnText (map (λ (k : ℕ). proposalOf (recordAt (E .table) k)) (i ∷ is))) ≡ 66) → ⊥
+        go (inl k) = a (sym e ∙ k)
+        go (inr k) = b (sym e ∙ k)
+
+    is-ff : (is : List ℕ) (ff : Bool) → turnSaid E ff is ≡ withCr (fixedText ourFF) → (is ≡ []) × (ff ≡ false)
+    is-ff [] true e = absurd (omega (arith, ap second e))
+    is-ff [] false e = (refl, refl)
+    is-ff (i ∷ is) ff e = absurd (other i is 70 (ap second e) (λ k. omega arith) (λ k. omega arith))
+
+    is-fq : (is : List ℕ) (ff : Bool) → turnSaid E ff is ≡ withCr (fixedText ourFQ) → (is ≡ []) × (ff ≡ true)
+    is-fq [] true e = (refl, refl)
+    is-fq [] false e = absurd (omega (arith, ap second e))
+    is-fq (i ∷ is) ff e = absurd (other i is 81 (ap second e) (λ k. omega arith) (λ k. omega arith))

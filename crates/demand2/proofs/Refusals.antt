@@ -1,0 +1,355 @@
+-- REFUSALS ARE EXACT. Idea: a situation gives its number (`given`), and in a live session a byte that is not answered 0 is in one of the
+-- situations (`found`); since the numbers differ, the situation of a number is then the only one that gives it.
+use mathlib.Core.Path.{_≡_, refl, sym, ap, _∙_, subst}
+use mathlib.Core.Bool.{Bool, true, false, cond, not, _&&_}
+use mathlib.Core.Option.{Option, none, some}
+use mathlib.Core.List.{List, [], _∷_, _++_}
+use Prim.Native.Nat.{ℕ, zero, suc, _≤_}
+use native.Mathlib.Omega.{arith}
+use lib.Dec.{eqb, ltb}
+use lib.ListN.{length}
+use borrow.Author.Tests.{eqb-true, ltb-true, ltb-false, le-ltb, not-false, not-true}
+use Rattle.grammar.specs.Bytes.{Bytes, CR, null}
+use Rattle.grammar.specs.Refusals as number
+use Rattle.grammar.specs.Lines.{ends, grows, overruns, trim, isComment, isPrompt}
+use Rattle.grammar.specs.Sid.{readSid, hasFeature, framed}
+use Rattle.grammar.specs.Turns.{Proposal, TurnLine, saysFF, saysFQ, endsBlock, notAllowed, proposes, readTurnLine}
+use Rattle.grammar.specs.Answers.{Sign, readFs, fsNumber}
+use Rattle.grammar.specs.Transfers.{Parsed, parse}
+use Rattle.grammar.specs.Scan.{Scan, Scanned, inTitle, inBody, inMark, atStart, atLen, inHead, inOff, inData, atSize, atSum, goes, got, malformed, wrongSum, noRoom, scan, scanByte, bodyOf}
+use Rattle.grammar.proofs.Basics.{and2, both, no-both}
+use Rattle.grammar.proofs.Exact.{Wrong}
+use Rattle.grammar.proofs.Refusal.{exact as exact-byte, Verdict, exact-8, exact-9, exact-10, isTen, bodyByte}
+use Rattle.session.specs.Choices.{Shelf}
+use Rattle.session.specs.Session.{Phase, awaitsSid, awaitsPrompt, leaving, over, awaitsTurn, awaitsAnswer, awaitsTransfer, Session, answered, turnJudged, Stepped, refused, moved, settled, lineMoved, transferMoved, roomFor, freeStep, lfDropped, step, ended, endedIn}
+use Rattle.demand2.specs.Refusals.{isDropped, Heeded, awaitsLine, WholeLine, LineTooLong, NotSid, NoForwarding, isAllowed, isMiscounted, TurnSaid, NoAnswer, beginsFs, LineNotAllowed, inTurn, forAnswer, WrongCount, WrongAnswer, SoFar, TransferByte, WrongTransfer, WrongChecksum, isBodyByte, NoRoom, BytesWait, Refusal, no2, no3, no4, no5, no6, no7, no8, no9, no10, no11, numberOf, Situation, Exact, Live}
+use Rattle.demand2.specs.Events.{Event, lfGoes, lineGrows, ignored, callerSid, calledSid, textLine, prompt, proposal, ffTurn, fqTurn, blockEnd, fsLineComes, transferGrows, transferWhole}
+use Rattle.demand2.proofs.Steps.{line-step, phase-step, turn-step, transfer-step, so-far, scan-more}
+use Rattle.demand2.proofs.Events.{happens}
+
+-- ---------------------------------------------------------------- a situation gives its number, and the session is over
+
+-- the byte is refused with this number
+abbrev pub Refuses : Shelf → Session → ℕ → ℕ → Type 0
+Refuses E s b n = step E s b ≡ refused s n
+
+module _ (E : Shelf) (s : Session) (b : ℕ) where
+  too-long : LineTooLong s b → Refuses E s b number.lineTooLong
+  too-long h =
+      line-step E s b (h .heeded) (h .awaited)
+      ∙ ap (λ (c : Bool). lineMoved E s b (cond c ends (cond (ltb (length (s .part)) 256) grows overruns))) (h .more)
+      ∙ ap (λ (c : Bool). lineMoved E s b (cond c grows overruns)) (le-ltb (length (s .part)) 256 (h .full))
+
+  not-sid : NotSid s b → Refuses E s b number.notSid
+  not-sid h = phase-step E s b (h .line) (awaitsSid (h .caller)) (h .whole) (h .awaited) refl ∙ rw (h .whole .judged, h .invalid)
+
+  no-forwarding : NoForwarding s b → Refuses E s b number.noForwarding
+  no-forwarding h = phase-step E s b (h .line) (awaitsSid (h .caller)) (h .whole) (h .awaited) refl ∙ rw (h .whole .judged, h .valid, h .without)
+
+  forbidden : (t : TurnLine) (ff : Bool) (ps : List Proposal) → isAllowed ff ps t ≡ false → settled s true (turnJudged E t ff ps (s .memory)) ≡ refused s number.lineNotAllowed
+  forbidden saysFF true [] e = refl
+  forbidden saysFF false [] e = cc
+  forbidden saysFF ff (p ∷ ps) e = refl
+  forbidden saysFQ true [] e = cc
+  forbidden saysFQ false [] e = refl
+  forbidden saysFQ ff (p ∷ ps) e = refl
+  forbidden endsBlock ff ps e = cc
+  forbidden notAllowed ff ps e = refl
+  forbidden (proposes q) ff ps e = cc
+
+  miscounted : (t : TurnLine) (ff : Bool) (ps : List Proposal) → isMiscounted ps t ≡ true → settled s true (turnJudged E t ff ps (s .memory)) ≡ refused s number.proposalCount
+  miscounted saysFF ff ps e = cc
+  miscounted saysFQ ff ps e = cc
+  miscounted endsBlock ff [] e = refl
+  miscounted endsBlock ff (p ∷ ps) e = cc
+  miscounted notAllowed ff ps e = cc
+  miscounted (proposes q) ff ps e = rw (not-true (ltb (length ps) 5) e)
+
+  -- a line where FS is awaited
+  answer-step : (ln : Bytes) (h : NoAnswer s b ln) → Refuses E s b (fsNumber (length (h .places)) ln)
+  answer-step ln h = phase-step E s b ln (awaitsAnswer (h .places)) (h .whole) (h .awaited) refl ∙ rw (h .whole .judged, h .wrong)
+
+  answer-number : (ln : Bytes) (h : NoAnswer s b ln) (c : Bool) → beginsFs ln ≡ c → fsNumber (length (h .places)) ln ≡ cond c number.badAnswer number.lineNotAllowed
+  answer-number ln h c e = rw (h .wrong, e)
+
+  not-allowed : LineNotAllowed s b → Refuses E s b number.lineNotAllowed
+  not-allowed (inTurn ff ps ln h e) = turn-step E s b ff ps ln h ∙ forbidden (readTurnLine (s .memory .framed) ln) ff ps e
+  not-allowed (forAnswer ln h e) = answer-step ln h ∙ ap (refused s) (answer-number ln h false e)
+
+  wrong-count : WrongCount s b → Refuses E s b number.proposalCount
+  wrong-count h =
+      turn-step E s b (h .answered) (h .proposals) (h .line) (h .said) ∙ miscounted (readTurnLine (s .memory .framed) (h .line)) (h .answered) (h .proposals) (h .miscounted)
+
+  wrong-answer : WrongAnswer s b → Refuses E s b number.badAnswer
+  wrong-answer h = answer-step (h .line) (h .answer) ∙ ap (refused s) (answer-number (h .line) (h .answer) true (h .begun))
+
+  pub bytes-wait : BytesWait s b → Refuses E s b number.bytesWait
+  bytes-wait h = ap (λ (c : Bool). cond c (moved (lfDropped s)) (freeStep E (s .out) s b)) (h .kept) ∙ go (s .out) (h .waiting)
+    where
+      go : (o : Bytes) → null o ≡ false → freeStep E o s b ≡ refused s number.bytesWait
+      go [] e = cc
+      go (x ∷ o) e = refl
+
+  module _ (q : Bytes) (S : SoFar E (s .phase) (s .memory) q) where
+    wrong-transfer : WrongTransfer q s b → Refuses E s b number.badTransfer
+    wrong-transfer h =
+        let e = exact-8 (roomFor E (s .memory)) (h .proposal .form) q (h .reading) (so-far E s b q (h .proposal) (h .reading) (h .within) S) b .1 (h .hopeless) in
+        transfer-step E s b (h .proposal) (h .reading) (h .within) ∙ ap (transferMoved E (h .proposal) (h .within .others) s) e
+
+    wrong-sum : WrongChecksum q s b → Refuses E s b number.badChecksum
+    wrong-sum h =
+        let w : Wrong (parse (h .proposal .form) (q ++ (b ∷ []))) = subst Wrong (sym (h .whole)) (h .wrong) in
+        let e = exact-9 (roomFor E (s .memory)) (h .proposal .form) q (h .reading) (so-far E s b q (h .proposal) (h .reading) (h .within) S) b .1 w in
+        transfer-step E s b (h .proposal) (h .reading) (h .within) ∙ ap (transferMoved E (h .proposal) (h .within .others) s) e
+
+  body-byte : (sc : Scan) → isBodyByte sc b ≡ bodyByte sc b
+  body-byte (inTitle t) = refl
+  body-byte (inBody t x) = refl
+  body-byte (inMark t x) = refl
+  body-byte atStart = refl
+  body-byte atLen = refl
+  body-byte (inHead len h) = refl
+  body-byte (inOff len h o) = refl
+  body-byte (inData h x zero) = refl
+  body-byte (inData h x (suc k)) = refl
+  body-byte (atSize h x) = refl
+  body-byte (atSum h x) = refl
+
+  no-room : NoRoom E s b → Refuses E s b number.storeFull
+  no-room h =
+      let room = roomFor E (s .memory) in
+      let sc = h .reading in
+      let t : isTen (scanByte room sc b) ≡ true =
+      exact-10 room sc b
+      ∙ both (bodyByte sc b) (not (ltb (length (bodyOf sc)) room)) (sym (body-byte sc) ∙ h .body) (ap not (le-ltb (length (bodyOf sc)) room (h .full))) in
+      transfer-step E s b (h .proposal) sc (h .within) ∙ ap (transferMoved E (h .proposal) (h .within .others) s) (ten (scanByte room sc b) t)
+    where
+      ten : (o : Scanned) → isTen o ≡ true → o ≡ noRoom
+      ten (goes sc) e = cc
+      ten (got t x) e = cc
+      ten malformed e = cc
+      ten wrongSum e = cc
+      ten noRoom e = refl
+
+  pub refuses-with : (q : Bytes) → SoFar E (s .phase) (s .memory) q → (n : Refusal) → Situation E q s b n → Refuses E s b (numberOf n)
+  refuses-with q S no2 h = too-long h
+  refuses-with q S no3 h = not-sid h
+  refuses-with q S no4 h = no-forwarding h
+  refuses-with q S no5 h = not-allowed h
+  refuses-with q S no6 h = wrong-count h
+  refuses-with q S no7 h = wrong-answer h
+  refuses-with q S no8 h = wrong-transfer q S h
+  refuses-with q S no9 h = wrong-sum q S h
+  refuses-with q S no10 h = no-room h
+  refuses-with q S no11 h = bytes-wait h
+
+-- ---------------------------------------------------------------- a byte in a live session is an event, or in one of the situations
+
+pub data Found (E : Shelf) (q : Bytes) (s : Session) (b : ℕ) : Type 0 where
+  happened : (t : Session) → Event E q s b t → Found E q s b
+  found : (n : Refusal) → Situation E q s b n → Found E q s b
+
+and-false : (c : Bool) → c && false ≡ false
+and-false true = refl
+and-false false = refl
+
+module _ (E : Shelf) (q : Bytes) (s : Session) (b : ℕ) (H : Heeded s b) where
+  -- the line that is whole
+  abbrev line : Bytes
+  line = trim (s .part)
+
+  sid-found : (c : Bool) → s .phase ≡ awaitsSid c → WholeLine s b line → Found E q s b
+  sid-found c e w = sid (readSid line) refl
+    where
+      heard : (c : Bool) → s .phase ≡ awaitsSid c → (fs : List ℕ) → readSid line ≡ some fs → (f : Bool) → hasFeature 5 fs ≡ f → Found E q s b
+      heard true e fs r true f = happened _ (calledSid line w e fs r f)
+      heard false e fs r true f = happened _ (callerSid line w e fs r f)
+      heard c e fs r false f = found no4 (record { line = line; whole = w; caller = c; awaited = e; features = fs; valid = r; without = f })
+
+      sid : (o : Option (List ℕ)) → readSid line ≡ o → Found E q s b
+      sid none r = found no3 (record { line = line; whole = w; caller = c; awaited = e; invalid = r })
+      sid (some fs) r = heard c e fs r (hasFeature 5 fs) refl
+
+  text-found : s .phase ≡ awaitsPrompt → WholeLine s b line → Found E q s b
+  text-found e w = go (isPrompt line) refl
+    where
+      go : (c : Bool) → isPrompt line ≡ c → Found E q s b
+      go true r = happened _ (prompt line w e r)
+      go false r = happened _ (textLine line w e r)
+
+  -- a line of a turn that is allowed and not one too many
+  turn-happened : (t : TurnLine) (ff : Bool) (ps : List Proposal) → readTurnLine (s .memory .framed) line ≡ t → TurnSaid s b ff ps line → isAllowed ff ps t ≡ true
+      → isMiscounted ps t ≡ false → Found E q s b
+  turn-happened saysFF true [] r w x y = absurd (no-both false x refl)
+  turn-happened saysFF false [] r w x y = happened _ (ffTurn line w r)
+  turn-happened saysFF ff (p ∷ ps) r w x y = absurd (no-both (not ff && false) x (and-false (not ff)))
+  turn-happened saysFQ true [] r w x y = happened _ (fqTurn line w r)
+  turn-happened saysFQ false [] r w x y = absurd (no-both false x refl)
+  turn-happened saysFQ ff (p ∷ ps) r w x y = absurd (no-both (ff && false) x (and-false ff))
+  turn-happened endsBlock ff [] r w x y = absurd (no-both true refl y)
+  turn-happened endsBlock ff (p ∷ ps) r w x y = happened _ (blockEnd line ff p ps w r)
+  turn-happened notAllowed ff ps r w x y = absurd (no-both false x refl)
+  turn-happened (proposes p) ff ps r w x y = happened _ (proposal line ff ps w p r (ltb-true (length ps) 5 (not-false (ltb (length ps) 5) y)))
+
+  turn-found : (ff : Bool) (ps : List Proposal) → TurnSaid s b ff ps line → Found E q s b
+  turn-found ff ps w = go (isAllowed ff ps (readTurnLine (s .memory .framed) line)) (isMiscounted ps (readTurnLine (s .memory .framed) line)) refl refl
+    where
+      go : (c d : Bool) → isAllowed ff ps (readTurnLine (s .memory .framed) line) ≡ c → isMiscounted ps (readTurnLine (s .memory .framed) line) ≡ d → Found E q s b
+      go false d x y = found no5 (inTurn ff ps line w x)
+      go true true x y = found no6 (record { answered = ff; proposals = ps; line = line; said = w; allowed = x; miscounted = y })
+      go true false x y = turn-happened (readTurnLine (s .memory .framed) line) ff ps refl w x y
+
+  answer-found : (is : List ℕ) → s .phase ≡ awaitsAnswer is → WholeLine s b line → Found E q s b
+  answer-found is e w = go (readFs (length is) line) refl
+    where
+      wrong : readFs (length is) line ≡ none → (c : Bool) → beginsFs line ≡ c → Found E q s b
+      wrong r true f = found no7 (record { line = line; answer = record { whole = w; places = is; awaited = e; wrong = r }; begun = f })
+      wrong r false f = found no5 (forAnswer line (record { whole = w; places = is; awaited = e; wrong = r }) f)
+
+      go : (o : Option (List Sign)) → readFs (length is) line ≡ o → Found E q s b
+      go none r = wrong r (beginsFs line) refl
+      go (some ss) r = happened _ (fsLineComes line is w e ss r)
+
+  whole-found : (p : Phase) → s .phase ≡ p → awaitsLine p ≡ true → WholeLine s b line → Found E q s b
+  whole-found (awaitsSid c) e a w = sid-found c e w
+  whole-found awaitsPrompt e a w = text-found e w
+  whole-found (awaitsTurn ff ps) e a w = turn-found ff ps (record { whole = w; awaited = e })
+  whole-found (awaitsAnswer is) e a w = answer-found is e w
+  whole-found (awaitsTransfer p ps sc) e a w = absurd (no-both false a refl)
+  whole-found leaving e a w = absurd (no-both false a refl)
+  whole-found over e a w = absurd (no-both false a refl)
+
+  pub line-found : awaitsLine (s .phase) ≡ true → Found E q s b
+  line-found a = go (eqb b CR) (ltb (length (s .part)) 256) (isComment line) refl refl refl
+    where
+      go : (c d e : Bool) → eqb b CR ≡ c → ltb (length (s .part)) 256 ≡ d → isComment line ≡ e → Found E q s b
+      go false true e x y z = happened _ (lineGrows H a x (ltb-true (length (s .part)) 256 y))
+      go false false e x y z = found no2 (record { heeded = H; awaited = a; more = x; full = ltb-false (length (s .part)) 256 y })
+      go true d true x y z = happened _ (ignored H a (eqb-true b CR x) z)
+      go true d false x y z = whole-found (s .phase) refl a (record { heeded = H; end = eqb-true b CR x; bytes = refl; judged = z })
+
+  transfer-found : (p : Proposal) (sc : Scan) → TransferByte s b p sc → SoFar E (s .phase) (s .memory) q → Found E q s b
+  transfer-found p sc w S = go (scanByte (roomFor E (s .memory)) sc b) refl (exact-byte (roomFor E (s .memory)) (p .form) q sc T b)
+    where
+      T : scan (roomFor E (s .memory)) (p .form) q ≡ goes sc
+      T = so-far E s b q p sc w S
+
+      wrong : (o : Option Parsed) → parse (p .form) (q ++ (b ∷ [])) ≡ o → Wrong o → Found E q s b
+      wrong none x e = absurd e
+      wrong (some t) x e = found no9 (record { proposal = p; reading = sc; within = w; transfer = t; whole = x; wrong = e })
+
+      go : (o : Scanned) → scanByte (roomFor E (s .memory)) sc b ≡ o → Verdict (roomFor E (s .memory)) (p .form) o (q ++ (b ∷ [])) → Found E q s b
+      go (goes sc′) x k = happened _ (transferGrows p sc sc′ w (scan-more E s b q p sc w S ∙ x))
+      go (got h y) x k = happened _ (transferWhole p sc w h y (k .0) (k .1))
+      go malformed x k = found no8 (record { proposal = p; reading = sc; within = w; hopeless = exact-8 (roomFor E (s .memory)) (p .form) q sc T b .0 x })
+      go wrongSum x k = wrong (parse (p .form) (q ++ (b ∷ []))) refl (k .0)
+      go noRoom x k =
+          let t = and2 (bodyByte sc b) (not (ltb (length (bodyOf sc)) (roomFor E (s .memory)))) (sym (exact-10 (roomFor E (s .memory)) sc b) ∙ ap isTen x) in
+          found no10
+          (record {
+            proposal = p;
+            reading = sc;
+            within = w;
+            body = body-byte E s b sc ∙ t .0;
+            full = ltb-false (length (bodyOf sc)) (roomFor E (s .memory)) (not-true (ltb (length (bodyOf sc)) (roomFor E (s .memory))) (t .1));
+          })
+
+module _ (E : Shelf) (q : Bytes) (s : Session) (b : ℕ) (L : Live s) (S : SoFar E (s .phase) (s .memory) q) where
+  -- an ended session is not live
+  gone : (p : Phase) → s .phase ≡ p → endedIn p [] ≡ true → s .out ≡ [] → ⊥
+  gone p e f o = no-both (ended s) (ap (λ (r : Phase). endedIn r (s .out)) e ∙ ap (endedIn p) o ∙ f) L
+
+  heeded-found : Heeded s b → (p : Phase) → s .phase ≡ p → Found E q s b
+  heeded-found H (awaitsSid c) e = line-found E q s b H (ap awaitsLine e)
+  heeded-found H awaitsPrompt e = line-found E q s b H (ap awaitsLine e)
+  heeded-found H (awaitsTurn ff ps) e = line-found E q s b H (ap awaitsLine e)
+  heeded-found H (awaitsAnswer is) e = line-found E q s b H (ap awaitsLine e)
+  heeded-found H (awaitsTransfer p ps sc) e = transfer-found E q s b H p sc (record { heeded = H; others = ps; awaited = e }) S
+  heeded-found H leaving e = absurd (gone leaving e refl (H .silent))
+  heeded-found H over e = absurd (gone over e refl (H .silent))
+
+  pub byte-found : Found E q s b
+  byte-found = go (isDropped s b) (s .out) refl refl
+    where
+      go : (c : Bool) (o : Bytes) → isDropped s b ≡ c → s .out ≡ o → Found E q s b
+      go true o e f = happened _ (lfGoes e)
+      go false [] e f = heeded-found (record { kept = e; silent = f }) (s .phase) refl
+      go false (x ∷ o) e f = found no11 (record { kept = e; waiting = ap null f })
+
+-- ---------------------------------------------------------------- the theorem
+
+-- the numbers differ
+back : ℕ → Refusal
+back n =
+    cond (eqb n 2) no2 (cond (eqb n 3) no3 (cond (eqb n 4) no4 (cond (eqb n 5) no5 (cond (eqb n 6) no6
+    (cond (eqb n 7) no7 (cond (eqb n 8) no8 (cond (eqb n 9) no9 (cond (eqb n 10) no10 no11))))))))
+
+number-back : (n : Refusal) → back (numberOf n) ≡ n
+unfolding back
+number-back no2 = refl
+number-back no3 = refl
+number-back no4 = refl
+number-back no5 = refl
+number-back no6 = refl
+number-back no7 = refl
+number-back no8 = refl
+number-back no9 = refl
+number-back no10 = refl
+number-back no11 = refl
+
+pub some-number : (n : Refusal) → (2 ≤ numberOf n) × (numberOf n ≤ 11)
+some-number no2 = (omega arith, omega arith)
+some-number no3 = (omega arith, omega arith)
+some-number no4 = (omega arith, omega arith)
+some-number no5 = (omega arith, omega arith)
+some-number no6 = (omega arith, omega arith)
+some-number no7 = (omega arith, omega arith)
+some-number no8 = (omega arith, omega arith)
+some-number no9 = (omega arith, omega arith)
+some-number no10 = (omega arith, omega arith)
+some-number no11 = (omega arith, omega arith)
+
+-- REFUSALS ARE EXACT
+pub exact : (E : Shelf) (q : Bytes) (s : Session) (b : ℕ) → Live s → SoFar E (s .phase) (s .memory) q → Exact E q s b
+exact E q s b L S = record { given = given; only = only; none = none₀; else = else; leaves = leaves }
+  where
+    given : (n : Refusal) → Situation E q s b n → step E s b .answer ≡ numberOf n
+    given n h = ap (λ (x : Stepped). x .answer) (refuses-with E s b q S n h)
+
+    leaves : (n : Refusal) → Situation E q s b n → step E s b .session ≡ record { phase = over; part = []; afterCr = false; out = []; memory = s .memory }
+    leaves n h = ap (λ (x : Stepped). x .session) (refuses-with E s b q S n h)
+
+    zero-event : (t : Session) → Event E q s b t → step E s b .answer ≡ 0
+    zero-event t h = ap (λ (x : Stepped). x .answer) (happens E q s b S t h)
+
+    only : (n : Refusal) → step E s b .answer ≡ numberOf n → Situation E q s b n
+    only n e = go (byte-found E q s b L S)
+      where
+        go : Found E q s b → Situation E q s b n
+        go (happened t h) = let m = some-number n .0 in let z = zero-event t h in absurd (omega arith)
+        go (found m h) = subst (Situation E q s b) (sym (number-back m) ∙ ap back (sym (given m h) ∙ e) ∙ number-back n) h
+
+    none₀ : step E s b .answer ≡ 0 → (n : Refusal) → Situation E q s b n → ⊥
+    none₀ e n h = let m = some-number n .0 in let g = given n h in omega arith
+
+    else : ((n : Refusal) → Situation E q s b n → ⊥) → step E s b .answer ≡ 0
+    else k = go (byte-found E q s b L S)
+      where
+        go : Found E q s b → step E s b .answer ≡ 0
+        go (happened t h) = zero-event t h
+        go (found m h) = absurd (k m h)
+
+-- one situation at a time: "5 before 6 is thought of", 11 before 2, 2 before the rule of the line
+pub apart : (E : Shelf) (q : Bytes) (s : Session) (b : ℕ) → Live s → SoFar E (s .phase) (s .memory) q → (n m : Refusal) → Situation E q s b n → Situation E q s b m → n ≡ m
+apart E q s b L S n m h k =
+    let X = exact E q s b L S in
+    sym (number-back n) ∙ ap back (sym (X .given n h) ∙ X .given m k) ∙ number-back m
+
+-- WHAT A BYTE DOES IS COMPLETE: answered 0, it is one of the events
+pub complete : (E : Shelf) (q : Bytes) (s : Session) (b : ℕ) → Live s → SoFar E (s .phase) (s .memory) q → step E s b .answer ≡ 0
+    → (t : Session) × Event E q s b t × (step E s b .session ≡ t)
+complete E q s b L S e = go (byte-found E q s b L S)
+  where
+    go : Found E q s b → (t : Session) × Event E q s b t × (step E s b .session ≡ t)
+    go (happened t h) = (t, h, ap (λ (x : Stepped). x .session) (happens E q s b S t h))
+    go (found n h) = absurd (exact E q s b L S .none e n h)

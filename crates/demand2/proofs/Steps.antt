@@ -1,0 +1,69 @@
+-- THE STEP OF A BYTE by what it is: the rule of a line or a transfer decides, a line is whole, a transfer is read on. Assumes nothing.
+use mathlib.Core.Path.{_≡_, refl, ap, _∙_, subst}
+use mathlib.Core.Bool.{Bool, true, cond}
+use mathlib.Core.List.{List, [], _∷_, _++_}
+use Prim.Native.Nat.{ℕ}
+use lib.Dec.{ltb}
+use lib.ListN.{length}
+use borrow.Author.Tests.{eq-eqb}
+use Rattle.grammar.specs.Bytes.{Bytes, CR}
+use Rattle.grammar.specs.Refusals as number
+use Rattle.grammar.specs.Lines.{ends, grows, overruns}
+use Rattle.grammar.specs.Sid.{framed}
+use Rattle.grammar.specs.Turns.{Proposal, readTurnLine}
+use Rattle.grammar.specs.Scan.{Scan, Scanned, goes, scan, scanByte, scanFrom, onward}
+use Rattle.grammar.proofs.Portions.{scan-append}
+use Rattle.session.specs.Choices.{Shelf}
+use Rattle.session.specs.Session.{Phase, awaitsSid, awaitsPrompt, leaving, over, awaitsTurn, awaitsAnswer, awaitsTransfer, Session, turnJudged, lineJudged, moved, settled, lineMoved, transferMoved, roomFor, lineStep, phaseStep, freeStep, lfDropped, step}
+use Rattle.demand2.specs.Refusals.{Heeded, awaitsLine, WholeLine, TurnSaid, SoFar, TransferByte}
+
+-- ---------------------------------------------------------------- the step of a byte, by what it is
+
+module _ (E : Shelf) (s : Session) (b : ℕ) where
+  -- the rule of the line or transfer decides
+  pub heeded-step : Heeded s b → step E s b ≡ phaseStep E (s .phase) s b
+  heeded-step h =
+      ap (λ (c : Bool). cond c (moved (lfDropped s)) (freeStep E (s .out) s b)) (h .kept) ∙ ap (λ (o : Bytes). freeStep E o s b) (h .silent)
+
+  pub line-step : Heeded s b → awaitsLine (s .phase) ≡ true → step E s b ≡ lineStep E s b
+  line-step h e = heeded-step h ∙ go (s .phase) e
+    where
+      go : (p : Phase) → awaitsLine p ≡ true → phaseStep E p s b ≡ lineStep E s b
+      go (awaitsSid c) e = refl
+      go awaitsPrompt e = refl
+      go (awaitsTurn ff ps) e = refl
+      go (awaitsAnswer is) e = refl
+      go (awaitsTransfer p ps sc) e = cc
+      go leaving e = cc
+      go over e = cc
+
+  -- a line is whole
+  pub whole-step : (ln : Bytes) → WholeLine s b ln → awaitsLine (s .phase) ≡ true → step E s b ≡ settled s true (lineJudged E (s .phase) (s .memory) ln)
+  whole-step ln w e =
+      line-step (w .heeded) e
+      ∙ ap (λ (c : Bool). lineMoved E s b (cond c ends (cond (ltb (length (s .part)) 256) grows overruns))) (eq-eqb b CR (w .end))
+      ∙ ap (λ (l : Bytes). settled s true (lineJudged E (s .phase) (s .memory) l)) (w .bytes)
+
+  -- the same in a phase
+  pub phase-step : (ln : Bytes) (p : Phase) → WholeLine s b ln → s .phase ≡ p → awaitsLine p ≡ true → step E s b ≡ settled s true (lineJudged E p (s .memory) ln)
+  phase-step ln p w e a =
+      whole-step ln w (ap awaitsLine e ∙ a) ∙ ap (λ (r : Phase). settled s true (lineJudged E r (s .memory) ln)) e
+
+  pub transfer-step : (p : Proposal) (sc : Scan) (t : TransferByte s b p sc)
+      → step E s b ≡ transferMoved E p (t .others) s (scanByte (roomFor E (s .memory)) sc b)
+  transfer-step p sc t = heeded-step (t .heeded) ∙ ap (λ (r : Phase). phaseStep E r s b) (t .awaited)
+
+  -- a line of a turn
+  pub turn-step : (ff : Bool) (ps : List Proposal) (ln : Bytes) → TurnSaid s b ff ps ln
+      → step E s b ≡ settled s true (turnJudged E (readTurnLine (s .memory .framed) ln) ff ps (s .memory))
+  turn-step ff ps ln h = phase-step ln (awaitsTurn ff ps) (h .whole) (h .awaited) refl ∙ rw (h .whole .judged)
+
+  -- the bytes so far of a transfer, with its phase known
+  pub so-far : (q : Bytes) (p : Proposal) (sc : Scan) (t : TransferByte s b p sc) → SoFar E (s .phase) (s .memory) q → scan (roomFor E (s .memory)) (p .form) q ≡ goes sc
+  so-far q p sc t h = subst (λ (r : Phase). SoFar E r (s .memory) q) (t .awaited) h
+
+  -- the reading with one byte more
+  pub scan-more : (q : Bytes) (p : Proposal) (sc : Scan) → TransferByte s b p sc → SoFar E (s .phase) (s .memory) q
+      → scan (roomFor E (s .memory)) (p .form) (q ++ (b ∷ [])) ≡ scanByte (roomFor E (s .memory)) sc b
+  scan-more q p sc t h =
+      scan-append (roomFor E (s .memory)) (goes (scanFrom (p .form))) q (b ∷ []) ∙ ap (λ (o : Scanned). onward (roomFor E (s .memory)) o b) (so-far q p sc t h)

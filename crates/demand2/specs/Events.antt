@@ -1,0 +1,99 @@
+-- DEMAND 2, WHAT A BYTE DOES where it is not refused: every case, with what is awaited, what is kept and what waits for give after it, in
+-- 01's order. `happens` and `complete` of proofs/Events show that a byte that is answered 0 does one of these things, and no other.
+use mathlib.Core.Path.{_≡_}
+use mathlib.Core.Bool.{Bool, true, false}
+use mathlib.Core.Option.{some}
+use mathlib.Core.List.{List, [], _∷_, _++_, map}
+use Prim.Native.Nat.{ℕ, _≤_, _<_}
+use lib.Dec.{eqb}
+use lib.ListN.{length}
+use Rattle.grammar.specs.Bytes.{Bytes, CR}
+use Rattle.grammar.specs.Lines.{lineLimit, trim, isComment, isPrompt}
+use Rattle.grammar.specs.Sid.{readSid, hasFeature, framed}
+use Rattle.grammar.specs.Turns.{Proposal, saysFF, saysFQ, endsBlock, proposes, readTurnLine, blockLimit, fixedText, ourSid, ourFF, ourFQ, withCr}
+use Rattle.grammar.specs.Answers.{Sign, readFs, fsLine}
+use Rattle.grammar.specs.Transfers.{parse}
+use Rattle.grammar.specs.Scan.{Scan, goes, scan, scanFrom}
+use Rattle.mail.specs.Mail.{messageOf, proposalOf, recordAt, turnText, transfersText, accepted}
+use Rattle.session.specs.Choices.{Shelf, chosen, answersTo}
+use Rattle.session.specs.Session.{Phase, awaitsSid, awaitsPrompt, leaving, over, awaitsTurn, awaitsAnswer, awaitsTransfer, Memory, Session, turnMarks, answerMarks, inMode, keptIn, isPlain, roomFor}
+use Rattle.demand2.specs.Refusals.{isDropped, Heeded, awaitsLine, WholeLine, TurnSaid, TransferByte}
+
+-- A session with no line begun. afterCr: an LF now is dropped; out: what waits for give
+abbrev pub session : Phase → Bool → Bytes → Memory → Session
+session p afterCr out m = record { phase = p; part = []; afterCr = afterCr; out = out; memory = m }
+
+-- ---------------------------------------------------------------- our turn
+
+-- The places of the records that we propose now (specs/OurTurn says which these are).
+abbrev pub proposed : Shelf → Memory → List ℕ
+proposed E m = chosen (E .table) (m .framed) (m .states) (m .deferred)
+
+-- "A turn is `FF`, or one to five proposals and `F>`. .. If none remains: FF, or FQ if the partner's turn just now was FF."
+abbrev pub turnSaid : Shelf → Bool → List ℕ → Bytes
+turnSaid E true [] = withCr (fixedText ourFQ)
+turnSaid E false [] = withCr (fixedText ourFF)
+turnSaid E ff (i ∷ is) = turnText (map (λ (k : ℕ). proposalOf (recordAt (E .table) k)) (i ∷ is))
+
+-- After FQ nothing more, after FF the partner's turn, after proposals its FS line is awaited.
+abbrev pub turnAwaits : Bool → List ℕ → Phase
+turnAwaits true [] = leaving
+turnAwaits false [] = awaitsTurn true []
+turnAwaits ff (i ∷ is) = awaitsAnswer (i ∷ is)
+
+-- Our turn, said after o; ff: the partner's turn just now was FF
+abbrev pub weSpeak : Shelf → Bool → Bool → Bytes → Memory → Session
+weSpeak E afterCr ff o m = session (turnAwaits ff (proposed E m)) afterCr (o ++ turnSaid E ff (proposed E m)) m
+
+-- "The right to propose passes to whoever sent the FS.": o waits; the transfers of these proposals are awaited, or else it is our turn
+abbrev pub transfersOr : Shelf → Bool → Bytes → List Proposal → Memory → Session
+transfersOr E afterCr o [] m = weSpeak E afterCr false o m
+transfersOr E afterCr o (p ∷ ps) m = session (awaitsTransfer p ps (scanFrom (p .form))) afterCr o m
+
+-- ---------------------------------------------------------------- THE EVENTS
+
+-- The byte b comes to the session s, and then the session is the one named; q: the bytes so far of the transfer under way
+pub data Event (E : Shelf) (q : Bytes) (s : Session) (b : ℕ) : Session → Type 0 where
+  -- "One LF .. is dropped"
+  lfGoes : isDropped s b ≡ true
+      → Event E q s b (record { phase = s .phase; part = s .part; afterCr = false; out = s .out; memory = s .memory })
+  -- a byte of a line
+  lineGrows : Heeded s b → awaitsLine (s .phase) ≡ true → eqb b CR ≡ false → length (s .part) < lineLimit
+      → Event E q s b (record { phase = s .phase; part = s .part ++ (b ∷ []); afterCr = false; out = s .out; memory = s .memory })
+  -- "A line that begins with `;` is ignored"
+  ignored : Heeded s b → awaitsLine (s .phase) ≡ true → b ≡ CR → isComment (trim (s .part)) ≡ true
+      → Event E q s b (session (s .phase) true [] (s .memory))
+  -- the SID: "Called: we .. await the caller's SID, then its first turn."; "Partner has B: framed mode"
+  callerSid : (line : Bytes) → WholeLine s b line → s .phase ≡ awaitsSid false → (fs : List ℕ) → readSid line ≡ some fs → hasFeature 5 fs ≡ true
+      → Event E q s b (session (awaitsTurn false []) true [] (inMode (framed fs) (s .memory)))
+  -- "Caller: we await the SID, skip text lines until the prompt"
+  calledSid : (line : Bytes) → WholeLine s b line → s .phase ≡ awaitsSid true → (fs : List ℕ) → readSid line ≡ some fs → hasFeature 5 fs ≡ true
+      → Event E q s b (session awaitsPrompt true [] (inMode (framed fs) (s .memory)))
+  textLine : (line : Bytes) → WholeLine s b line → s .phase ≡ awaitsPrompt → isPrompt line ≡ false
+      → Event E q s b (session awaitsPrompt true [] (s .memory))
+  -- "then send SID and first turn"
+  prompt : (line : Bytes) → WholeLine s b line → s .phase ≡ awaitsPrompt → isPrompt line ≡ true
+      → Event E q s b (weSpeak E true false (withCr (fixedText ourSid)) (s .memory))
+  -- a proposal of the partner's
+  proposal : (line : Bytes) (ff : Bool) (ps : List Proposal) → TurnSaid s b ff ps line → (p : Proposal) → readTurnLine (s .memory .framed) line ≡ proposes p
+      → length ps < blockLimit → Event E q s b (session (awaitsTurn ff (ps ++ (p ∷ []))) true [] (s .memory))
+  -- its FF: "State 1 is set at the CR that ends the partner's next whole valid turn.", then our turn
+  ffTurn : (line : Bytes) → TurnSaid s b false [] line → readTurnLine (s .memory .framed) line ≡ saysFF
+      → Event E q s b (weSpeak E true true [] (turnMarks (s .memory)))
+  -- "FQ received ends the session at its CR"
+  fqTurn : (line : Bytes) → TurnSaid s b true [] line → readTurnLine (s .memory .framed) line ≡ saysFQ
+      → Event E q s b (session over true [] (s .memory))
+  -- its F>: the same marks, and our FS line waits
+  blockEnd : (line : Bytes) (ff : Bool) (p : Proposal) (ps : List Proposal) → TurnSaid s b ff (p ∷ ps) line → readTurnLine (s .memory .framed) line ≡ endsBlock
+      → Event E q s b (transfersOr E true (withCr (fsLine (answersTo E (s .memory .inbox) (p ∷ ps)))) (accepted (answersTo E (s .memory .inbox) (p ∷ ps)) (p ∷ ps))
+      (turnMarks (s .memory)))
+  -- its FS line: "`-` sets state 2 .. Accepted records are sent in order.", then its turn
+  fsLineComes : (line : Bytes) (is : List ℕ) → WholeLine s b line → s .phase ≡ awaitsAnswer is → (ss : List Sign) → readFs (length is) line ≡ some ss
+      → Event E q s b (session (awaitsTurn false []) true (transfersText (E .table) (accepted ss is)) (answerMarks is ss (s .memory)))
+  -- a byte of a transfer
+  transferGrows : (p : Proposal) (reading onward : Scan) → (t : TransferByte s b p reading) → scan (roomFor E (s .memory)) (p .form) (q ++ (b ∷ [])) ≡ goes onward
+      → Event E q s b (record { phase = awaitsTransfer p (t .others) onward; part = s .part; afterCr = false; out = s .out; memory = s .memory })
+  -- its last byte: "A message is kept at its last byte."; an LF after it is dropped if it is plain
+  transferWhole : (p : Proposal) (reading : Scan) → (t : TransferByte s b p reading) → (heading body : Bytes)
+      → parse (p .form) (q ++ (b ∷ [])) ≡ some (record { heading = heading; body = body; right = true }) → length body ≤ roomFor E (s .memory)
+      → Event E q s b (transfersOr E (isPlain (p .form)) [] (t .others) (keptIn (s .memory) (messageOf p (record { heading = heading; body = body }))))

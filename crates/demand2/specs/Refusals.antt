@@ -1,0 +1,248 @@
+-- DEMAND 2, REFUSALS: for each number of 01's table "The numbers given back", the situation in which it is given, as a fact about the session
+-- just before the byte, and the byte. Nothing here goes by the session's steps: lines and transfers are judged whole, by the readers of the
+-- grammar. The theorem is `exact` of proofs/Refusals.
+use mathlib.Core.Path.{_≡_}
+use mathlib.Core.Bool.{Bool, true, false, not, _&&_}
+use mathlib.Core.Option.{none, some}
+use mathlib.Core.List.{List, [], _∷_, _++_}
+use Prim.Native.Nat.{ℕ, zero, suc, _≤_}
+use lib.Dec.{eqb, ltb}
+use lib.ListN.{length}
+use Rattle.grammar.specs.Bytes.{Bytes, CR, LF, CTRLZ, null, isSome}
+use Rattle.grammar.specs.Ascii.{text}
+use Rattle.grammar.specs.Refusals as number
+use Rattle.grammar.specs.Fields.{after}
+use Rattle.grammar.specs.Lines.{lineLimit, trim, isComment}
+use Rattle.grammar.specs.Sid.{readSid, hasFeature}
+use Rattle.grammar.specs.Turns.{Proposal, TurnLine, saysFF, saysFQ, endsBlock, notAllowed, proposes, readTurnLine, blockLimit}
+use Rattle.grammar.specs.Answers.{readFs}
+use Rattle.grammar.specs.Transfers.{Parsed, parse}
+use Rattle.grammar.specs.Scan.{Scan, inTitle, inBody, inMark, atStart, atLen, inHead, inOff, inData, atSize, atSum, goes, scan, bodyOf}
+use Rattle.session.specs.Choices.{Shelf}
+use Rattle.session.specs.Session.{Phase, awaitsSid, awaitsPrompt, leaving, over, awaitsTurn, awaitsAnswer, awaitsTransfer, Memory, Session, step, roomFor, ended}
+use Rattle.session.specs.Calls.{receive}
+
+-- ---------------------------------------------------------------- the order: "then 12, 11, 2, then the rule of the line or transfer"
+
+-- "One LF directly after the CR that ended a line, or after the CR that closes a plain transfer, is dropped, also while bytes wait for give."
+abbrev pub isDropped : Session → ℕ → Bool
+isDropped s b = s .afterCr && eqb b LF
+
+-- The byte is not dropped and nothing waits for give: the rule of the line or transfer decides.
+pub record Heeded (s : Session) (b : ℕ) : Type 0 where
+  pub kept : isDropped s b ≡ false
+  pub silent : s .out ≡ []
+
+-- "wherever a line is awaited"
+abbrev pub awaitsLine : Phase → Bool
+awaitsLine (awaitsSid c) = true
+awaitsLine awaitsPrompt = true
+awaitsLine (awaitsTurn ff ps) = true
+awaitsLine (awaitsAnswer is) = true
+awaitsLine (awaitsTransfer p ps sc) = false
+awaitsLine leaving = false
+awaitsLine over = false
+
+-- With this byte, its CR, a line is whole: "Spaces at the end are removed before a line is judged. .. A line that begins with `;` is ignored"
+pub record WholeLine (s : Session) (b : ℕ) (line : Bytes) : Type 0 where
+  pub heeded : Heeded s b
+  pub end : b ≡ CR
+  pub bytes : trim (s .part) ≡ line
+  pub judged : isComment line ≡ false
+
+-- ---------------------------------------------------------------- 2 to 4
+
+-- 2: "a 257th byte of a line comes before CR"
+pub record LineTooLong (s : Session) (b : ℕ) : Type 0 where
+  pub heeded : Heeded s b
+  pub awaited : awaitsLine (s .phase) ≡ true
+  pub more : eqb b CR ≡ false
+  pub full : lineLimit ≤ length (s .part)
+
+-- 3: "first line isn't a valid SID"
+pub record NotSid (s : Session) (b : ℕ) : Type 0 where
+  pub line : Bytes
+  pub whole : WholeLine s b line
+  pub caller : Bool
+  pub awaited : s .phase ≡ awaitsSid caller
+  pub invalid : readSid line ≡ none
+
+-- 4: "partner's SID has no F"; F is feature 5
+pub record NoForwarding (s : Session) (b : ℕ) : Type 0 where
+  pub line : Bytes
+  pub whole : WholeLine s b line
+  pub caller : Bool
+  pub awaited : s .phase ≡ awaitsSid caller
+  pub features : List ℕ
+  pub valid : readSid line ≡ some features
+  pub without : hasFeature 5 features ≡ false
+
+-- ---------------------------------------------------------------- 5 to 7
+
+-- What a line may say in the partner's turn. answered: our turn just now was FF; ps: its proposals so far. "A turn is `FF`, or one to five
+-- proposals and `F>`."; "FQ is allowed only in answer to our FF. FF in answer to our FF gets 5."
+abbrev pub isAllowed : Bool → List Proposal → TurnLine → Bool
+isAllowed answered ps saysFF = not answered && null ps
+isAllowed answered ps saysFQ = answered && null ps
+isAllowed answered ps endsBlock = true
+isAllowed answered ps notAllowed = false
+isAllowed answered ps (proposes q) = true
+
+-- "sixth proposal, or F> with none"
+abbrev pub isMiscounted : List Proposal → TurnLine → Bool
+isMiscounted ps saysFF = false
+isMiscounted ps saysFQ = false
+isMiscounted ps endsBlock = null ps
+isMiscounted ps notAllowed = false
+isMiscounted ps (proposes q) = not (ltb (length ps) blockLimit)
+
+-- A line of the partner's turn, of which these proposals are there.
+pub record TurnSaid (s : Session) (b : ℕ) (answered : Bool) (ps : List Proposal) (line : Bytes) : Type 0 where
+  pub whole : WholeLine s b line
+  pub awaited : s .phase ≡ awaitsTurn answered ps
+
+-- A line where the FS line on our n proposals is awaited, and it is none.
+pub record NoAnswer (s : Session) (b : ℕ) (line : Bytes) : Type 0 where
+  pub whole : WholeLine s b line
+  pub places : List ℕ
+  pub awaited : s .phase ≡ awaitsAnswer places
+  pub wrong : readFs (length places) line ≡ none
+
+-- "Where FS is awaited, a wrong line that begins with FS gets 7 and any other 5"
+abbrev pub beginsFs : Bytes → Bool
+beginsFs line = isSome (after (text "FS") line)
+
+-- 5: "a turn line that isn't allowed here"
+pub data LineNotAllowed (s : Session) (b : ℕ) : Type 0 where
+  inTurn : (answered : Bool) (ps : List Proposal) (line : Bytes) → TurnSaid s b answered ps line
+      → isAllowed answered ps (readTurnLine (s .memory .framed) line) ≡ false → LineNotAllowed s b
+  forAnswer : (line : Bytes) → NoAnswer s b line → beginsFs line ≡ false → LineNotAllowed s b
+
+-- 6: "sixth proposal, or F> with none"; "A malformed or forbidden line gets 5 before 6 is thought of."
+pub record WrongCount (s : Session) (b : ℕ) : Type 0 where
+  pub answered : Bool
+  pub proposals : List Proposal
+  pub line : Bytes
+  pub said : TurnSaid s b answered proposals line
+  pub allowed : isAllowed answered proposals (readTurnLine (s .memory .framed) line) ≡ true
+  pub miscounted : isMiscounted proposals (readTurnLine (s .memory .framed) line) ≡ true
+
+-- 7: "FS line wrong in form or count"
+pub record WrongAnswer (s : Session) (b : ℕ) : Type 0 where
+  pub line : Bytes
+  pub answer : NoAnswer s b line
+  pub begun : beginsFs line ≡ true
+
+-- ---------------------------------------------------------------- 8 to 10
+
+-- q: the bytes of the transfer under way that came so far; its reading has come from them.
+abbrev pub SoFar : Shelf → Phase → Memory → Bytes → Type 0
+SoFar E (awaitsSid c) m q = Unit {0}
+SoFar E awaitsPrompt m q = Unit {0}
+SoFar E (awaitsTurn ff ps) m q = Unit {0}
+SoFar E (awaitsAnswer is) m q = Unit {0}
+SoFar E (awaitsTransfer p ps sc) m q = scan (roomFor E m) (p .form) q ≡ goes sc
+SoFar E leaving m q = Unit {0}
+SoFar E over m q = Unit {0}
+
+-- A byte of the transfer of this proposal.
+pub record TransferByte (s : Session) (b : ℕ) (p : Proposal) (reading : Scan) : Type 0 where
+  pub heeded : Heeded s b
+  pub others : List Proposal
+  pub awaited : s .phase ≡ awaitsTransfer p others reading
+
+-- 8: "as soon as no valid transfer begins with the bytes so far, a wrong checksum (9) or lack of room (10) apart"
+pub record WrongTransfer (q : Bytes) (s : Session) (b : ℕ) : Type 0 where
+  pub proposal : Proposal
+  pub reading : Scan
+  pub within : TransferByte s b proposal reading
+  pub hopeless : (r : Bytes) → parse (proposal .form) (q ++ b ∷ r) ≡ none
+
+-- 9: "checksum wrong": the transfer is whole, but for that
+pub record WrongChecksum (q : Bytes) (s : Session) (b : ℕ) : Type 0 where
+  pub proposal : Proposal
+  pub reading : Scan
+  pub within : TransferByte s b proposal reading
+  pub transfer : Parsed
+  pub whole : parse (proposal .form) (q ++ (b ∷ [])) ≡ some transfer
+  pub wrong : transfer .right ≡ false
+
+-- The byte is one of the body: after a title's CR all up to 0x1A, in a framed transfer the data of a block.
+abbrev pub isBodyByte : Scan → ℕ → Bool
+isBodyByte (inTitle t) b = false
+isBodyByte (inBody t x) b = not (eqb b CTRLZ)
+isBodyByte (inMark t x) b = false
+isBodyByte atStart b = false
+isBodyByte atLen b = false
+isBodyByte (inHead len h) b = false
+isBodyByte (inOff len h o) b = false
+isBodyByte (inData h x zero) b = false
+isBodyByte (inData h x (suc k)) b = true
+isBodyByte (atSize h x) b = false
+isBodyByte (atSum h x) b = false
+
+-- 10: "body byte without room, the 65,536th included"
+pub record NoRoom (E : Shelf) (s : Session) (b : ℕ) : Type 0 where
+  pub proposal : Proposal
+  pub reading : Scan
+  pub within : TransferByte s b proposal reading
+  pub body : isBodyByte reading b ≡ true
+  pub full : roomFor E (s .memory) ≤ length (bodyOf reading)
+
+-- ---------------------------------------------------------------- 11
+
+-- 11: "a byte arrives while bytes wait for give"
+pub record BytesWait (s : Session) (b : ℕ) : Type 0 where
+  pub kept : isDropped s b ≡ false
+  pub waiting : null (s .out) ≡ false
+
+-- ---------------------------------------------------------------- THE TABLE
+
+pub data Refusal : Type 0 where
+  no2 no3 no4 no5 no6 no7 no8 no9 no10 no11 : Refusal
+
+abbrev pub numberOf : Refusal → ℕ
+numberOf no2 = number.lineTooLong
+numberOf no3 = number.notSid
+numberOf no4 = number.noForwarding
+numberOf no5 = number.lineNotAllowed
+numberOf no6 = number.proposalCount
+numberOf no7 = number.badAnswer
+numberOf no8 = number.badTransfer
+numberOf no9 = number.badChecksum
+numberOf no10 = number.storeFull
+numberOf no11 = number.bytesWait
+
+-- "Given when"
+abbrev pub Situation : Shelf → Bytes → Session → ℕ → Refusal → Type 0
+Situation E q s b no2 = LineTooLong s b
+Situation E q s b no3 = NotSid s b
+Situation E q s b no4 = NoForwarding s b
+Situation E q s b no5 = LineNotAllowed s b
+Situation E q s b no6 = WrongCount s b
+Situation E q s b no7 = WrongAnswer s b
+Situation E q s b no8 = WrongTransfer q s b
+Situation E q s b no9 = WrongChecksum q s b
+Situation E q s b no10 = NoRoom E s b
+Situation E q s b no11 = BytesWait s b
+
+-- THE STATEMENT, for a byte that comes to a live session: each number exactly in its situation, 0 exactly where none of them holds; and
+-- "Table marks and kept messages stand as they did just before the refused byte", nothing waits, the session is over.
+pub record Exact (E : Shelf) (q : Bytes) (s : Session) (b : ℕ) : Type 0 where
+  pub given : (n : Refusal) → Situation E q s b n → step E s b .answer ≡ numberOf n
+  pub only : (n : Refusal) → step E s b .answer ≡ numberOf n → Situation E q s b n
+  pub none : step E s b .answer ≡ 0 → (n : Refusal) → Situation E q s b n → ⊥
+  pub else : ((n : Refusal) → Situation E q s b n → ⊥) → step E s b .answer ≡ 0
+  pub leaves : (n : Refusal) → Situation E q s b n
+      → step E s b .session ≡ record { phase = over; part = []; afterCr = false; out = []; memory = s .memory }
+
+-- A live session: 12 is never given in it, and on an ended one nothing else is (`twelve` of proofs/Refusals).
+abbrev pub Live : Session → Type 0
+Live s = ended s ≡ false
+
+-- ---------------------------------------------------------------- 12
+
+-- 12: "receive on an ended session": "nothing consumed, nothing changed"
+pub record Exact12 (E : Shelf) (s : Session) (bs : Bytes) : Type 0 where
+  pub given : ended s ≡ true → receive E s bs ≡ record { answer = number.sessionEnded; count = 0; session = s }
+  pub only : receive E s bs .answer ≡ number.sessionEnded → ended s ≡ true

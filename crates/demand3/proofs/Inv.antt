@@ -1,0 +1,113 @@
+-- THE INVARIANT between the session and the log: fed with the bytes that wait for give, the log's course is the one that the session's phase
+-- stands for; its book is the session's; and the session holds what came of the partner's unit. Or the session has ended, and the books agree.
+use mathlib.Core.Path.{_≡_, refl, sym, ap, _∙_}
+use mathlib.Core.Bool.{Bool, true}
+use mathlib.Core.Option.{Option, none, some}
+use mathlib.Core.List.{List, [], map}
+use Prim.Native.Nat.{ℕ, _≤_}
+use native.Mathlib.Omega.{arith}
+use lib.ListN.{length, take, drop, take-append-drop}
+use lib.Seq.{take-nil, drop-nil}
+use Rattle.grammar.specs.Bytes.{Bytes}
+use Rattle.grammar.specs.Turns.{proposes}
+use Rattle.grammar.specs.Scan.{goes}
+use Rattle.grammar.proofs.Refusal.{Reach}
+use Rattle.mail.specs.Mail.{Record}
+use Rattle.session.specs.Choices.{Shelf}
+use Rattle.session.specs.Session.{Phase, awaitsSid, awaitsPrompt, leaving, awaitsTurn, awaitsAnswer, awaitsTransfer, Memory, Session, roomFor, ended}
+use Rattle.session.specs.Calls.{give, handedOut}
+use Rattle.log.specs.Log.{gave, Next, theirSid, theirText, theirTurn, theirAnswer, theirTransfer, Course, Book}
+use Rattle.log.specs.Fed.{Fed, fedAll}
+use Rattle.log.proofs.Spoken.{spoken, spoken-append, spoken-none, gave-spoken}
+
+abbrev pub nextOf : Phase → Next
+nextOf (awaitsSid c) = theirSid c
+nextOf awaitsPrompt = theirText
+nextOf (awaitsTurn ff ps) = theirTurn ff (map proposes ps)
+nextOf (awaitsAnswer is) = theirAnswer is
+nextOf (awaitsTransfer p ps sc) = theirTransfer p ps
+nextOf leaving = Next.over
+nextOf Phase.over = Next.over
+
+abbrev pub courseOf : Phase → Memory → Course
+courseOf p m = record { next = nextOf p; sent = m .sending }
+
+abbrev pub bookOf : Memory → Book
+bookOf m = record { framed = m .framed; states = m .states; kept = m .inbox }
+
+-- the session holds the line so far
+abbrev pub Line : Bytes → Bytes → Type 0
+Line part u = (u ≡ part) × (length part ≤ 256)
+
+pub no-line : Line [] []
+no-line = (refl, omega arith)
+
+-- what the session holds of the partner's unit so far, u
+abbrev pub Pending : Shelf → Memory → Phase → Bytes → Bytes → Type 0
+Pending E m (awaitsSid c) part u = Line part u
+Pending E m awaitsPrompt part u = Line part u
+Pending E m (awaitsTurn ff ps) part u = Line part u × (length ps ≤ 5)
+Pending E m (awaitsAnswer is) part u = Line part u
+Pending E m (awaitsTransfer p ps sc) part u = Reach (roomFor E m) (p .form) (goes sc) u
+Pending E m leaving part u = Unit {0}
+Pending E m Phase.over part u = Unit {0}
+
+pub record Live (E : Shelf) (s : Session) (f : Fed) : Type 0 where
+  pub unit : Bytes
+  pub course : spoken (E .table) (f .log .book .framed) (some (f .log .course, f .raw)) (s .out) ≡ some (courseOf (s .phase) (s .memory), unit)
+  pub book : f .log .book ≡ bookOf (s .memory)
+  pub afterCr : f .log .afterCr ≡ s .afterCr
+  pub pending : Pending E (s .memory) (s .phase) (s .part) unit
+
+pub record Gone (s : Session) (f : Fed) : Type 0 where
+  pub done : ended s ≡ true
+  pub silent : s .out ≡ []
+  pub book : f .log .book ≡ bookOf (s .memory)
+
+pub data Inv (E : Shelf) (s : Session) (f : Fed) : Type 0 where
+  live : Live E s f → Inv E s f
+  gone : Gone s f → Inv E s f
+
+pub inv-book : {E : Shelf} {s : Session} {f : Fed} → Inv E s f → f .log .book ≡ bookOf (s .memory)
+inv-book (live h) = h .book
+inv-book (gone h) = h .book
+
+-- ---------------------------------------------------------------- give
+
+give-live : (E : Shelf) (s : Session) (f : Fed) (room : ℕ) → Live E s f → Inv E (give s room) (fedAll (E .table) f (map gave (handedOut s room)))
+unfolding give
+give-live E s f room h = go (spoken T md (some (f .log .course, f .raw)) (take room (s .out))) refl split
+  where
+    T : List Record
+    T = E .table
+
+    md : Bool
+    md = f .log .book .framed
+
+    split : spoken T md (spoken T md (some (f .log .course, f .raw)) (take room (s .out))) (drop room (s .out)) ≡ some (courseOf (s .phase) (s .memory), h .unit)
+    split =
+        sym (spoken-append T md (some (f .log .course, f .raw)) (take room (s .out)) (drop room (s .out)))
+        ∙ rw (take-append-drop room (s .out)) (h .course)
+
+    go : (o : Option (Course × Bytes)) → spoken T md (some (f .log .course, f .raw)) (take room (s .out)) ≡ o
+        → spoken T md o (drop room (s .out)) ≡ some (courseOf (s .phase) (s .memory), h .unit)
+        → Inv E (give s room) (fedAll T f (map gave (take room (s .out))))
+    go none e k = absurd (let z = sym (spoken-none T md (drop room (s .out))) ∙ k in let y : _≡_ {A = ℕ} 0 1 = cc in omega arith)
+    go (some p) e k =
+        rw (gave-spoken T (take room (s .out)) f p e)
+        (live (record { unit = h .unit; course = k; book = h .book; afterCr = h .afterCr; pending = h .pending }))
+
+give-gone : (E : Shelf) (s : Session) (f : Fed) (room : ℕ) → Gone s f → Inv E (give s room) (fedAll (E .table) f (map gave (handedOut s room)))
+unfolding give
+give-gone E s f room h =
+    rw (ap (take room) (h .silent) ∙ take-nil room)
+    (gone
+    (record {
+      done = rw (h .silent) (rw (drop-nil {A = ℕ} room) (rw (h .silent) at (h .done)));
+      silent = rw (h .silent) (drop-nil room);
+      book = h .book;
+    }))
+
+pub give-inv : (E : Shelf) (s : Session) (f : Fed) (room : ℕ) → Inv E s f → Inv E (give s room) (fedAll (E .table) f (map gave (handedOut s room)))
+give-inv E s f room (live h) = give-live E s f room h
+give-inv E s f room (gone h) = give-gone E s f room h

@@ -1,0 +1,6 @@
+-- The proof of demand 3: what it needs of our choices, the invariant between the session and the log, a step of it, and the theorem.
+pub mod Choice
+pub mod Inv
+pub mod Step
+pub mod Demand
+pub mod Sessions

@@ -1,0 +1,318 @@
+-- A byte received keeps the invariant. Idea: with no bytes waiting the log is the session's twin, and both go through the same tests.
+use mathlib.Core.Path.{_≡_, refl, sym, ap, _∙_, subst}
+use mathlib.Core.Bool.{Bool, true, false, cond, _&&_}
+use mathlib.Core.Option.{Option, none, some}
+use mathlib.Core.List.{List, [], _∷_, _++_, map}
+use Prim.Native.Nat.{ℕ, _≤_}
+use native.Mathlib.Omega.{arith}
+use lib.Dec.{eqb, ltb}
+use lib.ListN.{length, length-append, length-map}
+use borrow.Author.Tests.{ltb-true, le-leb}
+use Rattle.grammar.specs.Bytes.{Bytes, CR, LF}
+use Rattle.grammar.specs.Refusals.{noForwarding, proposalCount}
+use Rattle.grammar.specs.Fields.{Form, plain, message, file}
+use Rattle.grammar.specs.Lines.{ends, grows, overruns, trim, isComment, isPrompt}
+use Rattle.grammar.specs.Sid.{readSid, hasFeature, framed}
+use Rattle.grammar.specs.Turns.{Proposal, TurnLine, saysFF, saysFQ, endsBlock, notAllowed, proposes, readTurnLine, fixedText, ourSid, ourFF, ourFQ, withCr}
+use Rattle.grammar.specs.Answers.{Sign, readFs, fsNumber, fsLine}
+use Rattle.grammar.specs.Transfers.{readTransfer}
+use Rattle.grammar.specs.Scan.{Scan, Scanned, goes, got, malformed, wrongSum, noRoom, scanByte, scanFrom}
+use Rattle.grammar.proofs.Refusal.{Reach, reach-step, from, contentOf, read-as}
+use Rattle.mail.specs.Mail.{Record, messageOf, turnText, transfersText, accepted}
+use Rattle.session.specs.Choices.{Shelf, answersTo}
+use Rattle.session.specs.Session.{Phase, awaitsSid, awaitsPrompt, leaving, awaitsTurn, awaitsAnswer, awaitsTransfer, Memory, Session, Outcome, refuses, goesOn, speaking, turnMarks, answering, answered, turnJudged, answerMarks, answerJudged, afterSid, sidJudged, textJudged, lineJudged, refused, settled, lineMoved, keptIn, nextTransfer, transferMoved, roomFor, lineStep, phaseStep, freeStep, lfDropped, step, ended}
+use Rattle.session.specs.Session
+use Rattle.log.specs.Log.{took, Next, ourSidLine, theirText, theirAnswer, ourAnswer, theirTransfer, Course, Book, Log, isOurs, saidOn, inOrder, said, theirsOwed, placesOf, Effect, effect, theirSaid, theirAnswered, theirSidRead, theirLine, judgedLine}
+use Rattle.log.specs.Log
+use Rattle.log.specs.Fed.{Fed, unitByte, outOfOrder, fedByte}
+use Rattle.log.proofs.Said.{said-after}
+use Rattle.log.proofs.Spoken.{spoken, spoken-nil, spoken-append, spoken-alone, spoken-ours, withSpoken, at, AllFit, map-snoc, ff-spoken, fq-spoken, sid-spoken, turn-spoken, fs-spoken, transfers-spoken}
+use Rattle.demand3.proofs.Choice.{Sound, ourChoice, proposalsAt}
+use Rattle.demand3.proofs.Inv.{nextOf, courseOf, bookOf, no-line, Pending, Live, Inv, live, gone}
+
+-- a refusal that leaves the log's book; whatever its number, the session is the same
+refusal : (E : Shelf) (s : Session) (f : Fed) → f .log .book ≡ bookOf (s .memory) → Inv E (refused s 0 .session) f
+refusal E s f h = gone (record { done = refl; silent = refl; book = h })
+
+-- ---------------------------------------------------------------- what we say
+
+-- the log right after a whole unit
+abbrev after : Bool → Memory → Course → Fed
+after a m c = record { log = record { afterCr = a; course = c; book = bookOf m }; raw = [] }
+
+-- the session says o
+says : (E : Shelf) (s : Session) (a : Bool) (p : Phase) (m : Memory) (o : Bytes) (c : Course)
+    → spoken (E .table) (m .framed) (some (c, [])) o ≡ some (courseOf p m, []) → Pending E m p [] [] → Inv E (settled s a (goesOn p m o) .session) (after a m c)
+says E s a p m o c e h = live (record { unit = []; course = e; book = refl; afterCr = refl; pending = h })
+
+our-turn : (E : Shelf) → Sound E → (o : Bytes) (ff : Bool) (m : Memory) (s : Session) (a : Bool) (c : Course)
+    → spoken (E .table) (m .framed) (some (c, [])) o ≡ at (Next.ourTurn ff []) (m .sending) → Inv E (settled s a (Session.ourTurn E o ff m) .session) (after a m c)
+our-turn E S o ff m s a c e = go ff (ourChoice E m) (S .few m) (S .own m) (S .fit m) e
+  where
+    T : List Record
+    T = E .table
+
+    -- o, then x
+    then : (n : Next) (x : Bytes) (p : Phase) → spoken T (m .framed) (some (c, [])) o ≡ at n (m .sending)
+        → spoken T (m .framed) (at n (m .sending)) x ≡ at (nextOf p) (m .sending) → Pending E m p [] [] → Inv E (settled s a (goesOn p m (o ++ x)) .session) (after a m c)
+    then n x p e k h =
+        says E s a p m (o ++ x) c
+        (spoken-append T (m .framed) (some (c, [])) o x ∙ ap (λ (y : Option (Course × Bytes)). spoken T (m .framed) y x) e ∙ k) h
+
+    go : (ff : Bool) (is : List ℕ) → length is ≤ 5 → placesOf T (proposalsAt T is) ≡ is → AllFit (m .framed) (proposalsAt T is)
+        → spoken T (m .framed) (some (c, [])) o ≡ at (Next.ourTurn ff []) (m .sending) → Inv E (settled s a (speaking E o ff is m) .session) (after a m c)
+    go true [] few own fit e = then (Next.ourTurn true []) (withCr (fixedText ourFQ)) leaving e (fq-spoken T (m .framed) (m .sending)) tt
+    go false [] few own fit e = then (Next.ourTurn false []) (withCr (fixedText ourFF)) (awaitsTurn true []) e (ff-spoken T (m .framed) (m .sending)) (no-line, omega arith)
+    go ff (i ∷ is) few own fit e =
+        then (Next.ourTurn ff []) (turnText (proposalsAt T (i ∷ is))) (awaitsAnswer (i ∷ is)) e
+        (turn-spoken T (m .framed) ff _ (proposalsAt T is) (m .sending) fit (rw (length-map is) few)
+        ∙ ap (λ (js : List ℕ). at (theirAnswer js) (m .sending)) own)
+        no-line
+
+answer : (E : Shelf) → Sound E → (ps : List Proposal) (m : Memory) (s : Session) → 1 ≤ length ps → length ps ≤ 5
+    → Inv E (settled s true (answered E ps m) .session) (after true m (record { next = ourAnswer ps; sent = m .sending }))
+answer E S ps m s k l = go (accepted ss ps) (fs-spoken (E .table) (m .framed) ps ss (m .sending) (S .full (m .inbox) ps) k l)
+  where
+    ss : List Sign
+    ss = answersTo E (m .inbox) ps
+
+    c : Course
+    c = record { next = ourAnswer ps; sent = m .sending }
+
+    go : (qs : List Proposal) → spoken (E .table) (m .framed) (some (c, [])) (withCr (fsLine ss)) ≡ at (theirsOwed qs) (m .sending)
+        → Inv E (settled s true (answering E ss qs m) .session) (after true m c)
+    go [] e = our-turn E S (withCr (fsLine ss)) false m s true c e
+    go (q ∷ qs) e = says E s true (awaitsTransfer q qs (scanFrom (q .form))) m (withCr (fsLine ss)) c e (from (roomFor E m) (q .form))
+
+-- ---------------------------------------------------------------- the partner's lines and transfers
+
+-- a session with no bytes waiting, and its twin; u is the partner's unit so far
+abbrev idle : Phase → Bytes → Bool → Memory → Session
+idle p part a m = record { phase = p; part = part; afterCr = a; out = []; memory = m }
+
+abbrev twin : Phase → Bool → Memory → Bytes → Fed
+twin p a m u = record { log = record { afterCr = a; course = courseOf p m; book = bookOf m }; raw = u }
+
+-- the log after a line with this effect
+abbrev effected : Effect → Fed
+effected e = record { log = record { afterCr = true; course = e .course; book = e .book }; raw = [] }
+
+-- a byte that no rule of Lines drops
+abbrev tookFree : List Record → Fed → ℕ → Fed
+tookFree T f b = cond (isOurs (f .log .course .next)) (outOfOrder f) (unitByte T (f .log) (f .raw) b false)
+
+-- both have the same word for it
+plain-alike : (f : Form) → Session.isPlain f ≡ Log.isPlain f
+plain-alike plain = refl
+plain-alike message = refl
+plain-alike file = refl
+
+module _ (E : Shelf) (S : Sound E) (part : Bytes) (a : Bool) (m : Memory) where
+  -- a whole line's outcome for the session, and its effect on the log
+  AfterLine : Phase → Outcome → Effect → Type 0
+  AfterLine p o e = Inv E (settled (idle p part a m) true o .session) (effected e)
+
+  wrong-line : (p : Phase) (n : ℕ) (e : Effect) → e .book ≡ bookOf m → AfterLine p (refuses n) e
+  unfolding AfterLine
+  wrong-line p n e h = refusal E (idle p part a m) (effected e) h
+
+  -- with nothing to say
+  quiet : (p q : Phase) (k : Memory) → Pending E k q [] [] → AfterLine p (goesOn q k []) (effect (bookOf k) (k .sending) (nextOf q))
+  unfolding AfterLine
+  quiet p q k h = says E (idle p part a m) true q k [] (courseOf q k) (spoken-nil (E .table) (k .framed) (some (courseOf q k, []))) h
+
+  sid-line : (c : Bool) (r : Option (List ℕ)) → AfterLine (awaitsSid c) (sidJudged c m r) (theirSidRead c (bookOf m) (m .sending) r)
+  sid-line c none = wrong-line (awaitsSid c) _ _ refl
+  sid-line c (some fs) = go c (hasFeature 5 fs)
+    where
+      k : Memory
+      k = Session.inMode (framed fs) m
+
+      go : (c d : Bool)
+          → AfterLine (awaitsSid c) (cond d (goesOn (afterSid c) k []) (refuses noForwarding))
+          (cond d (effect (bookOf k) (m .sending) (Log.afterTheirSid c)) (effect (bookOf m) (m .sending) Next.over))
+      go true true = quiet (awaitsSid true) awaitsPrompt k no-line
+      go false true = quiet (awaitsSid false) (awaitsTurn false []) k (no-line, omega arith)
+      go c false = wrong-line (awaitsSid c) _ _ refl
+
+  text-line : (c : Bool)
+      → AfterLine awaitsPrompt (textJudged E c m) (cond c (effect (bookOf m) (m .sending) ourSidLine) (effect (bookOf m) (m .sending) theirText))
+  unfolding AfterLine
+  text-line true =
+      our-turn E S (withCr (fixedText ourSid)) false m (idle awaitsPrompt part a m) true (record { next = ourSidLine; sent = m .sending })
+      (sid-spoken (E .table) (m .framed) (m .sending))
+  text-line false = quiet awaitsPrompt awaitsPrompt m no-line
+
+  -- FF, and a whole block
+  after-ff : (p : Phase) → AfterLine p (Session.ourTurn E [] true (turnMarks m)) (effect (bookOf (turnMarks m)) [] (Next.ourTurn true []))
+  unfolding AfterLine
+  after-ff p =
+      our-turn E S [] true (turnMarks m) (idle p part a m) true (record { next = Next.ourTurn true []; sent = [] })
+      (spoken-nil (E .table) (m .framed) (at (Next.ourTurn true []) []))
+
+  after-block : (p : Phase) (q : Proposal) (qs : List Proposal) → length (q ∷ qs) ≤ 5
+      → AfterLine p (answered E (q ∷ qs) (turnMarks m)) (effect (bookOf (turnMarks m)) [] (ourAnswer (q ∷ qs)))
+  unfolding AfterLine
+  after-block p q qs h = answer E S (q ∷ qs) (turnMarks m) (idle p part a m) (omega arith) h
+
+  -- the lines of the partner's turn so far say ps; the next is l
+  turn-line : (ff : Bool) (ps : List Proposal) (l : TurnLine) → length ps ≤ 5
+      → AfterLine (awaitsTurn ff ps) (turnJudged E l ff ps m) (theirSaid ff (map proposes ps ++ (l ∷ [])) (bookOf m) (m .sending) (said ff (map proposes ps ++ (l ∷ []))))
+  turn-line ff ps l h = rw (said-after ff ps (l ∷ []) h) (go ff ps l h)
+    where
+      five : (ff : Bool) (ps : List Proposal) (q : Proposal) (c : Bool) → ltb (length ps) 5 ≡ c
+          → AfterLine (awaitsTurn ff ps) (cond c (goesOn (awaitsTurn ff (ps ++ (q ∷ []))) m []) (refuses proposalCount))
+          (theirSaid ff (map proposes ps ++ (proposes q ∷ [])) (bookOf m) (m .sending) (inOrder ff (cond c Log.unfinished Log.wrong)))
+      five ff ps q true e =
+          rw (map-snoc ps q)
+          (quiet (awaitsTurn ff ps) (awaitsTurn ff (ps ++ (q ∷ []))) m (no-line, simp length-append (omega (arith, ltb-true (length ps) 5 e))))
+      five ff ps q false e = wrong-line (awaitsTurn ff ps) _ _ refl
+
+      go : (ff : Bool) (ps : List Proposal) (l : TurnLine) → length ps ≤ 5
+          → AfterLine (awaitsTurn ff ps) (turnJudged E l ff ps m) (theirSaid ff (map proposes ps ++ (l ∷ [])) (bookOf m) (m .sending) (inOrder ff (saidOn ps (l ∷ []))))
+      go true [] saysFF h = wrong-line (awaitsTurn true []) _ _ refl
+      go false [] saysFF h = after-ff (awaitsTurn false [])
+      go ff (p ∷ ps) saysFF h = wrong-line (awaitsTurn ff (p ∷ ps)) _ _ refl
+      go true [] saysFQ h = quiet (awaitsTurn true []) Phase.over m tt
+      go false [] saysFQ h = wrong-line (awaitsTurn false []) _ _ refl
+      go ff (p ∷ ps) saysFQ h = wrong-line (awaitsTurn ff (p ∷ ps)) _ _ refl
+      go ff [] endsBlock h = wrong-line (awaitsTurn ff []) _ _ refl
+      go ff (p ∷ ps) endsBlock h = after-block (awaitsTurn ff (p ∷ ps)) p ps h
+      go ff [] notAllowed h = wrong-line (awaitsTurn ff []) _ _ refl
+      go ff (p ∷ ps) notAllowed h = wrong-line (awaitsTurn ff (p ∷ ps)) _ _ refl
+      go ff ps (proposes q) h = five ff ps q (ltb (length ps) 5) refl
+
+  answer-line : (is : List ℕ) (n : ℕ) (r : Option (List Sign)) → AfterLine (awaitsAnswer is) (answerJudged E is m n r) (theirAnswered is (bookOf m) (m .sending) r)
+  unfolding AfterLine
+  answer-line is n none = wrong-line (awaitsAnswer is) n _ refl
+  answer-line is n (some ss) =
+      says E (idle (awaitsAnswer is) part a m) true (awaitsTurn false []) (answerMarks is ss m) (transfersText (E .table) (accepted ss is))
+      (record { next = Log.oursOwed (accepted ss is); sent = m .sending })
+      (transfers-spoken (E .table) (m .framed) (accepted ss is) (m .sending))
+      (no-line, omega arith)
+
+  -- a comment, or the line
+  heard : (p : Phase) (c : Bool) (o : Outcome) (e : Effect) → Pending E m p [] [] → AfterLine p o e
+      → AfterLine p (cond c (goesOn p m []) o) (cond c (effect (bookOf m) (m .sending) (nextOf p)) e)
+  heard p true o e h k = quiet p p m h
+  heard p false o e h k = k
+
+  -- a byte of a line: it ends, it goes on, or it is too long
+  line-byte : (p : Phase) (b : ℕ) → length part ≤ 256 → ((u : Bytes) → length u ≤ 256 → Pending E m p u u)
+      → AfterLine p (lineJudged E p m (trim part)) (theirLine (nextOf p) (bookOf m) (m .sending) (trim part))
+      → Inv E (lineStep E (idle p part a m) b .session)
+      (cond (eqb b CR) (effected (judgedLine (nextOf p) (bookOf m) (m .sending) part)) (twin p false m (part ++ (b ∷ []))))
+  unfolding AfterLine
+  line-byte p b z w h = go (eqb b CR) (ltb (length part) 256) refl
+    where
+      go : (c d : Bool) → ltb (length part) 256 ≡ d
+          → Inv E (lineMoved E (idle p part a m) b (cond c ends (cond d grows overruns)) .session)
+          (cond c (effected (judgedLine (nextOf p) (bookOf m) (m .sending) part)) (twin p false m (part ++ (b ∷ []))))
+      go true d e = rw (le-leb (length part) 256 z) h
+      go false true e =
+          live
+          (record {
+            unit = part ++ (b ∷ []);
+            course = spoken-nil (E .table) (m .framed) (some (courseOf p m, part ++ (b ∷ [])));
+            book = refl;
+            afterCr = refl;
+            pending = w (part ++ (b ∷ [])) (simp length-append (omega (arith, ltb-true (length part) 256 e)));
+          })
+      go false false e = refusal E (idle p part a m) (twin p false m (part ++ (b ∷ []))) refl
+
+  -- a byte of a transfer
+  next-transfer : (p : Phase) (c : Bool) (ps : List Proposal) (k : Memory)
+      → Inv E (settled (idle p part a m) c (nextTransfer E ps k) .session) (after c k (record { next = theirsOwed ps; sent = k .sending }))
+  next-transfer p c [] k =
+      our-turn E S [] false k (idle p part a m) c (record { next = Next.ourTurn false []; sent = k .sending })
+      (spoken-nil (E .table) (k .framed) (at (Next.ourTurn false []) (k .sending)))
+  next-transfer p c (q ∷ qs) k =
+      says E (idle p part a m) c (awaitsTransfer q qs (scanFrom (q .form))) k [] (record { next = theirTransfer q qs; sent = k .sending })
+      (spoken-nil (E .table) (k .framed) (at (theirTransfer q qs) (k .sending)))
+      (from (roomFor E k) (q .form))
+
+  transfer-byte : (p : Proposal) (ps : List Proposal) (sc : Scan) (u : Bytes) (b : ℕ) → Reach (roomFor E m) (p .form) (goes sc) u
+      → Inv E (transferMoved E p ps (idle (awaitsTransfer p ps sc) part a m) (scanByte (roomFor E m) sc b) .session) (tookFree (E .table) (twin (awaitsTransfer p ps sc) a m u) b)
+  transfer-byte p ps sc u b h =
+      go (scanByte (roomFor E m) sc b) (read-as (roomFor E m) (p .form) u sc (omega arith) h b) (reach-step (roomFor E m) (p .form) (goes sc) u b h)
+    where
+      here : Phase
+      here = awaitsTransfer p ps sc
+
+      go : (r : Scanned) → readTransfer (p .form) (u ++ (b ∷ [])) ≡ contentOf r → Reach (roomFor E m) (p .form) r (u ++ (b ∷ []))
+          → Inv E (transferMoved E p ps (idle here part a m) r .session) (tookFree (E .table) (twin (awaitsTransfer p ps sc) a m u) b)
+      go (goes sc′) e k =
+          rw e
+          (live
+          (record {
+            unit = u ++ (b ∷ []);
+            course = spoken-nil (E .table) (m .framed) (some (courseOf (awaitsTransfer p ps sc′) m, u ++ (b ∷ [])));
+            book = refl;
+            afterCr = refl;
+            pending = k;
+          }))
+      go (got t x) e k =
+          rw e
+          (rw (plain-alike (p .form))
+          (next-transfer (awaitsTransfer p ps sc) (Log.isPlain (p .form)) ps (keptIn m (messageOf p (record { heading = t; body = x })))))
+      go malformed e k = rw e (refusal E (idle here part a m) (twin here false m (u ++ (b ∷ []))) refl)
+      go wrongSum e k = rw e (refusal E (idle here part a m) (twin here false m (u ++ (b ∷ []))) refl)
+      go noRoom e k = rw e (refusal E (idle here part a m) (twin here false m (u ++ (b ∷ []))) refl)
+
+  phase-byte : (p : Phase) (u : Bytes) (b : ℕ) → Pending E m p part u
+      → Inv E (phaseStep E p (idle p part a m) b .session) (tookFree (E .table) (twin p a m u) b)
+  phase-byte (awaitsSid c) u b h =
+      rw (h .0)
+      (line-byte (awaitsSid c) b (h .1) (λ r k. (refl, k)) (heard (awaitsSid c) (isComment (trim part)) _ _ no-line (sid-line c (readSid (trim part)))))
+  phase-byte awaitsPrompt u b h =
+      rw (h .0)
+      (line-byte awaitsPrompt b (h .1) (λ r k. (refl, k)) (heard awaitsPrompt (isComment (trim part)) _ _ no-line (text-line (isPrompt (trim part)))))
+  phase-byte (awaitsTurn ff ps) u b h =
+      rw (h .0 .0)
+      (line-byte (awaitsTurn ff ps) b (h .0 .1) (λ r k. ((refl, k), h .1))
+      (heard (awaitsTurn ff ps) (isComment (trim part)) _ _ (no-line, h .1) (turn-line ff ps (readTurnLine (m .framed) (trim part)) (h .1))))
+  phase-byte (awaitsAnswer is) u b h =
+      rw (h .0)
+      (line-byte (awaitsAnswer is) b (h .1) (λ r k. (refl, k))
+      (heard (awaitsAnswer is) (isComment (trim part)) _ _ no-line (answer-line is (fsNumber (length is) (trim part)) (readFs (length is) (trim part)))))
+  phase-byte (awaitsTransfer p ps sc) u b h = transfer-byte p ps sc u b h
+  phase-byte leaving u b h = refusal E (idle leaving part a m) (twin leaving false m (u ++ (b ∷ []))) refl
+  phase-byte Phase.over u b h = refusal E (idle Phase.over part a m) (twin Phase.over false m (u ++ (b ∷ []))) refl
+
+-- ---------------------------------------------------------------- any byte
+
+-- with no bytes waiting the log is the session's twin
+is-twin : (E : Shelf) (p : Phase) (part : Bytes) (a : Bool) (m : Memory) (f : Fed) (h : Live E (idle p part a m) f) → f ≡ twin p a m (h .unit)
+is-twin E p part a m f h =
+    ap (withSpoken f) (spoken-alone (E .table) (f .log .book .framed) (f .log .course, f .raw) (courseOf p m, h .unit) (h .course))
+    ∙ ap (λ (k : Book). record { log = record { afterCr = f .log .afterCr; course = courseOf p m; book = k }; raw = h .unit }) (h .book)
+    ∙ ap (λ (c : Bool). record { log = record { afterCr = c; course = courseOf p m; book = bookOf m }; raw = h .unit }) (h .afterCr)
+
+free-byte : (E : Shelf) → Sound E → (p : Phase) (part : Bytes) (a : Bool) (o : Bytes) (m : Memory) (f : Fed) (b : ℕ)
+    → Live E (record { phase = p; part = part; afterCr = a; out = o; memory = m }) f
+    → Inv E (freeStep E o (record { phase = p; part = part; afterCr = a; out = o; memory = m }) b .session) (tookFree (E .table) f b)
+free-byte E S p part a [] m f b h =
+    subst (λ (g : Fed). Inv E (phaseStep E p (idle p part a m) b .session) (tookFree (E .table) g b)) (sym (is-twin E p part a m f h))
+    (phase-byte E S part a m p (h .unit) b (h .pending))
+free-byte E S p part a (x ∷ o) m f b h =
+    rw (spoken-ours (E .table) (f .log .book .framed) (f .log .course, f .raw) (courseOf p m, h .unit) x o (h .course))
+    (refusal E (record { phase = p; part = part; afterCr = a; out = x ∷ o; memory = m }) (outOfOrder f) (h .book))
+
+drop-lf : (E : Shelf) (s : Session) (f : Fed) → Live E s f → Live E (lfDropped s) (record { log = Log.withAfterCr (f .log) false; raw = f .raw })
+drop-lf E s f h = record { unit = h .unit; course = h .course; book = h .book; afterCr = refl; pending = h .pending }
+
+live-byte : (E : Shelf) → Sound E → (s : Session) (f : Fed) (b : ℕ) → Live E s f → Inv E (step E s b .session) (fedByte (E .table) f (took b))
+live-byte E S s f b h = go (s .afterCr && eqb b LF) (f .log .afterCr && eqb b LF) (ap (λ (c : Bool). c && eqb b LF) (h .afterCr))
+  where
+    go : (c d : Bool) → d ≡ c
+        → Inv E (cond c (Session.moved (lfDropped s)) (freeStep E (s .out) s b) .session)
+        (cond d (record { log = Log.withAfterCr (f .log) false; raw = f .raw }) (tookFree (E .table) f b))
+    go true true e = live (drop-lf E s f h)
+    go false false e = free-byte E S (s .phase) (s .part) (s .afterCr) (s .out) (s .memory) f b h
+    go true false e = absurd (let z : _≡_ {A = ℕ} 0 1 = cc in omega arith)
+    go false true e = absurd (let z : _≡_ {A = ℕ} 0 1 = cc in omega arith)
+
+-- THE STEP
+pub step-inv : (E : Shelf) → Sound E → (s : Session) (f : Fed) (b : ℕ) → ended s ≡ false → Inv E s f → Inv E (step E s b .session) (fedByte (E .table) f (took b))
+step-inv E S s f b e (live h) = live-byte E S s f b h
+step-inv E S s f b e (gone h) = absurd (let k : true ≡ false = sym (h .done) ∙ e in let z : _≡_ {A = ℕ} 0 1 = cc in omega arith)

@@ -1,0 +1,155 @@
+-- Whole sessions, as lists of calls, and what they leave: 01's example of a whole session, and its "Easy slips to shut out". They are
+-- proved by computation, as one statement, in proofs/Sessions.
+use mathlib.Core.Bool.{Bool, true, false}
+use mathlib.Core.List.{List, [], _∷_, _++_}
+use Prim.Native.Nat.{ℕ}
+use Rattle.grammar.specs.Bytes.{Bytes}
+use Rattle.grammar.specs.Ascii.{text}
+use Rattle.grammar.specs.Fields.{Form, plain, message}
+use Rattle.mail.specs.Mail.{Record, Message}
+use Rattle.session.specs.Choices.{Shelf}
+use Rattle.session.specs.Session.{Session, opened, ended}
+use Rattle.log.specs.Log.{Event, took, gave, log}
+use Rattle.demand3.specs.Demand.{Call, receiving, giving, refusedCall, run}
+
+-- A table and the states that open found, a role (true: caller), and calls.
+pub record Trial : Type 0 where
+  pub table : List Record
+  pub states : List ℕ
+  pub caller : Bool
+  pub calls : List Call
+
+-- What they leave: the states, the messages kept, the bytes given in all, and whether the session has ended.
+pub record Left : Type 0 where
+  pub states : List ℕ
+  pub kept : List Message
+  pub said : Bytes
+  pub over : Bool
+
+abbrev pub shelfOf : Trial → Shelf
+shelfOf t = record { table = t .table; known = []; places = 2; bytes = 100 }
+
+abbrev pub ran : Trial → Session × List Event
+ran t = run (shelfOf t) (opened (t .caller) (t .states)) (t .calls)
+
+abbrev pub given : List Event → Bytes
+given [] = []
+given (took b ∷ es) = given es
+given (gave b ∷ es) = b ∷ given es
+
+-- by the session
+abbrev pub left : Trial → Left
+left t =
+    record {
+      states = (ran t) .0 .memory .states;
+      kept = (ran t) .0 .memory .inbox;
+      said = given ((ran t) .1);
+      over = ended ((ran t) .0);
+    }
+
+-- by the log
+abbrev pub logged : Trial → Left
+logged t =
+    record {
+      states = log (t .table) (t .caller) (t .states) ((ran t) .1) .book .states;
+      kept = log (t .table) (t .caller) (t .states) ((ran t) .1) .book .kept;
+      said = given ((ran t) .1);
+      over = ended ((ran t) .0);
+    }
+
+-- ---------------------------------------------------------------- the sessions
+
+abbrev pub letter : Form → Record
+letter f =
+    record {
+      form = f;
+      type = 80;
+      from = text "A";
+      at = text "B";
+      to = text "C";
+      bid = text "X1";
+      size = 2;
+      title = text "T";
+      name = [];
+      body = text "hi";
+    }
+
+-- Called, with one plain record that waits: the partner's FF, our proposal, and these calls from there.
+abbrev pub proposed : List Call → Trial
+proposed cs =
+    record {
+      table = letter plain ∷ [];
+      states = 0 ∷ [];
+      caller = false;
+      calls = giving 7 ∷ giving 99 ∷ receiving (text "[TST-1-F$]\r\nF") ∷ refusedCall ∷ receiving (text "F\r") ∷ giving 20 ∷ receiving (text "\n") ∷ giving 99 ∷ cs;
+    }
+
+-- The partner accepts, our transfer is taken whole, and these calls from there.
+abbrev pub sent : List Call → Trial
+sent cs = proposed (receiving (text "FS +\r") ∷ giving 3 ∷ receiving (text "\n") ∷ giving 99 ∷ cs)
+
+-- Caller, with one packed message that waits: the partner's SID with B and its prompt.
+abbrev pub framed : List Call → Trial
+framed cs =
+    record {
+      table = letter message ∷ [];
+      states = 0 ∷ [];
+      caller = true;
+      calls = receiving (text "[TST-1-BF$]\rGood day\rTST>\r") ∷ giving 99 ∷ cs;
+    }
+
+abbrev pub theirs : Form → Message
+theirs f =
+    record {
+      form = f;
+      type = 66;
+      from = text "D";
+      at = text "E";
+      to = text "F";
+      bid = text "Y1";
+      heading = text "U";
+      body = text "\nyo";
+    }
+
+abbrev pub greeted : Bytes
+greeted = text "[NOD-1-BFH$]\r>\r"
+
+-- what we say in a plain session up to F>, and in a framed one; and the framed transfer
+abbrev pub ours : Bytes
+ours = text "FB P A B C X1 2\rF>\r"
+
+abbrev pub framedOurs : Bytes
+framedOurs = text "[NOD-1-BFH$]\rFA P A B C X1 2\rF>\r"
+
+abbrev pub framedText : Bytes
+framedText = 1 ∷ 4 ∷ 84 ∷ 0 ∷ 48 ∷ 0 ∷ 2 ∷ 2 ∷ 104 ∷ 105 ∷ 4 ∷ 47 ∷ []
+
+abbrev pub example : Trial → List ℕ → List Message → Bytes → Bool → Trial × Left
+example t st ms bs over = (t, record { states = st; kept = ms; said = bs; over = over })
+
+abbrev pub sessions : List (Trial × Left)
+sessions =
+    -- 01: "Whole session, called, empty table."
+    example (record { table = []; states = []; caller = false; calls = giving 100 ∷ receiving (text "[TST-1-F$]\rFF\r") ∷ giving 100 ∷ [] })
+    [] [] (greeted ++ text "FQ\r") true
+    -- not marked at the last byte sent
+    ∷ example (sent []) (0 ∷ []) [] (greeted ++ (ours ++ text "T\rhi\u{1a}\r")) false
+    -- nor at the partner's first FB line
+    ∷ example (sent (receiving (text "FB B D E F Y1 3\r") ∷ [])) (0 ∷ []) [] (greeted ++ (ours ++ text "T\rhi\u{1a}\r")) false
+    -- but at its F>
+    ∷ example (sent (receiving (text "FB B D E F Y1 3\rF>\r") ∷ giving 99 ∷ [])) (1 ∷ []) [] (greeted ++ (ours ++ text "T\rhi\u{1a}\rFS +\r")) false
+    -- a body's first LF is kept, one after the transfer is dropped; then our turn, with nothing to propose
+    ∷ example (sent (receiving (text "FB B D E F Y1 3\rF>\r") ∷ giving 99 ∷ receiving (text "U\r\nyo\u{1a} \r\n") ∷ giving 99 ∷ receiving (text "FQ\rFF\r") ∷ []))
+    (1 ∷ []) (theirs plain ∷ []) (greeted ++ (ours ++ text "T\rhi\u{1a}\rFS +\rFF\r")) true
+    -- declined, deferred
+    ∷ example (proposed (receiving (text "FS -\r") ∷ [])) (2 ∷ []) [] (greeted ++ ours) false
+    ∷ example (proposed (receiving (text "FS =\rFF\r") ∷ giving 99 ∷ [])) (0 ∷ []) [] (greeted ++ (ours ++ text "FQ\r")) true
+    -- a byte while bytes wait: nothing is marked and nothing more is said
+    ∷ example (proposed (receiving (text "FS +\r") ∷ giving 5 ∷ receiving (text "FF\r") ∷ giving 99 ∷ receiving (text "FF\r") ∷ [])) (0 ∷ []) [] (greeted ++ (ours ++ text "T\rhi\u{1a}")) true
+    ∷ example (framed (receiving (text "FS +\rFF\r") ∷ giving 99 ∷ [])) (0 ∷ []) [] framedOurs true
+    -- framed, and marked at the partner's FF, before our FQ
+    ∷ example (framed (receiving (text "FS +\r") ∷ giving 99 ∷ receiving (text "FF\r") ∷ giving 99 ∷ [])) (1 ∷ []) [] (framedOurs ++ (framedText ++ text "FQ\r")) true
+    -- a packed message of the partner's, then our FF
+    ∷ example (framed (receiving (text "fs +\r") ∷ giving 99 ∷ receiving (text "; hi\rfa b D E F Y1 3\rf>\r") ∷ giving 99 ∷ receiving (1 ∷ 4 ∷ 85 ∷ 0 ∷ 48 ∷ 0 ∷ 2 ∷ 3 ∷ 10 ∷ 121 ∷ 111 ∷ 4 ∷ 14 ∷ []) ∷ giving 99 ∷ []))
+    (1 ∷ []) (theirs message ∷ []) (framedOurs ++ (framedText ++ text "FS +\rFF\r")) false
+    ∷ []

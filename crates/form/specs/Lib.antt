@@ -1,0 +1,2 @@
+-- The form test of receive and give.
+pub mod Form

@@ -1,0 +1,2 @@
+-- What give does to lent memory.
+pub mod Giving

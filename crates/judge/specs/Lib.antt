@@ -1,0 +1,2 @@
+-- What a whole line comes to, on the session's state.
+pub mod Judge

@@ -1,0 +1,175 @@
+-- What an accepted open has found: sizes, and of every record that its fields obey their rules, that its BID is its own and that its texts
+-- are no longer than they may be. Idea: the first fault is 255 only where there is none, since a table has 64 records at most.
+use mathlib.Core.Path.{_≡_, refl, ap, _∙_}
+use mathlib.Core.Bool.{Bool, true, false, cond, not, _&&_}
+use mathlib.Core.List.{List, []}
+use Prim.Native.Nat.{ℕ, zero, suc, _+_, _≤_, _<_}
+use native.Mathlib.Omega.{arith}
+use lib.Dec.{eqb, ltb, leb}
+use lib.ListN.{length, List·getD-eq-default}
+use borrow.Author.Tests.{eqb-true, eqb-false, leb-true, le-leb, lt-ltb, ltb-true, ltb-false, not-true}
+use Rattle.grammar.specs.Bytes.{Bytes}
+use Rattle.grammar.specs.Fields.{Form, plain, message, file, formIs, isCall, isAt, isBid, isHeading, isBody, bodyFair, headingByte, sameBid}
+use Rattle.grammar.specs.Turns.{isType, proposable}
+use Rattle.grammar.specs.Transfers.{partOf}
+use Rattle.grammar.proofs.Basics.{and2, both, or2, field-is}
+use Rattle.mail.specs.Mail.{Record, noRecord, recordAt, proposalOf, headingFor, transferOf}
+use Rattle.session.specs.Choices.{among}
+use Rattle.demand3.specs.Demand.{Good, allProposable, noneWith, distinctBids}
+use Rattle.layout.specs.Layout.{byteAt, le2At, le4At, fieldIn, entryAt, recordSize, recordOf}
+use Rattle.choice.specs.Decoded.{entriesFrom, entries, recordCount, recordsOf}
+use Rattle.opening.specs.Opening.{lengthOk, numbersOk, fieldsOk, within, headingOk, textsOk, recordOk, placeOk, faultFrom, tableFault}
+use Rattle.lent.proofs.Lists.{entries-length, entries-at}
+use Rattle.lent.proofs.Lengths.{part-most, transfer-most}
+use Rattle.lent.proofs.Giving.{Short}
+
+-- ---------------------------------------------------------------- one record
+
+module _ (c titles names bodies : Bytes) (h : recordOk c titles names bodies ≡ true) where
+  numbers : numbersOk c ≡ true
+  unfolding recordOk
+  numbers = and2 (numbersOk c) (fieldsOk c && textsOk c titles names bodies) h .0
+
+  rest-ok : fieldsOk c && textsOk c titles names bodies ≡ true
+  unfolding recordOk
+  rest-ok = and2 (numbersOk c) (fieldsOk c && textsOk c titles names bodies) h .1
+
+  record-proposable : proposable (proposalOf (recordOf titles names bodies c)) ≡ true
+  unfolding numbersOk fieldsOk
+  record-proposable =
+      let n₁ = and2 (leb (byteAt c 0) 2) _ numbers .1 in
+      let n₂ = and2 (leb (byteAt c 1) 2) _ n₁ .1 in
+      let n₃ = and2 (isType (byteAt c 2)) (leb (le4At c 69) 999999) n₂ in
+      let f = and2 (fieldsOk c) (textsOk c titles names bodies) rest-ok .0 in
+      let f₁ = and2 (lengthOk c 3 6 && isCall (fieldIn 6 3 c)) _ f in
+      let f₂ = and2 (lengthOk c 10 38 && isAt (fieldIn 38 10 c)) _ (f₁ .1) in
+      let f₃ = and2 (lengthOk c 49 6 && isCall (fieldIn 6 49 c)) (lengthOk c 56 12 && isBid (fieldIn 12 56 c)) (f₂ .1) in
+      both (isType (byteAt c 2) && ltb (le4At c 69) 1000000) _
+      (both (isType (byteAt c 2)) (ltb (le4At c 69) 1000000) (n₃ .0) (lt-ltb (le4At c 69) 1000000 (let z = leb-true (le4At c 69) 999999 (n₃ .1) in omega arith)))
+      (both (isCall (fieldIn 6 3 c) && isAt (fieldIn 38 10 c)) _
+      (both (isCall (fieldIn 6 3 c)) (isAt (fieldIn 38 10 c)) (and2 (lengthOk c 3 6) (isCall (fieldIn 6 3 c)) (f₁ .0) .1) (and2 (lengthOk c 10 38) (isAt (fieldIn 38 10 c)) (f₂ .0) .1))
+      (both (isCall (fieldIn 6 49 c)) (isBid (fieldIn 12 56 c)) (and2 (lengthOk c 49 6) (isCall (fieldIn 6 49 c)) (f₃ .0) .1) (and2 (lengthOk c 56 12) (isBid (fieldIn 12 56 c)) (f₃ .1) .1)))
+
+  heading-short : (s : Bytes) (start len : ℕ) (needed : Bool) → headingOk s start len needed ≡ true → length (partOf s start len) ≤ 80
+  unfolding headingOk
+  heading-short s start len needed e =
+      go (eqb len 0) refl (and2 (within s start len) (cond (eqb len 0) (not needed) (isHeading (partOf s start len))) e .1)
+    where
+      go : (b : Bool) → eqb len 0 ≡ b → cond b (not needed) (isHeading (partOf s start len)) ≡ true → length (partOf s start len) ≤ 80
+      go true p q = let z = eqb-true len 0 p in omega (arith, part-most s start len)
+      go false p q = field-is headingByte 80 (partOf s start len) q .most
+
+  record-short : length (transferOf (recordOf titles names bodies c)) ≤ 200000
+  unfolding textsOk
+  record-short =
+      let r = recordOf titles names bodies c in
+      let t = and2 (fieldsOk c) (textsOk c titles names bodies) rest-ok .1 in
+      let t₁ = and2 (headingOk titles (le4At c 73) (byteAt c 77) (not (eqb (byteAt c 1) 2))) _ t in
+      let t₂ = and2 (headingOk names (le4At c 78) (byteAt c 82) (eqb (byteAt c 1) 2)) _ (t₁ .1) in
+      let t₃ = and2 (within bodies (le4At c 83) (le2At c 87)) (isBody (formIs (byteAt c 1)) (partOf bodies (le4At c 83) (le2At c 87))) (t₂ .1) .1 in
+      let b = leb-true (length (r .body)) 65535 (and2 (leb (length (r .body)) 65535) (bodyFair (r .form) (r .body)) t₃ .0) in
+      let k : (f : Form) → length (headingFor f r) ≤ 80 = λ f. heading-of f (heading-short titles (le4At c 73) (byteAt c 77) (not (eqb (byteAt c 1) 2)) (t₁ .0)) (heading-short names (le4At c 78) (byteAt c 82) (eqb (byteAt c 1) 2) (t₂ .0)) in
+      transfer-most (r .form) (headingFor (r .form) r) (r .body) (k (r .form)) b
+    where
+      heading-of : (f : Form) → length (recordOf titles names bodies c .title) ≤ 80 → length (recordOf titles names bodies c .name) ≤ 80 → length (headingFor f (recordOf titles names bodies c)) ≤ 80
+      heading-of plain t n = t
+      heading-of message t n = t
+      heading-of file t n = n
+
+-- ---------------------------------------------------------------- all records
+
+module _ (table titles names bodies : Bytes) where
+  fault-none : (n i : ℕ) → faultFrom table titles names bodies i n ≡ 255 → i + n ≤ 255 → (k : ℕ) → i ≤ k → k < i + n → placeOk table titles names bodies k ≡ true
+  fault-none zero i e l k h g = absurd (omega arith)
+  fault-none (suc n) i e l k h g = go (placeOk table titles names bodies i) refl e (λ f. fault-none n (suc i) f (omega arith) k)
+    where
+      go : (b : Bool) → placeOk table titles names bodies i ≡ b → cond b (faultFrom table titles names bodies (suc i) n) i ≡ 255
+          → (faultFrom table titles names bodies (suc i) n ≡ 255 → suc i ≤ k → k < suc i + n → placeOk table titles names bodies k ≡ true)
+          → placeOk table titles names bodies k ≡ true
+      go true p q ih = at (eqb k i) refl
+        where
+          at : (b : Bool) → eqb k i ≡ b → placeOk table titles names bodies k ≡ true
+          at true e = ap (placeOk table titles names bodies) (eqb-true k i e) ∙ p
+          at false e = let z = eqb-false k i e in ih q (omega arith) (omega arith)
+      go false p q ih = absurd (omega arith)
+
+  all-ok : tableFault table titles names bodies ≡ 255 → (k : ℕ) → k < recordCount table → placeOk table titles names bodies k ≡ true
+  unfolding tableFault
+  all-ok e k h = fault-none (recordCount table) 0 e (omega arith) k (omega arith) (omega arith)
+
+  module _ (ok : (k : ℕ) → k < recordCount table → placeOk table titles names bodies k ≡ true) where
+    record-ok : (k : ℕ) → k < recordCount table → recordOk (entryAt recordSize table k) titles names bodies ≡ true
+    unfolding placeOk
+    record-ok k h = and2 (recordOk (entryAt recordSize table k) titles names bodies) _ (ok k h) .0
+
+    all-proposable : (n i : ℕ) → i + n ≤ recordCount table → allProposable (entriesFrom (recordOf titles names bodies) recordSize table i n) ≡ true
+    all-proposable zero i h = refl
+    all-proposable (suc n) i h =
+        both (proposable (proposalOf (recordOf titles names bodies (entryAt recordSize table i)))) (allProposable (entriesFrom (recordOf titles names bodies) recordSize table (suc i) n))
+        (record-proposable (entryAt recordSize table i) titles names bodies (record-ok i (omega arith))) (all-proposable n (suc i) (omega arith))
+
+    -- a BID is none of the BIDs before it
+    among-at : (b : Bytes) (n i : ℕ) → among b (entriesFrom (fieldIn 12 56) recordSize table i n) ≡ false → (j : ℕ) → i ≤ j → j < i + n
+        → sameBid (fieldIn 12 56 (entryAt recordSize table j)) b ≡ false
+    among-at b zero i e j h g = absurd (omega arith)
+    among-at b (suc n) i e j h g =
+        let p = or2 (sameBid (fieldIn 12 56 (entryAt recordSize table i)) b) (among b (entriesFrom (fieldIn 12 56) recordSize table (suc i) n)) e in
+        go (p .0) (eqb j i) refl (among-at b n (suc i) (p .1) j)
+      where
+        go : sameBid (fieldIn 12 56 (entryAt recordSize table i)) b ≡ false → (d : Bool) → eqb j i ≡ d
+            → (suc i ≤ j → j < suc i + n → sameBid (fieldIn 12 56 (entryAt recordSize table j)) b ≡ false) → sameBid (fieldIn 12 56 (entryAt recordSize table j)) b ≡ false
+        go p true q ih = ap (λ (x : ℕ). sameBid (fieldIn 12 56 (entryAt recordSize table x)) b) (eqb-true j i q) ∙ p
+        go p false q ih = let z = eqb-false j i q in ih (omega arith) (omega arith)
+
+    apart : (i k : ℕ) → i < k → k < recordCount table → sameBid (fieldIn 12 56 (entryAt recordSize table i)) (fieldIn 12 56 (entryAt recordSize table k)) ≡ false
+    unfolding placeOk
+    apart i k h g =
+        let b = fieldIn 12 56 (entryAt recordSize table k) in
+        among-at b k 0
+        (not-true (among b (entries (fieldIn 12 56) recordSize table k)) (and2 (recordOk (entryAt recordSize table k) titles names bodies) _ (ok k g) .1)) i
+        (omega arith) (omega arith)
+
+    none-with : (i n j : ℕ) → i < j → j + n ≤ recordCount table
+        → noneWith (fieldIn 12 56 (entryAt recordSize table i)) (entriesFrom (recordOf titles names bodies) recordSize table j n) ≡ true
+    none-with i zero j h g = refl
+    none-with i (suc n) j h g =
+        both (not (sameBid (fieldIn 12 56 (entryAt recordSize table i)) (fieldIn 12 56 (entryAt recordSize table j)))) _
+        (ap not (apart i j h (omega arith))) (none-with i n (suc j) (omega arith) (omega arith))
+
+    distinct : (n i : ℕ) → i + n ≤ recordCount table → distinctBids (entriesFrom (recordOf titles names bodies) recordSize table i n) ≡ true
+    distinct zero i h = refl
+    distinct (suc n) i h =
+        both (noneWith (fieldIn 12 56 (entryAt recordSize table i)) (entriesFrom (recordOf titles names bodies) recordSize table (suc i) n)) _
+        (none-with i n (suc i) (omega arith) (omega arith)) (distinct n (suc i) (omega arith))
+
+  -- THE LAWS of a table without a fault
+  pub table-good : tableFault table titles names bodies ≡ 255 → Good (recordsOf titles names bodies table)
+  unfolding recordsOf
+  table-good e =
+      let ok = all-ok e in
+      let n = entries-length (recordOf titles names bodies) recordSize table 0 (recordCount table) in
+      record {
+        few = le-leb (length (entries (recordOf titles names bodies) recordSize table (recordCount table))) 64 (omega arith);
+        fields = all-proposable ok (recordCount table) 0 (omega arith);
+        bids = distinct ok (recordCount table) 0 (omega arith);
+      }
+
+  pub table-short : tableFault table titles names bodies ≡ 255 → Short (recordsOf titles names bodies table)
+  unfolding recordsOf
+  table-short e i = go (ltb i (recordCount table)) refl
+    where
+      T : List Record
+      T = entries (recordOf titles names bodies) recordSize table (recordCount table)
+
+      none-short : length (transferOf noRecord) ≤ 200000
+      none-short = transfer-most plain [] [] (omega arith) (omega arith)
+
+      go : (b : Bool) → ltb i (recordCount table) ≡ b → length (transferOf (recordAt T i)) ≤ 200000
+      go true p =
+          let h = ltb-true i (recordCount table) p in
+          rw (entries-at (recordOf titles names bodies) recordSize table (recordCount table) i noRecord h)
+          (record-short (entryAt recordSize table i) titles names bodies (record-ok (all-ok e) i h))
+      go false p =
+          let h = ltb-false i (recordCount table) p in
+          let n = entries-length (recordOf titles names bodies) recordSize table 0 (recordCount table) in
+          rw (List·getD-eq-default T noRecord {n = i} (omega arith)) none-short

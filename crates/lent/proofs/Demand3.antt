@@ -1,0 +1,81 @@
+-- DEMAND 3 OVER LENT MEMORY. Idea: an accepted open leaves memory that represents the session opened on lists; a list of calls keeps that
+-- (Run); demand 3 holds of that session (crates/demand3); and the table, of which only states changed, is the old one with the new states.
+use mathlib.Core.Path.{_≡_, sym, ap, _∙_}
+use mathlib.Core.Bool.{Bool, true, false, not}
+use mathlib.Core.List.{List, map}
+use Prim.Native.Nat.{ℕ}
+use lib.Dec.{eqb}
+use Rattle.grammar.specs.Bytes.{Bytes}
+use Rattle.session.specs.Choices.{Shelf}
+use Rattle.session.specs.Session as on-lists
+use Rattle.log.specs.Log.{Event, log}
+use Rattle.demand3.specs.Demand as on-lists-run
+use Rattle.demand3.proofs.Demand.{demand-3}
+use Rattle.choice.specs.Decoded.{statesOf}
+use Rattle.form.specs.Form.{formOf}
+use Rattle.lent.specs.Represents.{Fixed, messagesOf}
+use Rattle.lent.specs.Frame.{withStates}
+use Rattle.lent.specs.Calls.{Lent, Call, sizesOf, messageCount, received, given, withSession, run, AllFair}
+use Rattle.lent.specs.Demand3.{openedBy, Addressable, finally, logged, Demand3, Claim}
+use Rattle.lent.proofs.Frame.{with-law}
+use Rattle.lent.proofs.FormAnswers.{receive-exactly, give-exactly}
+use Rattle.lent.proofs.Held.{held-form}
+use Rattle.lent.proofs.Opening.{freshCs, shelfOf, accepted, OpenedAs, open-law}
+use Rattle.lent.proofs.Run.{callOf, RanAs, run-law}
+
+module _ (role : ℕ) (F : Fixed) (m : Lent) (l : Addressable F m) (e : openedBy role F m .reply .answer ≡ 0) (cs : List Call) (f : AllFair (sizesOf F m) cs) where
+  abbrev pub E : Shelf
+  E = shelfOf F m
+
+  abbrev pub caller : Bool
+  caller = eqb role 1
+
+  abbrev pub states : List ℕ
+  states = statesOf (m .table)
+
+  pub open-as : OpenedAs role F m
+  open-as = open-law role F m l e
+
+  -- after the list of calls
+  pub ran : RanAs F E (freshCs role m) (sizesOf F m) (l .store) (open-as .short) (run F (withSession m (openedBy role F m .sm)) cs)
+      (on-lists-run.run E (on-lists.opened caller states) (map callOf cs))
+  ran = run-law F E (freshCs role m) (sizesOf F m) (l .store) (open-as .short) cs (withSession m (openedBy role F m .sm)) (on-lists.opened caller states) f (open-as .held)
+
+  on-lists-demand : on-lists-run.Demand3 E caller states (map callOf cs)
+  on-lists-demand = demand-3 E (open-as .good) caller states (map callOf cs)
+
+  pub states-logged : statesOf (finally role F m cs .table) ≡ logged role F m cs .book .states
+  states-logged =
+      ran .held .represents .states ∙ on-lists-demand .table ∙ ap (λ (es : List Event). log (E .table) caller states es .book .states) (sym (ran .events))
+
+  pub inbox-logged : messagesOf (finally role F m cs .inbox) (finally role F m cs .store) (messageCount (finally role F m cs)) ≡ logged role F m cs .book .kept
+  inbox-logged =
+      ran .held .represents .boxed .messages ∙ on-lists-demand .inbox ∙ ap (λ (es : List Event). log (E .table) caller states es .book .kept) (sym (ran .events))
+
+  -- the memory passes the form test, so that no call that is lent it answers 1
+  form-along : formOf (finally role F m cs .sm) (finally role F m cs .table) (F .titles) (F .names) (F .bodies) (F .known) (finally role F m cs .inbox) (finally role F m cs .store) ≡ true
+  form-along =
+      held-form F E (freshCs role m) (sizesOf F m) (finally role F m cs) ((on-lists-run.run E (on-lists.opened caller states) (map callOf cs)) .0) (ran .held)
+
+  pub receive-not-one : (bs : Bytes) → eqb (received F (finally role F m cs) bs .reply .answer) 1 ≡ false
+  receive-not-one bs =
+      receive-exactly F (finally role F m cs .sm) (finally role F m cs .table) (finally role F m cs .inbox) (finally role F m cs .store) bs ∙ ap not form-along
+
+  pub give-not-one : (buf : Bytes) (place : ℕ) → eqb (given F (finally role F m cs) buf place .reply .answer) 1 ≡ false
+  give-not-one buf place =
+      give-exactly F (finally role F m cs .sm) (finally role F m cs .table) (finally role F m cs .inbox) (finally role F m cs .store) buf place ∙ ap not form-along
+
+  table-logged : finally role F m cs .table ≡ withStates (logged role F m cs .book .states) (m .table)
+  table-logged =
+      with-law (m .table) (finally role F m cs .table) (accepted role F m e .table .0) (ran .held .spared .table)
+      ∙ ap (λ (x : List ℕ). withStates x (m .table)) states-logged
+
+-- THE THEOREM
+pub demand-3-lent : Claim
+demand-3-lent role F m l e cs f =
+    record {
+      table = table-logged role F m l e cs f;
+      inbox = inbox-logged role F m l e cs f;
+      places = ran role F m l e cs f .held .spared .inbox .past;
+      rest = ran role F m l e cs f .held .spared .store .past;
+    }

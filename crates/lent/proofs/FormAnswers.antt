@@ -1,0 +1,208 @@
+-- "Receive and give answer 1 .. exactly if .. the lent memory fails a form test": where it passes, no byte is refused with 1. Idea: every
+-- number that a line, a transfer or a byte can be refused with is another.
+use mathlib.Core.Path.{_≡_, refl, ap, _∙_}
+use mathlib.Core.Bool.{Bool, true, false, cond, not, _&&_}
+use mathlib.Core.Option.{Option, none, some}
+use mathlib.Core.List.{List, [], _∷_}
+use Prim.Native.Nat.{ℕ, suc, _+_}
+use lib.Dec.{eqb, ltb}
+use lib.ListN.{length, drop}
+use borrow.Author.Tests.{eqb-true}
+use Rattle.grammar.specs.Bytes.{Bytes, LF, isSome}
+use Rattle.grammar.specs.Ascii.{text}
+use Rattle.grammar.specs.Fields.{after}
+use Rattle.grammar.specs.Lines.{LineByte, dropped, ends, grows, overruns, lineByte, isComment, isPrompt}
+use Rattle.grammar.specs.Sid.{readSid, hasFeature}
+use Rattle.grammar.specs.Turns.{TurnLine, saysFF, saysFQ, endsBlock, notAllowed, proposes, readTurnLine}
+use Rattle.grammar.specs.Answers.{readFs}
+use Rattle.answer.specs.Answers.{answerNumber}
+use Rattle.transfer_read.specs.declared.Reader.{Reader}
+use Rattle.transfer_read.specs.declared.Stepped.{Stepped}
+use Rattle.transfer_read.specs.declared.Outcome.{Outcome}
+use Rattle.transfer_read.specs.declared.Outcome.the-variants.{More, Whole, Malformed, WrongSum, NoRoom}
+use Rattle.transfer_read.specs.Step.{stepOf}
+use Rattle.transfer_read.specs.Feed.{roomOf}
+use Rattle.state.specs.State.{loadOf}
+use Rattle.state.specs.declared.Await.{Await}
+use Rattle.state.specs.declared.Say.{Say}
+use Rattle.state.specs.declared.Keep.{Keep}
+use Rattle.state.specs.declared.Session.{Session}
+use Rattle.choice.specs.Choice.{answersOf}
+use Rattle.judge.specs.Judge.{sidRead, sidLine, textLine, nextAccepted, endLine, proposalLine, ffLine, fqLine, turnRead, turnLine, answerLine, judgeOf}
+use Rattle.judge.specs.declared.Judged.{Judged}
+use Rattle.waiting.specs.Waiting.{waits, waitingOf, overOf}
+use Rattle.form.specs.Form.{formOf}
+use Rattle.receiving.specs.Receiving.{Cs, cs, Moved, Settled, settleOf, lineMoved, lineStepOf, keepOf, transferMoved, transferStep, transferStepOf, byteOf, Run, stops, receiveFrom, unchanged, saved, receiveOf}
+use Rattle.giving.specs.Giving.{reply, giveOf, handing, Given}
+use Rattle.lent.specs.Represents.{Fixed}
+use Rattle.lent.proofs.FormLaws.{Octets}
+use Rattle.lent.proofs.FormClosed.{InForm, receive-closed, give-closed}
+
+by-test : {A : Type 0} (P : A → Type 0) (c : Bool) {x y : A} → P x → P y → P (cond c x y)
+by-test P true h k = h
+by-test P false h k = k
+
+-- Another number than 1.
+abbrev Other : ℕ → Type 0
+Other n = eqb n 1 ≡ false
+
+abbrev OtherJ : Judged → Type 0
+OtherJ j = eqb (j .answer) 1 ≡ false
+
+module _ (w : Await) (y : Say) (k : Keep) (r : Reader) (table known inbox : Bytes) (store : ℕ) where
+  sid-other : (ln : Bytes) → OtherJ (sidLine ln w y k r)
+  unfolding sidLine
+  sid-other ln = go (readSid ln)
+    where
+      go : (o : Option (List ℕ)) → OtherJ (sidRead o w y k r)
+      go none = refl
+      go (some fs) = by-test OtherJ (hasFeature 5 fs) refl refl
+
+  text-other : (ln : Bytes) → OtherJ (textLine ln w y k r)
+  unfolding textLine
+  text-other ln = by-test OtherJ (isPrompt ln) refl refl
+
+  ff-other : OtherJ (ffLine w y k r)
+  unfolding ffLine
+  ff-other = by-test OtherJ (eqb (w .proposals) 0) (by-test OtherJ (w .ff) refl refl) refl
+
+  fq-other : OtherJ (fqLine w y k r)
+  unfolding fqLine
+  fq-other = by-test OtherJ (eqb (w .proposals) 0) (by-test OtherJ (w .ff) refl refl) refl
+
+  end-other : OtherJ (endLine w y k r table known inbox store)
+  unfolding endLine
+  end-other =
+      by-test OtherJ (eqb (w .proposals) 0) refl
+      (by-test OtherJ (eqb (nextAccepted (answersOf w k table known inbox store) 0) 5) refl refl)
+
+  turn-other : (ln : Bytes) → OtherJ (turnLine ln w y k r table known inbox store)
+  unfolding turnLine proposalLine
+  turn-other ln = go (readTurnLine (k .framed) ln)
+    where
+      go : (t : TurnLine) → OtherJ (turnRead t w y k r table known inbox store)
+      go saysFF = ff-other
+      go saysFQ = fq-other
+      go endsBlock = end-other
+      go notAllowed = refl
+      go (proposes q) = by-test OtherJ (ltb (w .proposals) 5) refl refl
+
+  number-other : (n : ℕ) (ln : Bytes) → Other (answerNumber n ln)
+  unfolding answerNumber
+  number-other n ln =
+      by-test Other (ltb 5 n) (by-test Other (isSome (after (text "FS") ln)) refl refl)
+      (by-test Other (isSome (readFs n ln)) refl (by-test Other (isSome (after (text "FS") ln)) refl refl))
+
+  answer-other : (ln : Bytes) → OtherJ (answerLine ln w y k r)
+  unfolding answerLine
+  answer-other ln = by-test OtherJ (eqb (answerNumber (w .ours .count) ln) 0) refl (number-other (w .ours .count) ln)
+
+  judge-other : (ln : Bytes) → OtherJ (judgeOf ln w y k r table known inbox store)
+  unfolding judgeOf
+  judge-other ln =
+      by-test OtherJ (isComment ln) refl
+      (by-test OtherJ (eqb (w .phase) 0) (sid-other ln) (by-test OtherJ (eqb (w .phase) 1) (sid-other ln) (by-test OtherJ (eqb (w .phase) 2) (text-other ln)
+      (by-test OtherJ (eqb (w .phase) 3) (turn-other ln) (by-test OtherJ (eqb (w .phase) 4) (answer-other ln) refl)))))
+
+settle-other : (s : Session) (j : Judged) (p : Bool) (table : Bytes) → OtherJ j → Other (settleOf s j p table .answer)
+unfolding settleOf
+settle-other s j p table h = by-test (λ (o : Settled). Other (o .answer)) (eqb (j .answer) 0) refl h
+
+line-other : (s : Session) (b : ℕ) (table known inbox : Bytes) (store : ℕ) → Other (lineStepOf s b table known inbox store .answer)
+unfolding lineStepOf
+line-other s b table known inbox store = go (lineByte false (s .line .len) b)
+  where
+    go : (l : LineByte) → Other (lineMoved l s b table known inbox store .answer)
+    go dropped = refl
+    go ends = settle-other s _ true table (judge-other (s .now) (s .say) (s .keep) (s .reading .reader) table known inbox store _)
+    go grows = refl
+    go overruns = refl
+
+keep-other : (s : Session) (table : Bytes) → Other (keepOf s table .answer)
+unfolding keepOf
+keep-other s table = settle-other s _ _ table (by-test OtherJ (eqb (nextAccepted (s .say .signs) (s .now .current + 1)) 5) refl refl)
+
+transfer-other : (c : Cs) (b : ℕ) → Other (transferStepOf c b .answer)
+unfolding transferStepOf
+transfer-other c b = go (stepOf (roomOf (drop (c .session .keep .used) (c .store))) (c .session .reading .reader) b)
+  where
+    at : (o : Outcome) (s : Session) (table inbox store : Bytes) → Other (transferMoved o s table inbox store .answer)
+    at More s table inbox store = refl
+    at Whole s table inbox store = keep-other s table
+    at Malformed s table inbox store = refl
+    at WrongSum s table inbox store = refl
+    at NoRoom s table inbox store = refl
+
+    go : (t : Stepped) → Other (transferStep c b t .answer)
+    go t = at (t .outcome) _ (c .table) (c .inbox) _
+
+abbrev OtherM : Moved → Type 0
+OtherM m = eqb (m .answer) 1 ≡ false
+
+byte-other : (known : Bytes) (c : Cs) (b : ℕ) → OtherM (byteOf known c b)
+unfolding byteOf
+byte-other known c b =
+    by-test OtherM (c .session .line .«after_cr» && eqb b LF) refl
+    (by-test OtherM (waits (c .session .say)) refl
+    (by-test OtherM (eqb (c .session .now .phase) 5) (transfer-other c b) (line-other (c .session) b (c .table) known (c .inbox) (length (c .store)))))
+
+portion-other : (known : Bytes) (bs : Bytes) (c : Cs) (n : ℕ) → Other (receiveFrom known c n bs .answer)
+unfolding receiveFrom
+portion-other known [] c n = refl
+portion-other known (b ∷ bs) c n =
+    by-test (λ (r : Run). Other (r .answer)) (stops (byteOf known c b)) (byte-other known c b) (portion-other known bs (byteOf known c b .cs) (suc n))
+
+module _ (F : Fixed) (sm table inbox store : Bytes) where
+  abbrev test : Bool
+  test = formOf sm table (F .titles) (F .names) (F .bodies) (F .known) inbox store
+
+  -- RECEIVE ANSWERS 1 EXACTLY where the test fails
+  pub receive-exactly : (bs : Bytes) → eqb (receiveOf sm table (F .titles) (F .names) (F .bodies) (F .known) inbox store bs .reply .answer) 1 ≡ not test
+  unfolding receiveOf
+  receive-exactly bs = go test (overOf (loadOf sm))
+    where
+      go : (a b : Bool) → eqb ((cond a (cond b (unchanged (reply 12 0 0) sm table inbox store)
+          (saved sm (receiveFrom (F .known) (cs (loadOf sm) table inbox store) 0 bs)))
+          (unchanged (reply 1 255 0) sm table inbox store)) .reply .answer) 1 ≡ not a
+      go true true = refl
+      go true false = portion-other (F .known) bs (cs (loadOf sm) table inbox store) 0
+      go false b = refl
+
+  -- GIVE ANSWERS 1 EXACTLY where the test fails
+  pub give-exactly : (buf : Bytes) (place : ℕ) → eqb (giveOf sm table (F .titles) (F .names) (F .bodies) (F .known) inbox store buf place .reply .answer) 1 ≡ not test
+  unfolding giveOf
+  give-exactly buf place = go test (waits (loadOf sm .say)) (ltb place (length buf))
+    where
+      w : Bytes
+      w = waitingOf (loadOf sm) table (F .titles) (F .names) (F .bodies)
+
+      none : ℕ → ℕ → Given
+      none a p = record { reply = reply a p 0; sm = sm; buf = buf }
+
+      go : (a b c : Bool) → eqb ((cond a (cond b (cond c (handing (loadOf sm) w sm buf place) (none 0 0)) (none 0 0)) (none 1 255)) .reply .answer) 1 ≡ not a
+      go true true true = refl
+      go true true false = refl
+      go true false c = refl
+      go false b c = refl
+
+  passes : (n : ℕ) → eqb n 1 ≡ not test → (n ≡ 1 → ⊥) → test ≡ true
+  passes n e h = go test refl
+    where
+      go : (a : Bool) → test ≡ a → test ≡ true
+      go true q = q
+      go false q = absurd (h (eqb-true n 1 (e ∙ ap not q)))
+
+  -- "so does what a receive or give leaves that doesn't answer 1"
+  module _ (o : Octets sm) (ot : Octets table) (oi : Octets inbox) (os : Octets store) where
+    pub receive-leaves : (bs : Bytes) → Octets bs → (receiveOf sm table (F .titles) (F .names) (F .bodies) (F .known) inbox store bs .reply .answer ≡ 1 → ⊥)
+        → InForm F (receiveOf sm table (F .titles) (F .names) (F .bodies) (F .known) inbox store bs .sm) (receiveOf sm table (F .titles) (F .names) (F .bodies) (F .known) inbox store bs .table)
+        (receiveOf sm table (F .titles) (F .names) (F .bodies) (F .known) inbox store bs .inbox) (receiveOf sm table (F .titles) (F .names) (F .bodies) (F .known) inbox store bs .store)
+    receive-leaves bs ob h =
+        let e = passes (receiveOf sm table (F .titles) (F .names) (F .bodies) (F .known) inbox store bs .reply .answer) (receive-exactly bs) h in
+        receive-closed F sm table inbox store bs (record { form = e; smOctets = o; tableOctets = ot; inboxOctets = oi; storeOctets = os }) ob
+
+    pub give-leaves : (buf : Bytes) (place : ℕ) → (giveOf sm table (F .titles) (F .names) (F .bodies) (F .known) inbox store buf place .reply .answer ≡ 1 → ⊥)
+        → InForm F (giveOf sm table (F .titles) (F .names) (F .bodies) (F .known) inbox store buf place .sm) table inbox store
+    give-leaves buf place h =
+        let e = passes (giveOf sm table (F .titles) (F .names) (F .bodies) (F .known) inbox store buf place .reply .answer) (give-exactly buf place) h in
+        give-closed F sm table inbox store buf place (record { form = e; smOctets = o; tableOctets = ot; inboxOctets = oi; storeOctets = os })

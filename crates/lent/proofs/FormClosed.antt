@@ -1,0 +1,348 @@
+-- THE FORM TEST IS CLOSED. 01: "whatever an accepted open leaves passes it, and so does what a receive or give leaves that doesn't answer
+-- 1." For every lent memory, whatever its bytes. Bytes stay bytes too, so that the theorems can be put to use call after call.
+-- Idea: form-in takes the test apart, FormBytes keeps its facts over a portion, form-out puts it together for what is saved.
+use mathlib.Core.Path.{_≡_, refl, sym, ap, _∙_, subst}
+use mathlib.Core.Bool.{Bool, true, false, cond}
+use mathlib.Core.List.{[], _∷_}
+use Prim.Native.Nat.{ℕ, _+_, _-_, _/_, _%_, _≤_, _<_}
+use native.Mathlib.Omega.{arith}
+use lib.Dec.{eqb, ltb, leb}
+use lib.ListN.{length-replicate, length}
+use lib.Seq.{getD-take}
+use borrow.Author.Tests.{eq-eqb, eqb-true, ltb-true, leb-true}
+use Rattle.grammar.specs.Bytes.{Bytes}
+use Rattle.grammar.specs.Refusals.{badMemory, sessionEnded}
+use Rattle.grammar.proofs.Basics.{and2, both, no-both}
+use Rattle.buffer.specs.Put.{cut}
+use Rattle.layout.specs.Layout.{byteAt, le8}
+use Rattle.layout.proofs.Laws.{octets, le8-small}
+use Rattle.state.specs.State.{at, flag, loadOf, loadSizes, saveOf, sizesOut, saveSizes, freshOf, stateOut}
+use Rattle.state.specs.declared.Session.{Session}
+use Rattle.state.specs.declared.Sizes.{Sizes}
+use Rattle.state.proofs.Laws.{save-length, save-first, save-sizes-kept, load-save, sizes-length, Sized, sizes-saved, load-sizes}
+use Rattle.choice.specs.Decoded.{placeCount}
+use Rattle.waiting.specs.Waiting.{waits, waitingOf, silentOf, overOf}
+use Rattle.form.specs.Form.{usedBy, markOk, sameSizes, lentSizes, stateOk, formOf}
+use Rattle.giving.specs.Giving.{Given, reply, handedOf, handing, giveOf}
+use Rattle.opening.specs.Opening.{knownOk, entriesOk, sizesOk, tableFault, Opened, opened, openOf}
+use Rattle.receiving.specs.Receiving.{Cs, cs, receiveFrom, Received, unchanged, saved, receiveOf}
+use Rattle.lent.specs.Represents.{Fixed}
+use Rattle.lent.proofs.FormLaws.{Octets, octets-append, octets-put, octets-le8, octets-zeros}
+use Rattle.lent.proofs.FormWaiting.{waiting-some, waiting-short}
+use Rattle.lent.proofs.FormFacts.{Good, form-in, form-out, shaped, state-octets}
+use Rattle.lent.proofs.FormLines.{none-ok}
+use Rattle.lent.proofs.FormBytes.{receive-ok}
+
+-- ---------------------------------------------------------------- the statement
+
+-- Lent memory of bytes that passes the form test; F: the stores and the known BIDs, which no call changes.
+pub record InForm (F : Fixed) (sm table inbox store : Bytes) : Type 0 where
+  pub form : formOf sm table (F .titles) (F .names) (F .bodies) (F .known) inbox store ≡ true
+  pub smOctets : Octets sm
+  pub tableOctets : Octets table
+  pub inboxOctets : Octets inbox
+  pub storeOctets : Octets store
+
+-- ---------------------------------------------------------------- into facts
+
+-- The test beside the state: session memory has its size, its mark and the sizes of what is lent.
+record Marked (F : Fixed) (sm table inbox store : Bytes) : Type 0 where
+  size : length sm ≡ 876
+  mark : markOk sm ≡ true
+  sizes : sameSizes (loadSizes sm) (lentSizes table (F .titles) (F .names) (F .bodies) (F .known) inbox store) ≡ true
+
+sizes-store : (a b : Sizes) → sameSizes a b ≡ true → a .store ≡ b .store
+unfolding sameSizes
+sizes-store a b e =
+    let e₁ = and2 (eqb (a .table) (b .table)) _ e in
+    let e₂ = and2 (eqb (a .titles) (b .titles)) _ (e₁ .1) in
+    let e₃ = and2 (eqb (a .names) (b .names)) _ (e₂ .1) in
+    let e₄ = and2 (eqb (a .bodies) (b .bodies)) _ (e₃ .1) in
+    let e₅ = and2 (eqb (a .known) (b .known)) _ (e₄ .1) in
+    let e₆ = and2 (eqb (a .inbox) (b .inbox)) _ (e₅ .1) in
+    eqb-true (a .store) (b .store) (e₆ .1)
+
+module _ (F : Fixed) (sm table inbox store : Bytes) (I : InForm F sm table inbox store) where
+  parted : Marked F sm table inbox store × (stateOk (loadOf sm) table (F .titles) (F .names) (F .bodies) inbox store ≡ true)
+  unfolding formOf
+  parted =
+      let e₁ = and2 (eqb (length sm) 876) _ (I .form) in
+      let e₂ = and2 (markOk sm) _ (e₁ .1) in
+      let e₃ = and2 (sameSizes (loadSizes sm) (lentSizes table (F .titles) (F .names) (F .bodies) (F .known) inbox store)) _ (e₂ .1) in
+      (record { size = eqb-true (length sm) 876 (e₁ .0); mark = e₂ .0; sizes = e₃ .0 }, e₃ .1)
+
+  store-fits : length store < 18446744073709551616
+  unfolding loadSizes
+  store-fits =
+      let e = sizes-store (loadSizes sm) (lentSizes table (F .titles) (F .names) (F .bodies) (F .known) inbox store) (parted .0 .sizes) in
+      subst (λ (n : ℕ). n < 18446744073709551616) e (le8-small sm (octets sm (I .smOctets .each)) 52)
+
+  pub good : Good F (length table) (length inbox) (length store) (cs (loadOf sm) table inbox store)
+  good = form-in F sm table inbox store (I .smOctets) (I .tableOctets) (I .inboxOctets) (I .storeOctets) store-fits (parted .1)
+
+-- ---------------------------------------------------------------- and back, for what is saved
+
+byte-saved : (sm : Bytes) (s : Session) → length sm ≡ 876 → (i : ℕ) → i < 60 → byteAt (saveOf sm s) i ≡ byteAt sm i
+byte-saved sm s n i h =
+    sym (getD-take 60 (saveOf sm s) i 0 h) ∙ ap (λ (l : Bytes). byteAt l i) (save-first sm s (omega arith)) ∙ getD-take 60 sm i 0 h
+
+mark-saved : (sm : Bytes) (s : Session) → length sm ≡ 876 → markOk sm ≡ true → markOk (saveOf sm s) ≡ true
+mark-saved sm s n e =
+    rw (byte-saved sm s n 0 (omega arith), byte-saved sm s n 1 (omega arith), byte-saved sm s n 2 (omega arith), byte-saved sm s n 3 (omega arith)) e
+
+-- sm and the sizes of what was lent; c: what is left
+module _ (F : Fixed) (sm : Bytes) (nt ni ns : ℕ) (c : Cs) (g : Good F nt ni ns c) (o : Octets sm) (n : length sm ≡ 876) (m : markOk sm ≡ true)
+    (z : sameSizes (loadSizes sm) (record {
+      table = nt;
+      titles = length (F .titles);
+      names = length (F .names);
+      bodies = length (F .bodies);
+      known = length (F .known);
+      inbox = ni;
+      store = ns;
+    }) ≡ true) where
+  saved-octets : Octets (saveOf sm (c .session))
+  unfolding saveOf
+  saved-octets = octets-put sm (at 60) (stateOut (c .session)) o (state-octets F nt ni ns c g)
+
+  pub saved-form : InForm F (saveOf sm (c .session)) (c .table) (c .inbox) (c .store)
+  unfolding formOf
+  saved-form =
+      record {
+        form = both (eqb (length (saveOf sm (c .session))) 876) _ (eq-eqb (length (saveOf sm (c .session))) 876 (save-length sm (c .session) ∙ n))
+            (both (markOk (saveOf sm (c .session))) _ (mark-saved sm (c .session) n m) (both _ _ sized kept));
+        smOctets = saved-octets;
+        tableOctets = g .lent .tableOctets;
+        inboxOctets = g .lent .inboxOctets;
+        storeOctets = g .lent .storeOctets;
+      }
+    where
+      sized : sameSizes (loadSizes (saveOf sm (c .session))) (lentSizes (c .table) (F .titles) (F .names) (F .bodies) (F .known) (c .inbox) (c .store)) ≡ true
+      sized = rw (save-sizes-kept sm (c .session) (omega arith), g .lent .table, g .lent .inbox, g .lent .store) z
+
+      kept : stateOk (loadOf (saveOf sm (c .session))) (c .table) (F .titles) (F .names) (F .bodies) (c .inbox) (c .store) ≡ true
+      kept = rw (load-save sm (c .session) n (shaped F nt ni ns c g)) (form-out F nt ni ns c g)
+
+-- ---------------------------------------------------------------- receive
+
+module _ (F : Fixed) (sm table inbox store bs : Bytes) where
+  abbrev left : Received
+  left = receiveOf sm table (F .titles) (F .names) (F .bodies) (F .known) inbox store bs
+
+  -- "answer 1 with place 255 and count 0 and change nothing": where the test fails
+  pub receive-one : formOf sm table (F .titles) (F .names) (F .bodies) (F .known) inbox store ≡ false
+      → left ≡ unchanged (reply badMemory 255 0) sm table inbox store
+  unfolding receiveOf
+  receive-one e = rw e
+
+  -- RECEIVE: what it leaves passes the test
+  pub receive-closed : InForm F sm table inbox store → Octets bs → InForm F (left .sm) (left .table) (left .inbox) (left .store)
+  unfolding receiveOf
+  receive-closed I O = rw (I .form) (go (overOf (loadOf sm)))
+    where
+      out : Bool → Received
+      out a = cond a (unchanged (reply sessionEnded 0 0) sm table inbox store) (saved sm (receiveFrom (F .known) (cs (loadOf sm) table inbox store) 0 bs))
+
+      go : (a : Bool) → InForm F (out a .sm) (out a .table) (out a .inbox) (out a .store)
+      go true = I
+      go false =
+          let p = parted F sm table inbox store I in
+          saved-form F sm (length table) (length inbox) (length store) (receiveFrom (F .known) (cs (loadOf sm) table inbox store) 0 bs .cs)
+          (receive-ok F (length table) (length inbox) (length store) (F .known) bs (cs (loadOf sm) table inbox store) 0 O (good F sm table inbox store I))
+          (I .smOctets) (p .0 .size) (p .0 .mark) (p .0 .sizes)
+
+-- ---------------------------------------------------------------- give
+
+module _ (F : Fixed) (nt ni ns : ℕ) (c : Cs) (g : Good F nt ni ns c) (n : ℕ) where
+  abbrev waiting : Bytes
+  waiting = waitingOf (c .session) (c .table) (F .titles) (F .names) (F .bodies)
+
+  -- what give hands out is no longer to be given
+  handed-ok : Good F nt ni ns (cs (handedOf (c .session) n (length waiting)) (c .table) (c .inbox) (c .store))
+  unfolding handedOf silentOf waitingOf waits
+  handed-ok = go (ltb (c .session .say .pos + n) (length waiting)) refl
+    where
+      short : length waiting < 18446744073709551616
+      short = waiting-short (c .session) (c .table) (F .titles) (F .names) (F .bodies) (g .now .ours) (g .say .signs) (g .keep .sending) (g .lent .tableOctets)
+
+      more : Session
+      more =
+          record {
+            now = c .session .now;
+            say = record { first = c .session .say .first; then = c .session .say .then; pos = c .session .say .pos + n; signs = c .session .say .signs };
+            keep = c .session .keep;
+            reading = c .session .reading;
+            line = c .session .line;
+          }
+
+      go : (a : Bool) → ltb (c .session .say .pos + n) (length waiting) ≡ a → Good F nt ni ns (cs (cond a more (silentOf (c .session))) (c .table) (c .inbox) (c .store))
+      go true e =
+          let l = ltb-true (c .session .say .pos + n) (length waiting) e in
+          record {
+            now = g .now;
+            say = record { first = g .say .first; then = g .say .then; pos = omega (arith, short); signs = g .say .signs };
+            keep = g .keep;
+            reader = g .reader;
+            heading = g .heading;
+            line = g .line;
+            box = g .box;
+            awaited = record {
+              quiet = g .awaited .quiet;
+              under = λ e. let u = g .awaited .under e in record { current = u .current; signs = u .signs; plus = u .plus; places = u .places; short = u .short; room = u .room };
+            };
+            waiting = λ w. l;
+            lent = g .lent;
+          }
+      go false e =
+          record {
+            now = g .now;
+            say = record { first = omega arith; then = omega arith; pos = omega arith; signs = g .say .signs };
+            keep = g .keep;
+            reader = g .reader;
+            heading = g .heading;
+            line = g .line;
+            box = g .box;
+            awaited = record {
+              quiet = g .awaited .quiet;
+              under = λ e. let u = g .awaited .under e in record { current = u .current; signs = u .signs; plus = u .plus; places = u .places; short = u .short; room = u .room };
+            };
+            waiting = λ w. absurd (no-both false w refl);
+            lent = g .lent;
+          }
+
+module _ (F : Fixed) (sm table inbox store buf : Bytes) (place : ℕ) where
+  abbrev given : Given
+  given = giveOf sm table (F .titles) (F .names) (F .bodies) (F .known) inbox store buf place
+
+  pub give-one : formOf sm table (F .titles) (F .names) (F .bodies) (F .known) inbox store ≡ false
+      → given ≡ record { reply = reply badMemory 255 0; sm = sm; buf = buf }
+  unfolding giveOf
+  give-one e = rw e
+
+  -- GIVE: what it leaves passes the test
+  pub give-closed : InForm F sm table inbox store → InForm F (given .sm) table inbox store
+  unfolding giveOf
+  give-closed I = rw (I .form) (go (waits (loadOf sm .say)) (ltb place (length buf)))
+    where
+      w : Bytes
+      w = waitingOf (loadOf sm) table (F .titles) (F .names) (F .bodies)
+
+      out : Bool → Bool → Given
+      out a b =
+          cond a (cond b (handing (loadOf sm) (waitingOf (loadOf sm) table (F .titles) (F .names) (F .bodies)) sm buf place)
+          (record { reply = reply 0 0 0; sm = sm; buf = buf })) (record { reply = reply 0 0 0; sm = sm; buf = buf })
+
+      go : (a b : Bool) → InForm F (out a b .sm) table inbox store
+      go true true =
+          let p = parted F sm table inbox store I in
+          let n = length (cut (length buf - place) (loadOf sm .say .pos) w) in
+          saved-form F sm (length table) (length inbox) (length store) (cs (handedOf (loadOf sm) n (length w)) table inbox store)
+          (handed-ok F (length table) (length inbox) (length store) (cs (loadOf sm) table inbox store) (good F sm table inbox store I) n)
+          (I .smOctets) (p .0 .size) (p .0 .mark) (p .0 .sizes)
+      go true false = I
+      go false b = I
+
+-- ---------------------------------------------------------------- open
+
+same-sizes : (a : Sizes) → sameSizes a a ≡ true
+unfolding sameSizes
+same-sizes a =
+    both (eqb (a .table) (a .table)) _ (eq-eqb (a .table) (a .table) refl)
+    (both (eqb (a .titles) (a .titles)) _ (eq-eqb (a .titles) (a .titles) refl)
+    (both (eqb (a .names) (a .names)) _ (eq-eqb (a .names) (a .names) refl)
+    (both (eqb (a .bodies) (a .bodies)) _ (eq-eqb (a .bodies) (a .bodies) refl)
+    (both (eqb (a .known) (a .known)) _ (eq-eqb (a .known) (a .known) refl)
+    (both (eqb (a .inbox) (a .inbox)) _ (eq-eqb (a .inbox) (a .inbox) refl) (eq-eqb (a .store) (a .store) refl))))))
+
+sizes-octets : (z : Sizes) → Octets (sizesOut z)
+unfolding sizesOut
+sizes-octets z =
+    octets-append (70 ∷ 77 ∷ 48 ∷ 49 ∷ []) _ (record { each = refl })
+    (octets-append (le8 (z .table)) _ (octets-le8 (z .table)) (octets-append (le8 (z .titles)) _ (octets-le8 (z .titles))
+    (octets-append (le8 (z .names)) _ (octets-le8 (z .names)) (octets-append (le8 (z .bodies)) _ (octets-le8 (z .bodies))
+    (octets-append (le8 (z .known)) _ (octets-le8 (z .known)) (octets-append (le8 (z .inbox)) (le8 (z .store)) (octets-le8 (z .inbox)) (octets-le8 (z .store))))))))
+
+mark-written : (sm : Bytes) (z : Sizes) → 60 ≤ length sm → markOk (saveSizes sm z) ≡ true
+unfolding sizesOut
+mark-written sm z h = ap markOk (sizes-saved sm z h)
+
+octets-written : (sm : Bytes) (z : Sizes) → Octets sm → Octets (saveSizes sm z)
+unfolding saveSizes
+octets-written sm z o = octets-put sm (at 0) (sizesOut z) o (sizes-octets z)
+
+-- a session right after open
+fresh-good : (F : Fixed) (caller : Bool) (table inbox store : Bytes) → Octets table → Octets inbox → Octets store → length store < 18446744073709551616
+    → placeCount inbox ≤ 64 → Good F (length table) (length inbox) (length store) (cs (freshOf caller) table inbox store)
+unfolding freshOf usedBy
+fresh-good F caller table inbox store ot oi os fits few =
+    record {
+      now = record { phase = phase caller; current = omega arith; proposals = omega arith; ours = none-ok; block = length-replicate {A = ℕ} 360 0; octets = octets-zeros 360 };
+      say = record { first = first caller; then = omega arith; pos = omega arith; signs = none-ok };
+      keep = record { sending = none-ok; flags = length-replicate {A = ℕ} 64 0; octets = octets-zeros 64 };
+      reader = record { place = omega arith; len = omega arith; head = omega arith; off = omega arith; left = omega arith; sum = omega arith; body = omega arith };
+      heading = record { size = length-replicate {A = ℕ} 80 0; octets = octets-zeros 80 };
+      line = record { len = omega arith; size = length-replicate {A = ℕ} 256 0; octets = octets-zeros 256 };
+      box = record { limit = few; placed = omega arith; used = refl; within = omega arith };
+      awaited = record { quiet = λ a b. refl; under = λ e. absurd (five caller e) };
+      waiting = λ e. waiting-some (freshOf caller) table (F .titles) (F .names) (F .bodies) none-ok (λ l. absurd (omega arith)) e;
+      lent = record { table = refl; inbox = refl; store = refl; fits = fits; tableOctets = ot; inboxOctets = oi; storeOctets = os };
+    }
+  where
+    phase : (c : Bool) → flag c < 256
+    phase true = omega arith
+    phase false = omega arith
+
+    first : (c : Bool) → cond c 0 1 < 256
+    first true = omega arith
+    first false = omega arith
+
+    five : (c : Bool) → flag c ≡ 5 → ⊥
+    five true e = omega arith
+    five false e = omega arith
+
+module _ (F : Fixed) (role : ℕ) (sm table inbox store : Bytes) where
+  abbrev asked : Opened
+  asked = openOf role sm table (F .titles) (F .names) (F .bodies) (F .known) inbox store
+
+  abbrev lent : Sizes
+  lent = lentSizes table (F .titles) (F .names) (F .bodies) (F .known) inbox store
+
+  -- an open that answers 0 found the sizes in order, and saved a fresh session
+  open-in : asked .reply .answer ≡ 0
+      → (sizesOk sm table (F .known) inbox ≡ true) × (asked .sm ≡ saveOf (saveSizes sm lent) (freshOf (eqb role 1)))
+  unfolding openOf
+  open-in e = go (leb role 1) (sizesOk sm table (F .known) inbox) (knownOk (F .known)) (eqb (tableFault table (F .titles) (F .names) (F .bodies)) 255) refl e
+    where
+      out : Bool → Bool → Bool → Bool → Opened
+      out a b c d =
+          cond a (cond b (cond c (cond d (opened (reply 0 0 0) (saveOf (saveSizes sm lent) (freshOf (eqb role 1)))) (opened (reply badMemory (tableFault table (F .titles) (F .names) (F .bodies)) 0) sm))
+          (opened (reply badMemory 255 0) sm)) (opened (reply badMemory 255 0) sm)) (opened (reply badMemory 255 0) sm)
+
+      go : (a b c d : Bool) → sizesOk sm table (F .known) inbox ≡ b → out a b c d .reply .answer ≡ 0
+          → (sizesOk sm table (F .known) inbox ≡ true) × (out a b c d .sm ≡ saveOf (saveSizes sm lent) (freshOf (eqb role 1)))
+      go true true true true q e = (q, refl)
+      go true true true false q e = absurd (omega arith)
+      go true true false d q e = absurd (omega arith)
+      go true false c d q e = absurd (omega arith)
+      go false b c d q e = absurd (omega arith)
+
+  sizes-in : sizesOk sm table (F .known) inbox ≡ true → (length sm ≡ 876) × (placeCount inbox ≤ 64)
+  unfolding sizesOk
+  sizes-in e =
+      let e₁ = and2 (eqb (length sm) 876) _ e in
+      let e₂ = and2 (entriesOk (length table) 89 64) _ (e₁ .1) in
+      let e₃ = and2 (entriesOk (length (F .known)) 13 1024) _ (e₂ .1) in
+      let e₄ = and2 (eqb (length inbox % 155) 0) _ (e₃ .1) in
+      (eqb-true (length sm) 876 (e₁ .0), leb-true (length inbox / 155) 64 (e₄ .1))
+
+  -- OPEN: what an accepted one leaves passes the test; the sizes are those of memory, below 2 ^ 64
+  pub open-closed : Octets sm → Octets table → Octets inbox → Octets store → Sized lent → asked .reply .answer ≡ 0 → InForm F (asked .sm) table inbox store
+  open-closed o ot oi os h e =
+      let p = open-in e in
+      let q = sizes-in (p .0) in
+      let n = q .0 in
+      let g = fresh-good F (eqb role 1) table inbox store ot oi os (h .store) (q .1) in
+      let z : sameSizes (loadSizes (saveSizes sm lent)) lent ≡ true = rw (load-sizes sm lent (omega arith) h) (same-sizes lent) in
+      subst (λ (l : Bytes). InForm F l table inbox store) (sym (p .1))
+      (saved-form F (saveSizes sm lent) (length table) (length inbox) (length store) (cs (freshOf (eqb role 1)) table inbox store) g
+      (octets-written sm lent o) (sizes-length sm lent ∙ n) (mark-written sm lent (omega arith)) z)

@@ -1,0 +1,83 @@
+-- DEMAND 3 over lent memory in the mission's words. Idea: the states after the calls are the log's, the log's are what its deeds say (Fates),
+-- and the state of a record is its first byte.
+use mathlib.Core.Path.{_≡_, sym, ap, _∙_, subst}
+use mathlib.Core.List.{List, map}
+use Prim.Native.Nat.{ℕ, _*_, _/_, _<_, min}
+use native.Mathlib.Omega.{arith}
+use native.Mathlib.Nat.{add-zero}
+use lib.Dec.{eqb}
+use lib.ListN.{length, getD, drop}
+use lib.Seq.{getD-take, getD-drop}
+use Rattle.grammar.specs.Bytes.{Bytes}
+use Rattle.session.specs.Choices.{Shelf}
+use Rattle.session.specs.Session as on-lists
+use Rattle.log.specs.Log.{Event, log}
+use Rattle.demand3.specs.Demand as on-lists-run
+use Rattle.demand3.specs.Demand.{Good}
+use Rattle.layout.specs.Layout.{byteAt, recordSize, stateOf}
+use Rattle.choice.specs.Decoded.{recordCount, statesOf}
+use Rattle.lent.specs.Calls.{Lent}
+use Rattle.lent.specs.Demand3.{finally, traced, logged}
+use Rattle.lent.specs.Deeds.{deeds, Fate, messagesBrought}
+use Rattle.lent.specs.InWords.{done, ClaimInWords}
+use Rattle.lent.proofs.Lists.{entries-length, entries-at}
+use Rattle.lent.proofs.Table.{Whole, entry-whole}
+use Rattle.lent.proofs.Opening.{shelfOf, accepted}
+use Rattle.lent.proofs.Run.{callOf}
+use Rattle.lent.proofs.Demand3.{open-as, ran, states-logged, inbox-logged}
+use Rattle.lent.proofs.Fates.{fates, messages}
+
+-- the state of a record is its first byte
+state-at : (t : Bytes) (i : ℕ) → Whole t → i < recordCount t → getD (statesOf t) i 0 ≡ stateOf t i
+unfolding statesOf
+state-at t i w h =
+    entries-at (λ (c : Bytes). byteAt c 0) recordSize t (recordCount t) i 0 h ∙ ap (λ (c : Bytes). byteAt c 0) (entry-whole t i w h)
+    ∙ getD-take 89 (drop (i * 89) t) 0 0 (omega arith) ∙ getD-drop (i * 89) t 0 0 ∙ ap (λ (k : ℕ). getD t k 0) (add-zero (i * 89))
+
+states-length : (t : Bytes) → length (statesOf t) ≡ recordCount t
+unfolding statesOf
+states-length t = entries-length (λ (c : Bytes). byteAt c 0) recordSize t 0 (recordCount t)
+
+pub in-words : ClaimInWords
+in-words role F m l e cs f =
+    record {
+      each = λ i h. subst (λ (x : ℕ). Fate i (done role F m cs) x (stateOf (end .table) i)) (state-at (m .table) i whole h)
+          (subst (λ (y : ℕ). Fate i (done role F m cs) (getD st i 0) y) (state-at (end .table) i whole-end (subst (λ (n : ℕ). i < n) count h)) (fate i h));
+      others = ran role F m l e cs f .held .spared .table;
+      inbox = inbox-logged role F m l e cs f ∙ kept;
+    }
+  where
+    end : Lent
+    end = finally role F m cs
+
+    st : List ℕ
+    st = statesOf (m .table)
+
+    shelf : Shelf
+    shelf = shelfOf F m
+
+    good : Good (shelf .table)
+    good = open-as role F m l e cs f .good
+
+    events : traced role F m cs ≡ (on-lists-run.run shelf (on-lists.opened (eqb role 1) st) (map callOf cs)) .1
+    events = ran role F m l e cs f .events
+
+    whole : Whole (m .table)
+    whole = accepted role F m e .table .0
+
+    whole-end : Whole (end .table)
+    whole-end = ran role F m l e cs f .held .represents .shelved .table
+
+    count : recordCount (m .table) ≡ recordCount (end .table)
+    count = ap (λ (n : ℕ). min 64 (n / 89)) (sym (ran role F m l e cs f .held .spared .table .size))
+
+    fate : (i : ℕ) → i < recordCount (m .table) → Fate i (done role F m cs) (getD st i 0) (getD (statesOf (end .table)) i 0)
+    fate i h =
+        subst (λ (x : List ℕ). Fate i (done role F m cs) (getD st i 0) (getD x i 0)) (sym (states-logged role F m l e cs f))
+        (subst (λ (es : List Event). Fate i (deeds (shelf .table) (eqb role 1) st es) (getD st i 0) (getD (log (shelf .table) (eqb role 1) st es .book .states) i 0)) (sym events)
+        (fates shelf good (eqb role 1) st (map callOf cs) i (subst (λ (n : ℕ). i < n) (sym (states-length (m .table))) h)))
+
+    kept : logged role F m cs .book .kept ≡ messagesBrought (done role F m cs)
+    kept =
+        subst (λ (es : List Event). log (shelf .table) (eqb role 1) st es .book .kept ≡ messagesBrought (deeds (shelf .table) (eqb role 1) st es)) (sym events)
+        (messages shelf good (eqb role 1) st (map callOf cs))

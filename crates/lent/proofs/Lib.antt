@@ -1,0 +1,43 @@
+-- Lists, Table, Inbox, Proposals: entries in lent memory as lists. Choices, Says: what we choose and say. Parts, Settle, Leads: the relation
+-- in parts, and what a line or transfer leaves of it. Line, Answer, LineStep: a byte of a line. Transfer, Keep, TransferStep: a byte of a
+-- transfer. Byte: any byte, and a receive. Frame: what is left alone.
+pub mod Lists
+pub mod Table
+pub mod Frame
+pub mod Choices
+pub mod Inbox
+pub mod Proposals
+pub mod Parts
+pub mod Says
+pub mod Settle
+pub mod Leads
+pub mod Line
+pub mod Answer
+pub mod LineStep
+pub mod Transfer
+pub mod Keep
+pub mod TransferStep
+pub mod Byte
+-- The form test is closed: laws of lists, the facts that the test stands for, each step keeps them, the three calls.
+pub mod FormLaws
+pub mod FormWaiting
+pub mod FormFacts
+pub mod FormLines
+pub mod FormBytes
+pub mod FormClosed
+pub mod FormAnswers
+-- Small, Lengths: numbers that must fit their bytes. InForm: the form test. Held: memory as a call left it, and saving. Giving, Accepted,
+-- Opening: the laws of give and open. Run: a list of calls. Demand3: the theorem. Deeds, Once, Fates, InWords: the same in the mission's words.
+pub mod Small
+pub mod Lengths
+pub mod InForm
+pub mod Held
+pub mod Giving
+pub mod Accepted
+pub mod Opening
+pub mod Run
+pub mod Demand3
+pub mod Deeds
+pub mod Once
+pub mod Fates
+pub mod InWords

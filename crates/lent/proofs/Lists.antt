@@ -1,0 +1,59 @@
+-- Entries of one size as a list, and up to five numbers: element by element.
+use mathlib.Core.Path.{_≡_, refl, sym, ap, _∙_}
+use mathlib.Core.List.{List, [], _∷_, _++_}
+use Prim.Native.Nat.{ℕ, zero, suc, _+_, _-_, _≤_, _<_}
+use native.Mathlib.Omega.{arith}
+use native.Mathlib.Nat.{add-zero, zero-add, le-of-suc-le-suc, not-suc-le-zero}
+use lib.ListN.{length, getD, replicate, length-append, length-replicate}
+use lib.Seq.{take-append-seam}
+use Rattle.grammar.specs.Bytes.{Bytes}
+use Rattle.layout.specs.Layout.{entryAt}
+use Rattle.choice.specs.Decoded.{entriesFrom, entries}
+use Rattle.state.specs.State.{held, fiveOf}
+use Rattle.state.specs.declared.Five.{Five}
+
+-- ---------------------------------------------------------------- entries
+
+module _ {A : Type 0} (f : Bytes → A) (size : ℕ) (s : Bytes) where
+  pub entries-length : (i n : ℕ) → length (entriesFrom f size s i n) ≡ n
+  entries-length i zero = refl
+  entries-length i (suc n) = ap suc (entries-length (suc i) n)
+
+  from-at : (i n j : ℕ) (d : A) → j < n → getD (entriesFrom f size s i n) j d ≡ f (entryAt size s (i + j))
+  from-at i zero j d h = absurd (not-suc-le-zero h)
+  from-at i (suc n) zero d h = ap (λ (k : ℕ). f (entryAt size s k)) (sym (add-zero i))
+  from-at i (suc n) (suc j) d h = from-at (suc i) n j d (le-of-suc-le-suc h) ∙ ap (λ (k : ℕ). f (entryAt size s k)) (omega arith)
+
+  pub entries-at : (n j : ℕ) (d : A) → j < n → getD (entries f size s n) j d ≡ f (entryAt size s j)
+  entries-at n j d h = from-at 0 n j d h ∙ ap (λ (k : ℕ). f (entryAt size s k)) (zero-add j)
+
+  from-snoc : (i n : ℕ) → entriesFrom f size s i (suc n) ≡ entriesFrom f size s i n ++ (f (entryAt size s (i + n)) ∷ [])
+  from-snoc i zero = ap (λ (k : ℕ). f (entryAt size s k) ∷ []) (sym (add-zero i))
+  from-snoc i (suc n) =
+      ap (λ (l : List A). f (entryAt size s i) ∷ l) (from-snoc (suc i) n)
+      ∙ ap (λ (k : ℕ). f (entryAt size s i) ∷ (entriesFrom f size s (suc i) n ++ (f (entryAt size s k) ∷ []))) (omega arith)
+
+  -- one entry more
+  pub entries-snoc : (n : ℕ) → entries f size s (suc n) ≡ entries f size s n ++ (f (entryAt size s n) ∷ [])
+  entries-snoc n = from-snoc 0 n ∙ ap (λ (k : ℕ). entriesFrom f size s 0 n ++ (f (entryAt size s k) ∷ [])) (zero-add n)
+
+-- what two readings make of each entry is the same
+pub entries-same : {A : Type 0} (f g : Bytes → A) (size : ℕ) (s t : Bytes) (i n : ℕ)
+    → ((j : ℕ) → j < i + n → f (entryAt size s j) ≡ g (entryAt size t j)) → entriesFrom f size s i n ≡ entriesFrom g size t i n
+entries-same f g size s t i zero h = refl
+entries-same {A} f g size s t i (suc n) h =
+    ap (λ (a : A). a ∷ entriesFrom f size s (suc i) n) (h i (omega arith))
+    ∙ ap (λ (l : List A). g (entryAt size t i) ∷ l) (entries-same f g size s t (suc i) n (λ j k. h j (omega arith)))
+
+-- ---------------------------------------------------------------- up to five numbers
+
+pub held-five : (xs : List ℕ) → held (fiveOf xs) ≡ xs
+held-five xs = take-append-seam xs (replicate (5 - length xs) 0)
+
+-- as many as five, within an array of five
+pub record FiveOk (f : Five) : Type 0 where
+  pub few : f .count ≤ 5
+  pub size : length (f .items) ≡ 5
+
+pub five-ok : (xs : List ℕ) → length xs ≤ 5 → FiveOk (fiveOf xs)
+five-ok xs h = record { few = h; size = simp (length-append, length-replicate) (omega arith) }

@@ -1,0 +1,127 @@
+-- A list of calls over lent memory is the same list of calls on a session on lists: the memory after it represents that session, and both
+-- say the same to the log.
+use mathlib.Core.Path.{_≡_, refl, sym, ap, _∙_, subst}
+use mathlib.Core.Bool.{Bool, true, false, cond, _&&_}
+use mathlib.Core.List.{List, [], _∷_, _++_, map}
+use Prim.Native.Nat.{ℕ, _-_, _<_}
+use native.Mathlib.Nat.{zero-add}
+use lib.Dec.{eqb}
+use lib.ListN.{length, take, drop}
+use Rattle.grammar.specs.Bytes.{Bytes, all}
+use Rattle.grammar.specs.Refusals.{badMemory, sessionEnded}
+use Rattle.grammar.proofs.Basics.{no-both}
+use Rattle.grammar.proofs.Exact.{octet}
+use Rattle.session.specs.Choices.{Shelf}
+use Rattle.session.specs.Session as on-lists
+use Rattle.session.specs.Calls as on-lists-calls
+use Rattle.log.specs.Log.{Event, took, gave}
+use Rattle.demand3.specs.Demand as on-lists-run
+use Rattle.state.specs.State.{loadOf, loadSizes}
+use Rattle.state.specs.declared.Sizes.{Sizes}
+use Rattle.waiting.specs.Waiting.{overOf}
+use Rattle.form.specs.Form.{markOk, sameSizes, lentSizes, stateOk, formOf}
+use Rattle.giving.specs.Giving.{Given, reply}
+use Rattle.receiving.specs.Receiving.{Cs, cs, Run, Received, unchanged, saved, receiveFrom, receiveOf}
+use Rattle.lent.specs.Represents.{Fixed}
+use Rattle.lent.specs.Calls.{Lent, Call, receives, gives, receivesOther, givesOther, received, given, leftBy, withSession, tookBy, gaveBy, run, AllFair}
+use Rattle.lent.proofs.FormClosed.{receive-one, give-one}
+use Rattle.lent.proofs.Byte as byte
+use Rattle.lent.proofs.Byte.{over-law}
+use Rattle.lent.proofs.Small.{word, receive-small}
+use Rattle.lent.proofs.Held.{csOf, Held, held-form, saved-held}
+use Rattle.lent.proofs.Giving.{Short, given-back, give-law}
+
+-- ---------------------------------------------------------------- a call that is lent other buffers
+
+and-false : (a b : Bool) → b ≡ false → a && b ≡ false
+and-false true b e = e
+and-false false b e = refl
+
+-- the sizes are not those that open kept
+other-form : (sm : Bytes) (z : Sizes) (G : Fixed) (table inbox store : Bytes) → loadSizes sm ≡ z
+    → sameSizes z (lentSizes table (G .titles) (G .names) (G .bodies) (G .known) inbox store) ≡ false
+    → formOf sm table (G .titles) (G .names) (G .bodies) (G .known) inbox store ≡ false
+unfolding formOf
+other-form sm z G table inbox store e f =
+    let y = lentSizes table (G .titles) (G .names) (G .bodies) (G .known) inbox store in
+    and-false (eqb (length sm) 876) _
+    (and-false (markOk sm) _
+    (ap (λ (b : Bool). b && stateOk (loadOf sm) table (G .titles) (G .names) (G .bodies) inbox store) (ap (λ (x : Sizes). sameSizes x y) e ∙ f)))
+
+-- ---------------------------------------------------------------- one call
+
+-- the call on lists that a call over lent memory stands for
+abbrev pub callOf : Call → on-lists-run.Call
+callOf (receives bs) = on-lists-run.receiving bs
+callOf (gives buf place) = on-lists-run.giving (length buf - place)
+callOf (receivesOther G table inbox store bs) = on-lists-run.refusedCall
+callOf (givesOther G table inbox store buf place) = on-lists-run.refusedCall
+
+module _ (F : Fixed) (E : Shelf) (c₀ : Cs) (z : Sizes) (roomy : E .bytes < word) (short : Short (E .table)) where
+  pub record TookAs (r : Received) (q : on-lists-calls.Received) : Type 0 where
+    pub answer : r .reply .answer ≡ q .answer
+    pub count : r .reply .count ≡ q .count
+    pub held : Held F E c₀ z (leftBy r) (q .session)
+
+  -- THE LAW OF RECEIVE over lent memory
+  pub receive-law : (m : Lent) (s : on-lists.Session) → Held F E c₀ z m s → (bs : Bytes) → all octet bs ≡ true → TookAs (received F m bs) (on-lists-calls.receive E s bs)
+  unfolding receiveOf on-lists-calls.receive
+  receive-law m s h bs o =
+      subst (λ (b : Bool). TookAs (cond b asked (unchanged (reply badMemory 255 0) (m .sm) (m .table) (m .inbox) (m .store))) (on-lists-calls.receive E s bs))
+      (sym (held-form F E c₀ z m s h)) (go (overOf (loadOf (m .sm))) (on-lists.ended s) (over-law F E (csOf m) s (h .represents)) refl)
+    where
+      over : Received
+      over = unchanged (reply sessionEnded 0 0) (m .sm) (m .table) (m .inbox) (m .store)
+
+      fed : Run
+      fed = receiveFrom (F .known) (csOf m) 0 bs
+
+      asked : Received
+      asked = cond (overOf (loadOf (m .sm))) over (saved (m .sm) fed)
+
+      go : (a b : Bool) → a ≡ b → on-lists.ended s ≡ b
+          → TookAs (cond a over (saved (m .sm) fed)) (cond b (record { answer = sessionEnded; count = 0; session = s }) (on-lists-calls.receiveOn E s bs))
+      go true true e f = record { answer = refl; count = refl; held = h }
+      go true false e f = absurd (no-both true refl e)
+      go false true e f = absurd (no-both false e refl)
+      go false false e f =
+          let r = byte.receive-law F E (csOf m) s 0 bs (h .represents) f in
+          record {
+            answer = r .answer;
+            count = r .count ∙ zero-add _;
+            held = saved-held F E c₀ z roomy m s h (fed .cs) (on-lists-calls.receiveOn E s bs .session) (r .represents) (r .spared)
+                (receive-small (F .known) bs (csOf m) 0 o (h .small));
+          }
+
+  -- ---------------------------------------------------------------- a list of calls
+
+  pub record RanAs (r : Lent × List Event) (q : on-lists.Session × List Event) : Type 0 where
+    pub held : Held F E c₀ z (r .0) (q .0)
+    pub events : r .1 ≡ q .1
+
+  pub run-law : (cs : List Call) (m : Lent) (s : on-lists.Session) → AllFair z cs → Held F E c₀ z m s → RanAs (run F m cs) (on-lists-run.run E s (map callOf cs))
+  run-law [] m s f h = record { held = h; events = refl }
+  run-law (receives bs ∷ cs) m s f h =
+      let t = receive-law m s h bs (f .0) in
+      let g = run-law cs (leftBy (received F m bs)) (on-lists-calls.receive E s bs .session) (f .1) (t .held) in
+      record {
+        held = g .held;
+        events = ap (λ (n : ℕ). map took (take n bs) ++ (run F (leftBy (received F m bs)) cs) .1) (t .count)
+            ∙ ap (λ (es : List Event). map took (take (on-lists-calls.receive E s bs .count) bs) ++ es) (g .events);
+      }
+  run-law (gives buf place ∷ cs) m s f h =
+      let t = give-law F E c₀ z roomy short m s h buf place in
+      let g = run-law cs (withSession m (given F m buf place .sm)) (on-lists-calls.give s (length buf - place)) (f .1) (t .held) in
+      let o = on-lists-calls.handedOut s (length buf - place) in
+      let b : take (given F m buf place .reply .count) (drop place (given F m buf place .buf)) ≡ o =
+      ap (λ (n : ℕ). take n (drop place (given F m buf place .buf))) (t .count) ∙ ap (λ (l : Bytes). take (length o) (drop place l)) (t .buffer) ∙ given-back buf place (s .out) in
+      record {
+        held = g .held;
+        events = ap (λ (l : Bytes). map gave l ++ (run F (withSession m (given F m buf place .sm)) cs) .1) b ∙ ap (λ (es : List Event). map gave o ++ es) (g .events);
+      }
+  run-law (receivesOther G table inbox store bs ∷ cs) m s f h =
+      subst (λ (r : Received). RanAs ((run F (withSession m (r .sm)) cs) .0, tookBy bs r ++ (run F (withSession m (r .sm)) cs) .1) (on-lists-run.run E s (map callOf cs)))
+      (sym (receive-one G (m .sm) table inbox store bs (other-form (m .sm) z G table inbox store (h .sizes) (f .0)))) (run-law cs m s (f .1) h)
+  run-law (givesOther G table inbox store buf place ∷ cs) m s f h =
+      subst (λ (g : Given). RanAs ((run F (withSession m (g .sm)) cs) .0, gaveBy place g ++ (run F (withSession m (g .sm)) cs) .1) (on-lists-run.run E s (map callOf cs)))
+      (sym (give-one G (m .sm) table inbox store buf place (other-form (m .sm) z G table inbox store (h .sizes) (f .0)))) (run-law cs m s (f .1) h)

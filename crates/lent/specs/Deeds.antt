@@ -1,0 +1,149 @@
+-- Demand 3 in the mission's words: what each whole unit of the trace does, and what becomes of a record. It follows from the log (Fates in
+-- proofs/); nothing else is said here than that the log says it.
+use mathlib.Core.Path.{_≡_}
+use mathlib.Core.Bool.{Bool, true, false, cond, _&&_, _||_}
+use mathlib.Core.Option.{Option, none, some}
+use mathlib.Core.List.{List, [], _∷_, _++_}
+use Prim.Native.Nat.{ℕ, zero, suc}
+use lib.Dec.{eqb, leb}
+use lib.ListN.{length}
+use Rattle.grammar.specs.Bytes.{Bytes}
+use Rattle.grammar.specs.Lines.{trim, isComment, lineLimit}
+use Rattle.grammar.specs.Turns.{Proposal, readTurnLine}
+use Rattle.grammar.specs.Answers.{Sign, accept, decline, defer, readFs}
+use Rattle.grammar.specs.Transfers.{Content, readTransfer}
+use Rattle.mail.specs.Mail.{Record, Message, messageOf}
+use Rattle.log.specs.Log.{Event, Next, over, ourGreeting, ourFirstPrompt, ourSidLine, theirText, theirSid, theirTurn, ourTurn, theirAnswer, ourAnswer, theirTransfer, ourTransfer, Log, Said, unfinished, farewell, wrong, turn, said, applied, Cut, notWhole, outOfTurn, unit, cutUnit, withAfterCr, logOpened}
+
+-- ---------------------------------------------------------------- what a whole unit does
+
+-- answered: a valid FS line of the partner's, on our records at these places. sent: the link has taken the whole transfer of this record.
+-- turned: a whole valid turn of the partner's. brought: an accepted message received whole. nothing: any other unit.
+pub data Deed : Type 0 where
+  answered : List ℕ → List Sign → Deed
+  sent : ℕ → Deed
+  turned nothing : Deed
+  brought : Message → Deed
+
+abbrev pub turnDeed : Said → Deed
+turnDeed unfinished = nothing
+turnDeed farewell = nothing
+turnDeed wrong = nothing
+turnDeed (turn ps) = turned
+
+abbrev pub answerDeed : List ℕ → Option (List Sign) → Deed
+answerDeed is none = nothing
+answerDeed is (some ss) = answered is ss
+
+abbrev pub transferDeed : Proposal → Option Content → Deed
+transferDeed p none = nothing
+transferDeed p (some c) = brought (messageOf p c)
+
+-- A line of the partner's that is no comment and not too long; d: what it does if it is none of these
+abbrev pub ifLine : Bytes → Deed → Deed
+ifLine u d = cond (leb (length u) lineLimit) (cond (isComment (trim u)) nothing d) nothing
+
+-- The unit u b of what is next, in plain (false) or framed (true) mode; a line is u, without its CR b.
+abbrev pub deedOf : Next → Bool → Bytes → ℕ → Deed
+deedOf (theirTurn ff ls) md u b = ifLine u (turnDeed (said ff (ls ++ (readTurnLine md (trim u) ∷ []))))
+deedOf (theirAnswer is) md u b = ifLine u (answerDeed is (readFs (length is) (trim u)))
+deedOf (theirTransfer p ps) md u b = transferDeed p (readTransfer (p .form) (u ++ (b ∷ [])))
+deedOf (ourTransfer i is) md u b = sent i
+deedOf over md u b = nothing
+deedOf ourGreeting md u b = nothing
+deedOf ourFirstPrompt md u b = nothing
+deedOf ourSidLine md u b = nothing
+deedOf theirText md u b = nothing
+deedOf (theirSid c) md u b = nothing
+deedOf (ourTurn ff ls) md u b = nothing
+deedOf (ourAnswer ps) md u b = nothing
+
+-- Of the next whole unit cut off the trace, and of the rest.
+abbrev pub deedsCut : List Record → Log → (Log → List Event → List Deed) → Cut → List Deed
+deedsCut T l on notWhole = []
+deedsCut T l on outOfTurn = []
+deedsCut T l on (unit u b a rest) = deedOf (l .course .next) (l .book .framed) u b ∷ on (applied T (withAfterCr l a) u b) rest
+
+abbrev pub deedsFrom : ℕ → List Record → Log → List Event → List Deed
+deedsFrom zero T l es = []
+deedsFrom (suc n) T l es = deedsCut T l (λ m rest. deedsFrom n T m rest) (cutUnit T (l .course .next) (l .afterCr) [] es)
+
+-- What the bytes consumed and given did, unit by unit, as the log cuts them.
+unfoldable pub deeds : List Record → Bool → List ℕ → List Event → List Deed
+deeds T caller states es = deedsFrom (length es) T (logOpened caller states) es
+
+-- ---------------------------------------------------------------- what becomes of a record
+
+abbrev pub sameSign : Sign → Sign → Bool
+sameSign accept accept = true
+sameSign accept decline = false
+sameSign accept defer = false
+sameSign decline accept = false
+sameSign decline decline = true
+sameSign decline defer = false
+sameSign defer accept = false
+sameSign defer decline = false
+sameSign defer defer = true
+
+-- The FS line gives this sign to the record at place i.
+abbrev pub gives : Sign → ℕ → List ℕ → List Sign → Bool
+gives g i [] ss = false
+gives g i (j ∷ js) [] = false
+gives g i (j ∷ js) (s ∷ ss) = (eqb i j && sameSign g s) || gives g i js ss
+
+-- "a valid FS line declined it"
+abbrev pub wasDeclined : ℕ → List Deed → Bool
+wasDeclined i [] = false
+wasDeclined i (answered is ss ∷ ds) = gives decline i is ss || wasDeclined i ds
+wasDeclined i (sent j ∷ ds) = wasDeclined i ds
+wasDeclined i (turned ∷ ds) = wasDeclined i ds
+wasDeclined i (nothing ∷ ds) = wasDeclined i ds
+wasDeclined i (brought x ∷ ds) = wasDeclined i ds
+
+-- "and a whole valid turn of the partner came after that"
+abbrev pub thenTurned : List Deed → Bool
+thenTurned [] = false
+thenTurned (turned ∷ ds) = true
+thenTurned (answered is ss ∷ ds) = thenTurned ds
+thenTurned (sent j ∷ ds) = thenTurned ds
+thenTurned (nothing ∷ ds) = thenTurned ds
+thenTurned (brought x ∷ ds) = thenTurned ds
+
+-- "the link had taken its whole transfer"
+abbrev pub thenSent : ℕ → List Deed → Bool
+thenSent i [] = false
+thenSent i (sent j ∷ ds) = (eqb i j && thenTurned ds) || thenSent i ds
+thenSent i (answered is ss ∷ ds) = thenSent i ds
+thenSent i (turned ∷ ds) = thenSent i ds
+thenSent i (nothing ∷ ds) = thenSent i ds
+thenSent i (brought x ∷ ds) = thenSent i ds
+
+-- "a valid FS line accepted it"
+abbrev pub wasForwarded : ℕ → List Deed → Bool
+wasForwarded i [] = false
+wasForwarded i (answered is ss ∷ ds) = (gives accept i is ss && thenSent i ds) || wasForwarded i ds
+wasForwarded i (sent j ∷ ds) = wasForwarded i ds
+wasForwarded i (turned ∷ ds) = wasForwarded i ds
+wasForwarded i (nothing ∷ ds) = wasForwarded i ds
+wasForwarded i (brought x ∷ ds) = wasForwarded i ds
+
+-- What becomes of record i by these deeds: its state before and after them.
+pub record Fate (i : ℕ) (ds : List Deed) (before after : ℕ) : Type 0 where
+  -- "a record that was waiting is forwarded exactly when a valid FS line accepted it, the link had taken its whole transfer, and a whole
+  -- valid turn of the partner came after that"
+  pub forwarded : before ≡ 0 → eqb after 1 ≡ wasForwarded i ds
+  -- "It is declined exactly when a valid FS line declined it."
+  pub declined : before ≡ 0 → eqb after 2 ≡ wasDeclined i ds
+  -- else it still waits
+  pub waiting : before ≡ 0 → wasForwarded i ds ≡ false → wasDeclined i ds ≡ false → after ≡ 0
+  -- one that was not waiting is as it was
+  pub settled : (before ≡ 0 → ⊥) → after ≡ before
+
+-- "The inbox holds exactly the accepted messages received whole, in order"
+abbrev pub messagesBrought : List Deed → List Message
+messagesBrought [] = []
+messagesBrought (brought x ∷ ds) = x ∷ messagesBrought ds
+messagesBrought (answered is ss ∷ ds) = messagesBrought ds
+messagesBrought (sent j ∷ ds) = messagesBrought ds
+messagesBrought (turned ∷ ds) = messagesBrought ds
+messagesBrought (nothing ∷ ds) = messagesBrought ds

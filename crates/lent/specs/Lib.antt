@@ -1,0 +1,8 @@
+-- How lent memory stands for a session on lists, and demand 3 over lent memory.
+pub mod Represents
+pub mod Frame
+pub mod Link
+pub mod Calls
+pub mod Demand3
+pub mod Deeds
+pub mod InWords

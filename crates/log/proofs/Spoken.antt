@@ -1,0 +1,237 @@
+-- What the log makes of bytes that we write: whole lines, turns, answers and transfers. Idea: our bytes change the course alone, and each
+-- of them must come while a unit of ours is next; `spoken` is none where one does not.
+use mathlib.Core.Path.{_≡_, refl, sym, ap, _∙_}
+use mathlib.Core.Bool.{Bool, true, false, cond}
+use mathlib.Core.Option.{Option, none, some}
+use mathlib.Core.List.{List, [], _∷_, _++_, map, append-assoc, append-nil}
+use Prim.Native.Nat.{ℕ, _+_, _≤_, _<_}
+use native.Mathlib.Omega.{arith}
+use lib.Dec.{eqb}
+use lib.ListN.{length, length-append}
+use borrow.Author.Tests.{eq-eqb, lt-ltb}
+use Rattle.grammar.specs.Bytes.{Bytes, CR, null, same}
+use Rattle.grammar.specs.Fields.{Form, plain, message, file}
+use Rattle.grammar.specs.Turns.{Proposal, endsBlock, proposes, inMode, proposable, proposalLine, fixedText, ourSid, ourPrompt, ourFF, ourFQ, ourEnd, withCr}
+use Rattle.grammar.specs.Answers.{Sign, readFs, fsLine, fixedLine, ourProposal, OurLine}
+use Rattle.grammar.specs.Transfers.{writeTransfer}
+use Rattle.grammar.proofs.Basics.{Lacks, snoc-cons}
+use Rattle.grammar.proofs.OurLines.{proposal-read, fs-back, ff-read, fq-read, end-read, prompt-read, good-line}
+use Rattle.mail.specs.Mail.{Record, recordAt, headingFor, transferOf, proposalLines, turnText, transfersText, accepted}
+use Rattle.log.specs.Log.{gave, Next, over, ourGreeting, ourFirstPrompt, ourSidLine, theirSid, theirTurn, ourTurn, theirAnswer, ourAnswer, ourTransfer, Course, isOurs, placesOf, oursOwed, theirsOwed, ourUnit, whole, said, applied, withAfterCr}
+use Rattle.log.specs.Fed.{Fed, fedAll, outOfOrder}
+use Rattle.log.proofs.Said.{said-after}
+
+-- ---------------------------------------------------------------- bytes of ours
+
+-- the course, and the bytes of our unit so far
+abbrev pub spokenByte : List Record → Bool → Option (Course × Bytes) → ℕ → Option (Course × Bytes)
+spokenByte T md none b = none
+spokenByte T md (some p) b =
+    cond (isOurs (p .0 .next))
+    (cond (whole T (p .0 .next) (p .1) b) (some (ourUnit T md (p .0 .next) (p .0 .sent) (p .1), [])) (some (p .0, p .1 ++ (b ∷ []))))
+    none
+
+unfoldable pub spoken : List Record → Bool → Option (Course × Bytes) → Bytes → Option (Course × Bytes)
+spoken T md o [] = o
+spoken T md o (b ∷ bs) = spoken T md (spokenByte T md o b) bs
+
+pub spoken-nil : (T : List Record) (md : Bool) (o : Option (Course × Bytes)) → spoken T md o [] ≡ o
+unfolding spoken
+spoken-nil T md o = refl
+
+pub spoken-cons : (T : List Record) (md : Bool) (o : Option (Course × Bytes)) (b : ℕ) (bs : Bytes) → spoken T md o (b ∷ bs) ≡ spoken T md (spokenByte T md o b) bs
+unfolding spoken
+spoken-cons T md o b bs = refl
+
+pub spoken-append : (T : List Record) (md : Bool) (o : Option (Course × Bytes)) (xs ys : Bytes) → spoken T md o (xs ++ ys) ≡ spoken T md (spoken T md o xs) ys
+unfolding spoken
+spoken-append T md o [] ys = refl
+spoken-append T md o (x ∷ xs) ys = spoken-append T md (spokenByte T md o x) xs ys
+
+pub spoken-none : (T : List Record) (md : Bool) (xs : Bytes) → spoken T md none xs ≡ none
+unfolding spoken
+spoken-none T md [] = refl
+spoken-none T md (x ∷ xs) = spoken-none T md xs
+
+-- no bytes
+pub spoken-alone : (T : List Record) (md : Bool) (p q : Course × Bytes) → spoken T md (some p) [] ≡ some q → p ≡ q
+spoken-alone T md p q e = let z : some p ≡ some q = sym (spoken-nil T md (some p)) ∙ e in cc
+
+-- while we may speak, our unit is next
+pub spoken-ours : (T : List Record) (md : Bool) (p q : Course × Bytes) (b : ℕ) (bs : Bytes) → spoken T md (some p) (b ∷ bs) ≡ some q → isOurs (p .0 .next) ≡ true
+spoken-ours T md p q b bs e = go (isOurs (p .0 .next)) (sym (spoken-cons T md (some p) b bs) ∙ e)
+  where
+    go : (c : Bool)
+        → spoken T md (cond c (cond (whole T (p .0 .next) (p .1) b) (some (ourUnit T md (p .0 .next) (p .0 .sent) (p .1), [])) (some (p .0, p .1 ++ (b ∷ [])))) none) bs ≡ some q
+        → c ≡ true
+    go true k = refl
+    go false k = let z = sym (spoken-none T md bs) ∙ k in cc
+
+-- ---------------------------------------------------------------- whole lines
+
+-- between units
+abbrev pub at : Next → List ℕ → Option (Course × Bytes)
+at n sent = some (record { next = n; sent = sent }, [])
+
+abbrev part : Next → List ℕ → Bytes → Option (Course × Bytes)
+part n sent u = some (record { next = n; sent = sent }, u)
+
+-- where a line of ours is next
+line-spoken : (T : List Record) (md : Bool) (n : Next) (sent : List ℕ) → isOurs n ≡ true → ((u : Bytes) (b : ℕ) → whole T n u b ≡ eqb b CR)
+    → (ln u : Bytes) → Lacks CR ln → spoken T md (part n sent u) (withCr ln) ≡ some (ourUnit T md n sent (u ++ ln), [])
+line-spoken T md n sent o w [] u h =
+    spoken-cons T md (part n sent u) CR []
+    ∙ rw o (rw (w u CR) (spoken-nil T md (some (ourUnit T md n sent u, [])) ∙ rw (append-nil u)))
+line-spoken T md n sent o w (x ∷ ln) u h =
+    spoken-cons T md (part n sent u) x (withCr ln)
+    ∙ rw o (rw (w u x) (rw (h .0) (line-spoken T md n sent o w ln (u ++ (x ∷ [])) (h .1) ∙ rw (snoc-cons u ln x))))
+
+-- FF and FQ of ours
+pub ff-spoken : (T : List Record) (md : Bool) (sent : List ℕ) → spoken T md (at (ourTurn false []) sent) (withCr (fixedText ourFF)) ≡ at (theirTurn true []) sent
+unfolding said
+ff-spoken T md sent =
+    line-spoken T md (ourTurn false []) sent refl (λ u b. refl) (fixedText ourFF) [] (good-line (fixedLine ourFF) tt .whole)
+    ∙ rw (ff-read md)
+
+pub fq-spoken : (T : List Record) (md : Bool) (sent : List ℕ) → spoken T md (at (ourTurn true []) sent) (withCr (fixedText ourFQ)) ≡ at over sent
+unfolding said
+fq-spoken T md sent =
+    line-spoken T md (ourTurn true []) sent refl (λ u b. refl) (fixedText ourFQ) [] (good-line (fixedLine ourFQ) tt .whole)
+    ∙ rw (fq-read md)
+
+-- our SID, alone and with the prompt
+pub sid-spoken : (T : List Record) (md : Bool) (sent : List ℕ) → spoken T md (at ourSidLine sent) (withCr (fixedText ourSid)) ≡ at (ourTurn false []) sent
+sid-spoken T md sent = line-spoken T md ourSidLine sent refl (λ u b. refl) (fixedText ourSid) [] (good-line (fixedLine ourSid) tt .whole)
+
+pub greeting-spoken : (T : List Record) (md : Bool) (sent : List ℕ)
+    → spoken T md (at ourGreeting sent) (withCr (fixedText ourSid) ++ withCr (fixedText ourPrompt)) ≡ at (theirSid false) sent
+greeting-spoken T md sent =
+    spoken-append T md (at ourGreeting sent) (withCr (fixedText ourSid)) (withCr (fixedText ourPrompt))
+    ∙ ap (λ (o : Option (Course × Bytes)). spoken T md o (withCr (fixedText ourPrompt)))
+    (line-spoken T md ourGreeting sent refl (λ u b. refl) (fixedText ourSid) [] (good-line (fixedLine ourSid) tt .whole))
+    ∙ line-spoken T md ourFirstPrompt sent refl (λ u b. refl) (fixedText ourPrompt) [] (good-line (fixedLine ourPrompt) tt .whole)
+    ∙ rw prompt-read
+
+-- ---------------------------------------------------------------- a turn
+
+-- our proposals are what the mode allows
+abbrev pub Fit : Bool → Proposal → Type 0
+Fit md p = (proposable p ≡ true) × (inMode md (p .form) ≡ true)
+
+abbrev pub AllFit : Bool → List Proposal → Type 0
+AllFit md [] = Unit {0}
+AllFit md (p ∷ ps) = Fit md p × AllFit md ps
+
+pub map-snoc : (qs : List Proposal) (p : Proposal) → map proposes qs ++ (proposes p ∷ []) ≡ map proposes (qs ++ (p ∷ []))
+map-snoc [] p = refl
+map-snoc (q ∷ qs) p = rw (map-snoc qs p)
+
+proposal-spoken : (T : List Record) (md ff : Bool) (qs : List Proposal) (p : Proposal) (sent : List ℕ) → Fit md p → length qs < 5
+    → spoken T md (at (ourTurn ff (map proposes qs)) sent) (withCr (proposalLine p)) ≡ at (ourTurn ff (map proposes (qs ++ (p ∷ [])))) sent
+proposal-spoken T md ff qs p sent f h =
+    line-spoken T md (ourTurn ff (map proposes qs)) sent refl (λ u b. refl) (proposalLine p) [] (good-line (ourProposal p) (f .0) .whole)
+    ∙ rw (proposal-read md p (f .0) (f .1))
+    (rw (said-after ff qs (proposes p ∷ []) (omega arith)) (rw (lt-ltb (length qs) 5 h) (rw (map-snoc qs p))))
+
+end-spoken : (T : List Record) (md ff : Bool) (q : Proposal) (qs : List Proposal) (sent : List ℕ) → length (q ∷ qs) ≤ 5
+    → spoken T md (at (ourTurn ff (map proposes (q ∷ qs))) sent) (withCr (fixedText ourEnd)) ≡ at (theirAnswer (placesOf T (q ∷ qs))) sent
+end-spoken T md ff q qs sent h =
+    line-spoken T md (ourTurn ff (map proposes (q ∷ qs))) sent refl (λ u b. refl) (fixedText ourEnd) [] (good-line (fixedLine ourEnd) tt .whole)
+    ∙ rw (end-read md) (rw (said-after ff (q ∷ qs) (endsBlock ∷ []) h))
+
+-- the rest of a turn of ours, after q and qs
+rest-spoken : (T : List Record) (md ff : Bool) (ps : List Proposal) (q : Proposal) (qs : List Proposal) (sent : List ℕ) → AllFit md ps → length (q ∷ qs) + length ps ≤ 5
+    → spoken T md (at (ourTurn ff (map proposes (q ∷ qs))) sent) (proposalLines ps ++ withCr (fixedText ourEnd)) ≡ at (theirAnswer (placesOf T ((q ∷ qs) ++ ps))) sent
+rest-spoken T md ff [] q qs sent f h = end-spoken T md ff q qs sent (omega arith) ∙ rw (append-nil qs)
+rest-spoken T md ff (p ∷ ps) q qs sent f h =
+    rw (append-assoc (withCr (proposalLine p)) (proposalLines ps) (withCr (fixedText ourEnd)))
+    (rw (spoken-append T md (at (ourTurn ff (map proposes (q ∷ qs))) sent) (withCr (proposalLine p)) (proposalLines ps ++ withCr (fixedText ourEnd)))
+    (rw (proposal-spoken T md ff (q ∷ qs) p sent (f .0) (omega arith))
+    (rest-spoken T md ff ps q (qs ++ (p ∷ [])) sent (f .1) (simp length-append (omega arith)) ∙ rw (append-assoc qs (p ∷ []) ps))))
+
+-- a whole turn of ours
+pub turn-spoken : (T : List Record) (md ff : Bool) (p : Proposal) (ps : List Proposal) (sent : List ℕ) → AllFit md (p ∷ ps) → length (p ∷ ps) ≤ 5
+    → spoken T md (at (ourTurn ff []) sent) (turnText (p ∷ ps)) ≡ at (theirAnswer (placesOf T (p ∷ ps))) sent
+unfolding turnText
+turn-spoken T md ff p ps sent f h =
+    rw (append-assoc (withCr (proposalLine p)) (proposalLines ps) (withCr (fixedText ourEnd)))
+    (rw (spoken-append T md (at (ourTurn ff []) sent) (withCr (proposalLine p)) (proposalLines ps ++ withCr (fixedText ourEnd)))
+    (rw (proposal-spoken T md ff [] p sent (f .0) (omega arith)) (rest-spoken T md ff ps p [] sent (f .1) (omega arith))))
+
+-- ---------------------------------------------------------------- an answer
+
+pub fs-spoken : (T : List Record) (md : Bool) (ps : List Proposal) (ss : List Sign) (sent : List ℕ) → length ss ≡ length ps → 1 ≤ length ps → length ps ≤ 5
+    → spoken T md (at (ourAnswer ps) sent) (withCr (fsLine ss)) ≡ at (theirsOwed (accepted ss ps)) sent
+fs-spoken T md ps ss sent h k l =
+    line-spoken T md (ourAnswer ps) sent refl (λ u b. refl) (fsLine ss) [] (good-line (OurLine.ourAnswer ss) (omega arith, omega arith) .whole)
+    ∙ rw (ap (λ (n : ℕ). readFs n (fsLine ss)) (sym h) ∙ fs-back ss)
+
+-- ---------------------------------------------------------------- transfers
+
+-- a list is the same as itself, and not as one that goes on
+pub same-prefix : (u r : Bytes) (b : ℕ) → same (u ++ (b ∷ [])) (u ++ b ∷ r) ≡ null r
+same-prefix [] [] b = rw (eq-eqb b b refl)
+same-prefix [] (x ∷ r) b = rw (eq-eqb b b refl)
+same-prefix (y ∷ u) r b = rw (eq-eqb y y refl) (same-prefix u r b)
+
+-- one of ours from where it stands: u is said, x and r are to come
+transfer-on : (T : List Record) (md : Bool) (i : ℕ) (is sent : List ℕ) (r : Bytes) (x : ℕ) (u : Bytes) → transferOf (recordAt T i) ≡ u ++ x ∷ r
+    → spoken T md (part (ourTransfer i is) sent u) (x ∷ r) ≡ at (oursOwed is) (sent ++ (i ∷ []))
+transfer-on T md i is sent [] x u h =
+    spoken-cons T md (part (ourTransfer i is) sent u) x []
+    ∙ rw h (rw (same-prefix u [] x) (spoken-nil T md (at (oursOwed is) (sent ++ (i ∷ [])))))
+transfer-on T md i is sent (y ∷ r) x u h =
+    spoken-cons T md (part (ourTransfer i is) sent u) x (y ∷ r)
+    ∙ rw h (rw (same-prefix u (y ∷ r) x) (transfer-on T md i is sent r y (u ++ (x ∷ [])) (h ∙ sym (snoc-cons u (y ∷ r) x))))
+
+some-byte : (t y : Bytes) (x : ℕ) → t ++ x ∷ y ≡ [] → ⊥
+some-byte [] y x h = let z : _≡_ {A = ℕ} 0 1 = cc in omega arith
+some-byte (a ∷ t) y x h = let z : _≡_ {A = ℕ} 0 1 = cc in omega arith
+
+transfer-some : (f : Form) (h x : Bytes) → writeTransfer f h x ≡ [] → ⊥
+unfolding writeTransfer
+transfer-some plain h x e = some-byte h _ CR e
+transfer-some message h x e = let z : _≡_ {A = ℕ} 0 1 = cc in omega arith
+transfer-some file h x e = let z : _≡_ {A = ℕ} 0 1 = cc in omega arith
+
+pub transfer-spoken : (T : List Record) (md : Bool) (i : ℕ) (is sent : List ℕ)
+    → spoken T md (at (ourTransfer i is) sent) (transferOf (recordAt T i)) ≡ at (oursOwed is) (sent ++ (i ∷ []))
+transfer-spoken T md i is sent = go (transferOf (recordAt T i)) refl
+  where
+    go : (w : Bytes) → transferOf (recordAt T i) ≡ w → spoken T md (at (ourTransfer i is) sent) w ≡ at (oursOwed is) (sent ++ (i ∷ []))
+    go [] h = absurd (transfer-some (recordAt T i .form) (headingFor (recordAt T i .form) (recordAt T i)) (recordAt T i .body) h)
+    go (x ∷ w) h = transfer-on T md i is sent w x [] h
+
+-- all that we owe
+pub transfers-spoken : (T : List Record) (md : Bool) (is sent : List ℕ)
+    → spoken T md (at (oursOwed is) sent) (transfersText T is) ≡ at (theirTurn false []) (sent ++ is)
+unfolding transfersText
+transfers-spoken T md [] sent = spoken-nil T md (at (theirTurn false []) sent) ∙ rw (append-nil sent)
+transfers-spoken T md (i ∷ is) sent =
+    rw (spoken-append T md (at (ourTransfer i is) sent) (transferOf (recordAt T i)) (transfersText T is))
+    (rw (transfer-spoken T md i is sent) (transfers-spoken T md is (sent ++ (i ∷ [])) ∙ rw (append-assoc sent (i ∷ []) is)))
+
+-- ---------------------------------------------------------------- the fed log, given such bytes
+
+abbrev pub withSpoken : Fed → Course × Bytes → Fed
+withSpoken f p = record { log = record { afterCr = f .log .afterCr; course = p .0; book = f .log .book }; raw = p .1 }
+
+pub gave-spoken : (T : List Record) (xs : Bytes) (f : Fed) (p : Course × Bytes) → spoken T (f .log .book .framed) (some (f .log .course, f .raw)) xs ≡ some p
+    → fedAll T f (map gave xs) ≡ withSpoken f p
+gave-spoken T [] f p e = ap (withSpoken f) (spoken-alone T (f .log .book .framed) (f .log .course, f .raw) p e)
+gave-spoken T (b ∷ xs) f p e =
+    go (isOurs n) refl (whole T n u b) (λ g. gave-spoken T xs g p) (sym (spoken-cons T (f .log .book .framed) (some (f .log .course, u)) b xs) ∙ e)
+  where
+    n : Next
+    n = f .log .course .next
+
+    u : Bytes
+    u = f .raw
+
+    go : (c : Bool) → isOurs n ≡ c → (w : Bool)
+        → ((g : Fed) → spoken T (g .log .book .framed) (some (g .log .course, g .raw)) xs ≡ some p → fedAll T g (map gave xs) ≡ withSpoken g p)
+        → spoken T (f .log .book .framed) (cond c (cond w (some (ourUnit T (f .log .book .framed) n (f .log .course .sent) u, [])) (some (f .log .course, u ++ (b ∷ [])))) none) xs ≡ some p
+        → fedAll T (cond c (cond w (record { log = applied T (f .log) u b; raw = [] }) (record { log = withAfterCr (f .log) (f .log .afterCr); raw = u ++ (b ∷ []) })) (outOfOrder f)) (map gave xs) ≡ withSpoken f p
+    go true o true ih k = rw o (ih _ k)
+    go true o false ih k = ih _ k
+    go false o w ih k = absurd (let z = sym (spoken-none T (f .log .book .framed) xs) ∙ k in let y : _≡_ {A = ℕ} 0 1 = cc in omega arith)

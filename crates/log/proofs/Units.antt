@@ -1,0 +1,300 @@
+-- THE LOG OVER WHOLE UNITS is the log fed byte by byte; and what each whole unit fed to it does. Idea of the first: cutting off the next
+-- unit and feeding up to its last byte come to the same log, for every trace.
+use mathlib.Core.Path.{_≡_, refl, sym, ap, _∙_, subst}
+use mathlib.Core.Bool.{Bool, true, false, cond, not, _&&_}
+use mathlib.Core.Option.{Option, none, some}
+use mathlib.Core.List.{List, [], _∷_, _++_, map, append-nil}
+use Prim.Native.Nat.{ℕ, zero, suc, _≤_}
+use native.Mathlib.Omega.{arith}
+use lib.Dec.{eqb}
+use lib.ListN.{length}
+use Rattle.grammar.specs.Bytes.{Bytes, CR, LF, null, isSome}
+use Rattle.grammar.specs.Fields.{Form}
+use Rattle.grammar.specs.Turns.{Proposal, withCr}
+use Rattle.grammar.specs.Transfers.{Content, Parsed, parse, valid, readTransfer}
+use Rattle.grammar.proofs.Basics.{Lacks, snoc-cons}
+use Rattle.grammar.proofs.Refusal.{no-longer}
+use Rattle.mail.specs.Mail.{Record, Message, messageOf, recordAt, transferOf}
+use Rattle.log.specs.Log.{Event, took, gave, Next, over, ourGreeting, ourFirstPrompt, ourSidLine, theirText, theirSid, theirTurn, ourTurn, theirAnswer, ourAnswer, theirTransfer, ourTransfer, Book, Log, isOurs, oursOwed, theirsOwed, isPlain, whole, applied, stopped, Cut, notWhole, outOfTurn, unit, cutUnit, withAfterCr, afterCut, logUnits, logOpened, log}
+use Rattle.log.specs.Fed.{Fed, unitByte, outOfOrder, fedByte, fedAll}
+use Rattle.log.proofs.Spoken.{same-prefix, transfer-spoken, gave-spoken}
+
+-- ---------------------------------------------------------------- the two logs agree
+
+-- in all that the log keeps: course and book
+abbrev pub Agrees : Log → Log → Type 0
+Agrees k l = (k .course ≡ l .course) × (k .book ≡ l .book)
+
+-- the log l with this flag, and u of the next unit
+abbrev pub within : Log → Bool → Bytes → Fed
+within l a u = record { log = withAfterCr l a; raw = u }
+
+-- once the log has ended nothing changes
+pub ended-stays : (T : List Record) (es : List Event) (l : Log) (a : Bool) (u : Bytes) → Agrees (fedAll T (within (stopped l) a u) es .log) (stopped l)
+ended-stays T [] l a u = (refl, refl)
+ended-stays T (took b ∷ es) l a u = go (a && eqb b LF) (ended-stays T es l false u) (ended-stays T es l false (u ++ (b ∷ [])))
+  where
+    go : (c : Bool) → Agrees (fedAll T (within (stopped l) false u) es .log) (stopped l) → Agrees (fedAll T (within (stopped l) false (u ++ (b ∷ []))) es .log) (stopped l)
+        → Agrees (fedAll T (cond c (within (stopped l) false u) (within (stopped l) false (u ++ (b ∷ [])))) es .log) (stopped l)
+    go true h k = h
+    go false h k = k
+ended-stays T (gave b ∷ es) l a u = ended-stays T es l a []
+
+-- what cutting off a unit says of the fed log at the end, g; n events were there
+abbrev CutFed : List Record → Log → Fed → ℕ → Cut → Type 0
+CutFed T l g n notWhole = Agrees (g .log) l
+CutFed T l g n outOfTurn = Agrees (g .log) (stopped l)
+CutFed T l g n (unit u b a rest) = (g ≡ fedAll T (record { log = applied T (withAfterCr l a) u b; raw = [] }) rest) × (suc (length rest) ≤ n)
+
+one-more : (T : List Record) (l : Log) (g : Fed) (n : ℕ) (c : Cut) → CutFed T l g n c → CutFed T l g (suc n) c
+one-more T l g n notWhole h = h
+one-more T l g n outOfTurn h = h
+one-more T l g n (unit u b a rest) h = let k = h .1 in (h .0, omega arith)
+
+cut-fed : (T : List Record) (l : Log) (es : List Event) (a : Bool) (u : Bytes)
+    → CutFed T l (fedAll T (within l a u) es) (length es) (cutUnit T (l .course .next) a u es)
+cut-fed T l [] a u = (refl, refl)
+cut-fed T l (took b ∷ es) a u =
+    go (a && eqb b LF) (isOurs n) (whole T n u b) (cut-fed T l es false u) (cut-fed T l es false (u ++ (b ∷ [])))
+  where
+    n : Next
+    n = l .course .next
+
+    go : (c d w : Bool) → CutFed T l (fedAll T (within l false u) es) (length es) (cutUnit T n false u es)
+        → CutFed T l (fedAll T (within l false (u ++ (b ∷ []))) es) (length es) (cutUnit T n false (u ++ (b ∷ [])) es)
+        → CutFed T l
+        (fedAll T
+        (cond c (within l false u)
+        (cond d (outOfOrder (within l a u))
+        (cond w (record { log = applied T (withAfterCr l a) u b; raw = [] }) (within l false (u ++ (b ∷ []))))))
+        es)
+        (suc (length es))
+        (cond c (cutUnit T n false u es) (cond d outOfTurn (cond w (unit u b a es) (cutUnit T n false (u ++ (b ∷ [])) es))))
+    go true d w h k = one-more T l (fedAll T (within l false u) es) (length es) (cutUnit T n false u es) h
+    go false true w h k = ended-stays T es l a []
+    go false false true h k = (refl, omega arith)
+    go false false false h k = one-more T l (fedAll T (within l false (u ++ (b ∷ []))) es) (length es) (cutUnit T n false (u ++ (b ∷ [])) es) k
+cut-fed T l (gave b ∷ es) a u = go (isOurs n) (whole T n u b) (cut-fed T l es a (u ++ (b ∷ [])))
+  where
+    n : Next
+    n = l .course .next
+
+    go : (d w : Bool) → CutFed T l (fedAll T (within l a (u ++ (b ∷ []))) es) (length es) (cutUnit T n a (u ++ (b ∷ [])) es)
+        → CutFed T l
+        (fedAll T
+        (cond d (cond w (record { log = applied T (withAfterCr l a) u b; raw = [] }) (within l a (u ++ (b ∷ [])))) (outOfOrder (within l a u)))
+        es)
+        (suc (length es))
+        (cond d (cond w (unit u b a es) (cutUnit T n a (u ++ (b ∷ [])) es)) outOfTurn)
+    go true true h = (refl, omega arith)
+    go true false h = one-more T l (fedAll T (within l a (u ++ (b ∷ []))) es) (length es) (cutUnit T n a (u ++ (b ∷ [])) es) h
+    go false w h = ended-stays T es l a []
+
+-- so many units as there are events are enough
+units-fed : (T : List Record) (n : ℕ) (es : List Event) (l : Log) → length es ≤ n → Agrees (logUnits n T l es) (fedAll T (record { log = l; raw = [] }) es .log)
+units-fed T zero [] l h = (refl, refl)
+units-fed T zero (e ∷ es) l h = absurd (omega arith)
+units-fed T (suc n) es l h =
+    go (cutUnit T (l .course .next) (l .afterCr) [] es) (cut-fed T l es (l .afterCr) []) (λ rest m. units-fed T n rest m)
+  where
+    g : Fed
+    g = fedAll T (record { log = l; raw = [] }) es
+
+    go : (c : Cut) → CutFed T l g (length es) c
+        → ((rest : List Event) (m : Log) → length rest ≤ n → Agrees (logUnits n T m rest) (fedAll T (record { log = m; raw = [] }) rest .log))
+        → Agrees (afterCut T l (λ m rest. logUnits n T m rest) c) (g .log)
+    go notWhole k ih = (sym (k .0), sym (k .1))
+    go outOfTurn k ih = (sym (k .0), sym (k .1))
+    go (unit u b a rest) k ih =
+        let i = k .1 in
+        subst (λ (f : Fed). Agrees (logUnits n T (applied T (withAfterCr l a) u b) rest) (f .log)) (sym (k .0))
+        (ih rest (applied T (withAfterCr l a) u b) (omega arith))
+
+-- the fed log at open
+abbrev pub fedOpened : Bool → List ℕ → Fed
+fedOpened caller states = record { log = logOpened caller states; raw = [] }
+
+-- THE TWO LOGS AGREE, for every table, role, states and trace
+pub logs-agree : (T : List Record) (caller : Bool) (states : List ℕ) (es : List Event)
+    → Agrees (log T caller states es) (fedAll T (fedOpened caller states) es .log)
+unfolding log
+logs-agree T caller states es = units-fed T (length es) es (logOpened caller states) (omega arith)
+
+-- the fed log composes
+pub fed-append : (T : List Record) (xs ys : List Event) (f : Fed) → fedAll T f (xs ++ ys) ≡ fedAll T (fedAll T f xs) ys
+fed-append T [] ys f = refl
+fed-append T (x ∷ xs) ys f = fed-append T xs ys (fedByte T f x)
+
+-- an LF that Lines drops is no byte of a unit
+pub lf-dropped : (T : List Record) (l : Log) (u : Bytes) → l .afterCr ≡ true → fedByte T (record { log = l; raw = u }) (took LF) ≡ within l false u
+lf-dropped T l u h = rw h
+
+-- ---------------------------------------------------------------- one unit
+
+-- bytes of the side whose unit is next
+abbrev pub bytesOf : Next → Bytes → List Event
+bytesOf n bs = map (λ (b : ℕ). cond (isOurs n) (gave b) (took b)) bs
+
+-- no LF would be dropped from them
+abbrev pub NoLf : Log → Type 0
+NoLf l = l .afterCr && not (isOurs (l .course .next)) ≡ false
+
+-- no byte of these, after u, makes the unit whole
+abbrev pub NotYet : List Record → Next → Bytes → Bytes → Type 0
+NotYet T n u [] = Unit {0}
+NotYet T n u (b ∷ bs) = (whole T n u b ≡ false) × NotYet T n (u ++ (b ∷ [])) bs
+
+-- one byte of the side whose unit is next
+unit-byte : (T : List Record) (l : Log) (u : Bytes) (b : ℕ) → NoLf l
+    → fedByte T (record { log = l; raw = u }) (cond (isOurs (l .course .next)) (gave b) (took b)) ≡ unitByte T l u b (l .afterCr)
+unit-byte T l u b h = go (isOurs (l .course .next)) refl (l .afterCr) refl h
+  where
+    go : (d : Bool) → isOurs (l .course .next) ≡ d → (a : Bool) → l .afterCr ≡ a → a && not d ≡ false
+        → fedByte T (record { log = l; raw = u }) (cond d (gave b) (took b)) ≡ unitByte T l u b a
+    go true o a e k = rw o (rw e)
+    go false o true e k = cc
+    go false o false e k = rw e (rw o)
+
+-- NOTHING HAS AN EFFECT BEFORE ITS LAST BYTE
+pub grows : (T : List Record) (l : Log) (v u : Bytes) → NoLf l → NotYet T (l .course .next) u v
+    → fedAll T (record { log = l; raw = u }) (bytesOf (l .course .next) v) ≡ record { log = l; raw = u ++ v }
+grows T l [] u h k = rw (append-nil u)
+grows T l (b ∷ v) u h k =
+    ap (λ (f : Fed). fedAll T f (bytesOf (l .course .next) v)) (unit-byte T l u b h ∙ rw (k .0))
+    ∙ grows T l v (u ++ (b ∷ [])) h (k .1)
+    ∙ rw (snoc-cons u v b)
+
+map-append : (n : Next) (u v : Bytes) → bytesOf n (u ++ v) ≡ bytesOf n u ++ bytesOf n v
+map-append n [] v = refl
+map-append n (x ∷ u) v = rw (map-append n u v)
+
+-- A WHOLE UNIT HAS EXACTLY ITS EFFECT
+pub unit-fed : (T : List Record) (l : Log) (u : Bytes) (b : ℕ) → NoLf l → NotYet T (l .course .next) [] u → whole T (l .course .next) u b ≡ true
+    → fedAll T (record { log = l; raw = [] }) (bytesOf (l .course .next) (u ++ (b ∷ []))) ≡ record { log = applied T l u b; raw = [] }
+unit-fed T l u b h k w =
+    ap (fedAll T (record { log = l; raw = [] })) (map-append (l .course .next) u (b ∷ []))
+    ∙ fed-append T (bytesOf (l .course .next) u) (bytesOf (l .course .next) (b ∷ [])) (record { log = l; raw = [] })
+    ∙ ap (λ (f : Fed). fedAll T f (bytesOf (l .course .next) (b ∷ []))) (grows T l u [] h k)
+    ∙ unit-byte T l u b h
+    ∙ rw w
+
+-- where a line is next
+abbrev pub isLine : Next → Bool
+isLine over = false
+isLine ourGreeting = true
+isLine ourFirstPrompt = true
+isLine ourSidLine = true
+isLine theirText = true
+isLine (theirSid c) = true
+isLine (theirTurn ff ls) = true
+isLine (ourTurn ff ls) = true
+isLine (theirAnswer is) = true
+isLine (ourAnswer ps) = true
+isLine (theirTransfer p ps) = false
+isLine (ourTransfer i is) = false
+
+line-whole : (T : List Record) (n : Next) (u : Bytes) (b : ℕ) → isLine n ≡ true → whole T n u b ≡ eqb b CR
+line-whole T over u b h = cc
+line-whole T ourGreeting u b h = refl
+line-whole T ourFirstPrompt u b h = refl
+line-whole T ourSidLine u b h = refl
+line-whole T theirText u b h = refl
+line-whole T (theirSid c) u b h = refl
+line-whole T (theirTurn ff ls) u b h = refl
+line-whole T (ourTurn ff ls) u b h = refl
+line-whole T (theirAnswer is) u b h = refl
+line-whole T (ourAnswer ps) u b h = refl
+line-whole T (theirTransfer p ps) u b h = cc
+line-whole T (ourTransfer i is) u b h = cc
+
+line-yet : (T : List Record) (n : Next) (ln u : Bytes) → isLine n ≡ true → Lacks CR ln → NotYet T n u ln
+line-yet T n [] u h k = tt
+line-yet T n (x ∷ ln) u h k = (line-whole T n u x h ∙ k .0, line-yet T n ln (u ++ (x ∷ [])) h (k .1))
+
+-- before a line's CR, nothing
+pub line-part-fed : (T : List Record) (l : Log) (ln : Bytes) → NoLf l → isLine (l .course .next) ≡ true → Lacks CR ln
+    → fedAll T (record { log = l; raw = [] }) (bytesOf (l .course .next) ln) ≡ record { log = l; raw = ln }
+line-part-fed T l ln h k c = grows T l ln [] h (line-yet T (l .course .next) ln [] k c)
+
+-- a whole line, of either side
+pub line-fed : (T : List Record) (l : Log) (ln : Bytes) → NoLf l → isLine (l .course .next) ≡ true → Lacks CR ln
+    → fedAll T (record { log = l; raw = [] }) (bytesOf (l .course .next) (withCr ln)) ≡ record { log = applied T l ln CR; raw = [] }
+line-fed T l ln h k c = unit-fed T l ln CR h (line-yet T (l .course .next) ln [] k c) (line-whole T (l .course .next) ln CR k)
+
+-- ---------------------------------------------------------------- no whole transfer begins another
+
+never : (c : Content) → none ≡ some c → ⊥
+never c e = let z : _≡_ {A = ℕ} 0 1 = cc in omega arith
+
+pub no-longer-read : (f : Form) (q : Bytes) (c : Content) → readTransfer f q ≡ some c → (b : ℕ) (r : Bytes) → readTransfer f (q ++ b ∷ r) ≡ none
+unfolding readTransfer
+no-longer-read f q c e b r = go (parse f q) refl e
+  where
+    go : (o : Option Parsed) → parse f q ≡ o → valid o ≡ some c → valid (parse f (q ++ b ∷ r)) ≡ none
+    go none p k = absurd (never c k)
+    go (some x) p k = rw (no-longer f q x p b r)
+
+-- of a transfer that the partner owes, no part is whole
+their-yet : (T : List Record) (p : Proposal) (ps : List Proposal) (v u : Bytes) (b : ℕ) (r : Bytes) (c : Content) → readTransfer (p .form) (u ++ (v ++ b ∷ r)) ≡ some c
+    → NotYet T (theirTransfer p ps) u v
+their-yet T p ps [] u b r c e = tt
+their-yet T p ps (x ∷ v) u b r c e =
+    (go (readTransfer (p .form) (u ++ (x ∷ []))) refl, their-yet T p ps v (u ++ (x ∷ [])) b r c (rw (snoc-cons u (v ++ b ∷ r) x) e))
+  where
+    more : (d : Content) → readTransfer (p .form) (u ++ (x ∷ [])) ≡ some d → (w : Bytes) → readTransfer (p .form) (u ++ x ∷ (w ++ b ∷ r)) ≡ none
+    more d k [] = ap (readTransfer (p .form)) (sym (snoc-cons u (b ∷ r) x)) ∙ no-longer-read (p .form) (u ++ (x ∷ [])) d k b r
+    more d k (y ∷ w) = ap (readTransfer (p .form)) (sym (snoc-cons u (y ∷ (w ++ b ∷ r)) x)) ∙ no-longer-read (p .form) (u ++ (x ∷ [])) d k y (w ++ b ∷ r)
+
+    go : (o : Option Content) → readTransfer (p .form) (u ++ (x ∷ [])) ≡ o → isSome o ≡ false
+    go none k = refl
+    go (some d) k = absurd (never c (sym (more d k v) ∙ e))
+
+-- nor of one that we owe
+our-yet : (T : List Record) (i : ℕ) (is : List ℕ) (v u : Bytes) (b : ℕ) (r : Bytes) → transferOf (recordAt T i) ≡ u ++ (v ++ b ∷ r) → NotYet T (ourTransfer i is) u v
+our-yet T i is [] u b r e = tt
+our-yet T i is (x ∷ v) u b r e = (rw e (same-prefix u (v ++ b ∷ r) x ∙ null-mid v), our-yet T i is v (u ++ (x ∷ [])) b r (rw (snoc-cons u (v ++ b ∷ r) x) e))
+  where
+    null-mid : (w : Bytes) → null (w ++ b ∷ r) ≡ false
+    null-mid [] = refl
+    null-mid (y ∷ w) = refl
+
+-- ---------------------------------------------------------------- a whole transfer
+
+abbrev pub owing : Bool → Next → List ℕ → Book → Log
+owing a n sent k = record { afterCr = a; course = record { next = n; sent = sent }; book = k }
+
+abbrev pub keeping : Book → Message → Book
+keeping k x = record { framed = k .framed; states = k .states; kept = k .kept ++ (x ∷ []) }
+
+-- the partner's: kept, at its last byte
+pub their-transfer-fed : (T : List Record) (p : Proposal) (ps : List Proposal) (sent : List ℕ) (k : Book) (u : Bytes) (b : ℕ) (c : Content)
+    → readTransfer (p .form) (u ++ (b ∷ [])) ≡ some c
+    → fedAll T (record { log = owing false (theirTransfer p ps) sent k; raw = [] }) (map took (u ++ (b ∷ [])))
+    ≡ record { log = owing (isPlain (p .form)) (theirsOwed ps) sent (keeping k (messageOf p c)); raw = [] }
+their-transfer-fed T p ps sent k u b c e =
+    unit-fed T (owing false (theirTransfer p ps) sent k) u b refl (their-yet T p ps u [] b [] c e) (rw e) ∙ rw e
+
+-- before that, nothing
+pub their-part-fed : (T : List Record) (p : Proposal) (ps : List Proposal) (sent : List ℕ) (k : Book) (u : Bytes) (b : ℕ) (r : Bytes) (c : Content)
+    → readTransfer (p .form) (u ++ b ∷ r) ≡ some c
+    → fedAll T (record { log = owing false (theirTransfer p ps) sent k; raw = [] }) (map took u)
+    ≡ record { log = owing false (theirTransfer p ps) sent k; raw = u }
+their-part-fed T p ps sent k u b r c e = grows T (owing false (theirTransfer p ps) sent k) u [] refl (their-yet T p ps u [] b r c e)
+
+-- ours: its record is sent, at its last byte
+pub our-transfer-fed : (T : List Record) (a : Bool) (i : ℕ) (is sent : List ℕ) (k : Book)
+    → fedAll T (record { log = owing a (ourTransfer i is) sent k; raw = [] }) (map gave (transferOf (recordAt T i)))
+    ≡ record { log = owing a (oursOwed is) (sent ++ (i ∷ [])) k; raw = [] }
+our-transfer-fed T a i is sent k =
+    gave-spoken T (transferOf (recordAt T i)) (record { log = owing a (ourTransfer i is) sent k; raw = [] })
+    (record { next = oursOwed is; sent = sent ++ (i ∷ []) }, [])
+    (transfer-spoken T (k .framed) i is sent)
+
+-- before that, nothing
+pub our-part-fed : (T : List Record) (a : Bool) (i : ℕ) (is sent : List ℕ) (k : Book) (u : Bytes) (b : ℕ) (r : Bytes) → transferOf (recordAt T i) ≡ u ++ b ∷ r
+    → fedAll T (record { log = owing a (ourTransfer i is) sent k; raw = [] }) (map gave u) ≡ record { log = owing a (ourTransfer i is) sent k; raw = u }
+our-part-fed T a i is sent k u b r e = grows T (owing a (ourTransfer i is) sent k) u [] (no-lf a) (our-yet T i is u [] b r e)
+  where
+    no-lf : (c : Bool) → c && false ≡ false
+    no-lf true = refl
+    no-lf false = refl

@@ -1,0 +1,335 @@
+-- 01, "The log": what the bytes consumed and given mean. It cuts the next whole unit, a line or a transfer, off the trace and applies
+-- that unit's effect; a turn is its lines, and has its effect at the last. It cites the grammar and what the shelf holds, nothing of the
+-- session.
+use mathlib.Core.Bool.{Bool, true, false, cond, _&&_}
+use mathlib.Core.Option.{Option, none, some}
+use mathlib.Core.List.{List, [], _∷_, _++_, map}
+use Prim.Native.Nat.{ℕ, zero, suc}
+use lib.Dec.{eqb, ltb, leb}
+use lib.ListN.{length}
+use Rattle.grammar.specs.Bytes.{Bytes, CR, LF, same, isSome}
+use Rattle.grammar.specs.Fields.{Form, plain, message, file}
+use Rattle.grammar.specs.Lines.{trim, isComment, isPrompt, lineLimit}
+use Rattle.grammar.specs.Sid.{readSid, hasFeature, framed}
+use Rattle.grammar.specs.Turns.{Proposal, TurnLine, saysFF, saysFQ, endsBlock, notAllowed, proposes, readTurnLine, fixedText, ourSid, ourPrompt}
+use Rattle.grammar.specs.Answers.{Sign, readFs}
+use Rattle.grammar.specs.Transfers.{Content, readTransfer}
+use Rattle.mail.specs.Mail.{Record, Message, messageOf, recordAt, transferOf, placeOf, accepted, marked, declined}
+
+-- ---------------------------------------------------------------- what the log is fed and what it keeps
+
+-- "fed the bytes consumed and given, by the calls' counts, in order"
+pub data Event : Type 0 where
+  took gave : ℕ → Event
+
+-- Which unit the rules allow next, and of which side. A turn has the lines of it so far, and whether the turn just before it was FF; the
+-- places or proposals are "last proposals", or "transfers owed" with the first of them apart. over: the log has ended.
+pub data Next : Type 0 where
+  over ourGreeting ourFirstPrompt ourSidLine theirText : Next
+  theirSid : Bool → Next
+  theirTurn ourTurn : Bool → List TurnLine → Next
+  theirAnswer : List ℕ → Next
+  ourAnswer : List Proposal → Next
+  theirTransfer : Proposal → List Proposal → Next
+  ourTransfer : ℕ → List ℕ → Next
+
+-- What units of either side change: which unit is next, and the records sent.
+pub record Course : Type 0 where
+  pub next : Next
+  pub sent : List ℕ
+
+-- What only the partner's units change: the mode, "each record's state", "messages kept".
+pub record Book : Type 0 where
+  pub framed : Bool
+  pub states : List ℕ
+  pub kept : List Message
+
+-- afterCr: an LF of the partner's now is dropped
+pub record Log : Type 0 where
+  pub afterCr : Bool
+  pub course : Course
+  pub book : Book
+
+abbrev pub isOurs : Next → Bool
+isOurs over = false
+isOurs ourGreeting = true
+isOurs ourFirstPrompt = true
+isOurs ourSidLine = true
+isOurs theirText = false
+isOurs (theirSid c) = false
+isOurs (theirTurn ff ls) = false
+isOurs (ourTurn ff ls) = true
+isOurs (theirAnswer is) = false
+isOurs (ourAnswer ps) = true
+isOurs (theirTransfer p ps) = false
+isOurs (ourTransfer i is) = true
+
+-- ---------------------------------------------------------------- turns
+
+-- What the lines of a turn come to: not whole yet, a whole turn with its proposals (none: FF), FQ, or something that the rules forbid.
+pub data Said : Type 0 where
+  unfinished farewell wrong : Said
+  turn : List Proposal → Said
+
+-- "A turn is `FF`, or one to five proposals and `F>`.": ps are the proposals so far
+abbrev pub saidOn : List Proposal → List TurnLine → Said
+saidOn ps [] = unfinished
+saidOn [] (saysFF ∷ []) = turn []
+saidOn [] (saysFQ ∷ []) = farewell
+saidOn (p ∷ ps) (endsBlock ∷ []) = turn (p ∷ ps)
+saidOn ps (proposes q ∷ ls) = cond (ltb (length ps) 5) (saidOn (ps ++ (q ∷ [])) ls) wrong
+saidOn [] (saysFF ∷ l ∷ ls) = wrong
+saidOn [] (saysFQ ∷ l ∷ ls) = wrong
+saidOn [] (endsBlock ∷ ls) = wrong
+saidOn [] (notAllowed ∷ ls) = wrong
+saidOn (p ∷ ps) (saysFF ∷ ls) = wrong
+saidOn (p ∷ ps) (saysFQ ∷ ls) = wrong
+saidOn (p ∷ ps) (endsBlock ∷ l ∷ ls) = wrong
+saidOn (p ∷ ps) (notAllowed ∷ ls) = wrong
+
+-- "FQ is allowed only in answer to our FF. FF in answer to our FF gets 5.", and so for us; ff: the turn just before was FF
+abbrev pub inOrder : Bool → Said → Said
+inOrder ff unfinished = unfinished
+inOrder ff wrong = wrong
+inOrder ff farewell = cond ff farewell wrong
+inOrder ff (turn []) = cond ff wrong (turn [])
+inOrder ff (turn (p ∷ ps)) = turn (p ∷ ps)
+
+unfoldable pub said : Bool → List TurnLine → Said
+said ff ls = inOrder ff (saidOn [] ls)
+
+-- ---------------------------------------------------------------- the effect of a whole unit of ours
+
+-- "ours are the records with those BIDs"
+abbrev pub placesOf : List Record → List Proposal → List ℕ
+placesOf T [] = []
+placesOf T (p ∷ ps) = placeOf T (p .bid) ∷ placesOf T ps
+
+abbrev pub oursOwed : List ℕ → Next
+oursOwed [] = theirTurn false []
+oursOwed (i ∷ is) = ourTransfer i is
+
+abbrev pub theirsOwed : List Proposal → Next
+theirsOwed [] = ourTurn false []
+theirsOwed (p ∷ ps) = theirTransfer p ps
+
+abbrev pub ourSaid : List Record → Bool → List TurnLine → Said → Next
+ourSaid T ff ls unfinished = ourTurn ff ls
+ourSaid T ff ls farewell = over
+ourSaid T ff ls wrong = over
+ourSaid T ff ls (turn []) = theirTurn true []
+ourSaid T ff ls (turn (p ∷ ps)) = theirAnswer (placesOf T (p ∷ ps))
+
+-- "FS line, at its CR: the other side owes the accepted transfers in order."
+abbrev pub ourAnswered : List Proposal → Option (List Sign) → Next
+ourAnswered ps none = over
+ourAnswered ps (some ss) = theirsOwed (accepted ss ps)
+
+-- A line of ours. "Lines under SID and opening only choose the mode."
+abbrev pub ourLine : List Record → Bool → Next → Bytes → Next
+ourLine T md ourGreeting ln = cond (same ln (fixedText ourSid)) ourFirstPrompt over
+ourLine T md ourFirstPrompt ln = cond (isPrompt ln) (theirSid false) over
+ourLine T md ourSidLine ln = cond (same ln (fixedText ourSid)) (ourTurn false []) over
+ourLine T md (ourTurn ff ls) ln = ourSaid T ff (ls ++ (readTurnLine md ln ∷ [])) (said ff (ls ++ (readTurnLine md ln ∷ [])))
+ourLine T md (ourAnswer ps) ln = ourAnswered ps (readFs (length ps) ln)
+ourLine T md over ln = over
+ourLine T md theirText ln = over
+ourLine T md (theirSid c) ln = over
+ourLine T md (theirTurn ff ls) ln = over
+ourLine T md (theirAnswer is) ln = over
+ourLine T md (theirTransfer p ps) ln = over
+ourLine T md (ourTransfer i is) ln = over
+
+-- "Our owed transfer, as we write it, given whole: its record is sent."
+abbrev pub ourUnit : List Record → Bool → Next → List ℕ → Bytes → Course
+ourUnit T md (ourTransfer i is) sent u = record { next = oursOwed is; sent = sent ++ (i ∷ []) }
+ourUnit T md over sent u = record { next = over; sent = sent }
+ourUnit T md ourGreeting sent u = record { next = ourLine T md ourGreeting u; sent = sent }
+ourUnit T md ourFirstPrompt sent u = record { next = ourLine T md ourFirstPrompt u; sent = sent }
+ourUnit T md ourSidLine sent u = record { next = ourLine T md ourSidLine u; sent = sent }
+ourUnit T md theirText sent u = record { next = over; sent = sent }
+ourUnit T md (theirSid c) sent u = record { next = over; sent = sent }
+ourUnit T md (theirTurn ff ls) sent u = record { next = over; sent = sent }
+ourUnit T md (ourTurn ff ls) sent u = record { next = ourLine T md (ourTurn ff ls) u; sent = sent }
+ourUnit T md (theirAnswer is) sent u = record { next = over; sent = sent }
+ourUnit T md (ourAnswer ps) sent u = record { next = ourLine T md (ourAnswer ps) u; sent = sent }
+ourUnit T md (theirTransfer p ps) sent u = record { next = over; sent = sent }
+
+-- ---------------------------------------------------------------- the effect of a whole unit of the partner's
+
+-- What a unit makes of the book and the course; a line and a plain transfer end with a CR.
+pub record Effect : Type 0 where
+  pub book : Book
+  pub course : Course
+
+abbrev pub effect : Book → List ℕ → Next → Effect
+effect k sent n = record { book = k; course = record { next = n; sent = sent } }
+
+abbrev pub withStates : Book → List ℕ → Book
+withStates k st = record { framed = k .framed; states = st; kept = k .kept }
+
+abbrev pub afterTheirTurn : List Proposal → Next
+afterTheirTurn [] = ourTurn true []
+afterTheirTurn (p ∷ ps) = ourAnswer (p ∷ ps)
+
+-- "Turn, at its last CR: its proposals replace the last .. The partner's makes every sent record 1."
+abbrev pub theirSaid : Bool → List TurnLine → Book → List ℕ → Said → Effect
+theirSaid ff ls k sent unfinished = effect k sent (theirTurn ff ls)
+theirSaid ff ls k sent farewell = effect k sent over
+theirSaid ff ls k sent wrong = effect k sent over
+theirSaid ff ls k sent (turn ps) = effect (withStates k (marked sent (k .states))) [] (afterTheirTurn ps)
+
+-- "The partner's makes declined records 2."
+abbrev pub theirAnswered : List ℕ → Book → List ℕ → Option (List Sign) → Effect
+theirAnswered is k sent none = effect k sent over
+theirAnswered is k sent (some ss) = effect (withStates k (declined is ss (k .states))) sent (oursOwed (accepted ss is))
+
+abbrev pub afterTheirSid : Bool → Next
+afterTheirSid true = theirText
+afterTheirSid false = theirTurn false []
+
+abbrev pub theirSidRead : Bool → Book → List ℕ → Option (List ℕ) → Effect
+theirSidRead c k sent none = effect k sent over
+theirSidRead c k sent (some fs) =
+    cond (hasFeature 5 fs)
+    (effect (record { framed = framed fs; states = k .states; kept = k .kept }) sent (afterTheirSid c))
+    (effect k sent over)
+
+abbrev pub theirLine : Next → Book → List ℕ → Bytes → Effect
+theirLine (theirSid c) k sent ln = cond (isComment ln) (effect k sent (theirSid c)) (theirSidRead c k sent (readSid ln))
+theirLine theirText k sent ln = cond (isComment ln) (effect k sent theirText) (cond (isPrompt ln) (effect k sent ourSidLine) (effect k sent theirText))
+theirLine (theirTurn ff ls) k sent ln =
+    cond (isComment ln) (effect k sent (theirTurn ff ls))
+    (theirSaid ff (ls ++ (readTurnLine (k .framed) ln ∷ [])) k sent (said ff (ls ++ (readTurnLine (k .framed) ln ∷ []))))
+theirLine (theirAnswer is) k sent ln = cond (isComment ln) (effect k sent (theirAnswer is)) (theirAnswered is k sent (readFs (length is) ln))
+theirLine over k sent ln = effect k sent over
+theirLine ourGreeting k sent ln = effect k sent over
+theirLine ourFirstPrompt k sent ln = effect k sent over
+theirLine ourSidLine k sent ln = effect k sent over
+theirLine (ourTurn ff ls) k sent ln = effect k sent over
+theirLine (ourAnswer ps) k sent ln = effect k sent over
+theirLine (theirTransfer p ps) k sent ln = effect k sent over
+theirLine (ourTransfer i is) k sent ln = effect k sent over
+
+-- "Spaces at the end are removed before a line is judged."; a line of over 256 bytes is not valid
+abbrev pub judgedLine : Next → Book → List ℕ → Bytes → Effect
+judgedLine n k sent ln = cond (leb (length ln) lineLimit) (theirLine n k sent (trim ln)) (effect k sent over)
+
+-- "Partner's owed transfer, at its last byte: kept, with its proposal's form and fields as read, and its own heading and body."
+abbrev pub theirTransferred : Proposal → List Proposal → Book → List ℕ → Option Content → Effect
+theirTransferred p ps k sent none = effect k sent over
+theirTransferred p ps k sent (some c) =
+    effect (record { framed = k .framed; states = k .states; kept = k .kept ++ (messageOf p c ∷ []) }) sent (theirsOwed ps)
+
+-- ---------------------------------------------------------------- units
+
+-- The bytes u with b after them are a whole unit of what is next: "Bytes are a transfer while their side owes one, else lines". Once the
+-- log has ended no unit is.
+abbrev pub whole : List Record → Next → Bytes → ℕ → Bool
+whole T (theirTransfer p ps) u b = isSome (readTransfer (p .form) (u ++ (b ∷ [])))
+whole T (ourTransfer i is) u b = same (u ++ (b ∷ [])) (transferOf (recordAt T i))
+whole T over u b = false
+whole T ourGreeting u b = eqb b CR
+whole T ourFirstPrompt u b = eqb b CR
+whole T ourSidLine u b = eqb b CR
+whole T theirText u b = eqb b CR
+whole T (theirSid c) u b = eqb b CR
+whole T (theirTurn ff ls) u b = eqb b CR
+whole T (ourTurn ff ls) u b = eqb b CR
+whole T (theirAnswer is) u b = eqb b CR
+whole T (ourAnswer ps) u b = eqb b CR
+
+abbrev pub isPlain : Form → Bool
+isPlain plain = true
+isPlain message = false
+isPlain file = false
+
+-- "One LF directly after the CR that ended a line, or after the CR that closes a plain transfer, is dropped"
+abbrev pub endsWithCr : Next → Bool
+endsWithCr (theirTransfer p ps) = isPlain (p .form)
+endsWithCr over = true
+endsWithCr ourGreeting = true
+endsWithCr ourFirstPrompt = true
+endsWithCr ourSidLine = true
+endsWithCr theirText = true
+endsWithCr (theirSid c) = true
+endsWithCr (theirTurn ff ls) = true
+endsWithCr (ourTurn ff ls) = true
+endsWithCr (theirAnswer is) = true
+endsWithCr (ourAnswer ps) = true
+endsWithCr (ourTransfer i is) = true
+
+abbrev pub theirUnit : Next → Book → List ℕ → Bytes → ℕ → Effect
+theirUnit (theirTransfer p ps) k sent u b = theirTransferred p ps k sent (readTransfer (p .form) (u ++ (b ∷ [])))
+theirUnit over k sent u b = effect k sent over
+theirUnit ourGreeting k sent u b = effect k sent over
+theirUnit ourFirstPrompt k sent u b = effect k sent over
+theirUnit ourSidLine k sent u b = effect k sent over
+theirUnit theirText k sent u b = judgedLine theirText k sent u
+theirUnit (theirSid c) k sent u b = judgedLine (theirSid c) k sent u
+theirUnit (theirTurn ff ls) k sent u b = judgedLine (theirTurn ff ls) k sent u
+theirUnit (ourTurn ff ls) k sent u b = effect k sent over
+theirUnit (theirAnswer is) k sent u b = judgedLine (theirAnswer is) k sent u
+theirUnit (ourAnswer ps) k sent u b = effect k sent over
+theirUnit (ourTransfer i is) k sent u b = effect k sent over
+
+-- The log after the whole unit u b of what is next; a line is u, without its CR b.
+abbrev pub applied : List Record → Log → Bytes → ℕ → Log
+applied T l u b =
+    cond (isOurs (l .course .next))
+    (record { afterCr = l .afterCr; course = ourUnit T (l .book .framed) (l .course .next) (l .course .sent) u; book = l .book })
+    (record {
+      afterCr = endsWithCr (l .course .next);
+      course = theirUnit (l .course .next) (l .book) (l .course .sent) u b .course;
+      book = theirUnit (l .course .next) (l .book) (l .course .sent) u b .book;
+    })
+
+-- "What the rules forbid isn't valid: it changes nothing and ends the log."
+abbrev pub stopped : Log → Log
+stopped l = record { afterCr = l .afterCr; course = record { next = over; sent = l .course .sent }; book = l .book }
+
+-- ---------------------------------------------------------------- the log
+
+-- The next whole unit cut off the trace: its bytes but the last, its last byte, whether an LF is then dropped where it is ours, and the
+-- trace after it; or none is whole yet; or a byte of the other side came first, which the rules forbid.
+pub data Cut : Type 0 where
+  notWhole outOfTurn : Cut
+  unit : Bytes → ℕ → Bool → List Event → Cut
+
+-- u: the unit's bytes so far; "an LF that Lines drops is neither"
+abbrev pub cutUnit : List Record → Next → Bool → Bytes → List Event → Cut
+cutUnit T n afterCr u [] = notWhole
+cutUnit T n afterCr u (took b ∷ es) =
+    cond (afterCr && eqb b LF) (cutUnit T n false u es)
+    (cond (isOurs n) outOfTurn
+    (cond (whole T n u b) (unit u b afterCr es) (cutUnit T n false (u ++ (b ∷ [])) es)))
+cutUnit T n afterCr u (gave b ∷ es) =
+    cond (isOurs n)
+    (cond (whole T n u b) (unit u b afterCr es) (cutUnit T n afterCr (u ++ (b ∷ [])) es))
+    outOfTurn
+
+abbrev pub withAfterCr : Log → Bool → Log
+withAfterCr l a = record { afterCr = a; course = l .course; book = l .book }
+
+-- on: the log of the rest
+abbrev pub afterCut : List Record → Log → (Log → List Event → Log) → Cut → Log
+afterCut T l on notWhole = l
+afterCut T l on outOfTurn = stopped l
+afterCut T l on (unit u b a rest) = on (applied T (withAfterCr l a) u b) rest
+
+-- unit by unit; every unit has a byte, so a trace of n bytes has at most n units
+abbrev pub logUnits : ℕ → List Record → Log → List Event → Log
+logUnits zero T l es = l
+logUnits (suc n) T l es = afterCut T l (λ m rest. logUnits n T m rest) (cutUnit T (l .course .next) (l .afterCr) [] es)
+
+-- "open's role and table": at open every record's state is as open found it, and all else is empty
+abbrev pub logOpened : Bool → List ℕ → Log
+logOpened caller states =
+    record {
+      afterCr = false;
+      course = record { next = cond caller (theirSid true) ourGreeting; sent = [] };
+      book = record { framed = false; states = states; kept = [] };
+    }
+
+unfoldable pub log : List Record → Bool → List ℕ → List Event → Log
+log T caller states es = logUnits (length es) T (logOpened caller states) es

@@ -1,0 +1,2 @@
+-- Laws for the tests of open.
+pub mod Laws

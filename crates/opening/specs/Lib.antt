@@ -1,0 +1,2 @@
+-- What open accepts, and what it leaves.
+pub mod Opening

@@ -1,0 +1,2 @@
+-- What receive does to lent memory.
+pub mod Receiving

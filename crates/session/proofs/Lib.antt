@@ -1,0 +1,2 @@
+-- Theorems about the session alone.
+pub mod Choices

@@ -1,0 +1,4 @@
+-- What the three calls do, on lists of bytes: the session's choices, its steps, its calls.
+pub mod Choices
+pub mod Session
+pub mod Calls

@@ -1,0 +1,256 @@
+-- THE SESSION: one end of one session with one partner (01, "SID and opening", "Turns", "Transfers"), a byte at a time.
+-- What a whole line or a whole transfer makes us say is fixed at its last byte and put into `out` at once; the phase is then already the
+-- one after it, so no phase stands for our own giving. A byte that comes while `out` is not empty is refused.
+use mathlib.Core.Bool.{Bool, true, false, cond, not, _&&_}
+use mathlib.Core.Option.{Option, none, some}
+use mathlib.Core.List.{List, [], _∷_, _++_, map}
+use Prim.Native.Nat.{ℕ, zero, suc, _-_, min}
+use lib.Dec.{eqb, ltb}
+use lib.ListN.{length, set, replicate}
+use Rattle.grammar.specs.Bytes.{Bytes, CR, LF, null}
+use Rattle.grammar.specs.Refusals.{lineTooLong, notSid, noForwarding, lineNotAllowed, proposalCount, badTransfer, badChecksum, storeFull, bytesWait, sessionEnded}
+use Rattle.grammar.specs.Fields.{Form, plain, message, file}
+use Rattle.grammar.specs.Lines.{LineByte, dropped, ends, grows, overruns, lineByte, trim, isComment, isPrompt}
+use Rattle.grammar.specs.Sid.{readSid, hasFeature, framed}
+use Rattle.grammar.specs.Turns.{Proposal, TurnLine, saysFF, saysFQ, endsBlock, notAllowed, proposes, readTurnLine, fixedText, ourSid, ourPrompt, ourFF, ourFQ, withCr}
+use Rattle.grammar.specs.Answers.{Sign, accept, decline, defer, readFs, fsNumber, fsLine}
+use Rattle.grammar.specs.Scan.{Scan, Scanned, goes, got, malformed, wrongSum, noRoom, scanFrom, scanByte}
+use Rattle.mail.specs.Mail.{Message, messageOf, proposalOf, recordAt, turnText, transfersText, accepted, marked, declined}
+use Rattle.session.specs.Choices.{Shelf, chosen, answersTo, bodyBytes}
+
+-- ---------------------------------------------------------------- the state
+
+-- What is awaited of the partner.
+-- awaitsSid: its SID (true: we are the caller). awaitsPrompt: text lines up to the prompt. awaitsTurn: the next line of its turn; whether
+-- our turn just now was FF, and its proposals so far. awaitsAnswer: the FS line on our records at these places. awaitsTransfer: the
+-- transfer of this proposal, then those of these, and where its reading stands. leaving: nothing more, our FQ is said. over: ended.
+pub data Phase : Type 0 where
+  awaitsSid : Bool → Phase
+  awaitsPrompt leaving over : Phase
+  awaitsTurn : Bool → List Proposal → Phase
+  awaitsAnswer : List ℕ → Phase
+  awaitsTransfer : Proposal → List Proposal → Scan → Phase
+
+-- The mode; each record's state; the places of the records that the partner accepted and whose state is not set yet; the messages kept;
+-- 64 flags, 1 where a record was deferred in this session.
+pub record Memory : Type 0 where
+  pub framed : Bool
+  pub states : List ℕ
+  pub sending : List ℕ
+  pub inbox : List Message
+  pub deferred : List ℕ
+
+-- part: the line under way; afterCr: an LF now is dropped; out: the bytes that wait for give
+pub record Session : Type 0 where
+  pub phase : Phase
+  pub part : Bytes
+  pub afterCr : Bool
+  pub out : Bytes
+  pub memory : Memory
+
+-- What a whole line or transfer comes to: a refusal by its number, or the next phase with the memory and what we say now.
+pub data Outcome : Type 0 where
+  refuses : ℕ → Outcome
+  goesOn : Phase → Memory → Bytes → Outcome
+
+-- ---------------------------------------------------------------- our turn
+
+-- "If none remains: FF, or FQ if the partner's turn just now was FF."; o is said before it
+abbrev pub speaking : Shelf → Bytes → Bool → List ℕ → Memory → Outcome
+speaking E o true [] m = goesOn leaving m (o ++ withCr (fixedText ourFQ))
+speaking E o false [] m = goesOn (awaitsTurn true []) m (o ++ withCr (fixedText ourFF))
+speaking E o ff (i ∷ is) m =
+    goesOn (awaitsAnswer (i ∷ is)) m (o ++ turnText (map (λ (k : ℕ). proposalOf (recordAt (E .table) k)) (i ∷ is)))
+
+abbrev pub ourTurn : Shelf → Bytes → Bool → Memory → Outcome
+ourTurn E o ff m = speaking E o ff (chosen (E .table) (m .framed) (m .states) (m .deferred)) m
+
+-- ---------------------------------------------------------------- the partner's turn
+
+-- "State 1 is set at the CR that ends the partner's next whole valid turn."
+abbrev pub turnMarks : Memory → Memory
+turnMarks m =
+    record { framed = m .framed; states = marked (m .sending) (m .states); sending = []; inbox = m .inbox; deferred = m .deferred }
+
+-- "The right to propose passes to whoever sent the FS.": after the transfers that our FS line accepts, if there are any
+abbrev pub answering : Shelf → List Sign → List Proposal → Memory → Outcome
+answering E ss [] m = ourTurn E (withCr (fsLine ss)) false m
+answering E ss (p ∷ ps) m = goesOn (awaitsTransfer p ps (scanFrom (p .form))) m (withCr (fsLine ss))
+
+abbrev pub answered : Shelf → List Proposal → Memory → Outcome
+answered E ps m = answering E (answersTo E (m .inbox) ps) (accepted (answersTo E (m .inbox) ps) ps) m
+
+-- "FQ is allowed only in answer to our FF. FF in answer to our FF gets 5."; "sixth proposal, or F> with none" gets 6
+abbrev pub turnJudged : Shelf → TurnLine → Bool → List Proposal → Memory → Outcome
+turnJudged E saysFF ff [] m = cond ff (refuses lineNotAllowed) (ourTurn E [] true (turnMarks m))
+turnJudged E saysFF ff (p ∷ ps) m = refuses lineNotAllowed
+turnJudged E saysFQ ff [] m = cond ff (goesOn over m []) (refuses lineNotAllowed)
+turnJudged E saysFQ ff (p ∷ ps) m = refuses lineNotAllowed
+turnJudged E endsBlock ff [] m = refuses proposalCount
+turnJudged E endsBlock ff (p ∷ ps) m = answered E (p ∷ ps) (turnMarks m)
+turnJudged E notAllowed ff ps m = refuses lineNotAllowed
+turnJudged E (proposes q) ff ps m = cond (ltb (length ps) 5) (goesOn (awaitsTurn ff (ps ++ (q ∷ []))) m []) (refuses proposalCount)
+
+-- ---------------------------------------------------------------- the partner's FS line
+
+abbrev pub deferring : List ℕ → List Sign → List ℕ → List ℕ
+deferring [] ss fl = fl
+deferring (i ∷ is) [] fl = fl
+deferring (i ∷ is) (accept ∷ ss) fl = deferring is ss fl
+deferring (i ∷ is) (decline ∷ ss) fl = deferring is ss fl
+deferring (i ∷ is) (defer ∷ ss) fl = deferring is ss (set fl i 1)
+
+-- "`-` sets state 2 at the CR of a valid line. A deferred record stays 0. Accepted records are sent in order."
+abbrev pub answerMarks : List ℕ → List Sign → Memory → Memory
+answerMarks is ss m =
+    record {
+      framed = m .framed;
+      states = declined is ss (m .states);
+      sending = m .sending ++ accepted ss is;
+      inbox = m .inbox;
+      deferred = deferring is ss (m .deferred);
+    }
+
+abbrev pub answerJudged : Shelf → List ℕ → Memory → ℕ → Option (List Sign) → Outcome
+answerJudged E is m n none = refuses n
+answerJudged E is m n (some ss) = goesOn (awaitsTurn false []) (answerMarks is ss m) (transfersText (E .table) (accepted ss is))
+
+-- ---------------------------------------------------------------- the opening
+
+abbrev pub inMode : Bool → Memory → Memory
+inMode md m = record { framed = md; states = m .states; sending = m .sending; inbox = m .inbox; deferred = m .deferred }
+
+abbrev pub afterSid : Bool → Phase
+afterSid true = awaitsPrompt
+afterSid false = awaitsTurn false []
+
+abbrev pub sidJudged : Bool → Memory → Option (List ℕ) → Outcome
+sidJudged caller m none = refuses notSid
+sidJudged caller m (some fs) = cond (hasFeature 5 fs) (goesOn (afterSid caller) (inMode (framed fs) m) []) (refuses noForwarding)
+
+-- "skip text lines until the prompt, then send SID and first turn"
+abbrev pub textJudged : Shelf → Bool → Memory → Outcome
+textJudged E true m = ourTurn E (withCr (fixedText ourSid)) false m
+textJudged E false m = goesOn awaitsPrompt m []
+
+-- ---------------------------------------------------------------- a whole line
+
+-- "A line that begins with `;` is ignored wherever a line is awaited"
+abbrev pub lineJudged : Shelf → Phase → Memory → Bytes → Outcome
+lineJudged E (awaitsSid c) m ln = cond (isComment ln) (goesOn (awaitsSid c) m []) (sidJudged c m (readSid ln))
+lineJudged E awaitsPrompt m ln = cond (isComment ln) (goesOn awaitsPrompt m []) (textJudged E (isPrompt ln) m)
+lineJudged E (awaitsTurn ff ps) m ln = cond (isComment ln) (goesOn (awaitsTurn ff ps) m []) (turnJudged E (readTurnLine (m .framed) ln) ff ps m)
+lineJudged E (awaitsAnswer is) m ln =
+    cond (isComment ln) (goesOn (awaitsAnswer is) m []) (answerJudged E is m (fsNumber (length is) ln) (readFs (length is) ln))
+lineJudged E (awaitsTransfer p ps sc) m ln = refuses lineNotAllowed
+lineJudged E leaving m ln = refuses lineNotAllowed
+lineJudged E over m ln = refuses lineNotAllowed
+
+-- ---------------------------------------------------------------- a byte
+
+pub record Stepped : Type 0 where
+  pub answer : ℕ
+  pub session : Session
+
+-- "Besides ending the session": nothing more is said, and marks and kept messages stand as just before the refused byte
+abbrev pub refused : Session → ℕ → Stepped
+refused s n = record { answer = n; session = record { phase = over; part = []; afterCr = false; out = []; memory = s .memory } }
+
+abbrev pub moved : Session → Stepped
+moved s = record { answer = 0; session = s }
+
+-- What the outcome of a whole line or transfer makes of the session; afterCr: it ended with a CR after which an LF is dropped.
+abbrev pub settled : Session → Bool → Outcome → Stepped
+settled s afterCr (refuses n) = refused s n
+settled s afterCr (goesOn p m o) = moved (record { phase = p; part = []; afterCr = afterCr; out = o; memory = m })
+
+-- "A line ends with CR."; "a 257th byte of a line comes before CR"
+abbrev pub lineMoved : Shelf → Session → ℕ → LineByte → Stepped
+lineMoved E s b dropped = moved s
+lineMoved E s b ends = settled s true (lineJudged E (s .phase) (s .memory) (trim (s .part)))
+lineMoved E s b grows =
+    moved (record { phase = s .phase; part = s .part ++ (b ∷ []); afterCr = false; out = s .out; memory = s .memory })
+lineMoved E s b overruns = refused s lineTooLong
+
+abbrev pub isPlain : Form → Bool
+isPlain plain = true
+isPlain message = false
+isPlain file = false
+
+abbrev pub keptIn : Memory → Message → Memory
+keptIn m x =
+    record { framed = m .framed; states = m .states; sending = m .sending; inbox = m .inbox ++ (x ∷ []); deferred = m .deferred }
+
+-- "A message is kept at its last byte."; then the next transfer is awaited, or it is our turn
+abbrev pub nextTransfer : Shelf → List Proposal → Memory → Outcome
+nextTransfer E [] m = ourTurn E [] false m
+nextTransfer E (p ∷ ps) m = goesOn (awaitsTransfer p ps (scanFrom (p .form))) m []
+
+-- "One LF directly after .. the CR that closes a plain transfer, is dropped"
+abbrev pub transferMoved : Shelf → Proposal → List Proposal → Session → Scanned → Stepped
+transferMoved E p ps s (goes sc) =
+    moved (record { phase = awaitsTransfer p ps sc; part = s .part; afterCr = false; out = s .out; memory = s .memory })
+transferMoved E p ps s (got h x) =
+    settled s (isPlain (p .form)) (nextTransfer E ps (keptIn (s .memory) (messageOf p (record { heading = h; body = x }))))
+transferMoved E p ps s malformed = refused s badTransfer
+transferMoved E p ps s wrongSum = refused s badChecksum
+transferMoved E p ps s noRoom = refused s storeFull
+
+-- "body byte without room, the 65,536th included": what the store has left for the message under way
+abbrev pub roomFor : Shelf → Memory → ℕ
+roomFor E m = min 65535 (E .bytes - bodyBytes (m .inbox))
+
+abbrev pub lineStep : Shelf → Session → ℕ → Stepped
+lineStep E s b = lineMoved E s b (lineByte false (length (s .part)) b)
+
+abbrev pub phaseStep : Shelf → Phase → Session → ℕ → Stepped
+phaseStep E (awaitsSid c) s b = lineStep E s b
+phaseStep E awaitsPrompt s b = lineStep E s b
+phaseStep E (awaitsTurn ff ps) s b = lineStep E s b
+phaseStep E (awaitsAnswer is) s b = lineStep E s b
+phaseStep E (awaitsTransfer p ps sc) s b = transferMoved E p ps s (scanByte (roomFor E (s .memory)) sc b)
+phaseStep E leaving s b = refused s sessionEnded
+phaseStep E over s b = refused s sessionEnded
+
+-- "a byte arrives while bytes wait for give"
+abbrev pub freeStep : Shelf → Bytes → Session → ℕ → Stepped
+freeStep E (x ∷ xs) s b = refused s bytesWait
+freeStep E [] s b = phaseStep E (s .phase) s b
+
+abbrev pub lfDropped : Session → Session
+lfDropped s = record { phase = s .phase; part = s .part; afterCr = false; out = s .out; memory = s .memory }
+
+-- "One LF .. is dropped, also while bytes wait for give."; "then 12, 11, 2, then the rule of the line or transfer"
+abbrev pub step : Shelf → Session → ℕ → Stepped
+step E s b = cond (s .afterCr && eqb b LF) (moved (lfDropped s)) (freeStep E (s .out) s b)
+
+-- "FQ received ends the session at its CR"; "Our FQ ends it when give has handed out its CR."
+abbrev pub endedIn : Phase → Bytes → Bool
+endedIn (awaitsSid c) o = false
+endedIn awaitsPrompt o = false
+endedIn (awaitsTurn ff ps) o = false
+endedIn (awaitsAnswer is) o = false
+endedIn (awaitsTransfer p ps sc) o = false
+endedIn leaving o = null o
+endedIn over o = true
+
+abbrev pub ended : Session → Bool
+ended s = endedIn (s .phase) (s .out)
+
+-- ---------------------------------------------------------------- at open
+
+-- "Called: we send it, CR, `>`, CR, and await the caller's SID"; "Caller: we await the SID"
+abbrev pub greeting : Bool → Bytes
+greeting true = []
+greeting false = withCr (fixedText ourSid) ++ withCr (fixedText ourPrompt)
+
+-- The session right after an accepted open: the role (true: caller) and the states that open found.
+abbrev pub opened : Bool → List ℕ → Session
+opened caller states =
+    record {
+      phase = awaitsSid caller;
+      part = [];
+      afterCr = false;
+      out = greeting caller;
+      memory = record { framed = false; states = states; sending = []; inbox = []; deferred = replicate 64 0 };
+    }

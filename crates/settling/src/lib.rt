@@ -1,0 +1,296 @@
+// What a byte of a line and a whole transfer leave: marks in the table, our turn, a message in the inbox.
+use buffer::Cursor;
+use judge::Judged;
+use layout::entry;
+use line::LineByte;
+use state::Await;
+use state::Five;
+use state::Keep;
+use state::Line;
+use state::Reading;
+use state::Say;
+use state::Session;
+use transfer_read::Reader;
+ghost use mathlib.Core.Path.{_≡_};
+ghost use Prim.Native.Nat.{_*_, _≤_, _<_, min};
+ghost use lib.ListN.{length, set, take};
+ghost use Rattle.grammar.specs.Lines.{trim, ends};
+ghost use Rattle.buffer.specs.Put.{putBytes};
+ghost use Rattle.layout.specs.Layout.{entryAt, entryOut};
+ghost use Rattle.judge.specs.Judge.{judgeOf};
+ghost use Rattle.state.specs.State.{at, held};
+ghost use Rattle.receiving.specs.Receiving.{markAll, refusedOf, settledOf, spokenOf, settled, settleOf, longer, lineMoved, lineStepOf, keptInbox};
+
+// 01's number, and the session after it.
+pub struct Left {
+    pub answer: u8,
+    pub session: Session,
+}
+
+// How many numbers are held.
+fn count_of(f: Five) -> usize
+    ensures { λ r. ⌜ (r ≡ length (held f)) × (r ≤ 5) ⌝ }
+{
+    if 5 < f.count {
+        return 5;
+    }
+    f.count as usize
+}
+
+// n, or most where n is more.
+fn at_most(most: usize, n: usize) -> usize
+    ensures { λ r. ⌜ r ≡ min most n ⌝ }
+{
+    if most < n {
+        return most;
+    }
+    n
+}
+
+// The record at a place gets this state.
+fn set_state(table: &mut [u8], i: u8, state: u8)
+    ensures { λ _. ⌜ now (table .exit) ≡ set (now (table .entry)) (i * 89) state ⌝ }
+{
+    let at = (i as usize) * 89;
+    if table.len() <= at {
+        return;
+    }
+    table[at] = state;
+}
+
+// The records at these places get this state.
+fn mark_all(table: &mut [u8], places: Five, state: u8)
+    ensures { λ _. ⌜ now (table .exit) ≡ markAll (held places) state (now (table .entry)) ⌝ }
+{
+    let n = count_of(places);
+    let mut i = 0usize;
+    while i < n {
+        set_state(table, places.items[i], state);
+        i += 1;
+    }
+}
+
+// The session is over: nothing more is said.
+pub fn refused(s: Session) -> Session
+    ensures { λ r. ⌜ r ≡ refusedOf s ⌝ }
+{
+    let mut t = s;
+    t.now.phase = 7;
+    t.say.first = 0;
+    t.say.then = 0;
+    t.say.pos = 0;
+    t.line.len = 0;
+    t.line.after_cr = false;
+    t
+}
+
+// The session after what was judged, where this is awaited and said.
+fn settled_as(s: Session, j: Judged, after_cr: bool, awaited: Await, say: Say) -> Session
+    ensures { λ r. ⌜ r ≡ settledOf s j «after_cr» awaited say ⌝ }
+{
+    let keep = j.keep;
+    let reader = j.reader;
+    let mut said = say;
+    said.pos = 0;
+    let mut reading = s.reading;
+    reading.reader = reader;
+    let mut line = s.line;
+    line.len = 0;
+    line.after_cr = after_cr;
+    Session {
+        now: awaited,
+        say: said,
+        keep: keep,
+        reading: reading,
+        line: line,
+    }
+}
+
+// The same with our turn, if it is our turn.
+fn spoken(s: Session, j: Judged, after_cr: bool, table: &[u8]) -> Session
+    ensures { λ r. ⌜ r ≡ spokenOf s j «after_cr» (now (table .entry)) ⌝ }
+{
+    let awaited = j.now;
+    let say = j.say;
+    if j.speaks == 0 {
+        return settled_as(s, j, after_cr, awaited, say);
+    }
+    let keep = j.keep;
+    let r = judge::speak(awaited, say, keep, table, j.speaks == 2);
+    let next = r.now;
+    let said = r.say;
+    settled_as(s, j, after_cr, next, said)
+}
+
+// What a judged line or a kept message leaves: marks first, then our turn.
+pub fn settle(s: Session, j: Judged, after_cr: bool, table: &mut [u8]) -> Left
+    ensures { λ r. ⌜ settled (r .answer) (r .session) (now (table .exit)) ≡ settleOf s j «after_cr» (now (table .entry)) ⌝ }
+{
+    if j.answer != 0 {
+        return Left {
+            answer: j.answer,
+            session: refused(s),
+        };
+    }
+    let marks = j.marks;
+    let places = marks.places;
+    mark_all(table, places, marks.state);
+    Left {
+        answer: 0,
+        session: spoken(s, j, after_cr, table),
+    }
+}
+
+// A whole line, judged without the spaces at its end.
+fn judged(
+    line: &[u8],
+    awaited: Await,
+    say: Say,
+    keep: Keep,
+    reader: Reader,
+    table: &[u8],
+    known: &[u8],
+    inbox: &[u8],
+    store: usize,
+) -> Judged
+    ensures { λ r. ⌜ r ≡ judgeOf (trim (now (line .entry))) awaited say keep reader (now (table .entry)) (now (known .entry)) (now (inbox .entry)) store ⌝ }
+{
+    let n = line::trimmed(line);
+    judge::judge(
+        &line[..n],
+        awaited,
+        say,
+        keep,
+        reader,
+        table,
+        known,
+        inbox,
+        store,
+    )
+}
+
+// How long the line is; its array ends it.
+fn line_len(line: Line) -> usize
+    ensures { λ r. ⌜ (take r (line .bytes) ≡ take (line .len) (line .bytes)) × (r ≤ length (line .bytes)) ⌝ }
+{
+    at_most(256, line.len as usize)
+}
+
+// The line in its array, up to its length.
+fn judged_line(
+    line: Line,
+    awaited: Await,
+    say: Say,
+    keep: Keep,
+    reader: Reader,
+    table: &[u8],
+    known: &[u8],
+    inbox: &[u8],
+    store: usize,
+) -> Judged
+    ensures { λ r. ⌜ r ≡ judgeOf (trim (take (line .len) (line .bytes))) awaited say keep reader (now (table .entry)) (now (known .entry)) (now (inbox .entry)) store ⌝ }
+{
+    let bytes = line.bytes;
+    let n = line_len(line);
+    judged(
+        &bytes[..n],
+        awaited,
+        say,
+        keep,
+        reader,
+        table,
+        known,
+        inbox,
+        store,
+    )
+}
+
+// The session with one byte more in its line.
+fn longer(s: Session, b: u8) -> Session
+    requires { ⌜ s .line .len < 256 ⌝ }
+    ensures { λ r. ⌜ r ≡ longer s b ⌝ }
+{
+    let mut line = s.line;
+    let n = line.len as usize;
+    line.bytes[n] = b;
+    line.len = s.line.len + 1;
+    line.after_cr = false;
+    let mut t = s;
+    t.line = line;
+    t
+}
+
+// The CR of a line: it is judged.
+fn ends(s: Session, table: &mut [u8], known: &[u8], inbox: &[u8], store: usize) -> Left
+    ensures { λ r. ⌜ settled (r .answer) (r .session) (now (table .exit)) ≡ lineMoved ends s 13 (now (table .entry)) (now (known .entry)) (now (inbox .entry)) store ⌝ }
+{
+    let line = s.line;
+    let awaited = s.now;
+    let say = s.say;
+    let keep = s.keep;
+    let reader = s.reading.reader;
+    let j = judged_line(line, awaited, say, keep, reader, table, known, inbox, store);
+    settle(s, j, true, table)
+}
+
+// A byte of a line.
+pub fn line_step(
+    s: Session,
+    b: u8,
+    table: &mut [u8],
+    known: &[u8],
+    inbox: &[u8],
+    store: usize,
+) -> Left
+    ensures { λ r. ⌜ settled (r .answer) (r .session) (now (table .exit)) ≡ lineStepOf s b (now (table .entry)) (now (known .entry)) (now (inbox .entry)) store ⌝ }
+{
+    let r = line::line_byte(false, s.line.len as usize, b);
+    match r {
+        LineByte::Dropped => Left {
+            answer: 0,
+            session: s,
+        },
+        LineByte::Ends => ends(s, table, known, inbox, store),
+        LineByte::Grows => Left {
+            answer: 0,
+            session: longer(s, b),
+        },
+        LineByte::Overruns => Left {
+            answer: 2,
+            session: refused(s),
+        },
+    }
+}
+
+// The message under way gets its entry in the inbox: its proposal in the block, its heading, its body behind those kept.
+fn put_parts(awaited: Await, reading: Reading, keep: Keep, inbox: &mut [u8])
+    ensures { λ _. ⌜ now (inbox .exit) ≡ putBytes (now (inbox .entry)) (at (keep .kept * 155)) (entryOut (entryAt 72 (awaited .block) (awaited .current)) (take (reading .reader .head) (reading .heading)) (keep .used) (reading .reader .body)) ⌝ }
+{
+    let block = awaited.block;
+    let heading = reading.heading;
+    let reader = reading.reader;
+    let n = at_most(80, reader.head as usize);
+    let c = Cursor {
+        at: (keep.kept as usize) * 155,
+        skip: 0,
+    };
+    let proposal = entry(layout::PROPOSAL, &block, awaited.current as u16);
+    let _d = layout::put_entry(
+        inbox,
+        c,
+        proposal,
+        &heading[..n],
+        keep.used,
+        reader.body as usize,
+    );
+}
+
+// The message under way gets its entry in the inbox.
+pub fn put_message(s: Session, inbox: &mut [u8])
+    ensures { λ _. ⌜ now (inbox .exit) ≡ keptInbox s (now (inbox .entry)) ⌝ }
+{
+    let awaited = s.now;
+    let reading = s.reading;
+    let keep = s.keep;
+    put_parts(awaited, reading, keep, inbox);
+}

@@ -1,0 +1,2 @@
+-- The session's state in session memory.
+pub mod State

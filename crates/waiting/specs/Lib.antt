@@ -1,0 +1,2 @@
+-- The bytes that wait for give.
+pub mod Waiting

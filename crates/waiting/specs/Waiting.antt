@@ -1,0 +1,71 @@
+-- What waits for give, as pieces: a first one and one after it. The bytes themselves are not kept, but written anew from the table and
+-- its stores at each give.
+use mathlib.Core.Bool.{Bool, true, false, cond, not}
+use mathlib.Core.List.{List, [], _∷_, _++_, map}
+use Prim.Native.Nat.{ℕ}
+use lib.Dec.{eqb, ltb}
+use Rattle.grammar.specs.Bytes.{Bytes}
+use Rattle.grammar.specs.Turns.{fixedText, withCr, ourSid, ourPrompt, ourFF, ourFQ, Proposal}
+use Rattle.mail.specs.Mail as mail
+use Rattle.mail.specs.Mail.{turnText}
+use Rattle.layout.specs.Layout.{entryAt, recordSize, recordOf}
+use Rattle.our_line.specs.Lines.{fsText}
+use Rattle.state.specs.State.{held}
+use Rattle.state.specs.declared.Five.{Five}
+use Rattle.state.specs.declared.Say.{Say}
+use Rattle.state.specs.declared.Session.{Session}
+
+-- The proposal of the record at a place of the table.
+abbrev pub proposalAt : Bytes → ℕ → Proposal
+proposalAt table i = mail.proposalOf (recordOf [] [] [] (entryAt recordSize table i))
+
+-- first: 0 nothing, 1 our SID and the prompt, 2 our SID, any other: the FS line of our signs
+unfoldable pub firstText : ℕ → Five → Bytes
+firstText first signs =
+    cond (eqb first 0) []
+    (cond (eqb first 1) (withCr (fixedText ourSid) ++ withCr (fixedText ourPrompt))
+    (cond (eqb first 2) (withCr (fixedText ourSid))
+    (fsText (held signs))))
+
+-- "one to five proposals and `F>`"
+unfoldable pub blockText : Bytes → List ℕ → Bytes
+blockText table is = turnText (map (proposalAt table) is)
+
+-- The transfers of the records at these places, in order.
+unfoldable pub sendingText : Bytes → Bytes → Bytes → Bytes → List ℕ → Bytes
+sendingText table titles names bodies [] = []
+sendingText table titles names bodies (i ∷ is) =
+    mail.transferOf (recordOf titles names bodies (entryAt recordSize table i)) ++ sendingText table titles names bodies is
+
+-- then: 0 nothing, 1 FF, 2 FQ, 3 our block, any other: the transfers of the records being sent
+unfoldable pub thenText : ℕ → Five → Five → Bytes → Bytes → Bytes → Bytes → Bytes
+thenText then ours sending table titles names bodies =
+    cond (eqb then 0) []
+    (cond (eqb then 1) (withCr (fixedText ourFF))
+    (cond (eqb then 2) (withCr (fixedText ourFQ))
+    (cond (eqb then 3) (blockText table (held ours))
+    (sendingText table titles names bodies (held sending)))))
+
+-- All that waits, given bytes included.
+unfoldable pub waitingOf : Session → Bytes → Bytes → Bytes → Bytes → Bytes
+waitingOf s table titles names bodies =
+    firstText (s .say .first) (s .say .signs) ++ thenText (s .say .then) (s .now .ours) (s .keep .sending) table titles names bodies
+
+-- Something waits.
+unfoldable pub waits : Say → Bool
+waits y = cond (eqb (y .first) 0) (not (eqb (y .then) 0)) true
+
+-- "Our FQ ends it when give has handed out its CR."; phase 6: our FQ is said; any later number: ended
+unfoldable pub overOf : Session → Bool
+overOf s = cond (ltb (s .now .phase) 6) false (cond (eqb (s .now .phase) 6) (not (waits (s .say))) true)
+
+-- Nothing waits any more.
+unfoldable pub silentOf : Session → Session
+silentOf s =
+    record {
+      now = s .now;
+      say = record { first = 0; then = 0; pos = 0; signs = s .say .signs };
+      keep = s .keep;
+      reading = s .reading;
+      line = s .line;
+    }

@@ -1,0 +1,253 @@
+// What waits for give: its pieces written from the table and its stores, resumed at any byte with any room.
+use buffer::Cursor;
+use layout::byte_at;
+use layout::entry;
+use layout::field;
+use layout::number2;
+use layout::number4;
+use layout::part;
+use our_line::Fixed;
+use state::Five;
+use state::Say;
+use state::Session;
+ghost use mathlib.Core.Path.{_≡_};
+ghost use mathlib.Core.List.{[]};
+ghost use Prim.Native.Nat.{min};
+ghost use lib.Dec.{ltb};
+ghost use lib.ListN.{length};
+ghost use Rattle.grammar.specs.Bytes.{Bytes};
+ghost use Rattle.grammar.specs.Turns.{withCr, proposalLine};
+ghost use Rattle.mail.specs.Mail.{proposalOf, transferOf, proposalLines};
+ghost use Rattle.layout.specs.Layout.{recordOf};
+ghost use Rattle.buffer.specs.Put.{Puts};
+ghost use Rattle.state.specs.State.{held};
+ghost use Rattle.waiting.specs.Waiting.{firstText, blockText, sendingText, thenText, waitingOf, waits, overOf, silentOf};
+
+// How many of up to five numbers are in use.
+fn in_use(f: Five) -> usize
+    ensures { λ r. ⌜ r ≡ min 5 (f .count) ⌝ }
+{
+    if f.count < 5 {
+        return f.count as usize;
+    }
+    5
+}
+
+// Nothing: the cursor stands as after an empty text.
+fn write_nothing(buf: &mut [u8], c: Cursor) -> Cursor
+    ensures { λ d. ⌜ Puts (now (buf .entry)) c [] d (now (buf .exit)) ⌝ }
+{
+    let none = [0u8; 0];
+    buffer::put(buf, c, &none)
+}
+
+// The proposal of a record.
+fn write_record_proposal(buf: &mut [u8], c: Cursor, r: &[u8]) -> Cursor
+    ensures { λ d. ⌜ Puts (now (buf .entry)) c (withCr (proposalLine (proposalOf (recordOf [] [] [] (now (r .entry)))))) d (now (buf .exit)) ⌝ }
+{
+    let size = number4(r, 69) as u32;
+    our_line::write_proposal(
+        buf,
+        c,
+        byte_at(r, 1),
+        byte_at(r, 2),
+        field(r, 3, 6),
+        field(r, 10, 38),
+        field(r, 49, 6),
+        field(r, 56, 12),
+        size,
+    )
+}
+
+// Our block: the proposals of the records at these places, and `F>`.
+fn write_block(buf: &mut [u8], c: Cursor, table: &[u8], ours: Five) -> Cursor
+    ensures { λ d. ⌜ Puts (now (buf .entry)) c (blockText (now (table .entry)) (held ours)) d (now (buf .exit)) ⌝ }
+{
+    let n = in_use(ours);
+    let items = ours.items;
+    let mut d = c;
+    let mut i = 0;
+    while i < n {
+        d = write_record_proposal(buf, d, entry(layout::RECORD, table, items[i] as u16));
+        i += 1;
+    }
+    our_line::write_fixed(Fixed::End, buf, d)
+}
+
+// The transfer of a record, by its form.
+fn write_record_transfer(
+    buf: &mut [u8],
+    c: Cursor,
+    r: &[u8],
+    titles: &[u8],
+    names: &[u8],
+    bodies: &[u8],
+) -> Cursor
+    ensures { λ d. ⌜ Puts (now (buf .entry)) c (transferOf (recordOf (now (titles .entry)) (now (names .entry)) (now (bodies .entry)) (now (r .entry)))) d (now (buf .exit)) ⌝ }
+{
+    let form = byte_at(r, 1);
+    let body = part(bodies, number4(r, 83), number2(r, 87));
+    if form == 1 {
+        return transfer_write::write_framed(
+            buf,
+            c,
+            part(titles, number4(r, 73), byte_at(r, 77) as usize),
+            body,
+        );
+    }
+    if form == 2 {
+        return transfer_write::write_framed(
+            buf,
+            c,
+            part(names, number4(r, 78), byte_at(r, 82) as usize),
+            body,
+        );
+    }
+    transfer_write::write_plain(
+        buf,
+        c,
+        part(titles, number4(r, 73), byte_at(r, 77) as usize),
+        body,
+    )
+}
+
+// The transfers of the records at these places.
+fn write_transfers(
+    buf: &mut [u8],
+    c: Cursor,
+    table: &[u8],
+    titles: &[u8],
+    names: &[u8],
+    bodies: &[u8],
+    sending: Five,
+) -> Cursor
+    ensures { λ d. ⌜ Puts (now (buf .entry)) c (sendingText (now (table .entry)) (now (titles .entry)) (now (names .entry)) (now (bodies .entry)) (held sending)) d (now (buf .exit)) ⌝ }
+{
+    let n = in_use(sending);
+    let items = sending.items;
+    let mut d = c;
+    let mut i = 0;
+    while i < n {
+        d = write_record_transfer(
+            buf,
+            d,
+            entry(layout::RECORD, table, items[i] as u16),
+            titles,
+            names,
+            bodies,
+        );
+        i += 1;
+    }
+    write_nothing(buf, d)
+}
+
+// The first piece.
+fn write_first(buf: &mut [u8], c: Cursor, first: u8, signs: Five) -> Cursor
+    ensures { λ d. ⌜ Puts (now (buf .entry)) c (firstText first signs) d (now (buf .exit)) ⌝ }
+{
+    let items = signs.items;
+    let n = in_use(signs);
+    match first {
+        0 => write_nothing(buf, c),
+        1 => {
+            let d = our_line::write_fixed(Fixed::Sid, buf, c);
+            our_line::write_fixed(Fixed::Prompt, buf, d)
+        }
+        2 => our_line::write_fixed(Fixed::Sid, buf, c),
+        _ => our_line::write_fs(buf, c, &items[..n]),
+    }
+}
+
+// The piece after it.
+fn write_then(
+    buf: &mut [u8],
+    c: Cursor,
+    s: Session,
+    table: &[u8],
+    titles: &[u8],
+    names: &[u8],
+    bodies: &[u8],
+) -> Cursor
+    ensures { λ d. ⌜ Puts (now (buf .entry)) c (thenText (s .say .then) (s .now .ours) (s .keep .sending) (now (table .entry)) (now (titles .entry)) (now (names .entry)) (now (bodies .entry))) d (now (buf .exit)) ⌝ }
+{
+    let then = s.say.then;
+    let ours = s.now.ours;
+    let sending = s.keep.sending;
+    match then {
+        0 => write_nothing(buf, c),
+        1 => our_line::write_fixed(Fixed::FF, buf, c),
+        2 => our_line::write_fixed(Fixed::FQ, buf, c),
+        3 => write_block(buf, c, table, ours),
+        _ => write_transfers(buf, c, table, titles, names, bodies, sending),
+    }
+}
+
+// All that waits, from the byte that the cursor skips to on, as far as it fits.
+pub fn write_waiting(
+    buf: &mut [u8],
+    c: Cursor,
+    s: Session,
+    table: &[u8],
+    titles: &[u8],
+    names: &[u8],
+    bodies: &[u8],
+) -> Cursor
+    ensures { λ d. ⌜ Puts (now (buf .entry)) c (waitingOf s (now (table .entry)) (now (titles .entry)) (now (names .entry)) (now (bodies .entry))) d (now (buf .exit)) ⌝ }
+{
+    let signs = s.say.signs;
+    let d = write_first(buf, c, s.say.first, signs);
+    write_then(buf, d, s, table, titles, names, bodies)
+}
+
+// More than pos bytes wait, given bytes included: a byte is tried after them.
+pub fn is_left(
+    s: Session,
+    pos: usize,
+    table: &[u8],
+    titles: &[u8],
+    names: &[u8],
+    bodies: &[u8],
+) -> bool
+    ensures { λ r. ⌜ r ≡ ltb pos (length (waitingOf s (now (table .entry)) (now (titles .entry)) (now (names .entry)) (now (bodies .entry)))) ⌝ }
+{
+    let mut one = [0u8; 1];
+    let c = Cursor { at: 0, skip: pos };
+    let d = write_waiting(&mut one, c, s, table, titles, names, bodies);
+    d.at != 0
+}
+
+// Something waits.
+pub fn is_waiting(say: Say) -> bool
+    ensures { λ r. ⌜ r ≡ waits say ⌝ }
+{
+    if say.first != 0 {
+        return true;
+    }
+    say.then != 0
+}
+
+// The session has ended.
+pub fn is_over(s: Session) -> bool
+    ensures { λ r. ⌜ r ≡ overOf s ⌝ }
+{
+    let phase = s.now.phase;
+    if phase < 6 {
+        return false;
+    }
+    if phase == 6 {
+        let say = s.say;
+        return !is_waiting(say);
+    }
+    true
+}
+
+// The session with nothing waiting.
+pub fn silent(s: Session) -> Session
+    ensures { λ r. ⌜ r ≡ silentOf s ⌝ }
+{
+    let mut t = s;
+    t.say.first = 0;
+    t.say.then = 0;
+    t.say.pos = 0;
+    t
+}

@@ -1,0 +1,315 @@
+/* Plays sessions on the proved library from C, with nothing but its header: 01's whole session, then an exchange of plain messages and one of
+ * framed messages, with us called and calling. One line a step; exit status 1 at the first difference.
+ *
+ * Every buffer is allocated on its own and just as large as it must be, so that valgrind sees any byte touched outside it. */
+#include "fringemole.h"
+
+#include <stdio.h>
+#include <stdlib.h>
+#include <string.h>
+
+#define CALLED 0
+#define CALLER 1
+#define PLACES 2
+#define ROOM 8
+#define TAKEN "1_THEM"
+
+static unsigned steps;
+
+/* ---- steps and their lines */
+
+/* Bytes as a person reads them: CR and other control bytes as \xNN. */
+static void show(const char *bytes, size_t n)
+{
+    size_t i;
+
+    putchar('"');
+    for (i = 0; i < n; i++) {
+        unsigned char byte = (unsigned char)bytes[i];
+        if (byte >= 0x20 && byte < 0x7F) {
+            putchar(byte);
+        } else {
+            printf("\\x%02X", byte);
+        }
+    }
+    putchar('"');
+}
+
+/* Ends a step's line; ends the program if the step went wrong. */
+static void verdict(int right)
+{
+    steps++;
+    printf(" %s\n", right ? "ok" : "WRONG");
+    if (!right) {
+        printf("c: step %u is wrong\n", steps);
+        exit(1);
+    }
+}
+
+static int is(struct fringemole_reply reply, unsigned answer, unsigned place, size_t count)
+{
+    if (reply.answer == answer && reply.place == place && reply.count == count) {
+        return 1;
+    }
+    printf(" [answer %u, place %u, count %lu]", reply.answer, reply.place, (unsigned long)reply.count);
+    return 0;
+}
+
+/* ---- lent memory */
+
+/* So many zero bytes; NULL for none, which the interface allows. */
+static uint8_t *lend(size_t n)
+{
+    uint8_t *buffer = n == 0 ? NULL : calloc(n, 1);
+
+    if (n != 0 && buffer == NULL) {
+        puts("c: no memory");
+        exit(2);
+    }
+    return buffer;
+}
+
+/* Session memory and an inbox; an empty table, no stores, no known BIDs. */
+static struct fringemole_memory memory_with(size_t places, size_t room)
+{
+    struct fringemole_memory m;
+
+    memset(&m, 0, sizeof m);
+    m.session_len = FRINGEMOLE_SESSION_SIZE;
+    m.session = lend(m.session_len);
+    m.inbox_len = places * FRINGEMOLE_ENTRY_SIZE;
+    m.inbox = lend(m.inbox_len);
+    m.store_len = room;
+    m.store = lend(m.store_len);
+    return m;
+}
+
+static void put_field(uint8_t *entry, size_t at, const char *text)
+{
+    entry[at] = (uint8_t)strlen(text);
+    memcpy(entry + at + 1, text, strlen(text));
+}
+
+static void put_number(uint8_t *entry, size_t at, size_t bytes, unsigned long value)
+{
+    size_t i;
+
+    for (i = 0; i < bytes; i++) {
+        entry[at + i] = (uint8_t)(value >> (8 * i));
+    }
+}
+
+/* One record of this form: title "HI", body "AB". */
+static void put_record(struct fringemole_memory *m, uint8_t form)
+{
+    uint8_t *titles = lend(2), *bodies = lend(2);
+
+    m->table_len = FRINGEMOLE_RECORD_SIZE;
+    m->table = lend(m->table_len);
+    m->table[FRINGEMOLE_RECORD_FORM] = form;
+    m->table[FRINGEMOLE_RECORD_TYPE] = 'P';
+    put_field(m->table, FRINGEMOLE_RECORD_FROM, "F6FBB");
+    put_field(m->table, FRINGEMOLE_RECORD_AT, "FC1GHV");
+    put_field(m->table, FRINGEMOLE_RECORD_TO, "FC1MVP");
+    put_field(m->table, FRINGEMOLE_RECORD_BID, "1_F6FBB");
+    put_number(m->table, FRINGEMOLE_RECORD_SIZE_FIELD, 4, 2);
+    put_number(m->table, FRINGEMOLE_RECORD_TITLE_LEN, 1, 2);
+    put_number(m->table, FRINGEMOLE_RECORD_BODY_LEN, 2, 2);
+    memcpy(titles, "HI", 2);
+    memcpy(bodies, "AB", 2);
+    m->titles = titles;
+    m->titles_len = 2;
+    m->bodies = bodies;
+    m->bodies_len = 2;
+}
+
+static void put_known(struct fringemole_memory *m, const char *bid)
+{
+    uint8_t *known = lend(FRINGEMOLE_KNOWN_SIZE);
+
+    put_field(known, FRINGEMOLE_KNOWN_BID, bid);
+    m->known = known;
+    m->known_len = FRINGEMOLE_KNOWN_SIZE;
+}
+
+static void take_back(struct fringemole_memory *m)
+{
+    free(m->session);
+    free(m->table);
+    free((void *)m->titles);
+    free((void *)m->bodies);
+    free((void *)m->known);
+    free(m->inbox);
+    free(m->store);
+}
+
+/* ---- the three calls, as steps */
+
+static void opens(const struct fringemole_memory *m, uint8_t role, unsigned answer, unsigned place)
+{
+    printf("open, role %u:", role);
+    verdict(is(fringemole_open_in(m, role), answer, place, 0));
+}
+
+/* The partner says n bytes, of which receive takes `count`. */
+static void hears(const struct fringemole_memory *m, const char *bytes, size_t n, unsigned answer, size_t count)
+{
+    uint8_t *portion = lend(n);
+
+    if (n != 0) {
+        memcpy(portion, bytes, n);
+    }
+    printf("receive ");
+    show(bytes, n);
+    verdict(is(fringemole_receive_in(m, portion, n), answer, 0, count));
+    free(portion);
+}
+
+/* We say these bytes, in rooms of three, from the second byte of a buffer; then nothing more. */
+static void says(const struct fringemole_memory *m, const char *bytes, size_t n)
+{
+    size_t done = 0;
+    int right = 1;
+    uint8_t *buffer = lend(4);
+
+    printf("give    ");
+    show(bytes, n);
+    while (right && done < n) {
+        size_t count = n - done < 3 ? n - done : 3;
+        memset(buffer, 0xA5, 4);
+        right = is(fringemole_give_in(m, buffer, 4, 1), FRINGEMOLE_OK, 0, count) && buffer[0] == 0xA5
+            && memcmp(buffer + 1, bytes + done, count) == 0 && (count == 3 || buffer[1 + count] == 0xA5);
+        done += count;
+    }
+    right = right && is(fringemole_give_in(m, buffer, 4, 1), FRINGEMOLE_OK, 0, 0);
+    verdict(right);
+    free(buffer);
+}
+
+/* The bytes of a string constant and how many they are. */
+#define BYTES(text) (text), (sizeof(text) - 1)
+#define HEARS(m, text) hears((m), BYTES(text), FRINGEMOLE_OK, sizeof(text) - 1)
+#define SAYS(m, text) says((m), BYTES(text))
+
+static void stands(const char *what, int right)
+{
+    printf("%s:", what);
+    verdict(right);
+}
+
+static int field_is(const uint8_t *entry, size_t at, const char *text)
+{
+    return entry[at] == strlen(text) && memcmp(entry + at + 1, text, strlen(text)) == 0;
+}
+
+/* The inbox holds one message of this form: title "HI", body "AB". */
+static int one_message(const struct fringemole_memory *m, uint8_t form)
+{
+    const uint8_t *entry = m->inbox;
+    static const uint8_t body[6] = { 0, 0, 0, 0, 2, 0 };
+
+    return m->session[FRINGEMOLE_SESSION_KEPT] == 1 && entry[FRINGEMOLE_ENTRY_FORM] == form && entry[FRINGEMOLE_ENTRY_TYPE] == 'B'
+        && field_is(entry, FRINGEMOLE_ENTRY_FROM, "FC1GHV") && field_is(entry, FRINGEMOLE_ENTRY_AT, "F6FBB.FRA")
+        && field_is(entry, FRINGEMOLE_ENTRY_TO, "ALL") && field_is(entry, FRINGEMOLE_ENTRY_BID, TAKEN)
+        && field_is(entry, FRINGEMOLE_ENTRY_HEADING, "HI") && memcmp(entry + FRINGEMOLE_ENTRY_BODY, body, 6) == 0
+        && memcmp(m->store, "AB", 2) == 0;
+}
+
+/* ---- the sessions */
+
+/* 01: "Whole session, called, empty table." */
+static void whole_session(void)
+{
+    struct fringemole_memory m = memory_with(0, 0);
+
+    puts("# 01's whole session");
+    opens(&m, CALLED, FRINGEMOLE_OK, 0);
+    SAYS(&m, "[NOD-1-BFH$]\r>\r");
+    HEARS(&m, "");
+    HEARS(&m, "[TST-1-F$]\rFF\r");
+    SAYS(&m, "FQ\r");
+    hears(&m, BYTES(""), FRINGEMOLE_ENDED, 0);
+    take_back(&m);
+}
+
+/* A message each way, plain, with us called. */
+static void plain_exchange(void)
+{
+    struct fringemole_memory m = memory_with(PLACES, ROOM);
+
+    puts("# plain messages, called");
+    put_record(&m, 0);
+    put_known(&m, "9_KNOWN");
+    opens(&m, CALLED, FRINGEMOLE_OK, 0);
+    SAYS(&m, "[NOD-1-BFH$]\r>\r");
+    HEARS(&m, "[TST-1-F$]\r\nFB B FC1GHV F6FBB.FRA ALL 1_THEM 2\r\nfb p A B C 9_KNOWN 2\rF>\r");
+    SAYS(&m, "FS +-\r");
+    HEARS(&m, "\nHI\rAB\x1A \r\n");
+    stands("one plain message kept", one_message(&m, 0));
+    SAYS(&m, "FB P F6FBB FC1GHV FC1MVP 1_F6FBB 2\rF>\r");
+    HEARS(&m, "; hello\rFS +\r");
+    SAYS(&m, "HI\rAB\x1A\r");
+    stands("not forwarded yet", m.table[FRINGEMOLE_RECORD_STATE] == 0);
+    HEARS(&m, "FF\r");
+    stands("forwarded", m.table[FRINGEMOLE_RECORD_STATE] == 1);
+    SAYS(&m, "FQ\r");
+    hears(&m, BYTES("\n"), FRINGEMOLE_ENDED, 0);
+    take_back(&m);
+}
+
+/* A message each way, framed, with us calling. */
+static void framed_exchange(void)
+{
+    struct fringemole_memory m = memory_with(PLACES, ROOM);
+
+    puts("# framed messages, calling");
+    put_record(&m, 1);
+    opens(&m, CALLER, FRINGEMOLE_OK, 0);
+    SAYS(&m, "");
+    HEARS(&m, "[TST-1-B1F$]\rwelcome\r>\r");
+    SAYS(&m, "[NOD-1-BFH$]\rFA P F6FBB FC1GHV FC1MVP 1_F6FBB 2\rF>\r");
+    HEARS(&m, "FS +\r");
+    SAYS(&m, "\x01\x05HI\x00\x30\x00\x02\x02" "AB\x04\x7D");
+    HEARS(&m, "FA B FC1GHV F6FBB.FRA ALL 1_THEM 2\rFB P A B C 2_THEM 99\rF>\r");
+    stands("forwarded", m.table[FRINGEMOLE_RECORD_STATE] == 1);
+    SAYS(&m, "FS +=\r");
+    HEARS(&m, "\x01\x05HI\x00\x30\x00\x02\x02" "AB\x04\x7D");
+    stands("one packed message kept", one_message(&m, 1));
+    SAYS(&m, "FF\r");
+    hears(&m, BYTES("FQ\r\n"), FRINGEMOLE_OK, 3);
+    take_back(&m);
+}
+
+/* Refusals of each call. */
+static void refusals(void)
+{
+    struct fringemole_memory m = memory_with(PLACES, ROOM);
+    uint8_t buffer[2] = { 0xA5, 0xA5 };
+
+    puts("# refusals");
+    put_record(&m, 0);
+    opens(&m, 2, FRINGEMOLE_BAD_MEMORY, 255);
+    m.table[FRINGEMOLE_RECORD_TYPE] = 'T';
+    opens(&m, CALLED, FRINGEMOLE_BAD_MEMORY, 0);
+    m.table[FRINGEMOLE_RECORD_TYPE] = 'B';
+    opens(&m, CALLED, FRINGEMOLE_OK, 0);
+    m.store_len -= 1;
+    stands("another size", is(fringemole_give_in(&m, buffer, 2, 0), FRINGEMOLE_BAD_MEMORY, 255, 0));
+    m.store_len += 1;
+    stands("a place beyond the end", is(fringemole_give_in(&m, buffer, 2, 3), FRINGEMOLE_OK, 0, 0));
+    stands("nothing written", buffer[0] == 0xA5 && buffer[1] == 0xA5);
+    hears(&m, BYTES("[TST"), FRINGEMOLE_BYTES_WAIT, 1);
+    SAYS(&m, "");
+    hears(&m, BYTES("["), FRINGEMOLE_ENDED, 0);
+    take_back(&m);
+}
+
+int main(void)
+{
+    whole_session();
+    plain_exchange();
+    framed_exchange();
+    refusals();
+    printf("c: %u steps, 0 wrong\n", steps);
+    return 0;
+}

@@ -1,0 +1,255 @@
+//! The second kind of run: somebody else writes into session memory, table and
+//! inbox between calls. Every call must still answer, and do no harm.
+
+use crate::form::{self, Verdict};
+use crate::guarded::Guarded;
+use crate::lent::{Memory, INBOX, SESSION, STORE, TABLE};
+use crate::library;
+use crate::report::{Call, Checked, History};
+use crate::sessions::Driver;
+use crate::tally::Tally;
+use inputs::random::Random;
+use inputs::{byte, damaged, fs_line, line, proposal_fields, short_turn_line, sid, spaced};
+use second::layout::RECORD_BYTES;
+use second::session::Reply;
+
+/// What these runs have seen.
+#[derive(Debug, Default)]
+pub struct Changed {
+    pub sessions: u64,
+    pub calls: u64,
+    /// Calls that answered 1.
+    pub ones: u64,
+    /// Calls whose memory the page decides to fail, and to pass.
+    pub failing: u64,
+    pub passing: u64,
+}
+
+/// The library alone, on memory that changes under it.
+struct Alone<'a> {
+    random: &'a mut Random,
+    seen: &'a mut Changed,
+    memory: Memory,
+    history: History,
+    /// The last call did not answer 1 and nobody has written since.
+    intact: bool,
+    /// What the last intact call says of the next: receive must answer 12, give
+    /// must give nothing.
+    over: bool,
+    empty: bool,
+}
+
+/// A session that starts well, and then memory changes.
+pub fn run(random: &mut Random, tally: &mut Tally, seen: &mut Changed) -> Checked {
+    let mut driver = Driver::new(random, tally);
+    if !driver.open()? {
+        return Ok(());
+    }
+    let steps = driver.steps();
+    for _ in 0..steps {
+        if !driver.step()? {
+            break;
+        }
+    }
+    seen.sessions += 1;
+    let (memory, history) = driver.into_pair().into_lent();
+    let mut alone =
+        Alone { random, seen, memory, history, intact: true, over: false, empty: false };
+    for _ in 0..alone.random.within(5, 30) {
+        alone.step()?;
+    }
+    Ok(())
+}
+
+impl Alone<'_> {
+    fn step(&mut self) -> Checked {
+        if !self.random.once_in(3) {
+            for _ in 0..self.random.pick(&[1, 1, 1, 2, 5]) {
+                self.write();
+            }
+        }
+        match self.random.once_in(2) {
+            true => self.receive(),
+            false => self.give(),
+        }
+    }
+
+    /// Writes a few bytes somewhere.
+    fn write(&mut self) {
+        let buffer = self.random.pick(&[SESSION, SESSION, SESSION, SESSION, TABLE, INBOX]);
+        let length = self.memory.part(buffer).len();
+        if length == 0 {
+            return;
+        }
+        let (place, bytes) = match buffer {
+            SESSION if !self.random.once_in(4) => self.session_field(),
+            _ => (self.random.below(length), vec![byte(self.random)]),
+        };
+        let end = length.min(place + bytes.len());
+        self.memory.part_mut(buffer)[place..end].copy_from_slice(&bytes[..end - place]);
+        self.history.begin(Call::Change { buffer, place, bytes });
+        self.intact = false;
+    }
+
+    /// A number of session memory, near the limits that matter to it.
+    fn session_field(&mut self) -> (usize, Vec<u8>) {
+        let small = self.random.pick(&[0, 0, 1, 2, 3, 4, 5, 6, 7, 63, 64, 80, 81, 88, 255]);
+        let large = self.random.pick(&[0, 1, 255, 256, 257, 65_535, 65_536, usize::MAX]);
+        match self.random.below(8) {
+            0 => {
+                let at = self.random.pick(&[form::LINE_BYTES, 94]);
+                (at, large.to_le_bytes()[..2].to_vec())
+            }
+            1 => (form::BODY_BYTES, large.to_le_bytes()[..4].to_vec()),
+            2 => (self.random.pick(&[100, form::USED]), large.to_le_bytes().to_vec()),
+            3 => (self.random.within(116, 179), vec![small]),
+            4 => (self.random.within(516, 875), vec![byte(self.random)]),
+            _ => (self.random.within(form::AWAITED, 91), vec![small]),
+        }
+    }
+
+    /// Bytes of the kind that the library awaits, as its memory says.
+    fn bytes(&mut self) -> Vec<u8> {
+        let session = self.memory.part(SESSION);
+        let (awaited, proposed) = (session[form::AWAITED], session[form::PROPOSED]);
+        let framed = session[62] != 0;
+        let random = &mut *self.random;
+        let mut bytes = match awaited {
+            0 | 1 => sid(random),
+            2 => b"welcome\r>".to_vec(),
+            3 if random.once_in(2) => short_turn_line(random),
+            3 => {
+                let fields = proposal_fields(random);
+                [spaced(random, &fields), b"\rF>".to_vec()].concat()
+            }
+            4 => fs_line(random, proposed.into()),
+            5 if framed => b"\x01\x05HI\x000\x00\x02\x02AB\x04\x7D".to_vec(),
+            5 => b"HI\rAB\x1A".to_vec(),
+            _ => line(random),
+        };
+        bytes.push(b'\r');
+        match random.below(4) {
+            0 => damaged(random, bytes),
+            1 => bytes[..random.below(bytes.len() + 1)].to_vec(),
+            _ => bytes,
+        }
+    }
+
+    fn receive(&mut self) -> Checked {
+        let bytes = self.bytes();
+        self.history.begin(Call::Receive { bytes: bytes.clone(), resize: None });
+        let (before, verdict) = (self.memory.clone(), form::verdict(&self.memory));
+        let reply = library::receive(self.memory.lend(None), &bytes);
+        let may_change = [SESSION, TABLE, INBOX, STORE];
+        self.check(reply, verdict, &before, &may_change, bytes.len())?;
+        if self.intact && self.over && reply.answer != 12 {
+            return self.differs("an ended session did not answer 12");
+        }
+        if reply.answer == 12 && reply.count != 0 {
+            return self.differs("12 with a count");
+        }
+        if matches!(reply.answer, 1 | 12) {
+            self.unchanged(&before)?;
+        }
+        self.intact = reply.answer != 1;
+        // "Receive consumes every byte lent to it, unless it answers 1 or 12 or the
+        // session ends on the way".
+        self.over = reply.answer > 1 || (reply.answer == 0 && reply.count < bytes.len());
+        self.empty = self.over;
+        Ok(())
+    }
+
+    fn give(&mut self) -> Checked {
+        let (room, place) = (self.random.below(300), self.random.below(20));
+        self.history.begin(Call::Give { room, place, resize: None });
+        let (before, verdict) = (self.memory.clone(), form::verdict(&self.memory));
+        let mut buffer = Guarded::new(self.random, &vec![0xA5; room]);
+        let mut expected = buffer.clone();
+        let reply = library::give(self.memory.lend(None), buffer.part_mut(), place);
+        self.check(reply, verdict, &before, &[SESSION], room.saturating_sub(place))?;
+        if reply.answer > 1 {
+            return self.differs("give answered more than 1");
+        }
+        if reply.answer == 1 {
+            self.unchanged(&before)?;
+        }
+        if self.intact && self.empty && reply.count > 0 {
+            return self.differs("bytes given though none waited");
+        }
+        let written = place.min(room)..place.min(room) + reply.count;
+        expected.part_mut()[written.clone()].copy_from_slice(&buffer.part()[written.clone()]);
+        if buffer != expected {
+            return self.differs("give wrote outside what it counts");
+        }
+        // "It writes as many waiting bytes as fit".
+        self.empty = reply.answer == 0 && written.end < room && place < room;
+        self.over &= self.intact;
+        self.intact = reply.answer != 1;
+        Ok(())
+    }
+
+    /// What holds after any call.
+    fn check(
+        &mut self,
+        reply: Reply,
+        verdict: Verdict,
+        before: &Memory,
+        may_change: &[usize],
+        most: usize,
+    ) -> Checked {
+        self.history.end(reply);
+        self.seen.calls += 1;
+        self.seen.ones += u64::from(reply.answer == 1);
+        self.seen.failing += u64::from(verdict == Verdict::Fails);
+        self.seen.passing += u64::from(verdict == Verdict::Passes);
+        self.check_reply(reply, verdict, most)?;
+        self.check_memory(reply, before, may_change)
+    }
+
+    fn check_reply(&self, reply: Reply, verdict: Verdict, most: usize) -> Checked {
+        let one = reply.answer == 1;
+        let (place, most) = if one { (255, 0) } else { (0, most) };
+        if reply.answer > 12 || reply.place != place || reply.count > most {
+            return self.differs("no such reply");
+        }
+        if one && self.intact {
+            return self.differs("1 on memory as the last call left it");
+        }
+        if one != (verdict == Verdict::Fails) && verdict != Verdict::Undecided {
+            return self.differs(&format!("the form test {verdict:?}"));
+        }
+        Ok(())
+    }
+
+    /// Only what the call may write has changed; of the table, only states.
+    fn check_memory(&self, reply: Reply, before: &Memory, may_change: &[usize]) -> Checked {
+        let mut expected = before.clone();
+        for &buffer in may_change {
+            let now = self.memory.part(buffer);
+            let step = if buffer == TABLE { RECORD_BYTES } else { 1 };
+            for (byte, now) in expected.part_mut(buffer).iter_mut().zip(now).step_by(step) {
+                *byte = *now;
+            }
+        }
+        if let Some(change) = self.memory.change(&expected) {
+            return self.differs(&change);
+        }
+        // "What an accepted open leaves passes it, and so does what a receive or
+        // give leaves that doesn't answer 1, on whatever memory".
+        if reply.answer != 1 && form::verdict(&self.memory) == Verdict::Fails {
+            return self.differs("the call left memory that fails the form test");
+        }
+        Ok(())
+    }
+
+    fn unchanged(&self, before: &Memory) -> Checked {
+        match self.memory.change(before) {
+            Some(change) => self.differs(&format!("nothing may change, but {change}")),
+            None => Ok(()),
+        }
+    }
+
+    fn differs<T>(&self, what: &str) -> Checked<T> {
+        Err(self.history.difference(crate::describe::memory(&self.memory), what.into()))
+    }
+}

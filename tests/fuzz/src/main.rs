@@ -1,0 +1,137 @@
+//! Plays whole sessions on the proved library and on the second implementation
+//! and compares them after every call: the papers' sessions cut at every byte,
+//! random sessions, and random changes of the lent memory.
+
+#![deny(unsafe_code)]
+
+mod changed;
+mod cuts;
+mod describe;
+mod form;
+mod guarded;
+mod lent;
+mod library;
+mod pair;
+mod partner;
+mod report;
+mod sessions;
+mod tables;
+mod tally;
+mod watch;
+mod wrong;
+
+use changed::Changed;
+use inputs::random::Random;
+use report::Checked;
+use std::process::ExitCode;
+use std::time::{Duration, Instant, SystemTime, UNIX_EPOCH};
+use tally::Tally;
+
+const USAGE: &str = "fuzz [--seed N] [--sessions N] [--from N] [--minutes N] [--verbose]
+  --seed N      repeat the run of this seed (as printed at its start)
+  --sessions N  random sessions (default 20000), and a quarter as many with changed memory
+  --from N      start with session N, to repeat one
+  --minutes N   instead of a number of sessions, as many as N minutes hold
+  --verbose     print each session's number before it, to find one that crashes";
+
+/// A run of changed memory for so many sessions.
+const CHANGED_EVERY: u64 = 4;
+
+struct Options {
+    seed: u64,
+    from: u64,
+    sessions: u64,
+    minutes: Option<u64>,
+    verbose: bool,
+}
+
+/// A number in decimal, or in hex after 0x.
+fn number(word: &str) -> Option<u64> {
+    match word.strip_prefix("0x") {
+        Some(hex) => u64::from_str_radix(hex, 16).ok(),
+        None => word.parse().ok(),
+    }
+}
+
+fn clock_seed() -> u64 {
+    let since = SystemTime::now().duration_since(UNIX_EPOCH);
+    since.map_or(1, |time| time.as_nanos() as u64)
+}
+
+fn options(mut words: impl Iterator<Item = String>) -> Option<Options> {
+    let (seed, from, sessions) = (clock_seed(), 0, 20_000);
+    let mut options = Options { seed, from, sessions, minutes: None, verbose: false };
+    while let Some(word) = words.next() {
+        match word.as_str() {
+            "--seed" => options.seed = number(&words.next()?)?,
+            "--sessions" => options.sessions = number(&words.next()?)?,
+            "--from" => options.from = number(&words.next()?)?,
+            "--minutes" => options.minutes = Some(number(&words.next()?)?),
+            "--verbose" => options.verbose = true,
+            _ => return None,
+        }
+    }
+    Some(options)
+}
+
+/// The random sessions, each with random numbers of its own. Says at which one
+/// it stopped.
+fn random_sessions(options: &Options, tally: &mut Tally, changed: &mut Changed) -> (u64, Checked) {
+    let start = Instant::now();
+    let time = options.minutes.map(|minutes| Duration::from_secs(60 * minutes));
+    let mut session = options.from;
+    loop {
+        let more = match time {
+            Some(time) => start.elapsed() < time,
+            None => session < options.from + options.sessions,
+        };
+        if !more {
+            return (session, Ok(()));
+        }
+        watch::session(session, options.verbose);
+        let mut random = Random::named(options.seed, &format!("session {session}"));
+        let mut checked = sessions::run(&mut random, tally);
+        if checked.is_ok() && session % CHANGED_EVERY == 0 {
+            let mut random = Random::named(options.seed, &format!("changed {session}"));
+            checked = changed::run(&mut random, &mut Tally::default(), changed);
+        }
+        if checked.is_err() {
+            return (session, checked);
+        }
+        session += 1;
+    }
+}
+
+fn run(options: &Options) -> Checked {
+    let cuts = cuts::run(&mut Random::named(options.seed, "cuts"))?;
+    println!("every cut: {} sessions of the papers, {} cuts", cuts.sessions, cuts.cuts);
+    let (mut tally, mut changed) = (Tally::default(), Changed::default());
+    let (session, checked) = random_sessions(options, &mut tally, &mut changed);
+    if checked.is_err() {
+        println!("session {session}: repeat with --from {session} --sessions 1");
+        return checked;
+    }
+    print!("random sessions:\n{tally}");
+    let Changed { sessions, calls, ones, failing, passing } = changed;
+    println!("changed memory:\n  {sessions} sessions, {calls} calls, {ones} answered 1");
+    println!("  by the form test {failing} must and {passing} must not");
+    println!("fuzz: {} sessions, 0 differences", cuts.sessions as u64 + tally.sessions + sessions);
+    Ok(())
+}
+
+fn main() -> ExitCode {
+    let Some(options) = options(std::env::args().skip(1)) else {
+        eprintln!("{USAGE}");
+        return ExitCode::from(2);
+    };
+    println!("seed {:#x}", options.seed);
+    watch::start();
+    match run(&options) {
+        Ok(()) => ExitCode::SUCCESS,
+        Err(difference) => {
+            println!("{difference}");
+            println!("repeat with --seed {:#x}", options.seed);
+            ExitCode::FAILURE
+        }
+    }
+}

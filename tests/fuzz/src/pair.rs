@@ -1,0 +1,256 @@
+//! Both implementations side by side on the same bytes, compared after every
+//! call.
+
+use crate::guarded::Guarded;
+use crate::lent::{Memory, Resize, INBOX, SESSION, STORE, TABLE};
+use crate::library;
+use crate::report::{Call, Checked, History};
+use inputs::random::Random;
+use second::host::Buffers;
+use second::layout::{read_message, write_message, MESSAGE_BYTES, RECORD_BYTES, SESSION_KEPT};
+use second::log::{self, Kept, Trace};
+use second::memory::{self, Record};
+use second::session::{self, Reply, Session};
+
+/// The second implementation after an accepted open.
+#[derive(Clone, Debug)]
+pub struct Second {
+    pub session: Session,
+    pub memory: memory::Memory,
+    we_called: bool,
+    /// The table as open found it, in records and in bytes.
+    opened: Vec<Record>,
+    opened_bytes: Vec<u8>,
+    trace: Trace,
+    /// Messages that stand in the expected bytes already.
+    written: usize,
+}
+
+/// The library, what should stand in its buffers, and the calls made so far.
+#[derive(Clone, Debug)]
+pub struct Pair {
+    lent: Memory,
+    /// What the second implementation says. Session memory: as the library's
+    /// last call left it.
+    expected: Memory,
+    second: Option<Second>,
+    history: History,
+}
+
+impl Pair {
+    pub fn new(random: &mut Random, host: &Buffers) -> Pair {
+        let lent = Memory::new(random, host);
+        Pair { expected: lent.clone(), lent, second: None, history: History::default() }
+    }
+
+    /// The second implementation's session, if open accepted one.
+    pub fn second(&self) -> Option<&Second> {
+        self.second.as_ref()
+    }
+
+    pub fn calls(&self) -> usize {
+        self.history.len()
+    }
+
+    /// The library's buffers, for runs on changed memory.
+    pub fn into_lent(self) -> (Memory, History) {
+        (self.lent, self.history)
+    }
+
+    /// Opens. "A refused open changes no lent byte", so reading 39: a live
+    /// session goes on.
+    pub fn open(&mut self, role: u8) -> Checked<Reply> {
+        self.history.begin(Call::Open { role });
+        let reply = library::open(role, self.lent.lend(None));
+        let expected = match session::open(role, &self.expected.second()) {
+            Err(refused) => refused,
+            Ok((session, memory)) => {
+                self.second = Some(Second {
+                    we_called: role == 1,
+                    opened: memory.table.clone(),
+                    opened_bytes: self.expected.part(TABLE).to_vec(),
+                    trace: Trace::new(),
+                    written: 0,
+                    session,
+                    memory,
+                });
+                Reply::ok(0)
+            }
+        };
+        self.compare(reply, expected, expected.answer != 0)?;
+        Ok(reply)
+    }
+
+    /// Receives a portion, on buffers of another size if `resize` says so.
+    pub fn receive(&mut self, bytes: &[u8], resize: Option<Resize>) -> Checked<Reply> {
+        self.history.begin(Call::Receive { bytes: bytes.to_vec(), resize });
+        let reply = library::receive(self.lent.lend(resize), bytes);
+        let expected = match &mut self.second {
+            // Reading 38: "Memory that open never accepted: 1."
+            None => Reply::BAD_BUFFERS,
+            Some(second) => second.call(resize, |session, memory| session.receive(memory, bytes)),
+        };
+        self.update();
+        // "nothing consumed, nothing changed"; "Receiving no bytes on a live
+        // session answers 0 and changes nothing."
+        let stands = matches!(expected.answer, 1 | 12) || bytes.is_empty();
+        self.compare(reply, expected, stands)?;
+        if let Some(second) = &mut self.second {
+            second.trace.consumed(&bytes[..reply.count]);
+        }
+        Ok(reply)
+    }
+
+    /// Gives into a buffer of so many bytes, from a place.
+    pub fn give(
+        &mut self,
+        random: &mut Random,
+        (room, place): (usize, usize),
+        resize: Option<Resize>,
+    ) -> Checked<Reply> {
+        self.history.begin(Call::Give { room, place, resize });
+        let filling = vec![random.byte(); room];
+        let mut buffer = Guarded::new(random, &filling);
+        let mut expected_buffer = buffer.clone();
+        let reply = library::give(self.lent.lend(resize), buffer.part_mut(), place);
+        let part = expected_buffer.part_mut();
+        let expected = match &mut self.second {
+            None => Reply::BAD_BUFFERS,
+            Some(second) => {
+                second.call(resize, |session, memory| session.give(memory, part, place))
+            }
+        };
+        self.compare(reply, expected, expected.answer == 1)?;
+        if let Some(at) = buffer.first_difference(&expected_buffer) {
+            let (library, second) = (buffer.part(), expected_buffer.part());
+            let said = |bytes: &[u8]| crate::report::escaped(bytes);
+            let (library, second) = (said(library), said(second));
+            return self.differs(format!(
+                "give's buffer, byte {at} on\n  library:  \"{library}\"\n  expected: \"{second}\""
+            ));
+        }
+        if let Some(second) = &mut self.second {
+            let part = buffer.part().get(place..).unwrap_or_default();
+            second.trace.given(&part[..reply.count]);
+        }
+        Ok(reply)
+    }
+
+    /// Writes what the second implementation keeps into the expected bytes.
+    fn update(&mut self) {
+        let Some(second) = &mut self.second else {
+            return;
+        };
+        let table = self.expected.part_mut(TABLE).chunks_mut(RECORD_BYTES);
+        for (entry, record) in table.zip(&second.memory.table) {
+            entry[0] = record.state as u8;
+        }
+        let inbox = self.expected.part_mut(INBOX).chunks_mut(MESSAGE_BYTES);
+        let new = second.written..second.session.kept();
+        for (entry, message) in inbox.zip(&second.memory.inbox).take(new.end).skip(new.start) {
+            let message = message.as_ref().expect("a message up to the count");
+            entry.copy_from_slice(&write_message(message));
+        }
+        second.written = new.end;
+        self.expected.part_mut(STORE).copy_from_slice(&second.memory.store);
+    }
+
+    /// Holds the library's reply and buffers to the second implementation's.
+    fn compare(&mut self, reply: Reply, expected: Reply, session_stands: bool) -> Checked {
+        self.history.end(reply);
+        if reply != expected {
+            return self.differs(format!("reply\n  library:  {reply:?}\n  expected: {expected:?}"));
+        }
+        if let Some(difference) = self.lent.difference(&self.expected) {
+            return self.differs(difference);
+        }
+        if session_stands && self.lent.part(SESSION) != self.expected.part(SESSION) {
+            return self.differs("session memory changed".into());
+        }
+        let session = self.lent.part(SESSION);
+        self.expected.part_mut(SESSION).copy_from_slice(session);
+        let kept = self.second.as_ref().map(|second| second.session.kept());
+        if kept.is_some_and(|kept| usize::from(self.lent.part(SESSION)[SESSION_KEPT]) != kept) {
+            return self.differs(format!("count of messages kept: expected {kept:?}"));
+        }
+        Ok(())
+    }
+
+    /// Demand 3, on both sides: "after the list, the table is as open found it but
+    /// with the log's states, and the inbox up to its count is the log's messages
+    /// kept, in order".
+    pub fn demand_3(&self) -> Checked {
+        let Some(second) = &self.second else {
+            return Ok(());
+        };
+        let Second { we_called, opened, trace, memory, .. } = second;
+        let log = log::read(*we_called, opened, &memory.stores, trace);
+        let mut table = second.opened_bytes.clone();
+        for (entry, state) in table.chunks_mut(RECORD_BYTES).zip(&log.states) {
+            entry[0] = *state as u8;
+        }
+        if self.lent.part(TABLE) != table {
+            return self.differs("demand 3: the library's table isn't the log's".into());
+        }
+        if self.library_kept() != Some(log.kept.clone()) {
+            return self.differs("demand 3: the library's inbox isn't the log's".into());
+        }
+        let states: Vec<_> = memory.table.iter().map(|record| record.state).collect();
+        if states != log.states || second.kept() != log.kept {
+            return self.differs("demand 3: the second implementation isn't the log's".into());
+        }
+        Ok(())
+    }
+
+    /// The library's messages up to its count, read from its bytes.
+    fn library_kept(&self) -> Option<Vec<Kept>> {
+        let count = usize::from(self.lent.part(SESSION)[SESSION_KEPT]);
+        let store = self.lent.part(STORE);
+        let entries = self.lent.part(INBOX).chunks(MESSAGE_BYTES).take(count);
+        entries.map(|entry| kept(&read_message(entry)?, store)).collect()
+    }
+
+    fn differs<T>(&self, what: String) -> Checked<T> {
+        Err(self.history.difference(crate::describe::memory(&self.expected), what))
+    }
+}
+
+impl Second {
+    /// A call on buffers of other sizes, or of the same.
+    fn call(
+        &mut self,
+        resize: Option<Resize>,
+        call: impl FnOnce(&mut Session, &mut memory::Memory) -> Reply,
+    ) -> Reply {
+        let sizes = self.memory.sizes;
+        if let Some(Resize { buffer, by }) = resize {
+            let size = crate::describe::size_mut(&mut self.memory.sizes, buffer);
+            *size = size.saturating_add_signed(by);
+        }
+        let reply = call(&mut self.session, &mut self.memory);
+        self.memory.sizes = sizes;
+        reply
+    }
+
+    pub fn trace(&self) -> &Trace {
+        &self.trace
+    }
+
+    /// The table as open found it.
+    pub fn opened(&self) -> &[Record] {
+        &self.opened
+    }
+
+    fn kept(&self) -> Vec<Kept> {
+        let messages = self.memory.inbox[..self.session.kept()].iter().flatten();
+        messages.filter_map(|message| kept(message, &self.memory.store)).collect()
+    }
+}
+
+fn kept(message: &memory::Message, store: &[u8]) -> Option<Kept> {
+    Some(Kept {
+        envelope: message.envelope.clone(),
+        heading: message.heading.clone(),
+        body: message.body.of(store)?.to_vec(),
+    })
+}

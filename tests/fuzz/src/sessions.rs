@@ -1,0 +1,239 @@
+//! The first kind of run: random sessions with a partner that mostly speaks the
+//! protocol, in random portions, on both implementations.
+
+use crate::lent::Resize;
+use crate::pair::{Pair, Second};
+use crate::partner::Partner;
+use crate::report::Checked;
+use crate::tables;
+use crate::tally::Tally;
+use crate::wrong;
+use inputs::random::Random;
+use second::session::Reply;
+
+/// How many bytes go in one call.
+#[derive(Clone, Copy, Debug)]
+enum Pace {
+    One,
+    Few,
+    Some,
+    All,
+}
+
+/// After so many calls a session goes on in large portions only.
+const SLOW_CALLS: usize = 250;
+/// And after so many it is dropped.
+const CALLS: usize = 1_200;
+
+/// One session in the making.
+pub struct Driver<'a> {
+    random: &'a mut Random,
+    tally: &'a mut Tally,
+    pair: Pair,
+    partner: Partner,
+    pace: Pace,
+    /// What the partner has said and the link has not brought yet.
+    queue: Vec<u8>,
+    /// Demand 3 is checked after every call, not only at the end.
+    every_call: bool,
+    /// One unit in so many is wrong.
+    damage: usize,
+    /// The last receive refused.
+    refused: bool,
+}
+
+/// Runs one random session, at times a second one on the same memory.
+pub fn run(random: &mut Random, tally: &mut Tally) -> Checked {
+    let mut driver = Driver::new(random, tally);
+    if driver.random.once_in(20) {
+        driver.idle()?;
+    }
+    loop {
+        if !driver.open()? {
+            driver.idle()?;
+            return Ok(());
+        }
+        while driver.step()? {}
+        driver.end()?;
+        if !driver.random.once_in(4) {
+            return Ok(());
+        }
+        driver.partner = driver.partner.another(driver.random);
+        driver.queue.clear();
+    }
+}
+
+impl<'a> Driver<'a> {
+    pub fn new(random: &'a mut Random, tally: &'a mut Tally) -> Driver<'a> {
+        let host = tables::buffers(random);
+        let pair = Pair::new(random, &host);
+        let partner = Partner::new(random, &host);
+        let pace = random.pick(&[Pace::One, Pace::Few, Pace::Some, Pace::Some, Pace::All]);
+        let every_call = random.once_in(32);
+        let damage = random.pick(&[20, 60, 60, 100_000]);
+        let queue = Vec::new();
+        Driver { random, tally, pair, partner, pace, queue, every_call, damage, refused: false }
+    }
+
+    /// How far a session goes before its memory changes.
+    pub fn steps(&mut self) -> usize {
+        self.random.below(60)
+    }
+
+    pub fn into_pair(self) -> Pair {
+        self.pair
+    }
+
+    /// Opens in either role, at times in one that isn't any.
+    pub fn open(&mut self) -> Checked<bool> {
+        let role = match self.random.below(40) {
+            0 => self.random.within(2, 255) as u8,
+            number => (number % 2) as u8,
+        };
+        let reply = self.pair.open(role)?;
+        self.tally.opened(reply);
+        self.tally.sessions += 1;
+        Ok(reply.answer == 0)
+    }
+
+    fn second(&self) -> Option<&Second> {
+        self.pair.second()
+    }
+
+    /// One call or a few. False once the session is over or the link drops.
+    pub fn step(&mut self) -> Checked<bool> {
+        if self.random.once_in(25) {
+            self.noise()?;
+        }
+        let Some(second) = self.second() else {
+            return Ok(false);
+        };
+        if second.session.is_over() || self.pair.calls() > CALLS {
+            return Ok(false);
+        }
+        let waiting = second.session.waiting() > 0;
+        let lf = self.queue.first() == Some(&b'\n');
+        let early = self.random.once_in(60);
+        if waiting && !early && !(lf && self.random.once_in(2)) {
+            self.give()?;
+        } else if !self.queue.is_empty() {
+            self.deliver()?;
+        } else if self.random.once_in(200) {
+            return Ok(false);
+        } else {
+            self.say();
+        }
+        if self.every_call {
+            self.pair.demand_3()?;
+        }
+        Ok(true)
+    }
+
+    /// The partner says its next unit, at times a wrong one.
+    fn say(&mut self) {
+        let Some(second) = self.pair.second() else {
+            return;
+        };
+        let mut unit = self.partner.say(self.random, &second.session, &second.memory);
+        if self.random.once_in(self.damage) {
+            unit = wrong::unit(self.random, unit);
+        }
+        self.queue.extend(unit);
+    }
+
+    /// So many bytes at once.
+    fn portion(&mut self) -> usize {
+        let slow = self.pair.calls() < SLOW_CALLS;
+        match self.pace {
+            Pace::One if slow => 1,
+            Pace::Few if slow => self.random.within(1, 8),
+            Pace::Some if slow => self.random.within(1, 300),
+            _ => usize::MAX,
+        }
+    }
+
+    /// The link brings a portion of what the partner said.
+    fn deliver(&mut self) -> Checked {
+        let count = self.portion().min(self.queue.len());
+        let portion: Vec<u8> = self.queue.drain(..count).collect();
+        self.receive(&portion, None)
+    }
+
+    fn receive(&mut self, bytes: &[u8], resize: Option<Resize>) -> Checked {
+        let reply = self.pair.receive(bytes, resize)?;
+        self.tally.received(reply);
+        self.refused |= reply.answer > 1;
+        Ok(())
+    }
+
+    /// The link takes a portion of what waits, from any place of a buffer.
+    fn give(&mut self) -> Checked {
+        let waiting = self.second().map_or(0, |second| second.session.waiting());
+        let count = self.portion().min(waiting + self.random.below(20));
+        let place = if self.random.once_in(2) { 0 } else { self.random.below(20) };
+        self.give_into(count + place, place, None)
+    }
+
+    fn give_into(&mut self, room: usize, place: usize, resize: Option<Resize>) -> Checked {
+        let reply = self.pair.give(self.random, (room, place), resize)?;
+        self.tally.gave(reply);
+        Ok(())
+    }
+
+    /// Calls that change nothing: no bytes, no room, other sizes, a refused open.
+    fn noise(&mut self) -> Checked {
+        match self.random.below(6) {
+            0 => self.receive(b"", None),
+            1 => self.give_into(0, 0, None),
+            2 => {
+                let room = self.random.below(4);
+                let place = self.random.pick(&[room, room + 1, usize::MAX, usize::MAX - 1]);
+                self.give_into(room, place, None)
+            }
+            3 => {
+                let reply: Reply = self.pair.open(self.random.pick(&[2, 3, 255]))?;
+                self.tally.opened(reply);
+                Ok(())
+            }
+            4 => {
+                let resize = self.resize();
+                let length = self.random.below(4);
+                self.receive(&b"FF\r\n"[..length], Some(resize))
+            }
+            _ => {
+                let resize = self.resize();
+                let room = self.random.below(20);
+                self.give_into(room, 0, Some(resize))
+            }
+        }
+    }
+
+    fn resize(&mut self) -> Resize {
+        let by = self.random.pick(&[-1, 1, -13, 13, -89, -155, -876, 16]);
+        Resize { buffer: self.random.below(8), by }
+    }
+
+    /// Calls on memory that open never accepted.
+    fn idle(&mut self) -> Checked {
+        self.receive(b"[TST-1-F$]\r", None)?;
+        self.give_into(30, 0, None)?;
+        self.receive(b"", None)
+    }
+
+    /// What follows the end of a session or a drop: demand 3, and, if it is over,
+    /// calls that find it so.
+    pub fn end(&mut self) -> Checked {
+        self.pair.demand_3()?;
+        let over = self.second().is_some_and(|second| second.session.is_over());
+        self.tally.ended(&self.pair, over && !self.refused);
+        self.refused = false;
+        if over && self.random.once_in(2) {
+            self.receive(b"", None)?;
+            self.receive(b"\nFF\r", None)?;
+            self.give_into(40, 3, None)?;
+            self.noise()?;
+            self.pair.demand_3()?;
+        }
+        Ok(())
+    }
+}

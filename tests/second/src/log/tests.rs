@@ -1,0 +1,108 @@
+//! The log on traces that no session would make, as far as those go.
+
+use super::*;
+use crate::host::{Buffers, Letter};
+use crate::memory::State::{Declined, Forwarded, Waiting};
+use crate::session::open;
+
+const GREETING: &[u8] = b"[NOD-1-BFH$]\r>\r";
+const PROPOSALS: &[u8] = b"FB P US THEM YOU 1_US 4\rFB P US THEM YOU 2_US 4\rF>\r";
+const TRANSFERS: &[u8] = b"T1\rtext\x1A\rT2\rtext\x1A\r";
+
+/// One piece of a trace.
+#[derive(Clone, Copy)]
+enum Piece<'a> {
+    Us(&'a [u8]),
+    Them(&'a [u8]),
+}
+use Piece::{Them, Us};
+
+/// The log of a called session on a table of two plain messages.
+fn log(pieces: &[Piece<'_>]) -> Log {
+    let mut buffers = Buffers::new(8, 100);
+    for (line, title) in
+        [(&b"FB P US THEM YOU 1_US 4"[..], b"T1"), (b"FB P US THEM YOU 2_US 4", b"T2")]
+    {
+        buffers.add(&Letter::new(Mode::Plain, line, title, b"text"));
+    }
+    let (_, memory) = open(0, &buffers.lent()).expect("accepted");
+    let mut trace = Trace::new();
+    for piece in pieces {
+        match piece {
+            Us(bytes) => trace.given(bytes),
+            Them(bytes) => trace.consumed(bytes),
+        }
+    }
+    read(false, &memory.table, &memory.stores, &trace)
+}
+
+/// The states after our block is out and these pieces followed.
+fn states(pieces: &[Piece<'_>]) -> Vec<State> {
+    let start = [Us(GREETING), Them(b"[TST-1-F$]\r\nFF\r"), Us(PROPOSALS)];
+    log(&[&start, pieces].concat()).states
+}
+
+#[test]
+fn forwarded_by_acceptance_transfer_and_turn() {
+    assert_eq!(states(&[]), [Waiting; 2]);
+    assert_eq!(states(&[Them(b"FS ++\r")]), [Waiting; 2]);
+    assert_eq!(states(&[Them(b"FS ++\r"), Us(TRANSFERS)]), [Waiting; 2]);
+    assert_eq!(states(&[Them(b"FS ++\r"), Us(TRANSFERS), Them(b"FF\r")]), [Forwarded; 2]);
+    assert_eq!(states(&[Them(b"FS -=\r")]), [Declined, Waiting]);
+    assert_eq!(
+        states(&[Them(b"FS -+\r"), Us(&TRANSFERS[9..]), Them(b"FF\r")]),
+        [Declined, Forwarded]
+    );
+}
+
+#[test]
+fn no_mark_without_the_whole_transfer_or_a_valid_turn() {
+    let last = TRANSFERS.len() - 1;
+    let fs = Them(b"FS ++\r");
+    assert_eq!(states(&[fs, Us(&TRANSFERS[..last]), Them(b"FF\r")]), [Waiting; 2]);
+    assert_eq!(states(&[fs, Us(TRANSFERS), Them(b"FQ\r")]), [Waiting; 2]);
+    assert_eq!(states(&[fs, Us(TRANSFERS), Them(b"F>\r")]), [Waiting; 2]);
+    assert_eq!(states(&[fs, Us(TRANSFERS), Them(b"FB P A B C 1 1\r")]), [Waiting; 2]);
+    assert_eq!(states(&[fs, Us(TRANSFERS), Them(b"FB P A B C 1 1\rF>\r")]), [Forwarded; 2]);
+    let wrong = [&TRANSFERS[..3], b"TEXT", &TRANSFERS[7..]].concat();
+    assert_eq!(states(&[fs, Us(&wrong), Them(b"FF\r")]), [Waiting; 2]);
+}
+
+#[test]
+fn order_counts() {
+    let (first, last) = TRANSFERS.split_at(TRANSFERS.len() - 1);
+    let early = [Them(b"FS ++\r"), Us(first), Them(b"FF\r"), Us(last)];
+    assert_eq!(states(&early), [Waiting; 2]);
+    let lf = [Them(b"FS ++\r"), Us(first), Them(b"\n"), Us(last), Them(b"FF\r")];
+    assert_eq!(states(&lf), [Forwarded; 2]);
+    let two = [Them(b"FS ++\r\n"), Us(first), Them(b"\n"), Us(last), Them(b"FF\r")];
+    assert_eq!(states(&two), [Waiting; 2]);
+}
+
+#[test]
+fn what_the_rules_forbid_ends_the_log() {
+    let sid = b"[TST-1-F$]\r";
+    let offer = [&sid[..], b"FB P A B C 1_A 1\rF>\r"].concat();
+    let kept = |pieces: &[Piece<'_>]| log(pieces).kept.len();
+    let fs = Us(b"FS +\r");
+    assert_eq!(kept(&[Us(GREETING), Them(&offer), fs, Them(b"T\ra\x1A\r")]), 1);
+    assert_eq!(kept(&[Us(GREETING), Them(&offer), fs, Them(b"T\ra\x1A")]), 0);
+    assert_eq!(kept(&[Us(GREETING), Them(&offer), Us(b"FS -\r"), Them(b"T\ra\x1A\r")]), 0);
+    assert_eq!(kept(&[Them(&offer), Us(GREETING), fs, Them(b"T\ra\x1A\r")]), 0);
+    assert_eq!(kept(&[Us(b"[NOD]\r>\r"), Them(&offer), fs, Them(b"T\ra\x1A\r")]), 0);
+    let no_f = [b"[TST-1-H$]\r", &offer[sid.len()..]].concat();
+    assert_eq!(kept(&[Us(GREETING), Them(&no_f), fs, Them(b"T\ra\x1A\r")]), 0);
+    let long = [b"T\r", &vec![b'x'; 65_536][..], b"\x1A\r"].concat();
+    assert_eq!(kept(&[Us(GREETING), Them(&offer), fs, Them(&long)]), 0);
+    let fits = [b"T\r", &long[3..]].concat();
+    assert_eq!(kept(&[Us(GREETING), Them(&offer), fs, Them(&fits)]), 1);
+}
+
+#[test]
+fn a_line_has_256_bytes_at_most() {
+    for (spaces, whole) in [(254, true), (255, false)] {
+        let ff = [b"FF", &vec![b' '; spaces][..], b"\r"].concat();
+        let expected = if whole { Forwarded } else { Waiting };
+        assert_eq!(states(&[Them(b"FS ++\r"), Us(TRANSFERS), Them(&ff)]), [expected; 2]);
+    }
+}

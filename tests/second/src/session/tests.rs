@@ -1,0 +1,10 @@
+//! Whole sessions. Each one is held to the log after every call.
+
+mod answers;
+mod end;
+mod opening;
+mod papers;
+mod received;
+mod refusals;
+mod slips;
+mod turns;

@@ -1,0 +1,155 @@
+//! One end of a session under test.
+
+use crate::host::{Buffers, Letter};
+use crate::log::{self, Kept, Trace};
+use crate::memory::{Memory, Record, State};
+use crate::session::{open, Reply, Session};
+use crate::sid::Mode;
+
+pub const CALLED: u8 = 0;
+pub const CALLER: u8 = 1;
+
+/// Our end, its memory, and all that went over the link.
+pub struct End {
+    pub session: Session,
+    pub memory: Memory,
+    role: u8,
+    opened: Vec<Record>,
+    trace: Trace,
+}
+
+impl End {
+    pub fn open(role: u8, buffers: &Buffers) -> End {
+        let (session, memory) = open(role, &buffers.lent()).expect("an accepted open");
+        let opened = memory.table.clone();
+        End { session, memory, role, opened, trace: Trace::new() }
+    }
+
+    /// A called end that has heard a partner without B and awaits its turn.
+    pub fn called(buffers: &Buffers) -> End {
+        let mut end = End::open(CALLED, buffers);
+        assert_eq!(end.say(), b"[NOD-1-BFH$]\r>\r");
+        assert_eq!(end.hear(b"[TST-1-F$]\r"), Reply::ok(11));
+        end
+    }
+
+    /// The same with a partner that has B.
+    pub fn called_framed(buffers: &Buffers) -> End {
+        let mut end = End::open(CALLED, buffers);
+        end.say();
+        assert_eq!(end.hear(b"[TST-1-BF$]\r"), Reply::ok(12));
+        end
+    }
+
+    /// A calling end that has heard SID and prompt of a partner without B.
+    pub fn caller(buffers: &Buffers) -> End {
+        let mut end = End::open(CALLER, buffers);
+        assert_eq!(end.hear(b"[TST-1-F$]\r>\r"), Reply::ok(13));
+        end
+    }
+
+    /// Receives a portion.
+    pub fn hear(&mut self, bytes: &[u8]) -> Reply {
+        let reply = self.session.receive(&mut self.memory, bytes);
+        self.trace.consumed(&bytes[..reply.count]);
+        self.check_log();
+        reply
+    }
+
+    /// Receives a portion that must be taken whole and without refusal.
+    pub fn hears(&mut self, bytes: &[u8]) {
+        assert_eq!(self.hear(bytes), Reply::ok(bytes.len()), "{}", bytes.escape_ascii());
+    }
+
+    /// Receives a portion that must be taken whole, refused at its last byte.
+    pub fn refuses(&mut self, bytes: &[u8], answer: u8) {
+        let refused = Reply { answer, place: 0, count: bytes.len() };
+        assert_eq!(self.hear(bytes), refused, "{}", bytes.escape_ascii());
+        assert_eq!(self.hear(b"FF\r"), Reply { answer: 12, place: 0, count: 0 });
+        assert_eq!(self.say(), b"");
+    }
+
+    /// Gives into a room of so many bytes.
+    pub fn say_up_to(&mut self, room: usize) -> Vec<u8> {
+        let mut buffer = vec![0; room];
+        let reply = self.session.give(&self.memory, &mut buffer, 0);
+        assert_eq!((reply.answer, reply.place), (0, 0));
+        buffer.truncate(reply.count);
+        self.trace.given(&buffer);
+        self.check_log();
+        buffer
+    }
+
+    /// Gives all that waits.
+    pub fn say(&mut self) -> Vec<u8> {
+        self.say_up_to(400_000)
+    }
+
+    /// Gives all that waits, which must be this.
+    pub fn says(&mut self, bytes: &[u8]) {
+        let said = self.say();
+        assert_eq!(said, bytes, "{}", said.escape_ascii());
+    }
+
+    pub fn states(&self) -> Vec<State> {
+        self.memory.table.iter().map(|record| record.state).collect()
+    }
+
+    /// The inbox up to its count.
+    pub fn kept(&self) -> Vec<Kept> {
+        let messages = self.memory.inbox[..self.session.kept()].iter().flatten();
+        messages
+            .map(|message| Kept {
+                envelope: message.envelope.clone(),
+                heading: message.heading.clone(),
+                body: message.body.of(&self.memory.store).expect("in the store").to_vec(),
+            })
+            .collect()
+    }
+
+    /// Demand 3: "after the list, the table is as open found it but with the
+    /// log's states, and the inbox up to its count is the log's messages kept".
+    fn check_log(&self) {
+        let stores = &self.memory.stores;
+        let log = log::read(self.role == CALLER, &self.opened, stores, &self.trace);
+        let mut table = self.opened.clone();
+        table.iter_mut().zip(&log.states).for_each(|(record, &state)| record.state = state);
+        assert_eq!(self.memory.table, table);
+        assert_eq!(self.kept(), log.kept);
+    }
+}
+
+/// A table of plain messages with these announced sizes and bodies of a few
+/// bytes, BIDs `1_US` on; room for eight messages of 1,000 bytes.
+pub fn plain_table(sizes: &[u32]) -> Buffers {
+    table(Mode::Plain, sizes)
+}
+
+/// The same with packed messages.
+pub fn packed_table(sizes: &[u32]) -> Buffers {
+    table(Mode::Framed, sizes)
+}
+
+fn table(mode: Mode, sizes: &[u32]) -> Buffers {
+    let mut buffers = Buffers::new(8, 1000);
+    let letter = if mode == Mode::Plain { "FB" } else { "FA" };
+    for (place, size) in (1..).zip(sizes) {
+        let line = format!("{letter} P US THEM YOU {place}_US {size}");
+        let title = format!("T{place}");
+        buffers.add(&Letter::new(mode, line.as_bytes(), title.as_bytes(), b"text\r"));
+    }
+    buffers
+}
+
+/// What we write to propose the records of `plain_table` at these places.
+pub fn proposals(places: &[(usize, u32)]) -> Vec<u8> {
+    let line = |(place, size)| format!("FB P US THEM YOU {place}_US {size}\r");
+    let lines: String = places.iter().copied().map(line).collect();
+    [lines.as_bytes(), b"F>\r"].concat()
+}
+
+/// The plain transfers of the records at these places.
+pub fn transfers(places: &[usize]) -> Vec<u8> {
+    let transfer = |place| format!("T{place}\rtext\r\x1A\r");
+    places.iter().map(transfer).collect::<String>().into_bytes()
+}

@@ -1,0 +1,163 @@
+//! Open: 1 with the place of the first bad record, or 255.
+
+use super::end::plain_table;
+use crate::host::Buffers;
+use crate::session::{open, Reply};
+
+/// The place of a refused open, `None` if it is accepted.
+fn place(role: u8, buffers: &Buffers) -> Option<u8> {
+    let refused = open(role, &buffers.lent()).err()?;
+    assert_eq!(refused, Reply { answer: 1, place: refused.place, count: 0 });
+    Some(refused.place)
+}
+
+/// The place after a change to a table of three records.
+fn changed(change: impl Fn(&mut Buffers)) -> Option<u8> {
+    let mut buffers = plain_table(&[5, 5, 5]);
+    change(&mut buffers);
+    place(0, &buffers)
+}
+
+fn shorten(buffer: &mut Vec<u8>) {
+    buffer.pop();
+}
+
+#[test]
+fn roles_are_0_and_1() {
+    let places: Vec<Option<u8>> = (0..4).map(|role| place(role, &plain_table(&[5]))).collect();
+    assert_eq!(places, [None, None, Some(255), Some(255)]);
+}
+
+/// "Sizes are bad exactly if a limit above is passed, a buffer of entries holds no
+/// whole number of them, or session memory hasn't its fixed size".
+#[test]
+fn sizes_are_limited() {
+    for (records, bad) in [(0, None), (63, None), (64, None), (65, Some(255))] {
+        assert_eq!(place(0, &plain_table(&vec![5; records])), bad);
+    }
+    for (known, bad) in [(0, None), (1, None), (1024, None), (1025, Some(255))] {
+        let know = |buffers: &mut Buffers| (0..known).for_each(|_| buffers.know(b"1_US"));
+        assert_eq!(changed(know), bad);
+    }
+    for (places, bad) in [(0, None), (1, None), (64, None), (65, Some(255))] {
+        assert_eq!(changed(|buffers| buffers.inbox = vec![0; places * 155]), bad);
+    }
+    assert_eq!(changed(|buffers| shorten(&mut buffers.table)), Some(255));
+    assert_eq!(changed(|buffers| buffers.known.push(1)), Some(255));
+    assert_eq!(changed(|buffers| shorten(&mut buffers.inbox)), Some(255));
+    assert_eq!(changed(|buffers| shorten(&mut buffers.session)), Some(255));
+    assert_eq!(changed(|buffers| buffers.session.push(0)), Some(255));
+    assert_eq!(changed(|buffers| buffers.store.clear()), None);
+}
+
+/// "one outside the BID rule below is a bad buffer"
+#[test]
+fn known_bids_obey_the_bid_rule() {
+    for (bid, bad) in [
+        (&b"1"[..], None),
+        (b"123456789012", None),
+        (b"\xFF", None),
+        (b"", Some(255)),
+        (b"1 2", Some(255)),
+        (b"1234567890123", Some(255)),
+    ] {
+        let know = |buffers: &mut Buffers| {
+            buffers.know(b"fine");
+            buffers.know(bid);
+        };
+        assert_eq!(changed(know), bad, "{}", bid.escape_ascii());
+    }
+}
+
+/// "first bad record, from 0"; 255 goes before.
+#[test]
+fn the_first_bad_record_is_the_place() {
+    for record in 0..3 {
+        let state = |buffers: &mut Buffers| buffers.table[89 * record] = 3;
+        assert_eq!(changed(state), Some(record as u8));
+    }
+    let two = |buffers: &mut Buffers| {
+        buffers.table[89] = 3;
+        buffers.table[2 * 89] = 3;
+    };
+    assert_eq!(changed(two), Some(1));
+    let with_known = |buffers: &mut Buffers| {
+        buffers.table[0] = 3;
+        buffers.know(b"");
+    };
+    assert_eq!(changed(with_known), Some(255));
+    let mut buffers = plain_table(&[5]);
+    buffers.table[0] = 3;
+    assert_eq!(place(7, &buffers), Some(255));
+}
+
+/// Reading 45: "Of three records with one BID the second is the place. Copies
+/// within the known list, or of a table BID, are allowed."
+#[test]
+fn of_two_records_with_one_bid_the_later_is_bad() {
+    let bid =
+        |buffers: &mut Buffers, record: usize, digit: u8| buffers.table[89 * record + 57] = digit;
+    assert_eq!(changed(|buffers| bid(buffers, 2, b'1')), Some(2));
+    assert_eq!(changed(|buffers| bid(buffers, 1, b'1')), Some(1));
+    assert_eq!(changed(|buffers| (1..3).for_each(|record| bid(buffers, record, b'1'))), Some(1));
+    let known = |buffers: &mut Buffers| (0..3).for_each(|_| buffers.know(b"1_US"));
+    assert_eq!(changed(known), None);
+}
+
+/// One wrong byte of a record at a time: offset, value, whether it is bad.
+#[test]
+fn record_bytes() {
+    for (offset, value, bad) in [
+        (0, 1, false),
+        (0, 2, false),
+        (0, 3, true),
+        (1, 1, false),
+        (1, 2, true), // form 2 has no name here
+        (1, 3, true),
+        (2, b'B', false),
+        (2, b'p', true),
+        (3, 0, true),
+        (3, 7, true),
+        (4, b'@', true),
+        (4, 0x7F, true),
+        (10, 0, true),
+        (10, 39, true),
+        (11, b'.', true),
+        (49, 0, true),
+        (50, b'.', true),
+        (56, 0, true),
+        (56, 13, true),
+        (57, 0x20, true),
+        (57, 0xFF, false),
+        (72, 1, true),   // 16,777,221 announced
+        (71, 15, false), // 983,045
+        (71, 16, true),  // 1,048,581
+        (76, 1, true),   // the title starts far outside
+        (77, 0, true),
+        (77, 81, true),
+        (82, 1, true), // a name where the store has none
+        (78, 1, true),
+        (88, 1, true),
+    ] {
+        let change = |buffers: &mut Buffers| buffers.table[89 + offset] = value;
+        assert_eq!(changed(change), bad.then_some(1), "{offset} {value}");
+    }
+}
+
+#[test]
+fn headings_and_bodies_in_their_stores() {
+    // Titles are T1T2T3, bodies `text\r` three times.
+    assert_eq!(changed(|buffers| buffers.titles[2] = 0x1F), Some(1));
+    assert_eq!(changed(|buffers| buffers.titles[2] = 0xFF), None);
+    assert_eq!(changed(|buffers| buffers.bodies[5] = 0x1A), Some(1));
+    assert_eq!(changed(|buffers| buffers.bodies[5] = 0x00), None);
+    assert_eq!(changed(|buffers| shorten(&mut buffers.titles)), Some(2));
+    assert_eq!(changed(|buffers| shorten(&mut buffers.bodies)), Some(2));
+    assert_eq!(changed(|buffers| buffers.titles.push(0)), None);
+    // 0x1A is allowed in a packed body.
+    let packed = |buffers: &mut Buffers| {
+        buffers.bodies[5] = 0x1A;
+        buffers.table[89 + 1] = 1;
+    };
+    assert_eq!(changed(packed), None);
+}
