@@ -6,7 +6,7 @@ use Prim.Native.Nat.{ℕ, zero, suc, _+_, _-_, _*_, _<_, _≤_}
 use native.Mathlib.Omega.{arith}
 use native.Mathlib.Numerals.{add-one}
 use lib.Dec.{ltb, leb}
-use lib.ListN.{length, getD, take, drop, length-append}
+use lib.ListN.{length, getD, take, drop}
 use lib.Seq.{append-snoc, getD-drop}
 use borrow.Author.Tests.{lt-ltb, le-ltb}
 use Rattle.grammar.specs.Bytes.{Bytes}
@@ -104,23 +104,21 @@ size-small s j at h = le4-small (entryAt recordSize s j) (entry-small recordSize
 
 -- ---------------------------------------------------------------- the loop
 
--- records are being chosen: those held, then what is chosen from record i on, are the whole
+-- records are being chosen: those held, then what is chosen from record i on, are the whole; total has room for one size more
 pub record Choosing (table : Bytes) (framed : Bool) (flags : List ℕ) (n : ℕ) (places : Five) (total i : ℕ) : Type 0 where
   pub filled : Filled places
-  pub few : places .count ≤ 5
   pub small : total < 4294977536
   pub whole : blockFrom table framed flags n 0 0 0 ≡ held places ++ blockFrom table framed flags n i (places .count) total
 
 module _ (table : Bytes) (framed : Bool) (flags : List ℕ) (n : ℕ) where
   pub choosing-none : {f : Five} → f ≡ fiveOf [] → Choosing table framed flags n f 0 0
-  choosing-none {f} e = rw e (record { filled = refl; few = omega arith; small = omega arith; whole = refl })
+  choosing-none {f} e = rw e (record { filled = refl; small = omega arith; whole = refl })
 
   module _ {places : Five} {total i : ℕ} (c : Choosing table framed flags n places total i) (h : i < n) where
     pub choosing-pass : isWanted table framed flags n i ≡ false → Choosing table framed flags n places total (i + 1)
     choosing-pass e =
         record {
           filled = c .filled;
-          few = c .few;
           small = c .small;
           whole = c .whole ∙ ap (λ (l : List ℕ). held places ++ l) (block-pass table framed flags n i (places .count) total h e);
         }
@@ -132,7 +130,6 @@ module _ (table : Bytes) (framed : Bool) (flags : List ℕ) (n : ℕ) where
         let d : f .count ≡ places .count + 1 = five-next f places i (c .filled) e in
         record {
           filled = five-filled f xs e;
-          few = omega arith;
           small = omega arith;
           whole =
               c .whole

@@ -1,6 +1,6 @@
 -- The session's choices on lent memory. No choice depends on titles, names and bodies, so these are left out.
 use mathlib.Core.Bool.{Bool}
-use mathlib.Core.List.{List, [], _∷_, map}
+use mathlib.Core.List.{[], map}
 use Prim.Native.Nat.{ℕ, _-_, min}
 use Rattle.grammar.specs.Bytes.{Bytes}
 use Rattle.grammar.specs.Answers.{writeSign}

@@ -5,7 +5,7 @@ use lib.ListN.{length}
 use Rattle.grammar.specs.Bytes.{Bytes}
 use Rattle.grammar.specs.Turns.{Proposal}
 use Rattle.mail.specs.Mail.{Record, Message}
-use Rattle.layout.specs.Layout.{byteAt, fieldIn, entryAt, recordSize, knownSize, entrySize, proposalSize, recordOf, knownOf, proposalOf, messageOf}
+use Rattle.layout.specs.Layout.{byteAt, entryAt, recordSize, knownSize, entrySize, proposalSize, recordOf, knownOf, proposalOf, messageOf}
 
 -- What f makes of n entries of this size, from entry i on.
 abbrev pub entriesFrom : {A : Type 0} → (Bytes → A) → ℕ → Bytes → ℕ → ℕ → List A

@@ -1,15 +1,13 @@
 -- 01, "Receive and give answer 1 .. exactly if a lent size isn't the one open kept in session memory or the lent memory fails a form test.
 -- The test is listed in docs/": here it is, in the order of docs/MEMORY.md.
-use mathlib.Core.Bool.{Bool, true, false, cond, not, _&&_, _||_}
+use mathlib.Core.Bool.{Bool, true, cond, not, _&&_, _||_}
 use mathlib.Core.List.{List, [], _∷_}
-use Prim.Native.Nat.{ℕ, zero, suc, _+_, _/_}
+use Prim.Native.Nat.{ℕ, zero, suc, _+_}
 use lib.Dec.{eqb, ltb, leb}
-use lib.ListN.{length, getD, drop, take}
-use Rattle.grammar.specs.Bytes.{Bytes, same}
-use Rattle.grammar.specs.Ascii.{text}
+use lib.ListN.{length, getD, drop}
+use Rattle.grammar.specs.Bytes.{Bytes}
 use Rattle.layout.specs.Layout.{byteAt, entryAt, entrySize, bodyLength}
 use Rattle.state.specs.State.{sessionSize, held, loadOf, loadSizes}
-use Rattle.state.specs.declared.Five.{Five}
 use Rattle.state.specs.declared.Session.{Session}
 use Rattle.state.specs.declared.Sizes.{Sizes}
 use Rattle.choice.specs.Decoded.{placeCount}

@@ -7,7 +7,6 @@ use lib.ListN.{length}
 use Rattle.grammar.specs.Bytes.{Bytes}
 use Rattle.grammar.specs.Refusals.{badMemory}
 use Rattle.buffer.specs.Put.{putBytes, cut}
-use Rattle.buffer.specs.declared.Cursor.{Cursor}
 use Rattle.state.specs.State.{loadOf, saveOf}
 use Rattle.state.specs.declared.Session.{Session}
 use Rattle.waiting.specs.Waiting.{waitingOf, waits, silentOf}

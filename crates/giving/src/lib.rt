@@ -5,7 +5,7 @@ ghost use mathlib.Core.Path.{_≡_};
 ghost use Prim.Native.Nat.{_-_, _≤_};
 ghost use lib.ListN.{length};
 ghost use Rattle.waiting.specs.Waiting.{waitingOf};
-ghost use Rattle.giving.specs.Giving.{Given, Hands, handedOf, giveOf};
+ghost use Rattle.giving.specs.Giving.{Hands, handedOf, giveOf};
 
 // What a call answers: 01's number, the place of a bad record (255: none; 0 but for number 1), the bytes dealt with.
 #[repr(C)]

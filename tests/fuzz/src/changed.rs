@@ -104,6 +104,7 @@ impl Alone<'_> {
             2 => (self.random.pick(&[100, form::USED]), large.to_le_bytes().to_vec()),
             3 => (self.random.within(116, 179), vec![small]),
             4 => (self.random.within(516, 875), vec![byte(self.random)]),
+            5 => (form::AWAITED, vec![small]),
             _ => (self.random.within(form::AWAITED, 91), vec![small]),
         }
     }

@@ -1,5 +1,8 @@
 -- One place more, and the size of the proposal there; the caller shows that the sum fits.
+use mathlib.Core.Path.{_≡_}
+use native.Mathlib.Omega.{arith}
 use borrow.Author.Needs.{needs}
+use Rattle.layout.specs.Layout.{le4At, entryAt, proposalSize}
 use Rattle.choice.proofs.promise.Statement.{statement}
 use Rattle.choice.proofs.promise.Tie as tie
 
@@ -16,10 +19,14 @@ add-requires : tie.Need-add-requires
 add-requires c κs = search needs
 
 add-t8 : tie.Need-add-t8
-add-t8 c = rw (c .before .before .number4 .ensures, c .before .before .before .entry .ensures) (search needs)
+add-t8 c =
+    let e : c .before .before .number4 .result ≡ le4At (entryAt proposalSize (c .before .before .before .before .before .args .block .now) (c .before .before .before .before .before .args .i)) 68 = rw (c .before .before .number4 .ensures, c .before .before .before .entry .ensures) in
+    omega (arith, c .before .before .before .before .before .pre .3)
 
 returns : tie.Need-returns
-returns c = (c .before .add .ensures, rw (c .before .before .number4 .ensures, c .before .before .before .entry .ensures))
+returns c =
+    let e : c .before .before .number4 .result ≡ le4At (entryAt proposalSize (c .before .before .before .before .before .args .block .now) (c .before .before .before .before .before .args .i)) 68 = rw (c .before .before .number4 .ensures, c .before .before .before .entry .ensures) in
+    (c .before .add .ensures, omega arith)
 
 pub promise-spec : {M : Type 1} → statement M
 promise-spec =

@@ -3,12 +3,11 @@
 use Prim.Native.Nat.{ℕ, _<_}
 use mathlib.Core.Path.{_≡_, sym, _∙_}
 use lib.ListN.{length}
-use borrow.Author.Needs.{length-unmapped}
+use borrow.Author.Needs.{needs, length-unmapped}
 use Rattle.waiting.specs.Waiting.{waitingOf}
 use Rattle.waiting.proofs.Short.{waiting-short}
 use Rattle.giving.specs.Giving.{handedOf}
 use Rattle.giving.proofs.Laws.{pos-fits}
-use borrow.Author.Needs.{needs}
 use Rattle.giving.proofs.handed.Statement.{statement}
 use Rattle.giving.proofs.handed.Tie as tie
 
