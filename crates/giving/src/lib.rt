@@ -100,7 +100,7 @@ pub fn give(
     }
     let h = hand(buf, place, s, table, titles, names, bodies);
     let t = h.state;
-    state::save(sm, t);
+    state_save::save(sm, t);
     Reply {
         answer: 0,
         place: 0,

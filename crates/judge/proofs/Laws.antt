@@ -26,7 +26,7 @@ use Rattle.proposal.specs.declared.Proposal.{Proposal}
 use Rattle.proposal.specs.declared.TurnLine.{TurnLine}
 use Rattle.proposal.specs.Meaning.{turnLineIs, proposalIs}
 use Rattle.proposal.proofs.Laws.{says-as}
-use Rattle.transfer_read.specs.declared.Reader.{Reader}
+use Rattle.transfer_step.specs.declared.Reader.{Reader}
 use Rattle.state.specs.State.{at, held, fiveOf, noFive}
 use Rattle.state.specs.declared.Five.{Five}
 use Rattle.state.specs.declared.Await.{Await}

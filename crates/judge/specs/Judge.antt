@@ -15,8 +15,8 @@ use Rattle.grammar.specs.Turns.{Proposal, TurnLine, saysFF, saysFQ, endsBlock, 
 use Rattle.answer.specs.Answers.{answerNumber, answerSigns}
 use Rattle.buffer.specs.Put.{putBytes}
 use Rattle.layout.specs.Layout.{byteAt, entryAt, proposalSize, proposalOut}
-use Rattle.transfer_read.specs.declared.Reader.{Reader}
-use Rattle.transfer_read.specs.Step.{startOf}
+use Rattle.transfer_step.specs.declared.Reader.{Reader}
+use Rattle.transfer_step.specs.Step.{startOf}
 use Rattle.state.specs.State.{at, held, fiveOf, noFive}
 use Rattle.state.specs.declared.Five.{Five}
 use Rattle.state.specs.declared.Await.{Await}

@@ -8,7 +8,7 @@ use state::Await;
 use state::Five;
 use state::Keep;
 use state::Say;
-use transfer_read::Reader;
+use transfer_step::Reader;
 ghost use mathlib.Core.Path.{_≡_};
 ghost use Prim.Native.Nat.{_≤_};
 ghost use lib.ListN.{length, set};
@@ -197,7 +197,7 @@ pub fn reader_for(awaited: Await, i: u8) -> Reader
 {
     let block = awaited.block;
     let form = byte_at(entry(layout::PROPOSAL, &block, i as u16), 0);
-    transfer_read::start(form)
+    transfer_step::start(form)
 }
 
 // The turn is whole and answered by these signs: the first transfer is awaited, or it is our turn.
@@ -265,7 +265,7 @@ fn with_proposal(line: &[u8], p: Proposal, block: [u8; 360], place: usize) -> [u
     let a4 = p.bid.start;
     let e4 = p.bid.end;
     let c = Cursor { at: place, skip: 0 };
-    let _d = layout::put_proposal(
+    let _d = layout_put::put_proposal(
         &mut b,
         c,
         p.form,

@@ -20,7 +20,7 @@ use Rattle.session.specs.Session as on-lists
 use Rattle.session.specs.Session.{Memory, Outcome, goesOn}
 use Rattle.answer.specs.Answers.{answered, answerSigns, signBytes, zeroed}
 use Rattle.answer.proofs.Laws.{answer-number}
-use Rattle.transfer_read.specs.declared.Reader.{Reader}
+use Rattle.transfer_step.specs.declared.Reader.{Reader}
 use Rattle.state.specs.State.{held, fiveOf}
 use Rattle.state.specs.declared.Await.{Await}
 use Rattle.state.specs.declared.Say.{Say}

@@ -21,11 +21,11 @@ use Rattle.buffer.proofs.Laws.{put-length}
 use Rattle.layout.specs.Layout.{entryAt, proposalSize, entryOut, le2, le4}
 use Rattle.layout.proofs.Laws.{entry-length, length-back}
 use Rattle.layout.proofs.Places.{part-in}
-use Rattle.transfer_read.specs.declared.Reader.{Reader}
-use Rattle.transfer_read.specs.declared.Stepped.{Stepped}
-use Rattle.transfer_read.specs.declared.Outcome.{Outcome}
-use Rattle.transfer_read.specs.declared.Outcome.the-variants.{More, Whole, Malformed, WrongSum, NoRoom}
-use Rattle.transfer_read.specs.Step.{at as movedTo, headingMore, titleStep, bodyStep, markStep, beginStep, lengthStep, headingStep, offsetStep, dataStep, sizeStep, sumStep, stepAt, stepOf}
+use Rattle.transfer_step.specs.declared.Reader.{Reader}
+use Rattle.transfer_step.specs.declared.Stepped.{Stepped}
+use Rattle.transfer_step.specs.declared.Outcome.{Outcome}
+use Rattle.transfer_step.specs.declared.Outcome.the-variants.{More, Whole, Malformed, WrongSum, NoRoom}
+use Rattle.transfer_step.specs.Step.{at as movedTo, headingMore, titleStep, bodyStep, markStep, beginStep, lengthStep, headingStep, offsetStep, dataStep, sizeStep, sumStep, stepAt, stepOf}
 use Rattle.transfer_read.specs.Feed.{headingPut, storePut, roomOf}
 use Rattle.state.specs.State.{at, held}
 use Rattle.state.specs.declared.Say.{Say}

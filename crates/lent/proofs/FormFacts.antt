@@ -12,7 +12,7 @@ use Rattle.grammar.specs.Transfers.{partOf}
 use Rattle.grammar.proofs.Basics.{and2, both, or-second}
 use Rattle.layout.specs.Layout.{byteAt, le2, le4, le8}
 use Rattle.layout.proofs.Laws.{octets}
-use Rattle.transfer_read.specs.declared.Reader.{Reader}
+use Rattle.transfer_step.specs.declared.Reader.{Reader}
 use Rattle.state.specs.State.{at, flag, held, fiveAt, arrayAt, fiveOut, loadAwait, loadSay, loadKeep, loadReading, loadLine, loadOf, smallOut, numbersOut, arraysOut, stateOut}
 use Rattle.state.specs.declared.Five.{Five}
 use Rattle.state.specs.declared.Await.{Await}

@@ -28,8 +28,8 @@ use Rattle.session.proofs.Choices.{few, Places, chosen-places, one-sign-each}
 use Rattle.answer.specs.Answers.{answerNumber, answerSigns}
 use Rattle.buffer.proofs.Laws.{put-length}
 use Rattle.layout.specs.Layout.{byteAt, entryAt, recordOf, messageOf, proposalOf, proposalSize, proposalOut, fieldOut, le4}
-use Rattle.transfer_read.specs.declared.Reader.{Reader}
-use Rattle.transfer_read.specs.Step.{reader}
+use Rattle.transfer_step.specs.declared.Reader.{Reader}
+use Rattle.transfer_step.specs.Step.{reader}
 use Rattle.state.specs.State.{at, held, fiveOf, noFive}
 use Rattle.state.specs.declared.Five.{Five}
 use Rattle.state.specs.declared.Await.{Await}

@@ -26,8 +26,8 @@ use Rattle.our_line.proofs.Laws.{fs-text}
 use Rattle.buffer.proofs.Laws.{put-length}
 use Rattle.layout.specs.Layout.{byteAt, entryAt, proposalSize, proposalOf}
 use Rattle.layout.proofs.Laws.{Fits}
-use Rattle.transfer_read.specs.declared.Reader.{Reader}
-use Rattle.transfer_read.specs.Step.{startOf}
+use Rattle.transfer_step.specs.declared.Reader.{Reader}
+use Rattle.transfer_step.specs.Step.{startOf}
 use Rattle.transfer_read.specs.Feed.{roomOf}
 use Rattle.transfer_read.specs.Meaning.{Stands, numbersOf}
 use Rattle.state.specs.State.{held, fiveOf, noFive}

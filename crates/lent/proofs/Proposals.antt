@@ -24,7 +24,7 @@ use Rattle.buffer.specs.Put.{putBytes}
 use Rattle.layout.specs.Layout.{byteAt, entryAt, proposalSize, proposalOf}
 use Rattle.layout.proofs.Places.{entry-written}
 use Rattle.layout.proofs.Laws.{Fits, written, proposal-length, proposal-back, block-kept}
-use Rattle.transfer_read.specs.Step.{startOf}
+use Rattle.transfer_step.specs.Step.{startOf}
 use Rattle.transfer_read.specs.Meaning.{numbersOf, Stands}
 use Rattle.choice.specs.Decoded.{entries, proposalsOf}
 use Rattle.judge.specs.Judge.{plusFrom}

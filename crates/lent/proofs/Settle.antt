@@ -15,7 +15,7 @@ use Rattle.session.specs.Choices.{Shelf, chosen}
 use Rattle.session.proofs.Choices.{few}
 use Rattle.session.specs.Session as on-lists
 use Rattle.session.specs.Session.{Memory, Phase, Outcome, refuses, goesOn}
-use Rattle.transfer_read.specs.declared.Reader.{Reader}
+use Rattle.transfer_step.specs.declared.Reader.{Reader}
 use Rattle.state.specs.State.{held, fiveOf, noFive}
 use Rattle.state.specs.declared.Five.{Five}
 use Rattle.state.specs.declared.Await.{Await}

@@ -19,11 +19,11 @@ use Rattle.grammar.proofs.Basics.{and2}
 use Rattle.grammar.proofs.Exact.{octet}
 use Rattle.answer.specs.Answers.{answerNumber}
 use Rattle.layout.specs.Layout.{byteAt, entryAt, proposalSize}
-use Rattle.transfer_read.specs.declared.Reader.{Reader}
-use Rattle.transfer_read.specs.declared.Stepped.{Stepped}
-use Rattle.transfer_read.specs.declared.Outcome.{Outcome}
-use Rattle.transfer_read.specs.declared.Outcome.the-variants.{More, Whole, Malformed, WrongSum, NoRoom}
-use Rattle.transfer_read.specs.Step.{titleStep, bodyStep, markStep, beginStep, lengthStep, headingStep, offsetStep, dataStep, sizeStep, sumStep, stepAt, stepOf, startOf}
+use Rattle.transfer_step.specs.declared.Reader.{Reader}
+use Rattle.transfer_step.specs.declared.Stepped.{Stepped}
+use Rattle.transfer_step.specs.declared.Outcome.{Outcome}
+use Rattle.transfer_step.specs.declared.Outcome.the-variants.{More, Whole, Malformed, WrongSum, NoRoom}
+use Rattle.transfer_step.specs.Step.{titleStep, bodyStep, markStep, beginStep, lengthStep, headingStep, offsetStep, dataStep, sizeStep, sumStep, stepAt, stepOf, startOf}
 use Rattle.transfer_read.specs.Feed.{roomOf, headingPut, storePut}
 use Rattle.state.specs.State.{held}
 use Rattle.state.specs.declared.Five.{Five}

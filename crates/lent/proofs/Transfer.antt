@@ -12,11 +12,11 @@ use Rattle.grammar.specs.Turns.{Proposal}
 use Rattle.grammar.specs.Scan.{Scan, scanByte}
 use Rattle.session.specs.Choices.{Shelf}
 use Rattle.session.specs.Session as on-lists
-use Rattle.transfer_read.specs.declared.Reader.{Reader}
-use Rattle.transfer_read.specs.declared.Stepped.{Stepped}
-use Rattle.transfer_read.specs.declared.Outcome.{Outcome}
-use Rattle.transfer_read.specs.declared.Outcome.the-variants.{More, Whole, Malformed, WrongSum, NoRoom}
-use Rattle.transfer_read.specs.Step.{stepOf, goesOn}
+use Rattle.transfer_step.specs.declared.Reader.{Reader}
+use Rattle.transfer_step.specs.declared.Stepped.{Stepped}
+use Rattle.transfer_step.specs.declared.Outcome.{Outcome}
+use Rattle.transfer_step.specs.declared.Outcome.the-variants.{More, Whole, Malformed, WrongSum, NoRoom}
+use Rattle.transfer_step.specs.Step.{stepOf, goesOn}
 use Rattle.transfer_read.specs.Feed.{Run, run, after, feedOf, headingPut, storePut, roomOf}
 use Rattle.transfer_read.specs.Meaning.{Stands, FedAs, Kept, Untouched}
 use Rattle.transfer_read.proofs.Follows.{feed-stands}

@@ -4,7 +4,7 @@ use layout::byte_at;
 use layout::entry;
 use layout::number2;
 use layout::number4;
-use layout::part;
+use part::part;
 use state::Sizes;
 ghost use mathlib.Core.Path.{_≡_};
 ghost use mathlib.Core.Bool.{_&&_, not};
@@ -322,8 +322,8 @@ pub fn open(
         inbox: inbox.len(),
         store: store.len(),
     };
-    state::save_sizes(sm, z);
-    state::save(sm, state::fresh(role == 1));
+    state_save::save_sizes(sm, z);
+    state_save::save(sm, state::fresh(role == 1));
     Reply {
         answer: 0,
         place: 0,

@@ -10,11 +10,11 @@ use Rattle.grammar.specs.Refusals.{badMemory, lineTooLong, badTransfer, badChec
 use Rattle.grammar.specs.Lines.{LineByte, dropped, ends, grows, overruns, lineByte, trim}
 use Rattle.buffer.specs.Put.{putBytes}
 use Rattle.layout.specs.Layout.{byteAt, entryAt, recordSize, entrySize, proposalSize, entryOut}
-use Rattle.transfer_read.specs.declared.Reader.{Reader}
-use Rattle.transfer_read.specs.declared.Stepped.{Stepped}
-use Rattle.transfer_read.specs.declared.Outcome.{Outcome}
-use Rattle.transfer_read.specs.declared.Outcome.the-variants.{More, Whole, Malformed, WrongSum, NoRoom}
-use Rattle.transfer_read.specs.Step.{stepOf}
+use Rattle.transfer_step.specs.declared.Reader.{Reader}
+use Rattle.transfer_step.specs.declared.Stepped.{Stepped}
+use Rattle.transfer_step.specs.declared.Outcome.{Outcome}
+use Rattle.transfer_step.specs.declared.Outcome.the-variants.{More, Whole, Malformed, WrongSum, NoRoom}
+use Rattle.transfer_step.specs.Step.{stepOf}
 use Rattle.transfer_read.specs.Feed.{headingPut, storePut, roomOf}
 use Rattle.state.specs.State.{at, held, noFive, loadOf, saveOf}
 use Rattle.state.specs.declared.Five.{Five}

@@ -10,7 +10,7 @@ use state::Line;
 use state::Reading;
 use state::Say;
 use state::Session;
-use transfer_read::Reader;
+use transfer_step::Reader;
 ghost use mathlib.Core.Path.{_≡_};
 ghost use Prim.Native.Nat.{_*_, _≤_, _<_, min};
 ghost use lib.ListN.{length, set, take};
@@ -275,7 +275,7 @@ fn put_parts(awaited: Await, reading: Reading, keep: Keep, inbox: &mut [u8])
         skip: 0,
     };
     let proposal = entry(layout::PROPOSAL, &block, awaited.current as u16);
-    let _d = layout::put_entry(
+    let _d = layout_put::put_entry(
         inbox,
         c,
         proposal,

@@ -16,10 +16,10 @@ use Rattle.grammar.specs.Scan.{Scan, inTitle, inBody, inMark, atStart, atLen, i
 use Rattle.grammar.proofs.Basics.{and2}
 use Rattle.grammar.proofs.Exact.{snoc-length}
 use Rattle.grammar.proofs.TransferBack.{sum-wraps, right-wraps}
-use Rattle.transfer_read.specs.declared.Reader.{Reader}
-use Rattle.transfer_read.specs.declared.Stepped.{Stepped}
-use Rattle.transfer_read.specs.declared.Outcome.the-variants.{Whole, Malformed, WrongSum, NoRoom}
-use Rattle.transfer_read.specs.Step.{goesOn, reader, at, headingMore, onward, ended, titleStep, bodyStep, markStep, beginStep, lengthStep, headingStep, offsetStep, dataStep, sizeStep, sumStep, stepAt, stepOf}
+use Rattle.transfer_step.specs.declared.Reader.{Reader}
+use Rattle.transfer_step.specs.declared.Stepped.{Stepped}
+use Rattle.transfer_step.specs.declared.Outcome.the-variants.{Whole, Malformed, WrongSum, NoRoom}
+use Rattle.transfer_step.specs.Step.{goesOn, reader, at, headingMore, onward, ended, titleStep, bodyStep, markStep, beginStep, lengthStep, headingStep, offsetStep, dataStep, sizeStep, sumStep, stepAt, stepOf}
 use Rattle.transfer_read.specs.Feed.{Run, run, after, headingPut, storePut, feedOf}
 use Rattle.transfer_read.specs.Meaning.{headingSoFar, numbersOf, placeOf, steppedOf, outcomeOf, Stands, Ended, FedAs}
 

@@ -4,8 +4,8 @@ use mathlib.Core.Bool.{Bool, true, false, cond}
 use mathlib.Core.List.{List, [], _∷_, _++_, append-assoc, append-nil}
 use Prim.Native.Nat.{ℕ, _+_}
 use Rattle.grammar.specs.Bytes.{Bytes}
-use Rattle.transfer_read.specs.declared.Reader.{Reader}
-use Rattle.transfer_read.specs.Step.{goesOn, stepOf}
+use Rattle.transfer_step.specs.declared.Reader.{Reader}
+use Rattle.transfer_step.specs.Step.{goesOn, stepOf}
 use Rattle.transfer_read.specs.Feed.{Run, run, after, headingPut, storePut, feedOf}
 use Rattle.transfer_read.specs.Meaning.{thenFeed, feedEach, joined}
 use Rattle.transfer_read.proofs.Laws.{after-zero, after-after}

@@ -14,8 +14,8 @@ use Rattle.grammar.specs.Bytes.{Bytes, CTRLZ}
 use Rattle.grammar.specs.Transfers.{sum}
 use Rattle.grammar.proofs.Basics.{Lacks}
 use Rattle.buffer.specs.Put.{putBytes}
-use Rattle.transfer_read.specs.declared.Reader.{Reader}
-use Rattle.transfer_read.specs.Step.{reader, bodyStep, dataStep, stepAt, stepOf}
+use Rattle.transfer_step.specs.declared.Reader.{Reader}
+use Rattle.transfer_step.specs.Step.{reader, bodyStep, dataStep, stepAt, stepOf}
 use Rattle.transfer_read.specs.Feed.{Run, after, headingPut, storePut, feedOf}
 use Rattle.transfer_read.specs.Straight.{beforeMark, straightOf, along}
 use Rattle.transfer_read.proofs.Laws.{after-zero, after-after}

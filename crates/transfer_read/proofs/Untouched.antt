@@ -11,11 +11,11 @@ use lib.Seq.{take-take, drop-drop, take-set-le, drop-set-lt}
 use Rattle.grammar.specs.Bytes.{Bytes, CR, SP, CTRLZ}
 use Rattle.grammar.specs.Fields.{headingByte}
 use Rattle.grammar.specs.Transfers.{blockSize}
-use Rattle.transfer_read.specs.declared.Reader.{Reader}
-use Rattle.transfer_read.specs.declared.Stepped.{Stepped}
-use Rattle.transfer_read.specs.declared.Outcome.{Outcome}
-use Rattle.transfer_read.specs.declared.Outcome.the-variants.{Whole, Malformed, WrongSum, NoRoom}
-use Rattle.transfer_read.specs.Step.{goesOn, reader, at, headingMore, onward, ended, titleStep, bodyStep, markStep, beginStep, lengthStep, headingStep, offsetStep, dataStep, sizeStep, sumStep, stepAt, stepOf}
+use Rattle.transfer_step.specs.declared.Reader.{Reader}
+use Rattle.transfer_step.specs.declared.Stepped.{Stepped}
+use Rattle.transfer_step.specs.declared.Outcome.{Outcome}
+use Rattle.transfer_step.specs.declared.Outcome.the-variants.{Whole, Malformed, WrongSum, NoRoom}
+use Rattle.transfer_step.specs.Step.{goesOn, reader, at, headingMore, onward, ended, titleStep, bodyStep, markStep, beginStep, lengthStep, headingStep, offsetStep, dataStep, sizeStep, sumStep, stepAt, stepOf}
 use Rattle.transfer_read.specs.Feed.{Run, run, after, headingPut, storePut, feedOf}
 use Rattle.transfer_read.specs.Meaning.{Kept, Untouched}
 

@@ -14,9 +14,9 @@ use Rattle.grammar.specs.Transfers.{Parsed, parse}
 use Rattle.grammar.specs.Scan.{Scan, Scanned, goes, got, malformed, wrongSum, noRoom, scan, scanFrom, scannedNumber}
 use Rattle.grammar.proofs.Basics.{snoc-cons}
 use Rattle.grammar.proofs.Refusal.{Verdict, exact, whole-got}
-use Rattle.transfer_read.specs.declared.Outcome.{Outcome}
-use Rattle.transfer_read.specs.declared.Outcome.the-variants.{More, Whole, Malformed, WrongSum, NoRoom}
-use Rattle.transfer_read.specs.Step.{outcomeNumber, startOf}
+use Rattle.transfer_step.specs.declared.Outcome.{Outcome}
+use Rattle.transfer_step.specs.declared.Outcome.the-variants.{More, Whole, Malformed, WrongSum, NoRoom}
+use Rattle.transfer_step.specs.Step.{outcomeNumber, startOf}
 use Rattle.transfer_read.specs.Feed.{Run, roomOf, feedOf}
 use Rattle.transfer_read.specs.Meaning.{Stands, Ended, Received, contents, FedAs, feedEach, joined}
 use Rattle.transfer_read.proofs.Portions.{feed-each}

@@ -5,10 +5,10 @@ use Prim.Native.Nat.{ℕ, _+_, min}
 use lib.Dec.{eqb}
 use lib.ListN.{length, set}
 use Rattle.grammar.specs.Bytes.{Bytes}
-use Rattle.transfer_read.specs.declared.Reader.{Reader}
+use Rattle.transfer_step.specs.declared.Reader.{Reader}
 use Rattle.transfer_read.specs.declared.Fed.{Fed}
-use Rattle.transfer_read.specs.declared.Outcome.the-variants.{More}
-use Rattle.transfer_read.specs.Step.{goesOn, stepOf}
+use Rattle.transfer_step.specs.declared.Outcome.the-variants.{More}
+use Rattle.transfer_step.specs.Step.{goesOn, stepOf}
 
 -- What a portion comes to, with the heading's array and the store as they are then.
 pub record Run : Type 0 where

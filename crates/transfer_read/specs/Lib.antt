@@ -1,5 +1,4 @@
--- A transfer read byte by byte: one byte in numbers, a portion into lent memory, and what the numbers mean in the words of the grammar.
-pub mod Step
+-- A transfer read byte by byte: a portion into lent memory, and what the numbers of the reading mean in the words of the grammar.
 pub mod Feed
 pub mod Straight
 pub mod Meaning

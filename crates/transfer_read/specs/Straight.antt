@@ -7,8 +7,8 @@ use lib.Dec.{eqb, ltb}
 use lib.ListN.{length, take}
 use Rattle.grammar.specs.Bytes.{Bytes, CTRLZ}
 use Rattle.grammar.specs.Transfers.{sum}
-use Rattle.transfer_read.specs.declared.Reader.{Reader}
-use Rattle.transfer_read.specs.Step.{reader}
+use Rattle.transfer_step.specs.declared.Reader.{Reader}
+use Rattle.transfer_step.specs.Step.{reader}
 
 -- How many bytes stand before the first 0x1A.
 unfoldable pub beforeMark : Bytes → ℕ

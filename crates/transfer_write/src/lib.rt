@@ -1,5 +1,6 @@
 // Our transfers, resumed at any byte with any room: the text at the cursor, what of it isn't passed over and fits. Nothing is judged.
 use buffer::Cursor;
+use part::part;
 ghost use Prim.Native.Nat.{_+_, _*_, _%_, _≤_, _<_, min};
 ghost use mathlib.Core.Path.{_≡_};
 ghost use mathlib.Core.List.{[], _∷_};
@@ -133,21 +134,6 @@ pub fn write_framed(buf: &mut [u8], c: Cursor, heading: &[u8], body: &[u8]) -> C
     let c1 = put_header(buf, c, heading);
     let c2 = put_body(buf, c1, body);
     put_end(buf, c2, body)
-}
-
-// The len bytes from start on, or nothing where they run past the end.
-fn part(s: &[u8], start: usize, len: usize) -> &[u8]
-    ensures { λ r. ⌜ now r ≡ partOf (now (s .entry)) start len ⌝ }
-{
-    if start <= s.len() {
-        if len <= s.len() - start {
-            &s[start..start + len]
-        } else {
-            &s[..0]
-        }
-    } else {
-        &s[..0]
-    }
 }
 
 // The heading of a record's transfer, where it lies: the file name for a file (form 2), else the title.

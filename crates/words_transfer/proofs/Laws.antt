@@ -6,7 +6,7 @@ use native.Mathlib.Nat.{sub-zero, zero-add}
 use Rattle.grammar.specs.Bytes.{Bytes}
 use Rattle.buffer.specs.declared.Cursor.{Cursor}
 use Rattle.buffer.specs.Put.{Puts, putBytes, putCursor}
-use Rattle.transfer_read.specs.declared.Reader.{Reader}
+use Rattle.transfer_step.specs.declared.Reader.{Reader}
 use Rattle.transfer_read.specs.declared.Fed.{Fed}
 use Rattle.transfer_read.specs.Feed.{Run, run, feedOf, roomOf}
 use Rattle.words_transfer.specs.State.{stateOf, readerBy, outcomeCode, portion, Leaves, Copied}

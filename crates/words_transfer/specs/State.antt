@@ -5,10 +5,10 @@ use Prim.Native.Nat.{ℕ, _%_}
 use lib.ListN.{length, take, drop, getD}
 use Rattle.grammar.specs.Bytes.{Bytes}
 use Rattle.grammar.specs.Refusals.{badTransfer, badChecksum, storeFull}
-use Rattle.transfer_read.specs.declared.Reader.{Reader}
-use Rattle.transfer_read.specs.declared.Outcome.{Outcome}
-use Rattle.transfer_read.specs.declared.Outcome.the-variants.{More, Whole, Malformed, WrongSum, NoRoom}
-use Rattle.transfer_read.specs.Step.{reader}
+use Rattle.transfer_step.specs.declared.Reader.{Reader}
+use Rattle.transfer_step.specs.declared.Outcome.{Outcome}
+use Rattle.transfer_step.specs.declared.Outcome.the-variants.{More, Whole, Malformed, WrongSum, NoRoom}
+use Rattle.transfer_step.specs.Step.{reader}
 use Rattle.transfer_read.specs.Feed.{Run, feedOf, roomOf}
 
 -- A reader's numbers in the order: place, L, bytes of heading, of offset, of the body, of the block to come, sum; and how many bytes were consumed.

@@ -1,12 +1,12 @@
 // Transfers for callers from C and Rust: read byte by byte in any portions, the checksum, and where a heading lies. They serve tests and
 // benchmarks; the product's own calls are in the crate fringemole.
 use buffer::Cursor;
-use transfer_read::Outcome;
-use transfer_read::Reader;
+use transfer_step::Outcome;
+use transfer_step::Reader;
 ghost use mathlib.Core.Path.{_≡_};
 ghost use Prim.Native.Nat.{_%_};
 ghost use Rattle.grammar.specs.Transfers.{checksum, headingOf};
-ghost use Rattle.transfer_read.specs.Step.{startOf};
+ghost use Rattle.transfer_step.specs.Step.{startOf};
 ghost use Rattle.words_transfer.specs.State.{stateOf, readerBy, outcomeCode, portion, Leaves, Copied};
 
 // The numbers of a reader, and how many bytes were consumed.
@@ -65,7 +65,7 @@ fn outcome_code(o: Outcome) -> u8
 pub extern "C" fn words_transfer_start(form: u8, state: &mut [u64; 8])
     ensures { λ _. ⌜ now (state .exit) ≡ stateOf (startOf form) 0 ⌝ }
 {
-    *state = state_of(transfer_read::start(form), 0);
+    *state = state_of(transfer_step::start(form), 0);
 }
 
 // Reads a portion, up to its end or an outcome: 0 goes on, 1 whole, 8, 9, 10 refused. The heading goes to `heading`, the body to `store`.

@@ -1,0 +1,2 @@
+-- What the field reader hands out.
+pub mod Reading

@@ -1,0 +1,3 @@
+-- Laws of the proofs.
+pub mod Room
+pub mod Laws

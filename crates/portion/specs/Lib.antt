@@ -1,0 +1,3 @@
+-- What receive takes at once.
+pub mod Portion
+pub mod Parts

@@ -1,0 +1,2 @@
+-- What holds of the state while receive takes bytes.
+pub mod Sound

@@ -1,0 +1,12 @@
+-- The facts of the form test hold of a state and the lent bytes, whatever the sizes and the stores that no call changes.
+use Prim.Native.Nat.{ℕ}
+use Rattle.receiving.specs.Receiving.{Cs}
+use Rattle.lent.specs.Represents.{Fixed}
+use Rattle.lent.proofs.FormFacts.{Good}
+
+pub record Sound (c : Cs) : Type 0 where
+  pub fixed : Fixed
+  pub table : ℕ
+  pub inbox : ℕ
+  pub store : ℕ
+  pub good : Good fixed table inbox store c

@@ -1,0 +1,2 @@
+-- One byte of a transfer, in numbers.
+pub mod Step
