@@ -1,0 +1,25 @@
+/* The command line. */
+#ifndef OPTIONS_H
+#define OPTIONS_H
+
+#include <stdbool.h>
+
+struct options {
+    const char *base, *command;
+    char **arguments; /* what follows the command */
+    int count;
+    /* init */
+    const char *call, *partner;
+    /* import, export */
+    bool text, outbox;
+    /* sessions */
+    bool caller, called, telnet, once, progress;
+    const char *login, *question, *transcript;
+    long timeout, room, drop_after;
+};
+
+/* False after it has said what is wrong. With --help, command is "--help". */
+bool options_read(struct options *options, int count, char **words);
+void options_help(void);
+
+#endif

@@ -1,0 +1,29 @@
+/* What the operator is told, on standard error, and the exit codes. */
+#ifndef SAY_H
+#define SAY_H
+
+enum exit_code {
+    DONE = 0,
+    FAILED = 1,        /* no memory, no transcript file */
+    BAD_USAGE = 2,
+    BAD_BASE = 3,
+    BAD_PORT = 4,
+    LINK_DROPPED = 5,
+    REFUSED = 6,       /* by the library; the number is said */
+    BAD_FILE = 7       /* a message file */
+};
+
+#if defined(__GNUC__)
+#define LIKE_PRINTF __attribute__((format(printf, 1, 2)))
+#define ENDS __attribute__((noreturn))
+#else
+#define LIKE_PRINTF
+#define ENDS
+#endif
+
+/* One line: "fringemole: " and the text. */
+void say(const char *format, ...) LIKE_PRINTF;
+/* Says it and ends the program. */
+void give_up(const char *what) ENDS;
+
+#endif

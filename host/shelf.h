@@ -1,0 +1,32 @@
+/* The shelf of one session: the memory that is lent to the library, filled from the base, and saved to it. */
+#ifndef SHELF_H
+#define SHELF_H
+
+#include "base.h"
+#include "fringemole.h"
+
+struct shelf {
+    struct fringemole_memory lent;
+    struct bytes table, titles, names, bodies, known, inbox, store;
+    uint8_t session[FRINGEMOLE_SESSION_SIZE];
+    /* What the base has: which message a record is, its state, and how many messages of the inbox. */
+    long long numbers[FRINGEMOLE_MAX_RECORDS];
+    uint8_t states[FRINGEMOLE_MAX_RECORDS];
+    size_t kept;
+};
+
+/* Empty, with this much room for bodies that come in. */
+void shelf_start(struct shelf *shelf, size_t room);
+/* False if there is no place, or the body is over 65,535 bytes. */
+bool shelf_add(struct shelf *shelf, const struct message *message);
+bool shelf_know(struct shelf *shelf, struct part bid);
+bool shelf_fill(struct shelf *shelf, struct base *base);
+/* Sets up lent memory, then opens. Add nothing after that. */
+struct fringemole_reply shelf_open(struct shelf *shelf, uint8_t role);
+/* Writes to the base what receive changed since the last time, in one transaction; none if nothing changed. */
+bool shelf_save(struct shelf *shelf, struct base *base);
+void shelf_clear(struct shelf *shelf);
+
+size_t shelf_records(const struct shelf *shelf);
+
+#endif

@@ -1,0 +1,125 @@
+"""The base, wrong ways to use it, and usage."""
+from node import *
+
+
+class Bases(Folder):
+    def made(self, name, content):
+        path = self.folder / (name + ".base")
+        path.write_bytes(content)
+        return Node(self.folder, name)
+
+    def test_bad(self):
+        "each bad base is named, by every command, with exit code 3"
+        other = self.folder / "other.base"
+        sqlite3.connect(other).executescript("CREATE TABLE a (b); PRAGMA application_id = 7")
+        newer = self.node("newer")
+        newer.ask("PRAGMA user_version = 2")
+        missing = self.node("missing")
+        missing.path.unlink()
+        (self.folder / "folder.base").mkdir()
+        half = self.node("half").path.read_bytes()
+        bad = {"no message base": [self.made("text", b"not a base\n" * 100), Node(self.folder, "other"), self.made("empty", b"")],
+               "version 2": [newer], "make a base with init": [missing], "unable to open": [Node(self.folder, "folder")],
+               "half.base: ": [self.made("half", half[:len(half) // 2])]}
+        for why, nodes in bad.items():
+            for node in nodes:
+                for words in (("list",), ("stdio",), ("export", self.folder / "out"), ("import", "-"), ("listen", "0", "--once"), ("call", "1"), ("release", "X")):
+                    with self.subTest((why, node.path.name, words)):
+                        self.says_why(node.run(*words), BAD_BASE, why)
+
+    def test_init(self):
+        "init leaves what is there alone, and says where it can't make a base"
+        node = self.node().add(Message(b"1_A"))
+        self.says_why(node.run("init"), BAD_BASE, "File exists")
+        self.assertEqual(len(node.outbox()), 1)
+        node.path = self.folder / "no" / "where"
+        self.says_why(node.run("init"), BAD_BASE, "No such file")
+
+    def test_damaged(self):
+        "a base with damaged pages ends with 3 or goes on, never otherwise"
+        node = self.node().add(*[Message(b"%d_A" % i, bytes([i]) * 3000) for i in range(20)])
+        whole = node.path.read_bytes()
+        for page in range(1, len(whole) // 4096, 3):
+            node.path.write_bytes(whole[:page * 4096] + b"\xa5" * 4096 + whole[page * 4096 + 4096:])
+            for words in (("list",), ("stdio",)):
+                code, _, err = node.run(*words)
+                self.assertIn(code, (DONE, BAD_BASE, LINK_DROPPED), err)
+                self.assertNotIn("Sanitizer", err)
+
+    def test_bad_row(self):
+        "a row that breaks 01's rules is named by its number, and no session takes place"
+        for number, (sql, value) in enumerate([("UPDATE outbox SET bid = ? WHERE number = 2", b"with space"), ("UPDATE outbox SET type = ? WHERE number = 2", "T"),
+                                               ("UPDATE outbox SET body = ? WHERE number = 2", b"x" * 65536), ("UPDATE outbox SET body = ? WHERE number = 2", b"\x1a"),
+                                               ("UPDATE outbox SET size = ? WHERE number = 2", 1000000), ("UPDATE outbox SET title = ? WHERE number = 2", b"")]):
+            with self.subTest(sql):
+                node = self.node("node%d" % number).add(Message(b"1_A", form="plain"), Message(b"2_A", form="plain"))
+                node.ask(sql, value)
+                code, out, err = node.run("stdio")
+                self.says_why((code, err), BAD_BASE, "message 2 of the base")
+                self.assertEqual(out, b"")
+        node.ask("UPDATE outbox SET state = 1")
+        node.ask("INSERT INTO known (bid) VALUES (?)", b"with space")
+        self.says_why(node.run("stdio"), BAD_BASE, "the base holds what the library doesn't take (refusal 1)")
+
+    def test_lock(self):
+        "a base in a session is locked; when the session's process is killed it is free"
+        node = self.node()
+        partner = node.stdio()
+        partner.hears(GREETING)
+        for words in (("list",), ("stdio",)):
+            self.says_why(node.run(*words), BAD_BASE, "in use by another process")
+        partner.process.kill()
+        partner.rest()
+        node.right("list")
+
+    def test_no_commit(self):
+        "where the base takes no change, the partner is told nothing and the session ends with 3"
+        node = self.node().add(Message(b"1_US", form="plain"))
+        node.ask("CREATE TRIGGER full BEFORE INSERT ON inbox BEGIN SELECT RAISE(ABORT, 'disk full'); END")
+        theirs = Message(b"1_T", form="plain")
+        partner = node.stdio()
+        partner.hears(GREETING)
+        partner.says(b"[TST-1-F$]\r" + theirs.proposal() + b"F>\r")
+        partner.hears(b"FS +\r")
+        partner.says(theirs.transfer())
+        partner.hears_end()
+        self.says_why(partner.ends(), BAD_BASE, "disk full", "0 kept")
+        self.assertEqual((node.inbox(), node.known(), node.states()), ([], {b"1_US"}, {b"1_US": WAITING}))
+
+    def test_one_transaction(self):
+        "all that one portion changes is one transaction: marks, messages and their BIDs stand together or not at all"
+        ours, theirs = Message(b"1_US", form="plain"), [Message(b"%d_T" % i, form="plain") for i in range(3)]
+        node = self.node().add(ours)
+        node.ask("CREATE TRIGGER full BEFORE INSERT ON inbox WHEN NEW.bid = CAST('2_T' AS BLOB) BEGIN SELECT RAISE(ABORT, 'disk full'); END")
+        partner = node.stdio()
+        partner.hears(GREETING)
+        partner.says(b"[TST-1-F$]\r" + b"".join(m.proposal() for m in theirs) + b"F>\r")
+        partner.hears(b"FS +++\r")
+        partner.says(b"".join(m.transfer() for m in theirs))
+        partner.hears_end()
+        self.says_why(partner.ends(), BAD_BASE, "disk full")
+        self.assertEqual((node.inbox(), node.known()), ([], {b"1_US"}))
+
+
+class Usage(Folder):
+    def test_wrong(self):
+        "wrong usage is told, with exit code 2"
+        node = self.node()
+        for words, why in [(("fly",), "fly: no such command"), (("call",), "wrong number"), (("serial", "/dev/tty"), "wrong number"), (("list", "all"), "wrong number"),
+                           (("stdio", "--fast"), "--fast: no such option"), (("stdio", "--timeout"), "wrong use"), (("stdio", "--timeout", "x"), "not a number"),
+                           (("stdio", "--once=yes"), "wrong use"), (("stdio", "--caller", "--called"), "at most one role"), ((), "give a base"),
+                           (("import",), "wrong number"), (("stdio", "--room", "-1"), "not a number"), (("stdio", "--timeout", "1234567890"), "not a number")]:
+            with self.subTest(words):
+                self.says_why(node.run(*words), BAD_USAGE, why)
+
+    def test_help(self):
+        "--help names each command, option and exit code, wherever it stands"
+        code, out, err = self.node().run("call", "--help")
+        self.assertEqual((code, err), (DONE, ""))
+        text = out.decode()
+        for word in ("init", "import", "export", "list", "release", "call", "listen", "stdio", "serial", "--caller", "--called", "--login", "--question",
+                     "--telnet", "--transcript", "--progress", "--timeout", "--room", "--once", "--drop-after", "--call", "--partner", "--text", "--outbox"):
+            self.assertIn("\n  " + word, text.replace(", --called", "\n  --called"))
+        for number in range(8):
+            self.assertIn("\n  %d  " % number, text.split("Exit codes")[1])
+        self.assertTrue(all(len(line) < 96 for line in text.splitlines()))
