@@ -41,3 +41,4 @@ pub mod Deeds
 pub mod Once
 pub mod Fates
 pub mod InWords
+pub mod Corollaries

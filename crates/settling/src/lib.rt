@@ -1,6 +1,7 @@
 // What a byte of a line and a whole transfer leave: marks in the table, our turn, a message in the inbox.
 use buffer::Cursor;
 use judge::Judged;
+use judge::count_of;
 use layout::entry;
 use line::LineByte;
 use state::Await;
@@ -25,16 +26,6 @@ ghost use Rattle.receiving.specs.Receiving.{markAll, refusedOf, settledOf, spok
 pub struct Left {
     pub answer: u8,
     pub session: Session,
-}
-
-// How many numbers are held.
-fn count_of(f: Five) -> usize
-    ensures { λ r. ⌜ (r ≡ length (held f)) × (r ≤ 5) ⌝ }
-{
-    if 5 < f.count {
-        return 5;
-    }
-    f.count as usize
 }
 
 // n, or most where n is more.
@@ -116,7 +107,7 @@ fn spoken(s: Session, j: Judged, after_cr: bool, table: &[u8]) -> Session
         return settled_as(s, j, after_cr, awaited, say);
     }
     let keep = j.keep;
-    let r = judge::speak(awaited, say, keep, table, j.speaks == 2);
+    let r = judging::speak(awaited, say, keep, table, j.speaks == 2);
     let next = r.now;
     let said = r.say;
     settled_as(s, j, after_cr, next, said)
@@ -156,7 +147,7 @@ fn judged(
     ensures { λ r. ⌜ r ≡ judgeOf (trim (now (line .entry))) awaited say keep reader (now (table .entry)) (now (known .entry)) (now (inbox .entry)) store ⌝ }
 {
     let n = line::trimmed(line);
-    judge::judge(
+    judging::judge(
         &line[..n],
         awaited,
         say,
