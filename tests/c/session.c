@@ -1,12 +1,6 @@
 /* Plays sessions on the proved library from C, with nothing but its header: 01's whole session, then an exchange of plain messages and one of
- * framed messages, with us called and calling. One line a step; exit status 1 at the first difference.
- *
- * Every buffer is allocated on its own and just as large as it must be, so that valgrind sees any byte touched outside it. */
-#include "fringemole.h"
-
-#include <stdio.h>
-#include <stdlib.h>
-#include <string.h>
+ * framed messages, with us called and calling. One line a step; exit status 1 at the first difference. */
+#include "lent.h"
 
 #define CALLED 0
 #define CALLER 1
@@ -57,64 +51,14 @@ static int is(struct fringemole_reply reply, unsigned answer, unsigned place, si
 
 /* ---- lent memory */
 
-/* So many zero bytes; NULL for none, which the interface allows. */
-static uint8_t *lend(size_t n)
-{
-    uint8_t *buffer = n == 0 ? NULL : calloc(n, 1);
-
-    if (n != 0 && buffer == NULL) {
-        puts("c: no memory");
-        exit(2);
-    }
-    return buffer;
-}
-
-/* Session memory and an inbox; an empty table, no stores, no known BIDs. */
-static struct fringemole_memory memory_with(size_t places, size_t room)
-{
-    struct fringemole_memory m;
-
-    memset(&m, 0, sizeof m);
-    m.session_len = FRINGEMOLE_SESSION_SIZE;
-    m.session = lend(m.session_len);
-    m.inbox_len = places * FRINGEMOLE_ENTRY_SIZE;
-    m.inbox = lend(m.inbox_len);
-    m.store_len = room;
-    m.store = lend(m.store_len);
-    return m;
-}
-
-static void put_field(uint8_t *entry, size_t at, const char *text)
-{
-    entry[at] = (uint8_t)strlen(text);
-    memcpy(entry + at + 1, text, strlen(text));
-}
-
-static void put_number(uint8_t *entry, size_t at, size_t bytes, unsigned long value)
-{
-    size_t i;
-
-    for (i = 0; i < bytes; i++) {
-        entry[at + i] = (uint8_t)(value >> (8 * i));
-    }
-}
-
 /* One record of this form: title "HI", body "AB". */
-static void put_record(struct fringemole_memory *m, uint8_t form)
+static void one_record(struct fringemole_memory *m, uint8_t form)
 {
     uint8_t *titles = lend(2), *bodies = lend(2);
 
     m->table_len = FRINGEMOLE_RECORD_SIZE;
     m->table = lend(m->table_len);
-    m->table[FRINGEMOLE_RECORD_FORM] = form;
-    m->table[FRINGEMOLE_RECORD_TYPE] = 'P';
-    put_field(m->table, FRINGEMOLE_RECORD_FROM, "F6FBB");
-    put_field(m->table, FRINGEMOLE_RECORD_AT, "FC1GHV");
-    put_field(m->table, FRINGEMOLE_RECORD_TO, "FC1MVP");
-    put_field(m->table, FRINGEMOLE_RECORD_BID, "1_F6FBB");
-    put_number(m->table, FRINGEMOLE_RECORD_SIZE_FIELD, 4, 2);
-    put_number(m->table, FRINGEMOLE_RECORD_TITLE_LEN, 1, 2);
-    put_number(m->table, FRINGEMOLE_RECORD_BODY_LEN, 2, 2);
+    put_record(m->table, form, "1_F6FBB", 2, 2);
     memcpy(titles, "HI", 2);
     memcpy(bodies, "AB", 2);
     m->titles = titles;
@@ -130,17 +74,6 @@ static void put_known(struct fringemole_memory *m, const char *bid)
     put_field(known, FRINGEMOLE_KNOWN_BID, bid);
     m->known = known;
     m->known_len = FRINGEMOLE_KNOWN_SIZE;
-}
-
-static void take_back(struct fringemole_memory *m)
-{
-    free(m->session);
-    free(m->table);
-    free((void *)m->titles);
-    free((void *)m->bodies);
-    free((void *)m->known);
-    free(m->inbox);
-    free(m->store);
 }
 
 /* ---- the three calls, as steps */
@@ -238,7 +171,7 @@ static void plain_exchange(void)
     struct fringemole_memory m = memory_with(PLACES, ROOM);
 
     puts("# plain messages, called");
-    put_record(&m, 0);
+    one_record(&m, 0);
     put_known(&m, "9_KNOWN");
     opens(&m, CALLED, FRINGEMOLE_OK, 0);
     SAYS(&m, "[NOD-1-BFH$]\r>\r");
@@ -263,7 +196,7 @@ static void framed_exchange(void)
     struct fringemole_memory m = memory_with(PLACES, ROOM);
 
     puts("# framed messages, calling");
-    put_record(&m, 1);
+    one_record(&m, 1);
     opens(&m, CALLER, FRINGEMOLE_OK, 0);
     SAYS(&m, "");
     HEARS(&m, "[TST-1-B1F$]\rwelcome\r>\r");
@@ -287,7 +220,7 @@ static void refusals(void)
     uint8_t buffer[2] = { 0xA5, 0xA5 };
 
     puts("# refusals");
-    put_record(&m, 0);
+    one_record(&m, 0);
     opens(&m, 2, FRINGEMOLE_BAD_MEMORY, 255);
     m.table[FRINGEMOLE_RECORD_TYPE] = 'T';
     opens(&m, CALLED, FRINGEMOLE_BAD_MEMORY, 0);

@@ -2,30 +2,15 @@
 //! and compares them after every call: the papers' sessions cut at every byte,
 //! random sessions, and random changes of the lent memory.
 
-#![deny(unsafe_code)]
+#![forbid(unsafe_code)]
 
-mod changed;
-mod cuts;
-mod describe;
-mod form;
-mod guarded;
-mod lent;
-mod library;
-mod pair;
-mod partner;
-mod report;
-mod sessions;
-mod tables;
-mod tally;
-mod watch;
-mod wrong;
-
-use changed::Changed;
+use fuzz::changed::{self, Changed};
+use fuzz::report::Checked;
+use fuzz::tally::Tally;
+use fuzz::{cuts, sessions, watch};
 use inputs::random::Random;
-use report::Checked;
 use std::process::ExitCode;
 use std::time::{Duration, Instant, SystemTime, UNIX_EPOCH};
-use tally::Tally;
 
 const USAGE: &str = "fuzz [--seed N] [--sessions N] [--from N] [--minutes N] [--verbose]
   --seed N      repeat the run of this seed (as printed at its start)

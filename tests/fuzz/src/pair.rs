@@ -49,7 +49,7 @@ impl Pair {
     }
 
     pub fn calls(&self) -> usize {
-        self.history.len()
+        self.history.count()
     }
 
     /// The library's buffers, for runs on changed memory.

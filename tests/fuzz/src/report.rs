@@ -81,7 +81,7 @@ impl History {
         }
     }
 
-    pub fn len(&self) -> usize {
+    pub fn count(&self) -> usize {
         self.calls.len()
     }
 

@@ -37,6 +37,11 @@ impl Tally {
         self.gives[usize::from(reply.answer)] += 1;
     }
 
+    /// Bytes consumed and given in all.
+    pub fn bytes(&self) -> usize {
+        self.consumed + self.given
+    }
+
     /// Counts what a session came to.
     pub fn ended(&mut self, pair: &Pair, quit: bool) {
         let Some(second) = pair.second() else {

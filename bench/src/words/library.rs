@@ -1,6 +1,6 @@
 //! The proved library's side.
 
-use crate::Message;
+use super::Message;
 use compare::words::{self, Room, Transfer};
 use second::sid::Mode;
 

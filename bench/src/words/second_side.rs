@@ -1,6 +1,6 @@
 //! The second implementation's side.
 
-use crate::Message;
+use super::Message;
 use second::transfer::reader::Reader;
 use second::transfer::writer::Writer;
 use second::transfer::Outcome;

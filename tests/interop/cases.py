@@ -1,0 +1,395 @@
+"""The cases. Each has a name, says what it shows, and raises Failed where it doesn't hold."""
+import re
+import time
+
+import lzhuf
+from linfbb import FRAMED, HEAD
+from node import DECLINED, DONE, FORWARDED, LINK_DROPPED, REFUSED, WAITING
+from relay import BARE, ZEROS, Drop
+from world import WAYS, Failed, expect, kept_in, wire
+
+BLOCK_END = re.compile(rb"[\r\n]F> [0-9A-F]{2}\r\n?$")
+
+SHORT, LONG = [], []  # (name, function, arguments); the first argument names the mailbox
+
+
+def case(name, *ways, into=SHORT):
+    """A case for each of these ways (mode and role), by default for all four."""
+    def add(function):
+        for mode, role in ways or WAYS:
+            into.append((f"{mode}, {role}: {name}", function, (mode, role)))
+        return function
+    return add
+
+
+CALLER = [(mode, "caller") for mode in ("framed", "plain")]
+FRAMED_WAYS = [("framed", role) for role in ("caller", "called")]
+
+
+def states_of(node, messages, *states):
+    expect("states", node.states(), dict(zip((m.bid for m in messages), states)))
+
+
+def done(session):
+    ended, _ = session
+    if ended.code != DONE:
+        raise Failed(f"the session ended with exit code {ended.code}: {ended.said}")
+    return session
+
+
+def refused(ended, number):
+    expect(f"refusal ({ended.said.strip()})", (ended.code, ended.refusal()), (REFUSED, number))
+
+
+def inbox_is(node, mode, role, messages):
+    """The messages that LinFBB passed on, each once, with its own lines in front."""
+    found = []
+    for bid, title, body in node.inbox():
+        text = lzhuf.unpack(body, 0) if mode == "framed" else body
+        # Where LinFBB calls it adds LF after each CR, inside plain transfers too: 01 keeps them, the one after the title's CR first.
+        if mode == "plain" and role == "called":
+            expect(f"first byte of {bid}", text[:1], b"\n")
+            text = text[1:]
+        found.append((bid, title, HEAD.sub(b"", text, count=1).replace(b"\r\n", b"\r")))
+    expect("inbox", sorted(found), sorted((m.bid, m.title, m.text) for m in messages))
+
+
+def at_linfbb(world, mode, messages):
+    """Each message is there once, byte for byte."""
+    found = world.fetch(mode)
+    for message in messages:
+        title, text = message.title[:60], kept_in(mode, message.text)
+        expect(f"{message.bid} at LinFBB", found.get(message.bid.upper()), [(title, text)])
+
+
+# ---- our mail goes out
+
+LATIN = "Größe, élève, señor, ação, città".encode("latin-1")
+UTF_8 = "Žluťoučký kůň úpěl ďábelské ódy".encode()
+HIGH = bytes(range(0x80, 0x100))
+
+
+def letters(world, mode):
+    """What LinFBB keeps byte for byte, and what it alters: titles over 60 bytes, small letters of a BID, LFs of plain bodies."""
+    end = b"\r" if mode == "plain" else b"\r\n"
+    return [
+        world.message(mode, title=LATIN, text=b"Two lines," + end + HIGH + end),
+        world.message(mode, title=UTF_8, text=UTF_8 + end),
+        world.message(mode, title=b" spaces at both ends ", text=bytes(range(0x20, 0x7F)) + end),
+        world.message(mode, title=b"t" * 60, text=b"a long line " * 50 + end),
+        world.message(mode, title=b"u" * 61, text=b"x" + end),
+        world.message(mode, title=b"v" * 80, text=b"", bid=world.bid().replace(b"N0DE", b"low\xe9")),
+        world.message(mode, type=b"B", at=b"WW", to=b"NEWS", title=b"a bulletin", text=b"to all" + end),
+    ]
+
+
+@case("mail goes out and is kept there")
+def out(world, mode, role):
+    messages = letters(world, mode)
+    messages.append(world.message(mode, title=b"line ends", text=b"\nLF, CR\rand CR LF\r\nand none at the end"))
+    node = world.node(*messages)
+    done(world.session(mode, role, node))
+    states_of(node, messages, *[FORWARDED] * len(messages))
+    at_linfbb(world, mode, messages)
+
+
+@case("repeated BIDs are declined")
+def again(world, mode, role):
+    messages = [world.message(mode) for _ in range(3)]
+    first, second = world.node(*messages), world.node(messages[0], world.message(mode), messages[2])
+    done(world.session(mode, role, first))
+    at_linfbb(world, mode, messages)
+    done(world.session(mode, role, second))
+    expect("states", list(second.states().values()), [DECLINED, FORWARDED, DECLINED])
+    at_linfbb(world, mode, messages)
+
+
+@case("nobody has mail")
+def nothing(world, mode, role):
+    node = world.node()
+    _, link = done(world.session(mode, role, node))
+    expect("our last line", link.heard["us"][-3:], b"FF\r" if role == "caller" else b"FQ\r")
+
+
+@case("what it rejects is declined, what it holds is accepted")
+def reject_and_hold(world, mode, role):
+    messages = [world.message(mode, type=b"B", at=b"WW", to=to) for to in (b"REJME", b"HOLDME", b"NEWS")]
+    node = world.node(*messages)
+    done(world.session(mode, role, node))
+    states_of(node, messages, DECLINED, FORWARDED, FORWARDED)
+    at_linfbb(world, mode, messages[2:])
+
+
+@case("a packed file", *FRAMED_WAYS)
+def packed_file(world, mode, role):
+    message = world.message(mode, form=2, title=b"NEWS.TXT", text=b"A file\r\n")
+    node = world.node(message)
+    done(world.session(mode, role, node))
+    states_of(node, [message], FORWARDED)
+
+
+def lines_of(mode, size):
+    """About so many bytes in lines that don't pack well."""
+    end = b"\r" if mode == "plain" else b"\r\n"
+    rows = size // (74 + len(end))
+    return b"".join(bytes(33 + (7 * row + 3 * at * at) % 94 for at in range(74)) + end for row in range(rows))
+
+
+def sizes(world, mode, role, *lengths):
+    messages = [world.message(mode, text=lines_of(mode, length)) for length in lengths]
+    node = world.node(*messages)
+    done(world.session(mode, role, node))
+    states_of(node, messages, *[FORWARDED] * len(messages))
+    at_linfbb(world, mode, messages)
+
+
+@case("a block that overruns 10,240 bytes", *CALLER)
+def overrun(world, mode, role):
+    sizes(world, mode, role, 1_000, 9_000, 4_000, 300)
+
+
+@case("a body of 60,000 bytes", into=LONG)
+def big(world, mode, role):
+    sizes(world, mode, role, 60_000)
+
+
+# ---- dropped links
+
+def opening(role):
+    """Our bytes before the first turn."""
+    return b".N0DE\r[NOD-1-BFH$]\r" if role == "caller" else b"[NOD-1-BFH$]\r>\r"
+
+
+def drop_points(role, block, transfers):
+    """{where: the drop}."""
+    start = len(opening(role))
+    said = start + wire(role, block)
+    ends = [said + sum(wire(role, t) for t in transfers[:n + 1]) for n in range(len(transfers))]
+    return {
+        "in our SID": Drop(start - 5),
+        "in our proposals": Drop(said - 20),
+        "before its FS line": Drop(said),
+        "in its FS line": Drop(said, more=3),
+        "in our first transfer": Drop((said + ends[0]) // 2),
+        "after our first transfer": Drop(ends[0]),
+        "before our last byte": Drop(ends[-1] - 1),
+        "before its next turn": Drop(ends[-1]),
+        "in its next turn": Drop(ends[-1], more=1),
+        "in our FQ": Drop(ends[-1] + 1),
+    }
+
+
+def drop_and_call_again(world, mode, role, choose):
+    messages = [world.message(mode, title=b"drop %d" % n, text=b"dropped \xe9 %d\r\n" % n * 40) for n in range(2)]
+    node = world.node(*messages)
+    block = b"".join(m.proposal() for m in messages) + b"F>\r"
+    ended, _ = world.session(mode, role, node, drop=choose(block, [m.transfer() for m in messages]))
+    # Where only our FQ is lost, the session is over for us.
+    expect("the dropped session", ended.code in (DONE, LINK_DROPPED), True)
+    marked = node.states()
+    world.fetch(mode)
+    done(world.session(mode, role, node))
+    for message in messages:
+        # A record that was marked stays so; one that was not is sent again, or declined because it is there.
+        before, after = marked[message.bid], node.states()[message.bid]
+        expect(f"{message.bid} before and after", before in (WAITING, after) and after != WAITING, True)
+    at_linfbb(world, mode, messages)
+    return [marked[m.bid] for m in messages]
+
+
+def dropped(world, mode, role, where):
+    states = drop_and_call_again(world, mode, role, lambda *said: drop_points(role, *said)[where])
+    # Only its whole turn after our transfers marks.
+    expect("states after the drop", states, [FORWARDED if where == "in our FQ" else WAITING] * 2)
+
+
+for _mode, _role in WAYS:
+    for _where in drop_points(_role, b"", [b""]):
+        SHORT.append((f"{_mode}, {_role}: link dropped {_where}, neither lost nor doubled", dropped, (_mode, _role, _where)))
+
+
+STEPS = 24
+
+
+def dropped_at(world, mode, role, step):
+    """After a part of all our bytes, whatever stands there."""
+    def choose(block, transfers):
+        return Drop(len(opening(role)) + step * wire(role, block + b"".join(transfers)) // STEPS)
+    drop_and_call_again(world, mode, role, choose)
+
+
+for _mode, _role in WAYS:
+    for _step in range(1, STEPS):
+        LONG.append((f"{_mode}, {_role}: link dropped at {_step}/{STEPS} of our bytes", dropped_at, (_mode, _role, _step)))
+
+
+# ---- where LinFBB leaves 01 (docs/INTEROP.md)
+
+def for_us(world, mode, **fields):
+    """Mail for our node, as LinFBB's other partner brings it in."""
+    return world.message(mode, at=b"N0DE.TST.FRA.EU", to=b"N0DE", **fields)
+
+
+@case("its block ends with F> HH: refusal 5, nothing kept, nothing lost")
+def checksum_of_the_block(world, mode, role):
+    outgoing = world.message(mode)
+    node = world.node(outgoing)
+    with world.box(mode).holding(for_us(world, mode)):
+        ended, link = world.session(mode, role, node)
+    refused(ended, 5)
+    expect("its last line", bool(BLOCK_END.search(link.heard["peer"])), True)
+    expect("inbox", node.inbox(), [])
+    # As caller we had sent our mail, but `F> HH` ends no valid turn.
+    states_of(node, [outgoing], WAITING)
+    world.fetch(mode)
+    done(world.session(mode, role, node))
+    states_of(node, [outgoing], DECLINED if role == "caller" else FORWARDED)
+    at_linfbb(world, mode, [outgoing])
+
+
+def incoming_mail(world, mode, count):
+    return [for_us(world, mode, title=b"for us %d" % n, text=b"t\xe9xt %d\r" % n * (n + 1)) for n in range(count)]
+
+
+def edits_for(mode):
+    """What the link does so that all that LinFBB says is 01's."""
+    return [BARE] if mode == "plain" else [BARE, ZEROS]
+
+
+@case("with F> HH made bare by the link, the blank-padded offset gets 8", *FRAMED_WAYS)
+def blank_offset(world, mode, role):
+    node = world.node()
+    with world.box(mode).holding(for_us(world, mode)):
+        ended, link = world.session(mode, role, node, edits=[BARE])
+    refused(ended, 8)
+    expect("a header with blanks came", b"A title\0     0\0" in link.heard["peer"], True)
+    expect("inbox", node.inbox(), [])
+
+
+@case("with F> HH (framed: and the offset) edited by the link, mail goes both ways")
+def both_ways(world, mode, role):
+    incoming, outgoing = incoming_mail(world, mode, 6), world.message(mode)
+    node = world.node(outgoing)
+    with world.box(mode).holding(*incoming):
+        done(world.session(mode, role, node, edits=edits_for(mode)))
+    states_of(node, [outgoing], FORWARDED)
+    inbox_is(node, mode, role, incoming)
+    at_linfbb(world, mode, [outgoing])
+
+
+def dropped_while_it_sends(world, mode, role, step):
+    incoming, node = incoming_mail(world, mode, 4), world.node()
+    # Our bytes up to our FS line, then a part of its transfers.
+    said = opening(role) + (b"FF\rFS ++++\r" if role == "caller" else b"FS ++++\r")
+    more = step * 150 if mode == "framed" else step * 180
+    with world.box(mode).holding(*incoming):
+        ended, _ = world.session(mode, role, node, drop=Drop(len(said), more), edits=edits_for(mode))
+        expect("exit code of the dropped session", ended.code, LINK_DROPPED)
+        done(world.session(mode, role, node, edits=edits_for(mode)))
+    inbox_is(node, mode, role, incoming)
+
+
+for _mode, _role in WAYS:
+    for _step in range(5):
+        _name = f"{_mode}, {_role}: link dropped while it sends ({_step + 1}), with its blocks edited, neither lost nor doubled"
+        (SHORT if _step == 2 else LONG).append((_name, dropped_while_it_sends, (_mode, _role, _step)))
+
+
+@case("a SID without F gets 4", ("old", "caller"), ("old", "called"))
+def old_mode(world, mode, role):
+    message = world.message("plain")
+    node = world.node(message)
+    refused(world.session(mode, role, node)[0], 4)
+    states_of(node, [message], WAITING)
+
+
+@case("all its mail deferred, its FF in answer to our FF gets 5", ("framed", "caller"))
+def all_deferred(world, mode, role):
+    node = world.node()
+    with world.box(mode).holding(for_us(world, mode)):
+        ended, link = world.session(mode, role, node, edits=[BARE], options=["--room", "0"])
+    refused(ended, 5)
+    expect("our answer", link.heard["us"][-8:], b"FS =\rFF\r")
+    expect("its last line", link.heard["peer"][-3:], b"FF\r")
+
+
+@case("its text is longer than announced: 10 where room is tight", ("plain", "caller"))
+def longer_than_announced(world, mode, role):
+    """It announces the text's size and sends its R: and From: lines on top."""
+    node, message = world.node(), for_us(world, mode)
+    with world.box(mode).holding(message):
+        ended, link = world.session(mode, role, node, edits=[BARE], options=["--room", "60"])
+    refused(ended, 10)
+    expect("its proposal", b" %s %d\r" % (message.bid, len(message.text)) in link.heard["peer"], True)
+    expect("our answer", link.heard["us"][-5:], b"FS +\r")
+    expect("inbox", node.inbox(), [])
+
+
+@case("a packed empty text is passed on announced with ten digits: 5", ("framed", "caller"))
+def ten_digits(world, mode, role):
+    node, empty = world.node(), for_us(world, mode, text=b"")
+    with world.box(mode).holding(empty, sid=FRAMED):
+        ended, link = world.session(mode, role, node, edits=[BARE])
+    refused(ended, 5)
+    expect("its proposal", b" %s 4294967295\r" % empty.bid in link.heard["peer"], True)
+
+
+@case("type T (NTS traffic) gets 5", ("framed", "caller"))
+def type_t(world, mode, role):
+    node, traffic = world.node(), world.message(mode, type=b"T", at=b"NTSTX", to=b"75001")
+    with world.box(mode).holding(traffic):
+        ended, link = world.session(mode, role, node, edits=[BARE])
+    refused(ended, 5)
+    expect("its proposal", b"FA T F0AAA NTSTX 75001 %s " % traffic.bid in link.heard["peer"], True)
+
+
+@case("an at field over 31 bytes is deferred each time", *CALLER)
+def long_at(world, mode, role):
+    message = world.message(mode, at=b"F0SRC.ABCDEF.ABCDEF.ABCDEF.ABCDEF")
+    node = world.node(message)
+    for _ in range(2):
+        done(world.session(mode, role, node))
+        states_of(node, [message], WAITING)
+
+
+@case("a body line /EX ends the message there, and we can't know", ("plain", "caller"))
+def ex_line(world, mode, role):
+    message = world.message(mode, text=b"before\r/EX\rafter\r")
+    node = world.node(message)
+    ended, _ = world.session(mode, role, node)
+    # After its FF comes a `***` line about the rest of the text: 11 if our FQ still waits then.
+    expect("answer", ended.refusal() in (0, 11), True)
+    states_of(node, [message], FORWARDED)
+    expect("at LinFBB", world.fetch(mode).get(message.bid), [(message.title, b"before\r")])
+
+
+@case("a copy that it declines, it may mark as passed on, and we can't know", *CALLER, into=LONG)
+def unpassed_copy(world, mode, role):
+    """LinFBB takes the partner whose session just ended on that telnet channel for the one that proposes the copy."""
+    message = world.message(mode)
+    world.fetch(mode)
+    node, again = world.node(message), world.node(message)
+    world.fetch(mode)
+    done(world.session(mode, role, node))
+    time.sleep(2)
+    done(world.session(mode, role, again))
+    states_of(again, [message], DECLINED)
+    expect("passed on", world.fetch(mode).get(message.bid), None)
+
+
+@case("a body line that begins with FF loses two bytes there, and we can't know", ("plain", "called"))
+def ff_line(world, mode, role):
+    message = world.message(mode, text=b"good \xff\r\xffab and the rest\r")
+    node = world.node(message)
+    done(world.session(mode, role, node))
+    states_of(node, [message], FORWARDED)
+    expect("at LinFBB", world.fetch(mode).get(message.bid), [(message.title, b"good \xff\r\xff and the rest\r")])
+
+
+@case("login without the dot (LF after CR, FF doubled)", *CALLER)
+def without_the_dot(world, mode, role):
+    messages = letters(world, mode)
+    node = world.node(*messages)
+    done(world.session(mode, role, node, login="N0DE"))
+    states_of(node, messages, *[FORWARDED] * len(messages))
+    at_linfbb(world, mode, messages)

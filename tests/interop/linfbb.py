@@ -1,0 +1,79 @@
+"""A LinFBB mailbox on loopback, in a scratch folder."""
+import contextlib
+import os
+import re
+import subprocess
+
+import partner
+from relay import listener
+
+SETUP = os.path.join(os.path.dirname(os.path.abspath(__file__)), "../peers/linfbb-setup.sh")
+
+FRAMED, PLAIN = "[NOD-1-BFH$]", "[NOD-1-FH$]"
+
+# What LinFBB puts in front of a text that it passes on.
+HEAD = re.compile(rb"(?:R:[^\r]*\r\n?)+\r\n?From: [^\r]*\r\n?To  : [^\r]*\r\n?\r\n?")
+
+
+def free_port():
+    s = listener()
+    port = s.getsockname()[1]
+    s.close()
+    return port
+
+
+def partner_message(message):
+    """A message for the lenient partner to send."""
+    return partner.message(type=message.type.decode(), frm=message.sender, at=message.at, to=message.to, bid=message.bid,
+                           title=message.title, hex=message.text.hex())
+
+
+class Box:
+    def __init__(self, folder, name, comp="OK 3", fwd="OK 160"):
+        self.folder = os.path.join(folder, name)
+        self.port, self.call_port = free_port(), free_port()
+        env = dict(os.environ, TELNET_PORT=str(self.port), CALL_PORT=str(self.call_port), FBBCOMP=comp, FBBFWD=fwd,
+                   SECURITY="8 12 59", SOURCE_EXTRA="G WW", FWD_EXTRA="Z 75*")
+        done = subprocess.run([SETUP, "start", self.folder], env=env, stdout=subprocess.PIPE, stderr=subprocess.PIPE)
+        if done.returncode != 0:
+            raise RuntimeError("LinFBB doesn't start: " + done.stderr.decode("latin-1"))
+
+    def stop(self):
+        if os.path.exists(os.path.join(self.folder, "xfbbd.pid")):
+            subprocess.run([SETUP, "stop", self.folder], check=False, stderr=subprocess.DEVNULL)
+
+    def login(self, call, sid, messages=()):
+        """A session of the lenient partner; gives it with what it kept."""
+        link = partner.login_call(self.port, "." + call)
+        done = partner.Partner(link, sid, messages, hooks={"linger": 0.05}).run(True)
+        if "FQ" not in done.log[-2]:
+            raise RuntimeError(f"{call} at LinFBB: " + "; ".join(done.log))
+        return done
+
+    def fetch(self, sid=PLAIN):
+        """What LinFBB has for F0SRC, as {BID: [(title, text)]}: the text with LinFBB's own lines in front taken off."""
+        found = {}
+        for kept in self.login("F0SRC", sid).kept:
+            body = bytes.fromhex(kept["unpacked"] if "unpacked" in kept else kept["hex"])
+            head = HEAD.match(body)
+            text = body[head.end():] if head else body
+            found.setdefault(kept["bid"].encode("latin-1"), []).append((kept["title"].encode("latin-1"), text))
+        return found
+
+    @contextlib.contextmanager
+    def holding(self, *messages, sid=PLAIN):
+        """LinFBB has mail for N0DE meanwhile, brought by F0SRC; what is left of it is taken out at the end."""
+        self.login("F0SRC", sid, [partner_message(message) for message in messages])
+        try:
+            yield
+        finally:
+            self.login("N0DE", FRAMED)
+
+    def call_us(self):
+        """Makes LinFBB call us at call_port now, mail or not (sysop command FR)."""
+        link = partner.login_call(self.port, ".F0SYS")
+        link.until(b">\r")
+        link.send(b"FR N0DE\r")
+        link.until(b">\r")
+        link.send(b"B\r")
+        link.s.close()
