@@ -7,7 +7,7 @@ use Prim.Native.Nat.{ℕ, zero, suc, _+_, _-_, _<_, _≤_}
 use native.Mathlib.Omega.{arith}
 use native.Mathlib.Numerals.{add-one}
 use lib.Dec.{eqb, ltb}
-use lib.ListN.{length, getD, set, take, drop, replicate, length-drop, length-map, List·getD-append}
+use lib.ListN.{length, getD, set, take, drop, replicate, length-map, List·getD-append}
 use lib.Seq.{take-at, take-suc, take-all, append-snoc, set-at, length-take-le}
 use borrow.Author.Tests.{eq-eqb, ne-eqb, lt-ltb, le-ltb, ltb-false, eqb-true}
 use Rattle.grammar.specs.Bytes.{Bytes, SP, all, isSome}
@@ -17,6 +17,7 @@ use Rattle.grammar.specs.Refusals.{badAnswer, lineNotAllowed}
 use Rattle.grammar.specs.Turns.{blockLimit}
 use Rattle.grammar.specs.Answers.{Sign, accept, decline, defer, signOf, consO, readSigns, signsRead, readFs, writeSign, fsNumber}
 use Rattle.grammar.proofs.Basics.{and2}
+use Rattle.grammar.proofs.OurLines.{signs-back}
 use Rattle.byte.proofs.Laws.{all-more, all-stop, all-end}
 use Rattle.answer.specs.Answers.{answered, answerNumber, answerSigns, signBytes, zeroed, signsBy}
 use Rattle.answer.specs.declared.Answers.{Answers}
@@ -213,10 +214,6 @@ module _ (n : ℕ) (l : Bytes) where
           let r : readFs n l ≡ readSigns n (drop 3 l) = rw (fs-after n l, le-ltb _ _ h, e, eq-eqb _ _ q) in
           rw (le-ltb blockLimit n k, r, e) (refl, refl)
 
--- the part of a line from a place to its end, as it is lent
-pub rest : (l : Bytes) (p : ℕ) → take (length l - p) (drop p l) ≡ drop p l
-rest l p = take-all (length l - p) (drop p l) (let e = length-drop p l in omega arith)
-
 -- ---------------------------------------------------------------- for callers
 
 -- up to five proposals the number is the grammar's
@@ -268,10 +265,6 @@ sign-back : (s : Sign) → signOf (writeSign s) ≡ some s
 sign-back accept = refl
 sign-back decline = refl
 sign-back defer = refl
-
-signs-back : (ss : List Sign) → readSigns (length ss) (map writeSign ss) ≡ some ss
-signs-back [] = refl
-signs-back (s ∷ ss) = rw (sign-back s, signs-back ss)
 
 -- the signs of an answer are those that the line gives
 pub signs-by : (n : ℕ) (l : Bytes) (a : Answers) → n ≤ blockLimit → a .number ≡ answerNumber n l → a .signs ≡ answerSigns n l → signsBy n a ≡ readFs n l

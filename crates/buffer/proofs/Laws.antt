@@ -8,9 +8,10 @@ use native.Mathlib.Nat.{add-zero, sub-zero, zero-sub, suc-sub-suc, add-assoc, ze
 use native.Mathlib.Numerals.{add-one}
 use lib.Dec.{ltb}
 use lib.ListN.{length, take, drop, getD, set, length-append, length-take, length-drop, take-append-drop, drop-of-length-le}
-use lib.Seq.{take-at, drop-drop, drop-append-add, take-nil, drop-nil, take-all}
+use lib.Seq.{take-at, drop-drop, drop-append-add, take-nil, drop-nil}
 use borrow.Author.Tests.{lt-ltb, le-ltb, ltb-true, ltb-false}
 use Rattle.grammar.specs.Bytes.{Bytes}
+use Rattle.grammar.proofs.Basics.{to-end}
 use Rattle.buffer.specs.declared.Cursor.{Cursor}
 use Rattle.buffer.specs.Put.{wrote, cut, putBytes, putCursor, Puts}
 
@@ -206,10 +207,6 @@ take-min : (n : ℕ) (l : Bytes) → take (min n (length l)) l ≡ take n l
 take-min zero l = rw zero-min
 take-min (suc n) [] = rw min-zero
 take-min (suc n) (x ∷ l) = rw suc-min-suc (ap (λ (r : Bytes). x ∷ r) (take-min n l))
-
--- the rest of a list, as a part that goes to its end
-to-end : (l : Bytes) (i : ℕ) → take (length l - i) (drop i l) ≡ drop i l
-to-end l i = take-all (length l - i) (drop i l) (simp length-drop (omega arith))
 
 -- what `fill` did with the buffer from the place on and the text from the skip on
 module _ (d s : Bytes) (c : Cursor) (h : c .at < length d) (k : c .skip < length s) (n : ℕ) (w : Bytes)

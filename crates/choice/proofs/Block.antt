@@ -19,10 +19,11 @@ use Rattle.layout.specs.Layout.{byteAt, le4At, entryAt, recordOf, recordSize}
 use Rattle.layout.proofs.Laws.{le4-small}
 use Rattle.state.specs.State.{held, fiveOf}
 use Rattle.state.specs.declared.Five.{Five}
+use Rattle.state.proofs.Laws.{held-five}
 use Rattle.choice.specs.Decoded.{entriesFrom, entries, recordCount, recordsOf, statesOf}
 use Rattle.choice.specs.Choice.{chooseOf}
 use Rattle.choice.specs.Promises.{Filled}
-use Rattle.choice.proofs.Laws.{entries-more, entries-all, entries-end, entries-at, held-five, five-held, five-filled, five-next}
+use Rattle.choice.proofs.Laws.{entries-more, entries-all, entries-end, entries-at, five-held, five-filled, five-next}
 
 -- ---------------------------------------------------------------- a record
 
@@ -163,7 +164,7 @@ unfolding chooseOf
 choose-few table framed flags = few (recordsOf [] [] [] table) framed (statesOf table) flags
 
 -- titles, names and bodies change no choice
-block-same : (f g : ℕ → ℕ) → ((i : ℕ) → f i ≡ g i) → (k b : ℕ) (xs : List ℕ) → ourBlock f k b xs ≡ ourBlock g k b xs
+pub block-same : (f g : ℕ → ℕ) → ((i : ℕ) → f i ≡ g i) → (k b : ℕ) (xs : List ℕ) → ourBlock f k b xs ≡ ourBlock g k b xs
 block-same f g h k b [] = refl
 block-same f g h k b (x ∷ xs) =
     ap (λ (l : List ℕ). cond (ltb k 5 && ltb b 10240) (x ∷ l) []) (block-same f g h (k + 1) (b + f x) xs ∙ ap (λ (n : ℕ). ourBlock g (k + 1) (b + n) xs) (h x))

@@ -7,13 +7,14 @@ use native.Mathlib.Omega.{arith}
 use native.Mathlib.Nat.{sub-zero}
 use native.Mathlib.Numerals.{add-one}
 use lib.ListN.{length, getD, set, drop, replicate, length-append, length-take, drop-of-length-le}
-use lib.Seq.{drop-cons, take-append-seam, set-append-seam, append-snoc, getD-take, length-take-le}
+use lib.Seq.{drop-cons, set-append-seam, append-snoc, getD-take, length-take-le}
 use Rattle.grammar.specs.Bytes.{Bytes}
 use Rattle.grammar.specs.Fields.{sameBid}
 use Rattle.session.specs.Choices.{among, recordBids, messageBids, proposalBids, bodyBytes}
 use Rattle.layout.specs.Layout.{fieldIn, entryAt, recordOf, messageOf, recordSize, entrySize, proposalSize}
 use Rattle.state.specs.State.{held, fiveOf}
 use Rattle.state.specs.declared.Five.{Five}
+use Rattle.state.proofs.Laws.{held-five}
 use Rattle.choice.specs.Decoded.{entriesFrom, entries}
 use Rattle.choice.specs.Promises.{Filled, proposalsAt}
 
@@ -62,9 +63,6 @@ no-bodies s i zero = refl
 no-bodies s i (suc n) = omega (arith, no-bodies s (suc i) n)
 
 -- ---------------------------------------------------------------- five numbers
-
-pub held-five : (xs : List ℕ) → held (fiveOf xs) ≡ xs
-held-five xs = take-append-seam xs (replicate (5 - length xs) 0)
 
 module _ (f : Five) (xs : List ℕ) (e : f ≡ fiveOf xs) where
   pub five-held : held f ≡ xs

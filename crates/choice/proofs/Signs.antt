@@ -21,11 +21,12 @@ use Rattle.state.specs.State.{held, fiveOf}
 use Rattle.state.specs.declared.Five.{Five}
 use Rattle.state.specs.declared.Await.{Await}
 use Rattle.state.specs.declared.Keep.{Keep}
+use Rattle.state.proofs.Laws.{held-five}
 use Rattle.choice.specs.declared.Promised.{Promised}
 use Rattle.choice.specs.Decoded.{entriesFrom, entries, recordCount, knownCount, recordsOf, knownBids, headsOf, placeCount, proposalsOf}
 use Rattle.choice.specs.Choice.{shelfOf, answersOf}
 use Rattle.choice.specs.Promises.{Filled, proposalsAt, promisedIn, Promises, noRoomBy}
-use Rattle.choice.proofs.Laws.{entries-more, entries-all, entries-end, entries-length, record-bids, message-bids, no-bodies, held-five, five-held, five-filled, five-count, five-next}
+use Rattle.choice.proofs.Laws.{entries-more, entries-all, entries-end, entries-length, record-bids, message-bids, no-bodies, five-held, five-filled, five-count, five-next}
 
 -- ---------------------------------------------------------------- one proposal
 

@@ -8,7 +8,6 @@ use lib.Dec.{eqb, ltb}
 use lib.ListN.{length}
 use borrow.Author.Tests.{eq-eqb, lt-ltb}
 use Rattle.grammar.specs.Bytes.{Bytes, CR}
-use Rattle.grammar.specs.Refusals as number
 use Rattle.grammar.specs.Lines.{ends, grows, overruns, trim, isComment}
 use Rattle.grammar.specs.Turns.{Proposal, fixedText, ourSid, withCr}
 use Rattle.grammar.specs.Answers.{Sign, fsLine}

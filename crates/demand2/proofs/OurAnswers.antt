@@ -8,12 +8,12 @@ use native.Mathlib.Omega.{arith}
 use lib.Dec.{eqb, ltb}
 use lib.ListN.{length, getD}
 use lib.Seq.{getD-at}
-use borrow.Author.Tests.{eqb-true, eq-eqb, ltb-true, ltb-false, lt-ltb, le-ltb, not-true}
+use borrow.Author.Tests.{eqb-true, ltb-true, ltb-false, lt-ltb, le-ltb, not-true}
 use Rattle.grammar.specs.Bytes.{Bytes, same}
 use Rattle.grammar.specs.Fields.{sameBid}
 use Rattle.grammar.specs.Turns.{Proposal}
 use Rattle.grammar.specs.Answers.{Sign, accept, decline, defer}
-use Rattle.grammar.proofs.Basics.{and2, or-left, or-right, no-both}
+use Rattle.grammar.proofs.Basics.{and2, or-left, or-right, no-both, same-itself}
 use Rattle.mail.specs.Mail.{Message, accepted}
 use Rattle.session.specs.Choices.{Shelf, among, recordBids, messageBids, proposalBids, bodyBytes, announced, haveBid, noRoomFor, signFor, withAccepted, answersAfter, answersTo}
 use Rattle.session.proofs.Choices.{one-sign-each}
@@ -31,10 +31,6 @@ same-is (x ∷ v) (y ∷ w) e =
     let c = same-is v w (p .1) in
     cc
 
-same-self : (v : Bytes) → same v v ≡ true
-same-self [] = refl
-same-self (x ∷ v) = rw (eq-eqb x x refl) (same-self v)
-
 among-in : (b : Bytes) (xs : List Bytes) → among b xs ≡ true → Among b xs
 unfolding sameBid
 among-in b [] e = absurd (no-both false e refl)
@@ -47,7 +43,7 @@ among-in b (x ∷ xs) e = go (same x b) refl e (λ k. among-in b xs k)
 among-out : (b : Bytes) (xs : List Bytes) (i : ℕ) → i < length xs → getD xs i [] ≡ b → among b xs ≡ true
 unfolding sameBid
 among-out b [] i l e = absurd (omega arith)
-among-out b (x ∷ xs) zero l e = or-left (same x b) (among b xs) (rw e (same-self b))
+among-out b (x ∷ xs) zero l e = or-left (same x b) (among b xs) (rw e (same-itself b))
 among-out b (x ∷ xs) (suc i) l e = or-right (same x b) (among b xs) (among-out b xs i (omega arith) e)
 
 module _ (E : Shelf) (inbox : List Message) (acc : List Proposal) where

@@ -4,7 +4,7 @@ use mathlib.Core.Path.{_≡_, refl, sym, ap, _∙_, subst}
 use mathlib.Core.Bool.{Bool, true, false, cond, not, _&&_}
 use mathlib.Core.Option.{Option, none, some}
 use mathlib.Core.List.{List, [], _∷_, _++_}
-use Prim.Native.Nat.{ℕ, zero, suc, _≤_}
+use Prim.Native.Nat.{ℕ, _≤_}
 use native.Mathlib.Omega.{arith}
 use lib.Dec.{eqb, ltb}
 use lib.ListN.{length}
@@ -12,17 +12,17 @@ use borrow.Author.Tests.{eqb-true, ltb-true, ltb-false, le-ltb, not-false, not-t
 use Rattle.grammar.specs.Bytes.{Bytes, CR, null}
 use Rattle.grammar.specs.Refusals as number
 use Rattle.grammar.specs.Lines.{ends, grows, overruns, trim, isComment, isPrompt}
-use Rattle.grammar.specs.Sid.{readSid, hasFeature, framed}
+use Rattle.grammar.specs.Sid.{readSid, hasFeature}
 use Rattle.grammar.specs.Turns.{Proposal, TurnLine, saysFF, saysFQ, endsBlock, notAllowed, proposes, readTurnLine}
 use Rattle.grammar.specs.Answers.{Sign, readFs, fsNumber}
 use Rattle.grammar.specs.Transfers.{Parsed, parse}
-use Rattle.grammar.specs.Scan.{Scan, Scanned, inTitle, inBody, inMark, atStart, atLen, inHead, inOff, inData, atSize, atSum, goes, got, malformed, wrongSum, noRoom, scan, scanByte, bodyOf}
-use Rattle.grammar.proofs.Basics.{and2, both, no-both}
-use Rattle.grammar.proofs.Exact.{Wrong}
-use Rattle.grammar.proofs.Refusal.{exact as exact-byte, Verdict, exact-8, exact-9, exact-10, isTen, bodyByte}
+use Rattle.grammar.specs.Scan.{Scan, Scanned, goes, got, malformed, wrongSum, noRoom, scan, scanByte, bodyOf, isBodyByte}
+use Rattle.grammar.proofs.Basics.{and2, both, no-both, and-false}
+use Rattle.grammar.proofs.Rest.{Wrong}
+use Rattle.grammar.proofs.Refusal.{exact as exact-byte, Verdict, exact-8, exact-9, exact-10, isTen}
 use Rattle.session.specs.Choices.{Shelf}
-use Rattle.session.specs.Session.{Phase, awaitsSid, awaitsPrompt, leaving, over, awaitsTurn, awaitsAnswer, awaitsTransfer, Session, answered, turnJudged, Stepped, refused, moved, settled, lineMoved, transferMoved, roomFor, freeStep, lfDropped, step, ended, endedIn}
-use Rattle.demand2.specs.Refusals.{isDropped, Heeded, awaitsLine, WholeLine, LineTooLong, NotSid, NoForwarding, isAllowed, isMiscounted, TurnSaid, NoAnswer, beginsFs, LineNotAllowed, inTurn, forAnswer, WrongCount, WrongAnswer, SoFar, TransferByte, WrongTransfer, WrongChecksum, isBodyByte, NoRoom, BytesWait, Refusal, no2, no3, no4, no5, no6, no7, no8, no9, no10, no11, numberOf, Situation, Exact, Live}
+use Rattle.session.specs.Session.{Phase, awaitsSid, awaitsPrompt, leaving, over, awaitsTurn, awaitsAnswer, awaitsTransfer, Session, turnJudged, Stepped, refused, moved, settled, lineMoved, transferMoved, roomFor, freeStep, lfDropped, step, ended, endedIn}
+use Rattle.demand2.specs.Refusals.{isDropped, Heeded, awaitsLine, WholeLine, LineTooLong, NotSid, NoForwarding, isAllowed, isMiscounted, TurnSaid, NoAnswer, beginsFs, LineNotAllowed, inTurn, forAnswer, WrongCount, WrongAnswer, SoFar, TransferByte, WrongTransfer, WrongChecksum, NoRoom, BytesWait, Refusal, no2, no3, no4, no5, no6, no7, no8, no9, no10, no11, numberOf, Situation, Exact, Live}
 use Rattle.demand2.specs.Events.{Event, lfGoes, lineGrows, ignored, callerSid, calledSid, textLine, prompt, proposal, ffTurn, fqTurn, blockEnd, fsLineComes, transferGrows, transferWhole}
 use Rattle.demand2.proofs.Steps.{line-step, phase-step, turn-step, transfer-step, so-far, scan-more}
 use Rattle.demand2.proofs.Events.{happens}
@@ -102,26 +102,13 @@ module _ (E : Shelf) (s : Session) (b : ℕ) where
         let e = exact-9 (roomFor E (s .memory)) (h .proposal .form) q (h .reading) (so-far E s b q (h .proposal) (h .reading) (h .within) S) b .1 w in
         transfer-step E s b (h .proposal) (h .reading) (h .within) ∙ ap (transferMoved E (h .proposal) (h .within .others) s) e
 
-  body-byte : (sc : Scan) → isBodyByte sc b ≡ bodyByte sc b
-  body-byte (inTitle t) = refl
-  body-byte (inBody t x) = refl
-  body-byte (inMark t x) = refl
-  body-byte atStart = refl
-  body-byte atLen = refl
-  body-byte (inHead len h) = refl
-  body-byte (inOff len h o) = refl
-  body-byte (inData h x zero) = refl
-  body-byte (inData h x (suc k)) = refl
-  body-byte (atSize h x) = refl
-  body-byte (atSum h x) = refl
-
   no-room : NoRoom E s b → Refuses E s b number.storeFull
   no-room h =
       let room = roomFor E (s .memory) in
       let sc = h .reading in
       let t : isTen (scanByte room sc b) ≡ true =
       exact-10 room sc b
-      ∙ both (bodyByte sc b) (not (ltb (length (bodyOf sc)) room)) (sym (body-byte sc) ∙ h .body) (ap not (le-ltb (length (bodyOf sc)) room (h .full))) in
+      ∙ both (isBodyByte sc b) (not (ltb (length (bodyOf sc)) room)) (h .body) (ap not (le-ltb (length (bodyOf sc)) room (h .full))) in
       transfer-step E s b (h .proposal) sc (h .within) ∙ ap (transferMoved E (h .proposal) (h .within .others) s) (ten (scanByte room sc b) t)
     where
       ten : (o : Scanned) → isTen o ≡ true → o ≡ noRoom
@@ -148,10 +135,6 @@ module _ (E : Shelf) (s : Session) (b : ℕ) where
 pub data Found (E : Shelf) (q : Bytes) (s : Session) (b : ℕ) : Type 0 where
   happened : (t : Session) → Event E q s b t → Found E q s b
   found : (n : Refusal) → Situation E q s b n → Found E q s b
-
-and-false : (c : Bool) → c && false ≡ false
-and-false true = refl
-and-false false = refl
 
 module _ (E : Shelf) (q : Bytes) (s : Session) (b : ℕ) (H : Heeded s b) where
   -- the line that is whole
@@ -182,10 +165,10 @@ module _ (E : Shelf) (q : Bytes) (s : Session) (b : ℕ) (H : Heeded s b) where
       → isMiscounted ps t ≡ false → Found E q s b
   turn-happened saysFF true [] r w x y = absurd (no-both false x refl)
   turn-happened saysFF false [] r w x y = happened _ (ffTurn line w r)
-  turn-happened saysFF ff (p ∷ ps) r w x y = absurd (no-both (not ff && false) x (and-false (not ff)))
+  turn-happened saysFF ff (p ∷ ps) r w x y = absurd (no-both (not ff && false) x (and-false (not ff) false refl))
   turn-happened saysFQ true [] r w x y = happened _ (fqTurn line w r)
   turn-happened saysFQ false [] r w x y = absurd (no-both false x refl)
-  turn-happened saysFQ ff (p ∷ ps) r w x y = absurd (no-both (ff && false) x (and-false ff))
+  turn-happened saysFQ ff (p ∷ ps) r w x y = absurd (no-both (ff && false) x (and-false ff false refl))
   turn-happened endsBlock ff [] r w x y = absurd (no-both true refl y)
   turn-happened endsBlock ff (p ∷ ps) r w x y = happened _ (blockEnd line ff p ps w r)
   turn-happened notAllowed ff ps r w x y = absurd (no-both false x refl)
@@ -244,13 +227,13 @@ module _ (E : Shelf) (q : Bytes) (s : Session) (b : ℕ) (H : Heeded s b) where
       go malformed x k = found no8 (record { proposal = p; reading = sc; within = w; hopeless = exact-8 (roomFor E (s .memory)) (p .form) q sc T b .0 x })
       go wrongSum x k = wrong (parse (p .form) (q ++ (b ∷ []))) refl (k .0)
       go noRoom x k =
-          let t = and2 (bodyByte sc b) (not (ltb (length (bodyOf sc)) (roomFor E (s .memory)))) (sym (exact-10 (roomFor E (s .memory)) sc b) ∙ ap isTen x) in
+          let t = and2 (isBodyByte sc b) (not (ltb (length (bodyOf sc)) (roomFor E (s .memory)))) (sym (exact-10 (roomFor E (s .memory)) sc b) ∙ ap isTen x) in
           found no10
           (record {
             proposal = p;
             reading = sc;
             within = w;
-            body = body-byte E s b sc ∙ t .0;
+            body = t .0;
             full = ltb-false (length (bodyOf sc)) (roomFor E (s .memory)) (not-true (ltb (length (bodyOf sc)) (roomFor E (s .memory))) (t .1));
           })
 

@@ -7,9 +7,7 @@ use lib.Dec.{ltb}
 use lib.ListN.{length}
 use borrow.Author.Tests.{eq-eqb}
 use Rattle.grammar.specs.Bytes.{Bytes, CR}
-use Rattle.grammar.specs.Refusals as number
 use Rattle.grammar.specs.Lines.{ends, grows, overruns}
-use Rattle.grammar.specs.Sid.{framed}
 use Rattle.grammar.specs.Turns.{Proposal, readTurnLine}
 use Rattle.grammar.specs.Scan.{Scan, Scanned, goes, scan, scanByte, scanFrom, onward}
 use Rattle.grammar.proofs.Portions.{scan-append}

@@ -15,7 +15,7 @@ use Rattle.grammar.specs.Turns.{Proposal}
 use Rattle.grammar.specs.Transfers.{Parsed, parse}
 use Rattle.grammar.specs.Scan.{Scan, Scanned, goes, got, malformed, wrongSum, noRoom, scanByte, scanFrom, scanOn}
 use Rattle.grammar.proofs.Basics.{or2, snoc-cons, Lacks}
-use Rattle.grammar.proofs.Exact.{Wrong, Longer, rest-nil}
+use Rattle.grammar.proofs.Rest.{Wrong, Longer, rest-nil}
 use Rattle.grammar.proofs.Refusal.{Reach, reach-step, from, exact-at, Verdict}
 use Rattle.mail.specs.Mail.{messageOf}
 use Rattle.session.specs.Choices.{Shelf}

@@ -5,10 +5,10 @@ use mathlib.Core.Path.{_≡_}
 use mathlib.Core.Bool.{Bool, true, false, not, _&&_}
 use mathlib.Core.Option.{none, some}
 use mathlib.Core.List.{List, [], _∷_, _++_}
-use Prim.Native.Nat.{ℕ, zero, suc, _≤_}
+use Prim.Native.Nat.{ℕ, _≤_}
 use lib.Dec.{eqb, ltb}
 use lib.ListN.{length}
-use Rattle.grammar.specs.Bytes.{Bytes, CR, LF, CTRLZ, null, isSome}
+use Rattle.grammar.specs.Bytes.{Bytes, CR, LF, null, isSome}
 use Rattle.grammar.specs.Ascii.{text}
 use Rattle.grammar.specs.Refusals as number
 use Rattle.grammar.specs.Fields.{after}
@@ -17,7 +17,7 @@ use Rattle.grammar.specs.Sid.{readSid, hasFeature}
 use Rattle.grammar.specs.Turns.{Proposal, TurnLine, saysFF, saysFQ, endsBlock, notAllowed, proposes, readTurnLine, blockLimit}
 use Rattle.grammar.specs.Answers.{readFs}
 use Rattle.grammar.specs.Transfers.{Parsed, parse}
-use Rattle.grammar.specs.Scan.{Scan, inTitle, inBody, inMark, atStart, atLen, inHead, inOff, inData, atSize, atSum, goes, scan, bodyOf}
+use Rattle.grammar.specs.Scan.{Scan, goes, scan, bodyOf, isBodyByte}
 use Rattle.session.specs.Choices.{Shelf}
 use Rattle.session.specs.Session.{Phase, awaitsSid, awaitsPrompt, leaving, over, awaitsTurn, awaitsAnswer, awaitsTransfer, Memory, Session, step, roomFor, ended}
 use Rattle.session.specs.Calls.{receive}
@@ -166,20 +166,6 @@ pub record WrongChecksum (q : Bytes) (s : Session) (b : ℕ) : Type 0 where
   pub transfer : Parsed
   pub whole : parse (proposal .form) (q ++ (b ∷ [])) ≡ some transfer
   pub wrong : transfer .right ≡ false
-
--- The byte is one of the body: after a title's CR all up to 0x1A, in a framed transfer the data of a block.
-abbrev pub isBodyByte : Scan → ℕ → Bool
-isBodyByte (inTitle t) b = false
-isBodyByte (inBody t x) b = not (eqb b CTRLZ)
-isBodyByte (inMark t x) b = false
-isBodyByte atStart b = false
-isBodyByte atLen b = false
-isBodyByte (inHead len h) b = false
-isBodyByte (inOff len h o) b = false
-isBodyByte (inData h x zero) b = false
-isBodyByte (inData h x (suc k)) b = true
-isBodyByte (atSize h x) b = false
-isBodyByte (atSum h x) b = false
 
 -- 10: "body byte without room, the 65,536th included"
 pub record NoRoom (E : Shelf) (s : Session) (b : ℕ) : Type 0 where

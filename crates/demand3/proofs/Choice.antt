@@ -6,24 +6,20 @@ use mathlib.Core.List.{List, [], _∷_, map}
 use Prim.Native.Nat.{ℕ, zero, suc, _≤_, _<_}
 use native.Mathlib.Nat.{le-of-suc-le-suc, not-suc-le-zero}
 use lib.ListN.{length}
-use borrow.Author.Tests.{eq-eqb, not-true}
-use Rattle.grammar.specs.Bytes.{Bytes, same}
+use borrow.Author.Tests.{not-true}
+use Rattle.grammar.specs.Bytes.{Bytes}
 use Rattle.grammar.specs.Fields.{sameBid}
 use Rattle.grammar.specs.Turns.{Proposal, proposable}
-use Rattle.grammar.proofs.Basics.{and2}
+use Rattle.grammar.proofs.Basics.{and2, same-itself}
 use Rattle.mail.specs.Mail.{Record, Message, recordAt, proposalOf, placeOf}
 use Rattle.session.specs.Choices.{Shelf, chosen, answersTo}
 use Rattle.session.specs.Session.{Memory}
-use Rattle.session.proofs.Choices.{Places, few, chosen-places, one-sign-each}
+use Rattle.session.proofs.Choices.{Places, chosen-places, one-sign-each}
 use Rattle.log.specs.Log.{placesOf}
 use Rattle.log.proofs.Spoken.{AllFit}
 use Rattle.demand3.specs.Demand.{Good, allProposable, noneWith, distinctBids}
 
 -- ---------------------------------------------------------------- BIDs and places
-
-same-itself : (b : Bytes) → same b b ≡ true
-same-itself [] = refl
-same-itself (x ∷ b) = rw (eq-eqb x x refl) (same-itself b)
 
 bid-itself : (b : Bytes) → sameBid b b ≡ true
 unfolding sameBid

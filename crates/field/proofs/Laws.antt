@@ -1,9 +1,9 @@
 -- The readers of the grammar by places: one notion of a place, `upto c l`, the bytes before the first c, and each list reader by it.
 use mathlib.Core.Path.{_≡_, refl, sym, ap, _∙_}
 use mathlib.Core.Bool.{Bool, true, false, cond, not, _&&_}
-use mathlib.Core.Option.{Option, none, some}
-use mathlib.Core.List.{List, [], _∷_, _++_}
-use Prim.Native.Nat.{ℕ, zero, suc, _+_, _*_, _-_, _^_, _<_, _≤_}
+use mathlib.Core.Option.{none, some}
+use mathlib.Core.List.{[], _∷_}
+use Prim.Native.Nat.{ℕ, suc, _+_, _*_, _-_, _^_, _<_, _≤_}
 use native.Mathlib.Omega.{arith}
 use native.Mathlib.Numerals.{add-one}
 use native.Mathlib.Nat.{add-zero, pow-succ', pow-le-pow-right}
@@ -13,11 +13,11 @@ use lib.Seq.{drop-cons, drop-drop, take-all}
 use borrow.Author.Tests.{eq-eqb, ne-eqb, lt-ltb, le-ltb, ltb-true, ltb-false, le-leb, lt-leb, leb-true, leb-false, not-true, not-false}
 use Rattle.grammar.specs.Bytes.{Bytes, SP, all, same, splitAt, before}
 use Rattle.grammar.specs.Fields.{words, starts, attach, parts, toFirst, afterDot, allCalls, isCall, isAt, digit, isSize, readFrom, sameBid, field, isBody, formIs}
-use Rattle.grammar.proofs.Basics.{and2, field-is}
+use Rattle.grammar.proofs.Basics.{field-is, suc-ltb}
 use Rattle.byte.specs.Classes.{classOf}
 use Rattle.byte.specs.declared.Class.{Class}
 use Rattle.byte.proofs.Laws.{all-get}
-use Rattle.field.specs.Places.{between, part, upto, wordsBy}
+use Rattle.field.specs.Places.{between, upto, wordsBy}
 
 -- a word that a line begins with
 pub words-upto : (l : Bytes) → starts l ≡ true → words l ≡ take (upto SP l) l ∷ words (drop (upto SP l) l)
@@ -143,13 +143,6 @@ upto-most c (x ∷ l) = go (eqb x c) (upto-most c l)
     go : (b : Bool) → upto c l ≤ length l → cond b 0 (suc (upto c l)) ≤ length (x ∷ l)
     go true h = omega arith
     go false h = omega arith
-
-suc-ltb : (a b : ℕ) → ltb (suc a) (suc b) ≡ ltb a b
-suc-ltb a b = go (ltb a b) refl
-  where
-    go : (t : Bool) → ltb a b ≡ t → ltb (suc a) (suc b) ≡ t
-    go true e = let h = ltb-true a b e in lt-ltb (suc a) (suc b) (omega arith)
-    go false e = let h = ltb-false a b e in le-ltb (suc a) (suc b) (omega arith)
 
 pub split-upto : (c : ℕ) (l : Bytes) → splitAt c l ≡ cond (ltb (upto c l) (length l)) (some (take (upto c l) l, drop (suc (upto c l)) l)) none
 unfolding upto

@@ -1,6 +1,6 @@
 -- Laws of the form test, on plain values.
 use mathlib.Core.Path.{_≡_, refl, sym, ap, _∙_}
-use mathlib.Core.Bool.{Bool, true, false, cond, not}
+use mathlib.Core.Bool.{Bool, true, false, cond}
 use mathlib.Core.List.{List, _∷_}
 use Prim.Native.Nat.{ℕ, suc, _+_, _-_, _<_, _≤_}
 use native.Mathlib.Omega.{arith}
@@ -9,7 +9,7 @@ use native.Mathlib.Numerals.{add-one}
 use lib.Dec.{eqb, leb}
 use lib.ListN.{length, getD, drop, length-take, drop-of-length-le}
 use lib.Seq.{drop-cons, getD-take}
-use borrow.Author.Tests.{not-true, not-false, eq-eqb, ne-eqb, le-leb, lt-leb, leb-true, leb-false}
+use borrow.Author.Tests.{eq-eqb, ne-eqb, le-leb, lt-leb, leb-true, leb-false}
 use Rattle.grammar.specs.Bytes.{Bytes}
 use Rattle.layout.specs.Layout.{entryAt, entrySize, bodyLength}
 use Rattle.state.specs.State.{held}
@@ -96,11 +96,3 @@ owed-is {o} {p} kept n q h = le-leb (kept + p) n (omega arith)
 
 pub owed-not : {o p : ℕ} (kept n : ℕ) → o ≡ p → n < kept + o → leb (kept + p) n ≡ false
 owed-not {o} {p} kept n q h = lt-leb (kept + p) n (omega arith)
-
--- ---------------------------------------------------------------- a test that a function made
-
-pub told : {x y : Bool} → x ≡ y → not x ≡ false → y ≡ true
-told {x} q e = sym q ∙ not-false x e
-
-pub told-not : {x y : Bool} → x ≡ y → not x ≡ true → y ≡ false
-told-not {x} q e = sym q ∙ not-true x e

@@ -1,20 +1,21 @@
 -- What the readers give obeys the rules of the fields: what receive keeps passes open's tests. Assumes nothing.
-use mathlib.Core.Path.{_≡_, refl, sym, ap, _∙_, subst}
-use mathlib.Core.Bool.{Bool, true, false, cond, not, _&&_, _||_}
+use mathlib.Core.Path.{_≡_, refl, sym, ap, _∙_}
+use mathlib.Core.Bool.{Bool, true, false, cond, not, _&&_}
 use mathlib.Core.Option.{Option, none, some}
-use mathlib.Core.List.{List, [], _∷_, _++_, map}
-use Prim.Native.Nat.{ℕ, zero, suc, _+_, _*_, _-_, _%_, _^_, _≤_, _<_}
+use mathlib.Core.List.{List, [], _∷_, map}
+use Prim.Native.Nat.{ℕ, _+_, _*_, _-_, _^_, _≤_, _<_}
 use native.Mathlib.Omega.{arith}
 use native.Mathlib.Nat.{mul-le-mul-right, mul-assoc, pow-succ', pow-le-pow-right}
-use lib.Dec.{eqb, ltb, leb}
-use lib.ListN.{length, length-append, length-set, set, getD}
-use borrow.Author.Tests.{ltb-true, ltb-false, not-false}
+use lib.Dec.{eqb, ltb}
+use lib.ListN.{length, length-set, set}
+use borrow.Author.Tests.{ltb-true}
 use Rattle.grammar.specs.Bytes.{Bytes, CR, CTRLZ, all, before, null, same, splitAt}
+use Rattle.grammar.specs.Ascii.{text}
 use Rattle.grammar.specs.Fields.{Form, after, bodyFair, digit, file, isAt, isBid, isCall, isHeading, isSize, message, plain, readFrom, sized, starts, upper, words}
 use Rattle.grammar.specs.Sid.{authorByte, authorRead, dataByte, dataRead, hasFeature, isLetter, letterPlace, noFeatures, readFeatures, readLevels, readSid, sidEnd, sidRead, splitLast, withFeature}
-use Rattle.grammar.specs.Turns.{Proposal, fieldsRead, formOf, inMode, isType, readProposal, sevenRead, typeOf}
+use Rattle.grammar.specs.Turns.{Proposal, fieldsRead, formOf, inMode, isType, readProposal, sevenRead, typeOf, TurnLine, saysFF, saysFQ, endsBlock, notAllowed, proposes, orNotAllowed, readTurnLine}
 use Rattle.grammar.specs.Transfers.{Parsed, blocks, blocksRead, bodyRead, headRead, isHeader, lenRead, offRead, parse, readFramed, spacesCR, titleRead, zeroDigit}
-use Rattle.grammar.proofs.Basics.{and2, both, Field, field-is}
+use Rattle.grammar.proofs.Basics.{and2, field-is}
 
 -- ---------------------------------------------------------------- a proposal as read
 
@@ -121,6 +122,25 @@ proposal-proper md ln = go (starts ln)
     go : (c : Bool) → ProperIf md (cond c (sevenRead md (words ln)) none)
     go true = seven-if md (words ln)
     go false = tt
+
+-- a turn line as read: a proposal in it is proper
+abbrev pub TurnOk : Bool → TurnLine → Type 0
+TurnOk md saysFF = Unit {0}
+TurnOk md saysFQ = Unit {0}
+TurnOk md endsBlock = Unit {0}
+TurnOk md notAllowed = Unit {0}
+TurnOk md (proposes q) = Proper md q
+
+pub turn-read-ok : (md : Bool) (ln : Bytes) → TurnOk md (readTurnLine md ln)
+unfolding readTurnLine
+turn-read-ok md ln = go (same (map upper ln) (text "FF")) (same (map upper ln) (text "FQ")) (same (map upper ln) (text "F>")) (readProposal md ln) (proposal-proper md ln)
+  where
+    go : (a b c : Bool) (o : Option Proposal) → ProperIf md o → TurnOk md (cond a saysFF (cond b saysFQ (cond c endsBlock (orNotAllowed o))))
+    go true b c o h = tt
+    go false true c o h = tt
+    go false false true o h = tt
+    go false false false none h = tt
+    go false false false (some q) h = h
 
 -- ---------------------------------------------------------------- features as read
 

@@ -1,14 +1,15 @@
--- Lists of bytes of a class, lists that lack a byte, and what `splitAt` makes of them. Assumes nothing.
-use mathlib.Core.Path.{_≡_, refl, sym, ap, _∙_, subst}
+-- Tests; lists of bytes of a class, lists that lack a byte, and what `splitAt` makes of them. Assumes nothing.
+use mathlib.Core.Path.{_≡_, refl, sym, ap, _∙_}
 use mathlib.Core.Bool.{Bool, true, false, cond, not, _&&_, _||_}
-use mathlib.Core.Option.{Option, none, some}
-use mathlib.Core.List.{List, [], _∷_, _++_, append-assoc, append-nil}
-use Prim.Native.Nat.{ℕ, zero, suc, _≤_, _<_, _+_}
+use mathlib.Core.Option.{some}
+use mathlib.Core.List.{[], _∷_, _++_, append-assoc}
+use Prim.Native.Nat.{ℕ, zero, suc, _≤_, _+_, _-_}
 use native.Mathlib.Omega.{arith}
 use lib.Dec.{eqb, leb, ltb}
-use lib.ListN.{length, replicate}
-use borrow.Author.Tests.{eq-eqb, ne-eqb, le-leb, leb-true, eqb-true, eqb-false}
-use Rattle.grammar.specs.Bytes.{Bytes, all, splitAt}
+use lib.ListN.{length, take, drop, length-append, length-drop, replicate}
+use lib.Seq.{take-all}
+use borrow.Author.Tests.{eq-eqb, le-leb, lt-ltb, le-ltb, leb-true, ltb-true, ltb-false, eqb-true, eqb-false, not-true, not-false}
+use Rattle.grammar.specs.Bytes.{Bytes, all, same, splitAt}
 use Rattle.grammar.specs.Fields.{field, sized}
 
 pub and2 : (a b : Bool) → a && b ≡ true → (a ≡ true) × (b ≡ true)
@@ -26,6 +27,10 @@ not-so false h = refl
 pub no-both : (c : Bool) → c ≡ true → c ≡ false → ⊥
 no-both c e f = let z : _≡_ {A = ℕ} 0 1 = cc in omega arith
 
+pub and-false : (a b : Bool) → b ≡ false → a && b ≡ false
+and-false true b e = e
+and-false false b e = refl
+
 pub or2 : (a b : Bool) → a || b ≡ false → (a ≡ false) × (b ≡ false)
 or2 true b e = (e, cc)
 or2 false b e = (refl, e)
@@ -41,13 +46,57 @@ pub or-second : (a b : Bool) → a ≡ false → a || b ≡ true → b ≡ true
 or-second true b e k = cc
 or-second false b e k = k
 
+-- what the test `!x` says of y, which x is
+pub told : {x y : Bool} → x ≡ y → not x ≡ false → y ≡ true
+told {x} q e = sym q ∙ not-false x e
+
+pub told-not : {x y : Bool} → x ≡ y → not x ≡ true → y ≡ false
+told-not {x} q e = sym q ∙ not-true x e
+
+-- what holds of both ways of a test, and the same under the test
+pub by-cond {ℓ} : {A : Type 0} (P : A → Type ℓ) (c : Bool) {x y : A} → P x → P y → P (cond c x y)
+by-cond P true p q = p
+by-cond P false p q = q
+
+pub by-test {ℓ} : {A : Type 0} (P : A → Type ℓ) (c : Bool) {x y : A} → (c ≡ true → P x) → (c ≡ false → P y) → P (cond c x y)
+by-test P true p q = p refl
+by-test P false p q = q refl
+
+pub suc-ltb : (a b : ℕ) → ltb (suc a) (suc b) ≡ ltb a b
+suc-ltb a b = go (ltb a b) refl
+  where
+    go : (t : Bool) → ltb a b ≡ t → ltb (suc a) (suc b) ≡ t
+    go true e = let h = ltb-true a b e in lt-ltb (suc a) (suc b) (omega arith)
+    go false e = let h = ltb-false a b e in le-ltb (suc a) (suc b) (omega arith)
+
+-- ---------------------------------------------------------------- lists of bytes
+
+pub same-itself : (w : Bytes) → same w w ≡ true
+same-itself [] = refl
+same-itself (x ∷ w) = rw (eq-eqb x x refl) (same-itself w)
+
 pub nonzero : (w : Bytes) → eqb (length w) 0 ≡ false → 1 ≤ length w
 nonzero w e = let z = eqb-false (length w) 0 e in omega arith
 
 pub snoc-cons : (g r : Bytes) (b : ℕ) → (g ++ (b ∷ [])) ++ r ≡ g ++ b ∷ r
 snoc-cons g r b = append-assoc g (b ∷ []) r
 
+pub snoc-length : (t : Bytes) (b : ℕ) → length (t ++ (b ∷ [])) ≡ length t + 1
+snoc-length t b = length-append t (b ∷ [])
+
+-- the length of a list with a byte in its middle
+pub mid-length : (t u : Bytes) (b : ℕ) → length ((t ++ (b ∷ [])) ++ u) ≡ length t + 1 + length u
+mid-length t u b = simp length-append (omega arith)
+
+-- a part that runs to the end
+pub to-end : (l : Bytes) (i : ℕ) → take (length l - i) (drop i l) ≡ drop i l
+to-end l i = take-all (length l - i) (drop i l) (simp length-drop (omega arith))
+
 -- ---------------------------------------------------------------- classes
+
+-- the class of all bytes
+abbrev pub octet : ℕ → Bool
+octet b = ltb b 256
 
 pub all-append : (c : ℕ → Bool) (s t : Bytes) → all c s ≡ true → all c t ≡ true → all c (s ++ t) ≡ true
 all-append c [] t e f = f

@@ -1,6 +1,6 @@
 -- The ● examples of 01, proved as one statement over one list. Assumes nothing.
 use mathlib.Core.Path.{_≡_, refl}
-use mathlib.Core.List.{List, map}
+use mathlib.Core.List.{map}
 use Rattle.grammar.specs.Fields.{isAt, isBid, isCall, isSize, readFrom, words}
 use Rattle.grammar.specs.Lines.{trim}
 use Rattle.grammar.specs.Sid.{readSid}

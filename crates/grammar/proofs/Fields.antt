@@ -1,17 +1,17 @@
 -- Words, numbers and the fields of a proposal that we write read back. Assumes nothing.
-use mathlib.Core.Path.{_≡_, refl, sym, ap, _∙_, subst}
-use mathlib.Core.Bool.{Bool, true, false, cond, not, _&&_, _||_}
-use mathlib.Core.Option.{Option, none, some}
+use mathlib.Core.Path.{_≡_, refl, sym, _∙_, subst}
+use mathlib.Core.Bool.{Bool, true, false, cond, _&&_, _||_}
+use mathlib.Core.Option.{some}
 use mathlib.Core.List.{List, [], _∷_, _++_, map}
 use Prim.Native.Nat.{ℕ, zero, suc, _+_, _*_, _-_, _/_, _%_, _^_, _≤_, _<_}
 use native.Mathlib.Omega.{arith}
 use lib.Dec.{eqb, ltb, leb}
 use lib.ListN.{length, length-append}
-use borrow.Author.Tests.{ltb-true, ltb-false, lt-ltb, le-ltb, le-leb, leb-true, ne-eqb, eqb-true}
+use borrow.Author.Tests.{ltb-true, lt-ltb, le-ltb, leb-true, ne-eqb, eqb-true}
 use Rattle.grammar.specs.Bytes.{Bytes, SP, all}
 use Rattle.grammar.specs.Fields.{Form, afterDot, allCalls, bidByte, callByte, decimal, digit, field, file, isAt, isBid, isCall, isSize, message, parts, plain, readFrom, toFirst, upper, words, writeNum}
 use Rattle.grammar.specs.Turns.{Proposal, formLetter, formOf, inMode, isType, proposable, proposalLine, readProposal, sp, typeOf}
-use Rattle.grammar.proofs.Basics.{and2, both, not-so, no-both, all-append, Field, field-is, field-of, Lacks, lacks-append, all-lacks, or-left, or-right, or-second}
+use Rattle.grammar.proofs.Basics.{and2, both, all-append, Field, field-is, field-of, Lacks, all-lacks, or-left, or-right, or-second}
 
 -- ---------------------------------------------------------------- words
 

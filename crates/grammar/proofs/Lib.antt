@@ -5,6 +5,11 @@ pub mod Fields
 pub mod OurLines
 pub mod TransferBack
 pub mod AsRead
+pub mod Rest
+pub mod Headers
+pub mod Completes
+pub mod PlainStep
+pub mod FramedStep
 pub mod Exact
 pub mod Refusal
 pub mod Portions

@@ -1,11 +1,11 @@
 -- The lines that we write: they read back, lack CR, have at most 256 bytes, are not trimmed, and none begins with `;`. Assumes nothing.
-use mathlib.Core.Path.{_≡_, refl, sym, ap, _∙_, subst}
-use mathlib.Core.Bool.{Bool, true, false, cond, not, _&&_, _||_}
-use mathlib.Core.Option.{Option, none, some}
+use mathlib.Core.Path.{_≡_, refl, ap, _∙_}
+use mathlib.Core.Bool.{Bool, true, false, cond, not, _&&_}
+use mathlib.Core.Option.{none, some}
 use mathlib.Core.List.{List, [], _∷_, _++_, map}
-use Prim.Native.Nat.{ℕ, zero, suc, _+_, _≤_, _<_}
+use Prim.Native.Nat.{ℕ, _+_, _≤_}
 use native.Mathlib.Omega.{arith}
-use lib.Dec.{eqb, ltb, leb}
+use lib.Dec.{eqb, ltb}
 use lib.ListN.{length, length-append, length-map}
 use borrow.Author.Tests.{ne-eqb, eqb-true, ltb-true}
 use Rattle.grammar.specs.Bytes.{Bytes, CR, SP, all, same}
@@ -14,8 +14,8 @@ use Rattle.grammar.specs.Lines.{isComment, isPrompt, trim}
 use Rattle.grammar.specs.Sid.{readSid, sidNumber}
 use Rattle.grammar.specs.Turns.{Proposal, endsBlock, fixedText, formLetter, inMode, isType, notAllowed, ourBlock, ourEnd, ourFF, ourFQ, ourPrompt, ourSid, proposable, proposalLine, proposes, readProposal, readTurnLine, saysFF, saysFQ, sp}
 use Rattle.grammar.specs.Answers.{OurLine, Sign, accept, decline, defer, fixedLine, fsLine, ourAnswer, ourProposal, readFs, readSigns, writeSign, written}
-use Rattle.grammar.proofs.Basics.{and2, Field, Lacks, lacks-append, all-lacks, or-second}
-use Rattle.grammar.proofs.Fields.{Word, word-of, field-word, num-field, atByte, at-field, call-field, bid-field, Ours, ours, proposal-back}
+use Rattle.grammar.proofs.Basics.{Field, Lacks, lacks-append, all-lacks, or-second}
+use Rattle.grammar.proofs.Fields.{num-field, atByte, at-field, call-field, bid-field, Ours, ours, proposal-back}
 
 -- ---------------------------------------------------------------- read back
 
@@ -56,7 +56,7 @@ kind-of md p ln q k =
 pub proposal-read : (md : Bool) (p : Proposal) → proposable p ≡ true → inMode md (p .form) ≡ true → readTurnLine md (proposalLine p) ≡ proposes p
 proposal-read md p h e = kind-of md p (proposalLine p) (proposal-starts p) (proposal-back md p (ours p h) e)
 
-signs-back : (ss : List Sign) → readSigns (length ss) (map writeSign ss) ≡ some ss
+pub signs-back : (ss : List Sign) → readSigns (length ss) (map writeSign ss) ≡ some ss
 signs-back [] = refl
 signs-back (accept ∷ ss) = rw (signs-back ss)
 signs-back (decline ∷ ss) = rw (signs-back ss)

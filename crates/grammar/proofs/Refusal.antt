@@ -3,8 +3,8 @@
 use mathlib.Core.Path.{_≡_, refl, sym, ap, _∙_, subst}
 use mathlib.Core.Bool.{Bool, true, false, cond, not, _&&_, _||_}
 use mathlib.Core.Option.{Option, none, some}
-use mathlib.Core.List.{List, [], _∷_, _++_, append-nil}
-use Prim.Native.Nat.{ℕ, zero, suc, _+_, _≤_, _<_}
+use mathlib.Core.List.{[], _∷_, _++_, append-nil}
+use Prim.Native.Nat.{ℕ, zero, suc, _+_, _≤_}
 use native.Mathlib.Omega.{arith}
 use lib.Dec.{eqb, leb, ltb}
 use lib.ListN.{length}
@@ -12,9 +12,11 @@ use borrow.Author.Tests.{le-leb}
 use Rattle.grammar.specs.Bytes.{Bytes, CR, CTRLZ, SP, all, splitAt}
 use Rattle.grammar.specs.Fields.{Form, file, headingByte, message, plain}
 use Rattle.grammar.specs.Transfers.{Content, Parsed, parse, readTransfer, sumRight, valid}
-use Rattle.grammar.specs.Scan.{Scan, Scanned, atLen, atSize, atStart, atSum, bodyOf, goes, got, inBody, inData, inHead, inMark, inOff, inTitle, malformed, noRoom, onward, scan, scanByte, scanFrom, scanOn, wrongSum}
-use Rattle.grammar.proofs.Basics.{snoc-cons}
-use Rattle.grammar.proofs.Exact.{rest, Ok, complete, completes, complete-octets, octet, Right, RightAt, pending, Wrong, Longer, StepOk, step, rest-nil, onto-nil}
+use Rattle.grammar.specs.Scan.{Scan, Scanned, atLen, atSize, atStart, atSum, bodyOf, goes, got, inBody, inData, inHead, inMark, inOff, inTitle, malformed, noRoom, onward, scan, scanByte, scanFrom, scanOn, wrongSum, isBodyByte}
+use Rattle.grammar.proofs.Basics.{snoc-cons, octet}
+use Rattle.grammar.proofs.Rest.{rest, Ok, Right, RightAt, Wrong, Longer, StepOk, rest-nil, onto-nil}
+use Rattle.grammar.proofs.Completes.{complete, completes, complete-octets, pending}
+use Rattle.grammar.proofs.Exact.{step}
 
 -- ---------------------------------------------------------------- the statement
 
@@ -226,20 +228,6 @@ no-longer f q p e c r =
 
 -- ---------------------------------------------------------------- 10
 
--- b would be a byte of the body
-abbrev pub bodyByte : Scan → ℕ → Bool
-bodyByte (inTitle t) b = false
-bodyByte (inBody t x) b = not (eqb b CTRLZ)
-bodyByte (inMark t x) b = false
-bodyByte atStart b = false
-bodyByte atLen b = false
-bodyByte (inHead len h) b = false
-bodyByte (inOff len h o) b = false
-bodyByte (inData h x zero) b = false
-bodyByte (inData h x (suc k)) b = true
-bodyByte (atSize h x) b = false
-bodyByte (atSum h x) b = false
-
 abbrev pub isTen : Scanned → Bool
 isTen (goes sc) = false
 isTen (got h x) = false
@@ -252,7 +240,7 @@ no-ten true a b e f = e
 no-ten false a b e f = f
 
 -- "body byte without room": exactly there
-pub exact-10 : (room : ℕ) (sc : Scan) (b : ℕ) → isTen (scanByte room sc b) ≡ bodyByte sc b && not (ltb (length (bodyOf sc)) room)
+pub exact-10 : (room : ℕ) (sc : Scan) (b : ℕ) → isTen (scanByte room sc b) ≡ isBodyByte sc b && not (ltb (length (bodyOf sc)) room)
 exact-10 room (inTitle t) b =
     no-ten (eqb b CR) _ _ (no-ten (eqb (length t) 0) malformed (goes (inBody t [])) refl refl) (no-ten (headingByte b && ltb (length t) 80) (goes (inTitle (t ++ (b ∷ [])))) malformed refl refl)
 exact-10 room (inBody t x) b = go (eqb b CTRLZ) (ltb (length x) room)

@@ -1,15 +1,14 @@
 -- "No byte of a BID, title or body is ever changed." What is read lies in the received bytes as it came; what is written reads back
 -- as it was (proposal-read, transfer-back). Idea: each reader of the grammar cuts its list, and a cut joined again is the list.
-use mathlib.Core.Path.{_≡_, refl, sym, ap, _∙_, subst}
+use mathlib.Core.Path.{_≡_, refl, ap, _∙_}
 use mathlib.Core.Bool.{Bool, true, false, cond, not, _&&_}
 use mathlib.Core.Option.{Option, none, some}
 use mathlib.Core.List.{List, [], _∷_, _++_, map}
 use Prim.Native.Nat.{ℕ}
-use native.Mathlib.Omega.{arith}
 use lib.Dec.{eqb}
 use borrow.Author.Tests.{eqb-true}
-use Rattle.grammar.specs.Bytes.{Bytes, CR, SP, CTRLZ, before, splitAt, null}
-use Rattle.grammar.specs.Fields.{Form, plain, message, file, starts, attach, words, upper, isCall, isAt, isBid, isSize, readFrom, isHeading}
+use Rattle.grammar.specs.Bytes.{Bytes, CR, SP, CTRLZ, before, splitAt}
+use Rattle.grammar.specs.Fields.{Form, starts, attach, words, upper, isCall, isAt, isBid, isSize, readFrom, isHeading}
 use Rattle.grammar.specs.Turns.{Proposal, readProposal, sevenRead, fieldsRead, formOf, typeOf}
 use Rattle.grammar.specs.Transfers.{Parsed, readPlain, titleRead, bodyRead, spacesCR}
 

@@ -1,18 +1,19 @@
 -- A transfer that we write reads back, plain and framed. Assumes nothing.
-use mathlib.Core.Path.{_≡_, refl, sym, ap, _∙_, subst}
-use mathlib.Core.Bool.{Bool, true, false, cond, not, _&&_, _||_}
+use mathlib.Core.Path.{_≡_, refl, sym, ap, _∙_}
+use mathlib.Core.Bool.{Bool, true, false, cond, _&&_}
 use mathlib.Core.Option.{Option, none, some}
-use mathlib.Core.List.{List, [], _∷_, _++_, append-assoc, append-nil}
-use Prim.Native.Nat.{ℕ, zero, suc, _+_, _-_, _%_, _≤_, _<_, min}
+use mathlib.Core.List.{[], _∷_, _++_, append-assoc, append-nil}
+use Prim.Native.Nat.{ℕ, zero, suc, _+_, _%_, _≤_}
 use native.Mathlib.Omega.{arith}
-use lib.Dec.{eqb, leb, ltb}
+use lib.Dec.{eqb, leb}
 use lib.ListN.{length, take, drop, length-take, length-drop, take-append-drop}
-use borrow.Author.Tests.{eq-eqb, ne-eqb, eqb-true, eqb-false, leb-true}
+use borrow.Author.Tests.{eq-eqb, eqb-true, eqb-false}
 use Rattle.grammar.specs.Bytes.{Bytes, CR, CTRLZ, all}
 use Rattle.grammar.specs.Fields.{Form, file, headingByte, isBody, isHeading, message, notCtrlZ, plain}
 use Rattle.grammar.specs.Transfers.{blockSize, blocks, blocksOut, checksum, consData, parse, readFramed, readPlain, readTransfer, sendable, sum, sumRight, valid, writeFramed, writePlain, writeTransfer}
-use Rattle.grammar.proofs.Basics.{and2, both, not-so, Lacks, all-lacks, split-mid, field-is}
-use Rattle.grammar.proofs.Exact.{onto, onto-nil, header-of}
+use Rattle.grammar.proofs.Basics.{and2, Lacks, all-lacks, split-mid, field-is}
+use Rattle.grammar.proofs.Rest.{onto, onto-nil}
+use Rattle.grammar.proofs.Headers.{header-of}
 
 onto-cons : (x : ℕ) (w : Bytes) (o : Option (Bytes × ℕ)) → consData x (onto w o) ≡ onto (x ∷ w) o
 onto-cons x w none = refl

@@ -1,7 +1,7 @@
 -- 01, "A transfer byte is refused with 8 as soon as no valid transfer begins with the bytes so far": a transfer read byte by byte,
 -- each byte judged at once. That this agrees with the whole readers of Transfers is proved in proofs/Refusal.
-use mathlib.Core.Bool.{Bool, true, false, cond, _&&_, _||_}
-use mathlib.Core.List.{List, [], _∷_, _++_}
+use mathlib.Core.Bool.{Bool, true, false, cond, not, _&&_, _||_}
+use mathlib.Core.List.{[], _∷_, _++_}
 use Prim.Native.Nat.{ℕ, zero, suc, _+_}
 use lib.Dec.{eqb, ltb, leb}
 use lib.ListN.{length}
@@ -77,6 +77,20 @@ bodyOf (inOff len h o) = []
 bodyOf (inData h x k) = x
 bodyOf (atSize h x) = x
 bodyOf (atSum h x) = x
+
+-- The byte is one of the body: after a title's CR all up to 0x1A, in a framed transfer the data of a block.
+abbrev pub isBodyByte : Scan → ℕ → Bool
+isBodyByte (inTitle t) b = false
+isBodyByte (inBody t x) b = not (eqb b CTRLZ)
+isBodyByte (inMark t x) b = false
+isBodyByte atStart b = false
+isBodyByte atLen b = false
+isBodyByte (inHead len h) b = false
+isBodyByte (inOff len h o) b = false
+isBodyByte (inData h x zero) b = false
+isBodyByte (inData h x (suc k)) b = true
+isBodyByte (atSize h x) b = false
+isBodyByte (atSum h x) b = false
 
 -- One byte more; what follows an outcome is not read.
 abbrev pub onward : ℕ → Scanned → ℕ → Scanned

@@ -12,8 +12,7 @@ use Rattle.grammar.specs.Bytes.{Bytes, all}
 use Rattle.grammar.specs.Fields.{Form, plain, message, file, formIs, formNumber}
 use Rattle.grammar.specs.Turns.{Proposal}
 use Rattle.grammar.specs.Transfers.{partOf}
-use Rattle.grammar.proofs.Basics.{and2}
-use Rattle.grammar.proofs.Exact.{octet}
+use Rattle.grammar.proofs.Basics.{and2, octet}
 use Rattle.mail.specs.Mail.{Message}
 use Rattle.mail.specs.Mail as mail
 use Rattle.buffer.specs.Put.{putBytes}

@@ -1,6 +1,6 @@
 -- What `field` reads and `put_field` writes, way by way.
 use Prim.Native.Nat.{ℕ, zero, suc, _+_, _-_, _%_, _<_, _≤_}
-use mathlib.Core.Path.{_≡_, refl, sym, ap, _∙_, subst}
+use mathlib.Core.Path.{_≡_, refl, sym, ap, _∙_}
 use mathlib.Core.List.{[], _∷_, _++_}
 use native.Mathlib.Omega.{arith}
 use native.Mathlib.Nat.{le-of-suc-le-suc, not-suc-le-zero}
@@ -10,7 +10,7 @@ use Rattle.grammar.specs.Bytes.{Bytes}
 use Rattle.grammar.specs.Transfers.{partOf}
 use Rattle.buffer.specs.declared.Cursor.{Cursor}
 use Rattle.buffer.specs.Put.{Puts}
-use Rattle.buffer.proofs.Laws.{puts-then}
+use Rattle.buffer.proofs.Laws.{puts-then, puts-as}
 use Rattle.layout.specs.Layout.{byteAt, fieldIn, fieldOut}
 
 -- ---------------------------------------------------------------- for `field`
@@ -29,10 +29,6 @@ take-zeros zero n h = refl
 take-zeros (suc k) zero h = absurd (not-suc-le-zero h)
 take-zeros (suc k) (suc n) h = ap (λ (l : Bytes). 0 ∷ l) (take-zeros k n (le-of-suc-le-suc h))
 
--- a text as another that is the same
-puts-as : (d : Bytes) (c : Cursor) (p q : Bytes) {r : Cursor} {e : Bytes} → p ≡ q → Puts d c p r e → Puts d c q r e
-puts-as d c p q {r} {e} h a = subst (λ (l : Bytes). Puts d c l r e) h a
-
 -- a field as it is written: its place filled, or zeros after it
 field-full : (n : ℕ) (w : Bytes) → n ≤ length w → take n w ≡ take n (w ++ replicate n 0)
 field-full n w h = sym (take-append-le n w (replicate n 0) h)
@@ -46,10 +42,10 @@ field-padded n m w h k =
 module _ (d : Bytes) (c : Cursor) (n : ℕ) (w : Bytes) {r s : Cursor} {e f : Bytes} (a : Puts d c (length w % 256 ∷ []) r e) where
   pub puts-full : n ≤ length w → Puts e r (take n w) s f → Puts d c (fieldOut n w) s f
   puts-full h b =
-      puts-then d c (length w % 256 ∷ []) (take n (w ++ replicate n 0)) a (puts-as e r (take n w) (take n (w ++ replicate n 0)) (field-full n w h) b)
+      puts-then d c (length w % 256 ∷ []) (take n (w ++ replicate n 0)) a (puts-as e r (field-full n w h) b)
 
   pub puts-padded : {t : Cursor} {g : Bytes} → length w ≤ n → n ≤ 255 → Puts e r w s f → Puts f s (take (n - length w) (replicate 255 0)) t g → Puts d c (fieldOut n w) t g
   puts-padded {t} {g} h k b z =
       puts-then d c (length w % 256 ∷ []) (take n (w ++ replicate n 0)) a
-      (puts-as e r (w ++ take (n - length w) (replicate 255 0)) (take n (w ++ replicate n 0)) (field-padded n 255 w h k)
+      (puts-as e r (field-padded n 255 w h k)
       (puts-then e r w (take (n - length w) (replicate 255 0)) b z))

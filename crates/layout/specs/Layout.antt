@@ -1,11 +1,10 @@
 -- 01, "Lent memory": the places in a record of the table, a known BID, a message of the inbox and a proposal in session memory. Entries
 -- are bytes of one fixed size, numbers little end first, a field its length and then its bytes.
-use mathlib.Core.Bool.{Bool, true, false, cond}
-use mathlib.Core.List.{List, [], _∷_, _++_}
-use Prim.Native.Nat.{ℕ, zero, suc, _+_, _*_, _/_, _%_, min}
-use lib.ListN.{length, getD, take, drop, replicate}
+use mathlib.Core.List.{[], _∷_, _++_}
+use Prim.Native.Nat.{ℕ, _+_, _*_, _/_, _%_, min}
+use lib.ListN.{length, getD, take, replicate}
 use Rattle.grammar.specs.Bytes.{Bytes}
-use Rattle.grammar.specs.Fields.{Form, formIs, formNumber}
+use Rattle.grammar.specs.Fields.{formIs}
 use Rattle.grammar.specs.Turns.{Proposal}
 use Rattle.grammar.specs.Transfers.{partOf}
 use Rattle.mail.specs.Mail.{Record, Message}

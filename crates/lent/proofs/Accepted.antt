@@ -9,7 +9,7 @@ use lib.Dec.{eqb, ltb, leb}
 use lib.ListN.{length, List·getD-eq-default}
 use borrow.Author.Tests.{eqb-true, eqb-false, leb-true, le-leb, lt-ltb, ltb-true, ltb-false, not-true}
 use Rattle.grammar.specs.Bytes.{Bytes}
-use Rattle.grammar.specs.Fields.{Form, plain, message, file, formIs, isCall, isAt, isBid, isHeading, isBody, bodyFair, headingByte, sameBid}
+use Rattle.grammar.specs.Fields.{plain, formIs, isCall, isAt, isBid, isHeading, isBody, bodyFair, headingByte, sameBid}
 use Rattle.grammar.specs.Turns.{isType, proposable}
 use Rattle.grammar.specs.Transfers.{partOf}
 use Rattle.grammar.proofs.Basics.{and2, both, or2, field-is}
@@ -18,9 +18,9 @@ use Rattle.session.specs.Choices.{among}
 use Rattle.demand3.specs.Demand.{Good, allProposable, noneWith, distinctBids}
 use Rattle.layout.specs.Layout.{byteAt, le2At, le4At, fieldIn, entryAt, recordSize, recordOf}
 use Rattle.choice.specs.Decoded.{entriesFrom, entries, recordCount, recordsOf}
+use Rattle.choice.proofs.Laws.{entries-length, entries-at}
+use Rattle.waiting.proofs.Short.{part-short, transfer-short, heading-short}
 use Rattle.opening.specs.Opening.{lengthOk, numbersOk, fieldsOk, within, headingOk, textsOk, recordOk, placeOk, faultFrom, tableFault}
-use Rattle.lent.proofs.Lists.{entries-length, entries-at}
-use Rattle.lent.proofs.Lengths.{part-most, transfer-most}
 use Rattle.lent.proofs.Giving.{Short}
 
 -- ---------------------------------------------------------------- one record
@@ -50,14 +50,15 @@ module _ (c titles names bodies : Bytes) (h : recordOk c titles names bodies ≡
       (both (isCall (fieldIn 6 3 c)) (isAt (fieldIn 38 10 c)) (and2 (lengthOk c 3 6) (isCall (fieldIn 6 3 c)) (f₁ .0) .1) (and2 (lengthOk c 10 38) (isAt (fieldIn 38 10 c)) (f₂ .0) .1))
       (both (isCall (fieldIn 6 49 c)) (isBid (fieldIn 12 56 c)) (and2 (lengthOk c 49 6) (isCall (fieldIn 6 49 c)) (f₃ .0) .1) (and2 (lengthOk c 56 12) (isBid (fieldIn 12 56 c)) (f₃ .1) .1)))
 
-  heading-short : (s : Bytes) (start len : ℕ) (needed : Bool) → headingOk s start len needed ≡ true → length (partOf s start len) ≤ 80
+  -- a title or a name
+  text-short : (s : Bytes) (start len : ℕ) (needed : Bool) → headingOk s start len needed ≡ true → length (partOf s start len) ≤ 255
   unfolding headingOk
-  heading-short s start len needed e =
+  text-short s start len needed e =
       go (eqb len 0) refl (and2 (within s start len) (cond (eqb len 0) (not needed) (isHeading (partOf s start len))) e .1)
     where
-      go : (b : Bool) → eqb len 0 ≡ b → cond b (not needed) (isHeading (partOf s start len)) ≡ true → length (partOf s start len) ≤ 80
-      go true p q = let z = eqb-true len 0 p in omega (arith, part-most s start len)
-      go false p q = field-is headingByte 80 (partOf s start len) q .most
+      go : (b : Bool) → eqb len 0 ≡ b → cond b (not needed) (isHeading (partOf s start len)) ≡ true → length (partOf s start len) ≤ 255
+      go true p q = let z = eqb-true len 0 p in omega (arith, part-short s start len)
+      go false p q = omega (arith, field-is headingByte 80 (partOf s start len) q .most)
 
   record-short : length (transferOf (recordOf titles names bodies c)) ≤ 200000
   unfolding textsOk
@@ -68,13 +69,9 @@ module _ (c titles names bodies : Bytes) (h : recordOk c titles names bodies ≡
       let t₂ = and2 (headingOk names (le4At c 78) (byteAt c 82) (eqb (byteAt c 1) 2)) _ (t₁ .1) in
       let t₃ = and2 (within bodies (le4At c 83) (le2At c 87)) (isBody (formIs (byteAt c 1)) (partOf bodies (le4At c 83) (le2At c 87))) (t₂ .1) .1 in
       let b = leb-true (length (r .body)) 65535 (and2 (leb (length (r .body)) 65535) (bodyFair (r .form) (r .body)) t₃ .0) in
-      let k : (f : Form) → length (headingFor f r) ≤ 80 = λ f. heading-of f (heading-short titles (le4At c 73) (byteAt c 77) (not (eqb (byteAt c 1) 2)) (t₁ .0)) (heading-short names (le4At c 78) (byteAt c 82) (eqb (byteAt c 1) 2) (t₂ .0)) in
-      transfer-most (r .form) (headingFor (r .form) r) (r .body) (k (r .form)) b
-    where
-      heading-of : (f : Form) → length (recordOf titles names bodies c .title) ≤ 80 → length (recordOf titles names bodies c .name) ≤ 80 → length (headingFor f (recordOf titles names bodies c)) ≤ 80
-      heading-of plain t n = t
-      heading-of message t n = t
-      heading-of file t n = n
+      let t = text-short titles (le4At c 73) (byteAt c 77) (not (eqb (byteAt c 1) 2)) (t₁ .0) in
+      let n = text-short names (le4At c 78) (byteAt c 82) (eqb (byteAt c 1) 2) (t₂ .0) in
+      transfer-short (r .form) (headingFor (r .form) r) (r .body) (heading-short (r .form) r t n) b
 
 -- ---------------------------------------------------------------- all records
 
@@ -162,7 +159,7 @@ module _ (table titles names bodies : Bytes) where
       T = entries (recordOf titles names bodies) recordSize table (recordCount table)
 
       none-short : length (transferOf noRecord) ≤ 200000
-      none-short = transfer-most plain [] [] (omega arith) (omega arith)
+      none-short = transfer-short plain [] [] (omega arith) (omega arith)
 
       go : (b : Bool) → ltb i (recordCount table) ≡ b → length (transferOf (recordAt T i)) ≤ 200000
       go true p =

@@ -26,12 +26,12 @@ use Rattle.state.specs.declared.Await.{Await}
 use Rattle.state.specs.declared.Say.{Say}
 use Rattle.state.specs.declared.Keep.{Keep}
 use Rattle.state.specs.declared.Session.{Session}
+use Rattle.state.proofs.Laws.{held-five}
 use Rattle.judge.specs.Judge.{refusal, toTurn, saysThen, picked, flagged, sends, transfersAfter, answerTaken, answerLine}
 use Rattle.judge.specs.declared.Judged.{Judged}
 use Rattle.waiting.specs.Waiting.{firstText, thenText, sendingText}
 use Rattle.receiving.specs.Receiving.{cs, unsaid, markAll}
 use Rattle.lent.specs.Represents.{Fixed, Represents}
-use Rattle.lent.proofs.Lists.{held-five}
 use Rattle.lent.proofs.Table.{picked-accepted, zerosAfter}
 use Rattle.lent.proofs.Says.{first-nothing, then-nothing, waits-not, sending-text, some-transfers}
 use Rattle.lent.proofs.Parts.{Holds, Rest, Ready, block-none}

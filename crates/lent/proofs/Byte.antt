@@ -12,6 +12,7 @@ use borrow.Author.Tests.{ne-eqb, le-ltb}
 use Rattle.grammar.specs.Bytes.{Bytes, LF, null}
 use Rattle.grammar.specs.Refusals.{bytesWait}
 use Rattle.grammar.proofs.Basics.{or2, no-both}
+use Rattle.transfer_read.proofs.Untouched.{kept-same, kept-then}
 use Rattle.session.specs.Choices.{Shelf}
 use Rattle.session.specs.Session as on-lists
 use Rattle.session.specs.Session.{Phase}
@@ -22,7 +23,7 @@ use Rattle.receiving.specs.Receiving.{Cs, cs, Moved, moved, lfDropped, refusedO
 use Rattle.lent.specs.Represents.{Fixed, Says, Awaits, Represents}
 use Rattle.lent.specs.Frame.{withStates, reachOf, Spared}
 use Rattle.lent.specs.Link.{Moving, Receiving}
-use Rattle.lent.proofs.Frame.{kept-same, kept-then, only-same, only-then, with-law}
+use Rattle.lent.proofs.Frame.{only-same, only-then, with-law}
 use Rattle.lent.proofs.Table.{Whole}
 use Rattle.lent.proofs.Says.{first-nothing, then-nothing, waits-none}
 use Rattle.lent.proofs.Parts.{block-of, signs-of, rest-of, holds-of, represents, refuse-law}

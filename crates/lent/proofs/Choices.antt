@@ -1,24 +1,25 @@
 -- The session's choices on lent memory are those on lists. Idea: no choice looks at a record's title, name and body, nor at a message's
 -- body but for its length.
-use mathlib.Core.Path.{_≡_, refl, ap, _∙_}
-use mathlib.Core.Bool.{Bool, true, false, cond, not, _&&_, _||_}
+use mathlib.Core.Path.{_≡_, refl, sym, ap, _∙_}
+use mathlib.Core.Bool.{Bool, true, false, cond, not, _||_}
 use mathlib.Core.List.{List, [], _∷_, _++_, map}
 use Prim.Native.Nat.{ℕ, zero, suc, _+_, _-_, _≤_, _<_, min}
 use native.Mathlib.Omega.{arith}
 use lib.Dec.{ltb, leb}
-use lib.ListN.{length, getD, length-append, length-map, List·getD-map}
+use lib.ListN.{length, length-append, length-map}
 use lib.Seq.{take-nil, drop-nil}
 use borrow.Author.Tests.{ltb-true, not-false}
 use Rattle.grammar.specs.Bytes.{Bytes}
-use Rattle.grammar.specs.Turns.{Proposal, ourBlock}
+use Rattle.grammar.specs.Turns.{Proposal}
 use Rattle.grammar.specs.Answers.{Sign, accept, decline, defer, writeSign}
 use Rattle.grammar.specs.Transfers.{partOf}
 use Rattle.grammar.proofs.Basics.{or2}
-use Rattle.mail.specs.Mail.{Record, Message, noRecord, accepted}
-use Rattle.session.specs.Choices.{Shelf, wanted, candidates, sizeAt, chosen, among, recordBids, messageBids, proposalBids, bodyBytes, announced, haveBid, noRoomFor, signFor, withAccepted, answersAfter, answersTo}
+use Rattle.mail.specs.Mail.{Record, Message, accepted}
+use Rattle.session.specs.Choices.{Shelf, chosen, among, recordBids, messageBids, proposalBids, bodyBytes, announced, haveBid, noRoomFor, signFor, withAccepted, answersAfter, answersTo}
 use Rattle.layout.specs.Layout.{entryAt, recordSize, entrySize, recordOf, messageOf}
 use Rattle.choice.specs.Decoded.{entriesFrom, recordCount, recordsOf, statesOf, knownBids, headsOf, proposalsOf, placeCount}
 use Rattle.choice.specs.Choice.{chooseOf, shelfOf, answersOf}
+use Rattle.choice.proofs.Block.{chosen-stores}
 use Rattle.state.specs.State.{fiveOf}
 use Rattle.state.specs.declared.Await.{Await}
 use Rattle.state.specs.declared.Keep.{Keep}
@@ -41,44 +42,12 @@ part-empty a n = rw (drop-nil {A = ℕ} a, take-nil {A = ℕ} n) (go (leb a 0) (
 pub record-bare : (ti na bo c : Bytes) → recordOf [] [] [] c ≡ bare (recordOf ti na bo c)
 record-bare ti na bo c = simp part-empty
 
-from-bare : (ti na bo t : Bytes) (i n : ℕ) → entriesFrom (recordOf [] [] []) recordSize t i n ≡ map bare (entriesFrom (recordOf ti na bo) recordSize t i n)
-from-bare ti na bo t i zero = refl
-from-bare ti na bo t i (suc n) =
-    ap (λ (r : Record). r ∷ entriesFrom (recordOf [] [] []) recordSize t (suc i) n) (record-bare ti na bo (entryAt recordSize t i))
-    ∙ ap (λ (l : List Record). bare (recordOf ti na bo (entryAt recordSize t i)) ∷ l) (from-bare ti na bo t (suc i) n)
-
-records-bare : (ti na bo t : Bytes) → recordsOf [] [] [] t ≡ map bare (recordsOf ti na bo t)
-unfolding recordsOf
-records-bare ti na bo t = from-bare ti na bo t 0 (recordCount t)
-
 -- ---------------------------------------------------------------- our block
-
-candidates-bare : (md : Bool) (st fl : List ℕ) (i : ℕ) (T : List Record) → candidates md st fl i (map bare T) ≡ candidates md st fl i T
-candidates-bare md st fl i [] = refl
-candidates-bare md st fl i (r ∷ T) =
-    ap (λ (l : List ℕ). cond (wanted md r (getD st i 0) (getD fl i 0)) (i ∷ l) l) (candidates-bare md st fl (suc i) T)
-
-size-bare : (T : List Record) (i : ℕ) → sizeAt (map bare T) i ≡ sizeAt T i
-size-bare T i = ap (λ (r : Record). r .size) (List·getD-map bare T i noRecord)
-
-block-sizes : (f g : ℕ → ℕ) → ((i : ℕ) → f i ≡ g i) → (n s : ℕ) (xs : List ℕ) → ourBlock f n s xs ≡ ourBlock g n s xs
-block-sizes f g h n s [] = refl
-block-sizes f g h n s (x ∷ xs) =
-    ap (λ (k : ℕ). cond (ltb n 5 && ltb s 10240) (x ∷ ourBlock f (n + 1) (s + k) xs) []) (h x)
-    ∙ ap (λ (l : List ℕ). cond (ltb n 5 && ltb s 10240) (x ∷ l) []) (block-sizes f g h (n + 1) (s + g x) xs)
-
-chosen-bare : (T : List Record) (md : Bool) (st fl : List ℕ) → chosen (map bare T) md st fl ≡ chosen T md st fl
-unfolding chosen
-chosen-bare T md st fl =
-    ap (ourBlock (sizeAt (map bare T)) 0 0) (candidates-bare md st fl 0 T)
-    ∙ block-sizes (sizeAt (map bare T)) (sizeAt T) (size-bare T) 0 0 (candidates md st fl 0 T)
 
 -- the records that we propose
 pub choose-law : (ti na bo t : Bytes) (md : Bool) (fl : List ℕ) → chooseOf t md fl ≡ fiveOf (chosen (recordsOf ti na bo t) md (statesOf t) fl)
 unfolding chooseOf
-choose-law ti na bo t md fl =
-    ap (λ (T : List Record). fiveOf (chosen T md (statesOf t) fl)) (records-bare ti na bo t)
-    ∙ ap fiveOf (chosen-bare (recordsOf ti na bo t) md (statesOf t) fl)
+choose-law ti na bo t md fl = ap fiveOf (sym (chosen-stores ti na bo t md (statesOf t) fl))
 
 -- ---------------------------------------------------------------- messages without their bodies
 
@@ -102,9 +71,10 @@ bytes-headless : (ms : List Message) → bodyBytes (map headless ms) ≡ 0
 bytes-headless [] = refl
 bytes-headless (m ∷ ms) = omega (arith, bytes-headless ms)
 
-bids-bare : (T : List Record) → recordBids (map bare T) ≡ recordBids T
-bids-bare [] = refl
-bids-bare (r ∷ T) = ap (λ (l : List Bytes). r .bid ∷ l) (bids-bare T)
+-- the BIDs of records are those without the stores
+bids-bare : (ti na bo t : Bytes) (i n : ℕ) → recordBids (entriesFrom (recordOf [] [] []) recordSize t i n) ≡ recordBids (entriesFrom (recordOf ti na bo) recordSize t i n)
+bids-bare ti na bo t i zero = refl
+bids-bare ti na bo t i (suc n) = ap (λ (l : List Bytes). recordOf ti na bo (entryAt recordSize t i) .bid ∷ l) (bids-bare ti na bo t (suc i) n)
 
 -- ---------------------------------------------------------------- our answers
 
@@ -138,7 +108,7 @@ pub answers-law : (ti na bo t known inbox store : Bytes) (E : Shelf) (w : Await)
     → recordsOf ti na bo t ≡ E .table → knownBids known ≡ E .known → placeCount inbox ≡ E .places → length store ≡ E .bytes
     → bodyBytes (messagesOf inbox store (k .kept)) ≡ k .used → w .proposals ≤ 5
     → answersOf w k t known inbox (length store) ≡ fiveOf (map writeSign (answersTo E (messagesOf inbox store (k .kept)) (proposalsOf (w .block) (w .proposals))))
-unfolding answersOf answersTo
+unfolding answersOf answersTo recordsOf
 answers-law ti na bo t known inbox store E w k tables knowns places bytes used few =
     let ms = messagesOf inbox store (k .kept) in
     let five : min 5 (w .proposals) ≡ w .proposals = omega arith in
@@ -146,7 +116,7 @@ answers-law ti na bo t known inbox store E w k tables knowns places bytes used f
     (ap (λ (ss : List Sign). fiveOf (map writeSign ss))
     (after-alike (shelfOf t known inbox (length store - k .used)) E (map headless ms) ms
     (record {
-      table = ap recordBids (records-bare ti na bo t) ∙ bids-bare (recordsOf ti na bo t) ∙ ap recordBids tables;
+      table = bids-bare ti na bo t 0 (recordCount t) ∙ ap recordBids tables;
       known = knowns;
       bids = bids-headless ms;
       free = omega (arith, bytes-headless ms, used, bytes);

@@ -16,7 +16,7 @@ use Rattle.form.specs.Form.{formOf}
 use Rattle.lent.specs.Represents.{Fixed, messagesOf}
 use Rattle.lent.specs.Frame.{withStates}
 use Rattle.lent.specs.Calls.{Lent, Call, sizesOf, messageCount, received, given, withSession, run, AllFair}
-use Rattle.lent.specs.Demand3.{openedBy, Addressable, finally, logged, Demand3, Claim}
+use Rattle.lent.specs.Demand3.{openedBy, Addressable, finally, logged, Claim}
 use Rattle.lent.proofs.Frame.{with-law}
 use Rattle.lent.proofs.FormAnswers.{receive-exactly, give-exactly}
 use Rattle.lent.proofs.Held.{held-form}

@@ -8,7 +8,7 @@ use lib.Dec.{eqb}
 use lib.ListN.{length, getD, take}
 use Rattle.grammar.specs.Bytes.{Bytes, LF}
 use Rattle.grammar.specs.Refusals.{sessionEnded}
-use Rattle.grammar.proofs.Basics.{or2}
+use Rattle.grammar.proofs.Basics.{or2, by-cond}
 use Rattle.mail.specs.Mail.{Record}
 use Rattle.session.specs.Choices.{Shelf}
 use Rattle.session.specs.Session.{Session, Stepped, step, ended, opened}
@@ -22,8 +22,8 @@ use Rattle.demand3.proofs.Inv.{Inv, inv-book, give-inv}
 use Rattle.demand3.proofs.Step.{step-inv}
 use Rattle.demand3.proofs.Demand.{open-inv}
 use Rattle.lent.specs.Deeds.{deeds, Fate, messagesBrought}
-use Rattle.lent.proofs.Small.{by-cond}
-use Rattle.lent.proofs.Deeds.{owes, Keeps, KeepsCut, KeepsUnits, fate-law, kept-law}
+use Rattle.lent.proofs.Deeds.{owes}
+use Rattle.lent.proofs.Becomes.{Keeps, KeepsCut, KeepsUnits, fate-law, kept-law}
 use Rattle.lent.proofs.Once.{Sends, step-once}
 
 -- ---------------------------------------------------------------- byte by byte

@@ -2,20 +2,15 @@
 -- number that a line, a transfer or a byte can be refused with is another.
 use mathlib.Core.Path.{_≡_, refl, ap, _∙_}
 use mathlib.Core.Bool.{Bool, true, false, cond, not, _&&_}
-use mathlib.Core.Option.{Option, none, some}
-use mathlib.Core.List.{List, [], _∷_}
+use mathlib.Core.Option.{none}
+use mathlib.Core.List.{[], _∷_}
 use Prim.Native.Nat.{ℕ, suc, _+_}
 use lib.Dec.{eqb, ltb}
 use lib.ListN.{length, drop}
 use borrow.Author.Tests.{eqb-true}
-use Rattle.grammar.specs.Bytes.{Bytes, LF, isSome}
-use Rattle.grammar.specs.Ascii.{text}
-use Rattle.grammar.specs.Fields.{after}
-use Rattle.grammar.specs.Lines.{LineByte, dropped, ends, grows, overruns, lineByte, isComment, isPrompt}
-use Rattle.grammar.specs.Sid.{readSid, hasFeature}
-use Rattle.grammar.specs.Turns.{TurnLine, saysFF, saysFQ, endsBlock, notAllowed, proposes, readTurnLine}
-use Rattle.grammar.specs.Answers.{readFs}
-use Rattle.answer.specs.Answers.{answerNumber}
+use Rattle.grammar.specs.Bytes.{Bytes, LF}
+use Rattle.grammar.specs.Lines.{LineByte, dropped, ends, grows, overruns, lineByte}
+use Rattle.grammar.proofs.Basics.{by-cond}
 use Rattle.transfer_step.specs.declared.Reader.{Reader}
 use Rattle.transfer_step.specs.declared.Stepped.{Stepped}
 use Rattle.transfer_step.specs.declared.Outcome.{Outcome}
@@ -27,8 +22,7 @@ use Rattle.state.specs.declared.Await.{Await}
 use Rattle.state.specs.declared.Say.{Say}
 use Rattle.state.specs.declared.Keep.{Keep}
 use Rattle.state.specs.declared.Session.{Session}
-use Rattle.choice.specs.Choice.{answersOf}
-use Rattle.judge.specs.Judge.{sidRead, sidLine, textLine, nextAccepted, endLine, proposalLine, ffLine, fqLine, turnRead, turnLine, answerLine, judgeOf}
+use Rattle.judge.specs.Judge.{nextAccepted, judgeOf}
 use Rattle.judge.specs.declared.Judged.{Judged}
 use Rattle.waiting.specs.Waiting.{waits, waitingOf, overOf}
 use Rattle.form.specs.Form.{formOf}
@@ -37,10 +31,7 @@ use Rattle.giving.specs.Giving.{reply, giveOf, handing, Given}
 use Rattle.lent.specs.Represents.{Fixed}
 use Rattle.lent.proofs.FormLaws.{Octets}
 use Rattle.lent.proofs.FormClosed.{InForm, receive-closed, give-closed}
-
-by-test : {A : Type 0} (P : A → Type 0) (c : Bool) {x y : A} → P x → P y → P (cond c x y)
-by-test P true h k = h
-by-test P false h k = k
+use Rattle.lent.proofs.LineWays.{by-line-ways}
 
 -- Another number than 1.
 abbrev Other : ℕ → Type 0
@@ -49,64 +40,13 @@ Other n = eqb n 1 ≡ false
 abbrev OtherJ : Judged → Type 0
 OtherJ j = eqb (j .answer) 1 ≡ false
 
-module _ (w : Await) (y : Say) (k : Keep) (r : Reader) (table known inbox : Bytes) (store : ℕ) where
-  sid-other : (ln : Bytes) → OtherJ (sidLine ln w y k r)
-  unfolding sidLine
-  sid-other ln = go (readSid ln)
-    where
-      go : (o : Option (List ℕ)) → OtherJ (sidRead o w y k r)
-      go none = refl
-      go (some fs) = by-test OtherJ (hasFeature 5 fs) refl refl
-
-  text-other : (ln : Bytes) → OtherJ (textLine ln w y k r)
-  unfolding textLine
-  text-other ln = by-test OtherJ (isPrompt ln) refl refl
-
-  ff-other : OtherJ (ffLine w y k r)
-  unfolding ffLine
-  ff-other = by-test OtherJ (eqb (w .proposals) 0) (by-test OtherJ (w .ff) refl refl) refl
-
-  fq-other : OtherJ (fqLine w y k r)
-  unfolding fqLine
-  fq-other = by-test OtherJ (eqb (w .proposals) 0) (by-test OtherJ (w .ff) refl refl) refl
-
-  end-other : OtherJ (endLine w y k r table known inbox store)
-  unfolding endLine
-  end-other =
-      by-test OtherJ (eqb (w .proposals) 0) refl
-      (by-test OtherJ (eqb (nextAccepted (answersOf w k table known inbox store) 0) 5) refl refl)
-
-  turn-other : (ln : Bytes) → OtherJ (turnLine ln w y k r table known inbox store)
-  unfolding turnLine proposalLine
-  turn-other ln = go (readTurnLine (k .framed) ln)
-    where
-      go : (t : TurnLine) → OtherJ (turnRead t w y k r table known inbox store)
-      go saysFF = ff-other
-      go saysFQ = fq-other
-      go endsBlock = end-other
-      go notAllowed = refl
-      go (proposes q) = by-test OtherJ (ltb (w .proposals) 5) refl refl
-
-  number-other : (n : ℕ) (ln : Bytes) → Other (answerNumber n ln)
-  unfolding answerNumber
-  number-other n ln =
-      by-test Other (ltb 5 n) (by-test Other (isSome (after (text "FS") ln)) refl refl)
-      (by-test Other (isSome (readFs n ln)) refl (by-test Other (isSome (after (text "FS") ln)) refl refl))
-
-  answer-other : (ln : Bytes) → OtherJ (answerLine ln w y k r)
-  unfolding answerLine
-  answer-other ln = by-test OtherJ (eqb (answerNumber (w .ours .count) ln) 0) refl (number-other (w .ours .count) ln)
-
-  judge-other : (ln : Bytes) → OtherJ (judgeOf ln w y k r table known inbox store)
-  unfolding judgeOf
-  judge-other ln =
-      by-test OtherJ (isComment ln) refl
-      (by-test OtherJ (eqb (w .phase) 0) (sid-other ln) (by-test OtherJ (eqb (w .phase) 1) (sid-other ln) (by-test OtherJ (eqb (w .phase) 2) (text-other ln)
-      (by-test OtherJ (eqb (w .phase) 3) (turn-other ln) (by-test OtherJ (eqb (w .phase) 4) (answer-other ln) refl)))))
+judge-other : (ln : Bytes) (w : Await) (y : Say) (k : Keep) (r : Reader) (table known inbox : Bytes) (store : ℕ) → OtherJ (judgeOf ln w y k r table known inbox store)
+judge-other ln w y k r table known inbox store =
+    by-line-ways ln w y k r table known inbox store OtherJ (record { refused = λ n e. e; goes = λ s m v z q. refl; begins = λ m v z q i. refl })
 
 settle-other : (s : Session) (j : Judged) (p : Bool) (table : Bytes) → OtherJ j → Other (settleOf s j p table .answer)
 unfolding settleOf
-settle-other s j p table h = by-test (λ (o : Settled). Other (o .answer)) (eqb (j .answer) 0) refl h
+settle-other s j p table h = by-cond (λ (o : Settled). Other (o .answer)) (eqb (j .answer) 0) refl h
 
 line-other : (s : Session) (b : ℕ) (table known inbox : Bytes) (store : ℕ) → Other (lineStepOf s b table known inbox store .answer)
 unfolding lineStepOf
@@ -114,13 +54,13 @@ line-other s b table known inbox store = go (lineByte false (s .line .len) b)
   where
     go : (l : LineByte) → Other (lineMoved l s b table known inbox store .answer)
     go dropped = refl
-    go ends = settle-other s _ true table (judge-other (s .now) (s .say) (s .keep) (s .reading .reader) table known inbox store _)
+    go ends = settle-other s _ true table (judge-other _ (s .now) (s .say) (s .keep) (s .reading .reader) table known inbox store)
     go grows = refl
     go overruns = refl
 
 keep-other : (s : Session) (table : Bytes) → Other (keepOf s table .answer)
 unfolding keepOf
-keep-other s table = settle-other s _ _ table (by-test OtherJ (eqb (nextAccepted (s .say .signs) (s .now .current + 1)) 5) refl refl)
+keep-other s table = settle-other s _ _ table (by-cond OtherJ (eqb (nextAccepted (s .say .signs) (s .now .current + 1)) 5) refl refl)
 
 transfer-other : (c : Cs) (b : ℕ) → Other (transferStepOf c b .answer)
 unfolding transferStepOf
@@ -142,15 +82,15 @@ OtherM m = eqb (m .answer) 1 ≡ false
 byte-other : (known : Bytes) (c : Cs) (b : ℕ) → OtherM (byteOf known c b)
 unfolding byteOf
 byte-other known c b =
-    by-test OtherM (c .session .line .«after_cr» && eqb b LF) refl
-    (by-test OtherM (waits (c .session .say)) refl
-    (by-test OtherM (eqb (c .session .now .phase) 5) (transfer-other c b) (line-other (c .session) b (c .table) known (c .inbox) (length (c .store)))))
+    by-cond OtherM (c .session .line .«after_cr» && eqb b LF) refl
+    (by-cond OtherM (waits (c .session .say)) refl
+    (by-cond OtherM (eqb (c .session .now .phase) 5) (transfer-other c b) (line-other (c .session) b (c .table) known (c .inbox) (length (c .store)))))
 
 portion-other : (known : Bytes) (bs : Bytes) (c : Cs) (n : ℕ) → Other (receiveFrom known c n bs .answer)
 unfolding receiveFrom
 portion-other known [] c n = refl
 portion-other known (b ∷ bs) c n =
-    by-test (λ (r : Run). Other (r .answer)) (stops (byteOf known c b)) (byte-other known c b) (portion-other known bs (byteOf known c b .cs) (suc n))
+    by-cond (λ (r : Run). Other (r .answer)) (stops (byteOf known c b)) (byte-other known c b) (portion-other known bs (byteOf known c b .cs) (suc n))
 
 module _ (F : Fixed) (sm table inbox store : Bytes) where
   abbrev test : Bool

@@ -22,16 +22,18 @@ use Rattle.state.specs.declared.Sizes.{Sizes}
 use Rattle.state.proofs.Laws.{save-length, save-first, save-sizes-kept, load-save, sizes-length, Sized, sizes-saved, load-sizes}
 use Rattle.choice.specs.Decoded.{placeCount}
 use Rattle.waiting.specs.Waiting.{waits, waitingOf, silentOf, overOf}
+use Rattle.waiting.proofs.Short.{record-short, waiting-short}
 use Rattle.form.specs.Form.{usedBy, markOk, sameSizes, lentSizes, stateOk, formOf}
 use Rattle.giving.specs.Giving.{Given, reply, handedOf, handing, giveOf}
 use Rattle.opening.specs.Opening.{knownOk, entriesOk, sizesOk, tableFault, Opened, opened, openOf}
 use Rattle.receiving.specs.Receiving.{Cs, cs, receiveFrom, Received, unchanged, saved, receiveOf}
 use Rattle.lent.specs.Represents.{Fixed}
 use Rattle.lent.proofs.FormLaws.{Octets, octets-append, octets-put, octets-le8, octets-zeros}
-use Rattle.lent.proofs.FormWaiting.{waiting-some, waiting-short}
-use Rattle.lent.proofs.FormFacts.{Good, form-in, form-out, shaped, state-octets}
-use Rattle.lent.proofs.FormLines.{none-ok}
+use Rattle.lent.proofs.FormWaiting.{waiting-some}
+use Rattle.lent.proofs.FormFacts.{Good, form-in, form-out, shaped, state-octets, Awaited}
+use Rattle.lent.proofs.FormJudged.{none-ok, still-awaited}
 use Rattle.lent.proofs.FormBytes.{receive-ok}
+use Rattle.lent.proofs.InForm.{same-itself}
 
 -- ---------------------------------------------------------------- the statement
 
@@ -163,7 +165,13 @@ module _ (F : Fixed) (nt ni ns : ℕ) (c : Cs) (g : Good F nt ni ns c) (n : ℕ)
   handed-ok = go (ltb (c .session .say .pos + n) (length waiting)) refl
     where
       short : length waiting < 18446744073709551616
-      short = waiting-short (c .session) (c .table) (F .titles) (F .names) (F .bodies) (g .now .ours) (g .say .signs) (g .keep .sending) (g .lent .tableOctets)
+      short =
+          let o = octets (c .table) (g .lent .tableOctets .each) in
+          let r = record-short (c .table) (F .titles) (F .names) (F .bodies) o in
+          omega (arith, waiting-short (c .table) (F .titles) (F .names) (F .bodies) r (c .session) (g .now .ours .size) (g .say .signs .size) (g .keep .sending .size))
+
+      awaited : (first then pos : ℕ) → Awaited (c .session .now) (record { first = first; then = then; pos = pos; signs = c .session .say .signs }) (c .session .keep) (c .session .reading .reader) (c .inbox) (c .store)
+      awaited first then pos = still-awaited (c .session .now) (c .session .say) (c .session .keep) (c .session .reading .reader) (c .inbox) (c .store) first then pos (g .awaited)
 
       more : Session
       more =
@@ -186,10 +194,7 @@ module _ (F : Fixed) (nt ni ns : ℕ) (c : Cs) (g : Good F nt ni ns c) (n : ℕ)
             heading = g .heading;
             line = g .line;
             box = g .box;
-            awaited = record {
-              quiet = g .awaited .quiet;
-              under = λ e. let u = g .awaited .under e in record { current = u .current; signs = u .signs; plus = u .plus; places = u .places; short = u .short; room = u .room };
-            };
+            awaited = awaited (c .session .say .first) (c .session .say .then) (c .session .say .pos + n);
             waiting = λ w. l;
             lent = g .lent;
           }
@@ -202,10 +207,7 @@ module _ (F : Fixed) (nt ni ns : ℕ) (c : Cs) (g : Good F nt ni ns c) (n : ℕ)
             heading = g .heading;
             line = g .line;
             box = g .box;
-            awaited = record {
-              quiet = g .awaited .quiet;
-              under = λ e. let u = g .awaited .under e in record { current = u .current; signs = u .signs; plus = u .plus; places = u .places; short = u .short; room = u .room };
-            };
+            awaited = awaited 0 0 0;
             waiting = λ w. absurd (no-both false w refl);
             lent = g .lent;
           }
@@ -243,16 +245,6 @@ module _ (F : Fixed) (sm table inbox store buf : Bytes) (place : ℕ) where
       go false b = I
 
 -- ---------------------------------------------------------------- open
-
-same-sizes : (a : Sizes) → sameSizes a a ≡ true
-unfolding sameSizes
-same-sizes a =
-    both (eqb (a .table) (a .table)) _ (eq-eqb (a .table) (a .table) refl)
-    (both (eqb (a .titles) (a .titles)) _ (eq-eqb (a .titles) (a .titles) refl)
-    (both (eqb (a .names) (a .names)) _ (eq-eqb (a .names) (a .names) refl)
-    (both (eqb (a .bodies) (a .bodies)) _ (eq-eqb (a .bodies) (a .bodies) refl)
-    (both (eqb (a .known) (a .known)) _ (eq-eqb (a .known) (a .known) refl)
-    (both (eqb (a .inbox) (a .inbox)) _ (eq-eqb (a .inbox) (a .inbox) refl) (eq-eqb (a .store) (a .store) refl))))))
 
 sizes-octets : (z : Sizes) → Octets (sizesOut z)
 unfolding sizesOut
@@ -342,7 +334,7 @@ module _ (F : Fixed) (role : ℕ) (sm table inbox store : Bytes) where
       let q = sizes-in (p .0) in
       let n = q .0 in
       let g = fresh-good F (eqb role 1) table inbox store ot oi os (h .store) (q .1) in
-      let z : sameSizes (loadSizes (saveSizes sm lent)) lent ≡ true = rw (load-sizes sm lent (omega arith) h) (same-sizes lent) in
+      let z : sameSizes (loadSizes (saveSizes sm lent)) lent ≡ true = rw (load-sizes sm lent (omega arith) h) (same-itself lent) in
       subst (λ (l : Bytes). InForm F l table inbox store) (sym (p .1))
       (saved-form F (saveSizes sm lent) (length table) (length inbox) (length store) (cs (freshOf (eqb role 1)) table inbox store) g
       (octets-written sm lent o) (sizes-length sm lent ∙ n) (mark-written sm lent (omega arith)) z)

@@ -1,23 +1,18 @@
--- Laws of lists for the form test: bytes stay bytes, five numbers, the signs' pluses, the bytes that kept messages use, and how long what
--- waits can be. Assumes nothing.
+-- Laws of lists for the form test: bytes stay bytes, five numbers, the signs' pluses, and the bytes that kept messages use. Assumes nothing.
 use mathlib.Core.Path.{_≡_, refl, sym, ap, _∙_, subst}
-use mathlib.Core.Bool.{Bool, true, false, cond, not, _||_}
+use mathlib.Core.Bool.{Bool, true, false, cond}
 use mathlib.Core.List.{List, [], _∷_, _++_, map}
 use Prim.Native.Nat.{ℕ, zero, suc, _+_, _-_, _*_, _/_, _≤_, _<_}
 use native.Mathlib.Omega.{arith}
 use native.Mathlib.Nat.{add-zero}
-use lib.Dec.{eqb, ltb, leb}
-use lib.ListN.{length, getD, set, take, drop, replicate, length-append, length-drop, length-set, length-replicate}
-use lib.Seq.{take-append-seam, length-take-le, drop-drop, getD-drop, getD-take}
+use lib.Dec.{eqb, leb}
+use lib.ListN.{length, getD, set, take, drop, replicate, length-append, length-drop, length-replicate}
+use lib.Seq.{length-take-le, drop-drop, getD-drop, getD-take}
 use borrow.Author.Tests.{eq-eqb, eqb-true, ltb-true, lt-ltb}
 use Rattle.grammar.specs.Bytes.{Bytes, all}
 use Rattle.grammar.specs.Answers.{Sign, accept, decline, defer, writeSign}
-use Rattle.grammar.specs.Turns.{Proposal}
 use Rattle.grammar.specs.Transfers.{partOf}
-use Rattle.grammar.proofs.Basics.{and2, both, all-append, all-replicate}
-use Rattle.grammar.proofs.Exact.{octet}
-use Rattle.mail.specs.Mail.{Message}
-use Rattle.session.specs.Choices.{Shelf, bodyBytes, announced, haveBid, withAccepted, answersAfter, answersTo}
+use Rattle.grammar.proofs.Basics.{and2, both, all-append, all-replicate, octet}
 use Rattle.buffer.specs.Put.{putBytes, cut}
 use Rattle.buffer.specs.declared.Cursor.{Cursor}
 use Rattle.layout.specs.Layout.{le2, le4, le8, entryAt, entrySize, bodyLength, fieldOut}
@@ -96,30 +91,13 @@ octets-field n w o = octets-cons (omega arith) (octets-take n (w ++ replicate n 
 
 -- ---------------------------------------------------------------- marks and flags
 
-pub mark-length : (is : List ℕ) (v : ℕ) (table : Bytes) → length (markAll is v table) ≡ length table
-mark-length [] v table = refl
-mark-length (i ∷ is) v table = mark-length is v (set table (i * 89) v) ∙ length-set table (i * 89) v
-
 pub mark-octets : (is : List ℕ) (v : ℕ) (table : Bytes) → v < 256 → Octets table → Octets (markAll is v table)
 mark-octets [] v table h o = o
 mark-octets (i ∷ is) v table h o = mark-octets is v (set table (i * 89) v) h (octets-set table (i * 89) v h o)
 
-pub flag-length : (is : List ℕ) (flags : Bytes) → length (flagged is flags) ≡ length flags
-flag-length [] flags = refl
-flag-length (i ∷ is) flags = flag-length is (set flags i 1) ∙ length-set flags i 1
-
 pub flag-octets : (is : List ℕ) (flags : Bytes) → Octets flags → Octets (flagged is flags)
 flag-octets [] flags o = o
 flag-octets (i ∷ is) flags o = flag-octets is (set flags i 1) (octets-set flags i 1 (omega arith) o)
-
-pub picked-few : (c : ℕ) (xs ss : List ℕ) → length (picked c xs ss) ≤ length xs
-picked-few c [] ss = omega arith
-picked-few c (x ∷ xs) [] = omega arith
-picked-few c (x ∷ xs) (s ∷ ss) = go (eqb s c) (picked-few c xs ss)
-  where
-    go : (t : Bool) → length (picked c xs ss) ≤ length xs → length (cond t (x ∷ picked c xs ss) (picked c xs ss)) ≤ suc (length xs)
-    go true h = omega arith
-    go false h = omega arith
 
 pub picked-octets : (c : ℕ) (xs ss : List ℕ) → Octets xs → Octets (picked c xs ss)
 picked-octets c [] ss o = octets-nil
@@ -144,9 +122,6 @@ five-of xs h o =
       size = simp (length-append, length-replicate) (omega arith);
       octets = octets-append xs (replicate (5 - length xs) 0) o (octets-zeros (5 - length xs));
     }
-
-pub held-of : (xs : List ℕ) → held (fiveOf xs) ≡ xs
-held-of xs = take-append-seam xs (replicate (5 - length xs) 0)
 
 pub held-length : (f : Five) → FiveOk f → length (held f) ≡ f .count
 held-length f h = length-take-le (f .count) (f .items) (omega (arith, h .few, h .size))
@@ -205,39 +180,11 @@ plus-here [] i h e = absurd (omega arith)
 plus-here (x ∷ xs) zero h e = rw (eq-eqb x 43 e)
 plus-here (x ∷ xs) (suc i) h e = plus-here xs i (omega arith) e
 
--- ---------------------------------------------------------------- our answers accept no more than there are places
-
 pub signs-octets : (ss : List Sign) → Octets (map writeSign ss)
 signs-octets [] = octets-nil
 signs-octets (accept ∷ ss) = octets-cons (omega arith) (signs-octets ss)
 signs-octets (decline ∷ ss) = octets-cons (omega arith) (signs-octets ss)
 signs-octets (defer ∷ ss) = octets-cons (omega arith) (signs-octets ss)
-
-answers-fit : (E : Shelf) (inbox : List Message) (acc ps : List Proposal) → length inbox + length acc ≤ E .places
-    → length inbox + length acc + pluses (map writeSign (answersAfter E inbox acc ps)) ≤ E .places
-answers-fit E inbox acc [] h = omega arith
-answers-fit E inbox acc (p ∷ ps) h =
-    go (haveBid E inbox acc (p .bid)) (ltb 65535 (p .size)) (ltb (E .bytes - bodyBytes inbox - announced acc) (p .size)) (ltb (length inbox + length acc) (E .places)) (λ e. ltb-true (length inbox + length acc) (E .places) e)
-    (λ a q. answers-fit E inbox a ps q)
-  where
-    go : (a b c d : Bool) → (d ≡ true → length inbox + length acc < E .places)
-        → ((acc₁ : List Proposal) → length inbox + length acc₁ ≤ E .places → length inbox + length acc₁ + pluses (map writeSign (answersAfter E inbox acc₁ ps)) ≤ E .places)
-        → length inbox + length acc
-        + pluses (map writeSign (cond a decline (cond (b || (c || not d)) defer accept) ∷ answersAfter E inbox (withAccepted (cond a decline (cond (b || (c || not d)) defer accept)) p acc) ps))
-        ≤ E .places
-    go true b c d q ih = ih acc h
-    go false true c d q ih = ih acc h
-    go false false true d q ih = ih acc h
-    go false false false true q ih =
-        let l = length-append acc (p ∷ []) in
-        let k = q refl in
-        omega (arith, ih (acc ++ (p ∷ [])) (omega arith))
-    go false false false false q ih = ih acc h
-
-pub answers-places : (E : Shelf) (inbox : List Message) (ps : List Proposal) → length inbox ≤ E .places
-    → length inbox + pluses (map writeSign (answersTo E inbox ps)) ≤ E .places
-unfolding answersTo
-answers-places E inbox ps h = omega (arith, answers-fit E inbox [] ps (omega arith))
 
 -- ---------------------------------------------------------------- the bytes that kept messages use
 

@@ -1,247 +1,42 @@
--- A whole line keeps the facts of the form test: whatever is awaited, what the line is judged to come to is in order (`judge-ok`), and so is
--- the session after it and after our turn (`settle-ok`). Idea: a fact is lost only where the phase changes, and there it is shown anew: a
--- transfer begins only where our answer had a place for it, records are sent only from the FS line to the end of the partner's turn.
-use mathlib.Core.Path.{_≡_, refl, sym, ap, _∙_, subst}
-use mathlib.Core.Bool.{Bool, true, false, cond, _||_}
+-- A whole line keeps the facts of the form test: whatever is awaited, what the line is judged to come to is in order (`judge-ok`). Idea: a fact
+-- is lost only where the phase changes, and there it is shown anew: a transfer begins only where our answer had a place for it, records are
+-- sent only from the FS line to the end of the partner's turn.
+use mathlib.Core.Path.{_≡_, refl, sym, _∙_, subst}
+use mathlib.Core.Bool.{Bool, true, false, cond}
 use mathlib.Core.Option.{Option, none, some}
-use mathlib.Core.List.{List, [], _∷_, map}
-use Prim.Native.Nat.{ℕ, zero, suc, _+_, _-_, _*_, _≤_, _<_, min}
+use mathlib.Core.List.{List}
+use Prim.Native.Nat.{ℕ, _+_, _*_, _≤_, _<_}
 use native.Mathlib.Omega.{arith}
 use lib.Dec.{eqb, ltb}
-use lib.ListN.{length, drop, length-map}
-use borrow.Author.Tests.{lt-ltb, eqb-true, ltb-true}
-use Rattle.grammar.specs.Bytes.{Bytes, all, same}
-use Rattle.grammar.specs.Ascii.{text}
+use lib.ListN.{length, drop}
+use borrow.Author.Tests.{eqb-true, ltb-true}
+use Rattle.grammar.specs.Bytes.{Bytes}
 use Rattle.grammar.specs.Refusals.{notSid, noForwarding, lineNotAllowed, proposalCount}
-use Rattle.grammar.specs.Fields.{Form, plain, message, file, formNumber, callByte, bidByte, upper, isCall, isBid}
+use Rattle.grammar.specs.Fields.{formNumber}
 use Rattle.grammar.specs.Lines.{isComment, isPrompt}
 use Rattle.grammar.specs.Sid.{readSid, hasFeature, framed}
-use Rattle.grammar.specs.Turns.{Proposal, TurnLine, saysFF, saysFQ, endsBlock, notAllowed, proposes, orNotAllowed, readTurnLine, readProposal, isType}
-use Rattle.grammar.specs.Answers.{writeSign}
-use Rattle.grammar.proofs.Basics.{all-sub, no-both, field-is}
-use Rattle.grammar.proofs.Fields.{atByte, at-field}
-use Rattle.grammar.proofs.AsRead.{Proper, ProperIf, proposal-proper}
-use Rattle.grammar.proofs.Exact.{octet}
-use Rattle.mail.specs.Mail.{Record, Message}
-use Rattle.session.specs.Choices.{chosen, answersTo}
-use Rattle.session.proofs.Choices.{few, Places, chosen-places, one-sign-each}
+use Rattle.grammar.specs.Turns.{Proposal, TurnLine, saysFF, saysFQ, endsBlock, notAllowed, proposes, readTurnLine}
+use Rattle.grammar.proofs.AsRead.{Proper, TurnOk, turn-read-ok}
 use Rattle.answer.specs.Answers.{answerNumber, answerSigns}
 use Rattle.buffer.proofs.Laws.{put-length}
-use Rattle.layout.specs.Layout.{byteAt, entryAt, recordOf, messageOf, proposalOf, proposalSize, proposalOut, fieldOut, le4}
+use Rattle.layout.specs.Layout.{proposalOut}
 use Rattle.transfer_step.specs.declared.Reader.{Reader}
-use Rattle.transfer_step.specs.Step.{reader}
 use Rattle.state.specs.State.{at, held, fiveOf, noFive}
 use Rattle.state.specs.declared.Five.{Five}
 use Rattle.state.specs.declared.Await.{Await}
 use Rattle.state.specs.declared.Say.{Say}
 use Rattle.state.specs.declared.Keep.{Keep}
-use Rattle.state.specs.declared.Session.{Session}
-use Rattle.choice.specs.Choice.{chooseOf, shelfOf, answersOf}
-use Rattle.choice.specs.Decoded.{entriesFrom, recordCount, recordsOf, statesOf, headsOf, proposalsOf, placeCount}
-use Rattle.judge.specs.Judge.{noMarks, judged, refusal, wentOn, inPhase, toTurn, toAnswer, toTransfer, saysFirst, saysThen, saysSigns, inMode, sends, afterSid, sidRead, sidLine, textLine, turnMarks, settledKeep, nextAccepted, readerFor, answered, endLine, withProposal, proposalLine, ffLine, fqLine, turnRead, turnLine, picked, flagged, transfersAfter, answerTaken, answerLine, lineIn, judgeOf, spoken, speakOf}
+use Rattle.choice.specs.Choice.{answersOf}
+use Rattle.choice.specs.Decoded.{placeCount}
+use Rattle.judge.specs.Judge.{noMarks, judged, refusal, wentOn, inPhase, toTurn, toTransfer, saysFirst, saysThen, saysSigns, inMode, sends, afterSid, sidRead, sidLine, textLine, turnMarks, settledKeep, nextAccepted, readerFor, answered, endLine, withProposal, proposalLine, ffLine, fqLine, turnRead, turnLine, picked, flagged, transfersAfter, answerTaken, answerLine, lineIn, judgeOf}
 use Rattle.judge.specs.declared.Marks.{Marks}
-use Rattle.judge.specs.declared.Judged.{Judged}
-use Rattle.judge.specs.declared.Spoken.{Spoken}
-use Rattle.waiting.specs.Waiting.{waits}
-use Rattle.form.specs.Form.{usedBy, pluses}
-use Rattle.receiving.specs.Receiving.{cs, markAll, refusedOf, unsaid, settledOf, spokenOf, Settled, settled, settleOf}
-use Rattle.lent.specs.Represents.{Fixed}
-use Rattle.lent.proofs.FormLaws.{Octets, octets-nil, octets-cons, octets-append, octets-zeros, octets-put, octets-le4, octets-field, mark-length, mark-octets, flag-length, flag-octets, picked-few, picked-octets, FiveOk, five-of, held-of, held-length, held-octets, next-found, signs-octets, answers-places}
-use Rattle.lent.proofs.FormWaiting.{waiting-some}
-use Rattle.lent.proofs.FormFacts.{AwaitOk, SayOk, KeepOk, ReaderOk, HeadingOk, LineOk, Box, Awaited, Lent, Good}
-
--- ---------------------------------------------------------------- what a proposal that is read holds
-
-class-octets : (c : ℕ → Bool) (w : Bytes) → ((b : ℕ) → c b ≡ true → octet b ≡ true) → all c w ≡ true → Octets w
-class-octets c w h e = record { each = all-sub c octet w h e }
-
-below : (b n : ℕ) → n ≤ 256 → ltb b n ≡ true → octet b ≡ true
-below b n h e = let k = ltb-true b n e in lt-ltb b 256 (omega arith)
-
-call-octet : (b : ℕ) → callByte b ≡ true → octet b ≡ true
-call-octet b e = go (eqb b 46 || eqb b 64) (ltb b 33) e
-  where
-    go : (p q : Bool) → cond p false (cond q false (ltb b 127)) ≡ true → octet b ≡ true
-    go true q e = cc
-    go false true e = cc
-    go false false e = below b 127 (omega arith) e
-
-bid-octet : (b : ℕ) → bidByte b ≡ true → octet b ≡ true
-bid-octet b e = go (ltb b 33) e
-  where
-    go : (q : Bool) → cond q false (ltb b 256) ≡ true → octet b ≡ true
-    go true e = cc
-    go false e = e
-
-at-octet : (b : ℕ) → atByte b ≡ true → octet b ≡ true
-at-octet b e = go (callByte b) refl e
-  where
-    go : (p : Bool) → callByte b ≡ p → p || eqb b 46 ≡ true → octet b ≡ true
-    go true q e = call-octet b q
-    go false q e = let z = eqb-true b 46 e in rw z
-
-call-octets : (w : Bytes) → isCall w ≡ true → Octets w
-unfolding isCall
-call-octets w e = class-octets callByte w call-octet ((field-is callByte 6 w e) .class)
-
-bid-octets : (w : Bytes) → isBid w ≡ true → Octets w
-unfolding isBid
-bid-octets w e = class-octets bidByte w bid-octet ((field-is bidByte 12 w e) .class)
-
-type-octet : (t : ℕ) → isType t ≡ true → t < 256
-type-octet t e = go (eqb t 80) refl e
-  where
-    go : (p : Bool) → eqb t 80 ≡ p → p || eqb t 66 ≡ true → t < 256
-    go true q e = omega (arith, eqb-true t 80 q)
-    go false q e = omega (arith, eqb-true t 66 e)
-
-form-octet : (f : Form) → formNumber f < 256
-form-octet plain = omega arith
-form-octet message = omega arith
-form-octet file = omega arith
-
-proposal-octets : (md : Bool) (q : Proposal) → Proper md q
-    → Octets (proposalOut (formNumber (q .form)) (q .type) (q .from) (q .at) (q .to) (q .bid) (q .size))
-proposal-octets md q h =
-    octets-append _ (le4 (q .size))
-    (octets-cons (form-octet (q .form)) (octets-cons (type-octet (q .type) (h .type))
-    (octets-append (fieldOut 6 (q .from)) _ (octets-field 6 (q .from) (call-octets (q .from) (h .from)))
-    (octets-append (fieldOut 38 (q .at)) _ (octets-field 38 (q .at) (class-octets atByte (q .at) at-octet ((at-field (q .at) (h .at)) .class)))
-    (octets-append (fieldOut 6 (q .to)) (fieldOut 12 (q .bid)) (octets-field 6 (q .to) (call-octets (q .to) (h .to))) (octets-field 12 (q .bid) (bid-octets (q .bid) (h .bid))))))))
-    (octets-le4 (q .size))
-
-abbrev TurnOk : Bool → TurnLine → Type 0
-TurnOk md saysFF = Unit {0}
-TurnOk md saysFQ = Unit {0}
-TurnOk md endsBlock = Unit {0}
-TurnOk md notAllowed = Unit {0}
-TurnOk md (proposes q) = Proper md q
-
-turn-read-ok : (md : Bool) (ln : Bytes) → TurnOk md (readTurnLine md ln)
-unfolding readTurnLine
-turn-read-ok md ln = go (same (map upper ln) (text "FF")) (same (map upper ln) (text "FQ")) (same (map upper ln) (text "F>")) (readProposal md ln) (proposal-proper md ln)
-  where
-    go : (a b c : Bool) (o : Option Proposal) → ProperIf md o → TurnOk md (cond a saysFF (cond b saysFQ (cond c endsBlock (orNotAllowed o))))
-    go true b c o h = tt
-    go false true c o h = tt
-    go false false true o h = tt
-    go false false false none h = tt
-    go false false false (some q) h = h
-
--- ---------------------------------------------------------------- our choices
-
-entries-length : {A : Type 0} (f : Bytes → A) (size : ℕ) (s : Bytes) (i n : ℕ) → length (entriesFrom f size s i n) ≡ n
-entries-length f size s i zero = refl
-entries-length f size s i (suc n) = ap suc (entries-length f size s (suc i) n)
-
-places-octets : (md : Bool) (T : List Record) (is : List ℕ) → length T ≤ 64 → Places md T is → Octets is
-places-octets md T [] h p = octets-nil
-places-octets md T (i ∷ is) h p = octets-cons (omega (arith, p .0)) (places-octets md T is h (p .2))
-
-pub choose-ok : (table : Bytes) (md : Bool) (flags : Bytes) → FiveOk (chooseOf table md flags)
-unfolding chooseOf recordsOf
-choose-ok table md flags =
-    let T : List Record = recordsOf [] [] [] table in
-    let l : length T ≡ recordCount table = entries-length (recordOf [] [] []) 89 table 0 (recordCount table) in
-    five-of (chosen T md (statesOf table) flags) (few T md (statesOf table) flags)
-    (places-octets md T (chosen T md (statesOf table) flags) (omega (arith, l)) (chosen-places T md (statesOf table) flags))
-
--- Our answers: one a proposal, and no more `+` than there are places.
-pub record AnswersOk (w : Await) (k : Keep) (inbox : Bytes) (f : Five) : Type 0 where
-  pub five : FiveOk f
-  pub each : f .count ≡ w .proposals
-  pub places : k .kept + pluses (held f) ≤ placeCount inbox
-
-pub answers-ok : (w : Await) (k : Keep) (table known inbox : Bytes) (n : ℕ) → w .proposals ≤ 5 → k .kept ≤ placeCount inbox
-    → AnswersOk w k inbox (answersOf w k table known inbox n)
-unfolding answersOf headsOf proposalsOf
-answers-ok w k table known inbox n h b =
-    let E = shelfOf table known inbox (n - k .used) in
-    let ms : List Message = headsOf inbox (k .kept) in
-    let ps : List Proposal = proposalsOf (w .block) (min 5 (w .proposals)) in
-    let ss = answersTo E ms ps in
-    let l₁ : length ms ≡ k .kept = entries-length (λ (c : Bytes). messageOf c []) 155 inbox 0 (k .kept) in
-    let l₂ : length ps ≡ min 5 (w .proposals) = entries-length proposalOf 72 (w .block) 0 (min 5 (w .proposals)) in
-    let l₃ = one-sign-each E ms ps in
-    let l₄ : length (map writeSign ss) ≡ length ss = length-map ss writeSign in
-    let p = answers-places E ms ps (omega arith) in
-    record {
-      five = five-of (map writeSign ss) (omega arith) (signs-octets ss);
-      each = omega arith;
-      places = subst (λ (l : List ℕ). k .kept + pluses l ≤ placeCount inbox) (sym (held-of (map writeSign ss))) (omega arith);
-    }
-
--- ---------------------------------------------------------------- what a line is judged to come to
-
-pub record JudgedOk (inbox store : Bytes) (j : Judged) : Type 0 where
-  pub now : AwaitOk (j .now)
-  pub say : SayOk (j .say)
-  pub keep : KeepOk (j .keep)
-  pub reader : ReaderOk (j .reader)
-  pub box : Box (j .keep) inbox store
-  pub state : j .marks .state < 256
-  pub sent : 3 < j .say .then → 0 < j .keep .sending .count
-  pub quiet : eqb (j .speaks) 0 ≡ false → j .keep .sending .count ≡ 0
-  pub awaited : eqb (j .speaks) 0 ≡ true → Awaited (j .now) (j .say) (j .keep) (j .reader) inbox store
-
--- where it is not refused
-abbrev pub JGood : Bytes → Bytes → Judged → Type 0
-JGood inbox store j = eqb (j .answer) 0 ≡ true → JudgedOk inbox store j
-
--- messages kept and store used are the same
-pub box-as : (k j : Keep) (inbox store : Bytes) → j .kept ≡ k .kept → j .used ≡ k .used → Box k inbox store → Box j inbox store
-box-as k j inbox store e f b =
-    record {
-      limit = b .limit;
-      placed = subst (λ (n : ℕ). n ≤ placeCount inbox) (sym e) (b .placed);
-      used = ap (usedBy inbox) e ∙ b .used ∙ sym f;
-      within = subst (λ (n : ℕ). n ≤ length store) (sym f) (b .within);
-    }
-
-pub none-ok : FiveOk noFive
-none-ok = record { few = omega arith; size = refl; octets = octets-zeros 5 }
-
-in-phase : (p : ℕ) (w : Await) → p < 256 → AwaitOk w → AwaitOk (inPhase p w)
-in-phase p w h g = record { phase = h; current = g .current; proposals = g .proposals; ours = g .ours; block = g .block; octets = g .octets }
-
-to-turn : (ff : Bool) (w : Await) → AwaitOk w → AwaitOk (toTurn ff w)
-to-turn ff w g = record { phase = omega arith; current = g .current; proposals = omega arith; ours = g .ours; block = g .block; octets = g .octets }
-
-to-answer : (f : Five) (w : Await) → FiveOk f → AwaitOk w → AwaitOk (toAnswer f w)
-to-answer f w h g = record { phase = omega arith; current = g .current; proposals = g .proposals; ours = h; block = g .block; octets = g .octets }
-
-pub to-transfer : (i : ℕ) (w : Await) → i < 256 → AwaitOk w → AwaitOk (toTransfer i w)
-to-transfer i w h g = record { phase = omega arith; current = h; proposals = g .proposals; ours = g .ours; block = g .block; octets = g .octets }
-
-says-then : (n : ℕ) (y : Say) → n < 256 → SayOk y → SayOk (saysThen n y)
-says-then n y h g = record { first = g .first; then = h; pos = g .pos; signs = g .signs }
-
-sends-ok : (f : Five) (flags : Bytes) (k : Keep) → FiveOk f → length flags ≡ 64 → Octets flags → KeepOk (sends f flags k)
-sends-ok f flags k h l o = record { sending = h; flags = l; octets = o }
-
-pub reader-ok : (w : Await) (i : ℕ) → ReaderOk (readerFor w i)
-unfolding readerFor
-reader-ok w i = go (eqb (byteAt (entryAt proposalSize (w .block) i) 0) 0)
-  where
-    go : (c : Bool) → ReaderOk (reader (cond c 0 3) 0 0 0 0 0 0)
-    go true = record { place = omega arith; len = omega arith; head = omega arith; off = omega arith; left = omega arith; sum = omega arith; body = omega arith }
-    go false = record { place = omega arith; len = omega arith; head = omega arith; off = omega arith; left = omega arith; sum = omega arith; body = omega arith }
-
-pub reader-body : (w : Await) (i : ℕ) → readerFor w i .body ≡ 0
-unfolding readerFor
-reader-body w i = refl
-
--- the partner's turn is awaited, or nothing any more: nothing is to be shown
-free : (w : Await) (y : Say) (k : Keep) (r : Reader) (inbox store : Bytes) → ((w .phase ≡ 3 → ⊥) → w .phase ≤ 5 → ⊥) → (w .phase ≡ 5 → ⊥)
-    → Awaited w y k r inbox store
-free w y k r inbox store h n = record { quiet = λ a b. absurd (h a b); under = λ e. absurd (n e) }
-
--- nothing is being sent, and no transfer is awaited
-calm : (w : Await) (y : Say) (k : Keep) (r : Reader) (inbox store : Bytes) → k .sending .count ≡ 0 → (w .phase ≡ 5 → ⊥) → Awaited w y k r inbox store
-calm w y k r inbox store z n = record { quiet = λ a b. z; under = λ e. absurd (n e) }
-
-no-refusal : {A : Type 0} (c : Bool) → c ≡ false → c ≡ true → A
-no-refusal c f e = absurd (no-both c e f)
+use Rattle.form.specs.Form.{pluses}
+use Rattle.lent.proofs.FormLaws.{octets-put, flag-octets, picked-octets, five-of, held-length, held-octets, next-found}
+use Rattle.lent.proofs.FormFacts.{AwaitOk, SayOk, KeepOk, ReaderOk, Box, Awaited}
+use Rattle.lent.proofs.FormProposals.{proposal-octets}
+use Rattle.lent.proofs.FormChoices.{AnswersOk, answers-ok}
+use Rattle.lent.proofs.FormJudged.{JGood, box-as, none-ok, in-phase, to-turn, to-transfer, says-then, sends-ok, reader-ok, reader-body, free, calm, no-refusal}
+use Rattle.lent.proofs.Table.{length-flagged, picked-few}
 
 -- s: what a line is judged in; nothing waits, and no transfer is awaited
 module _ (table known inbox store : Bytes) (w : Await) (y : Say) (k : Keep) (r : Reader)
@@ -399,7 +194,7 @@ module _ (table known inbox store : Bytes) (w : Await) (y : Say) (k : Keep) (r :
       let y′ = said (ltb 0 (length xs)) refl in
       on (toTurn false w) (transfersAfter (fiveOf xs) y) k′ r _ (to-turn false w W) (y′ .0)
       (sends-ok (fiveOf xs) (flagged (picked 61 (held (w .ours)) ss) (k .deferred)) k f
-      (flag-length (picked 61 (held (w .ours)) ss) (k .deferred) ∙ K .flags) (flag-octets (picked 61 (held (w .ours)) ss) (k .deferred) (K .octets)))
+      (length-flagged (picked 61 (held (w .ours)) ss) (k .deferred) ∙ K .flags) (flag-octets (picked 61 (held (w .ours)) ss) (k .deferred) (K .octets)))
       R (box-as k k′ inbox store refl refl B) (omega arith) (y′ .1)
       (free (toTurn false w) (transfersAfter (fiveOf xs) y) k′ r inbox store (λ a b. a refl) (λ e. omega arith))
     where
@@ -438,129 +233,3 @@ module _ (table known inbox store : Bytes) (w : Await) (y : Say) (k : Keep) (r :
       go : (a : Bool) → JGood inbox store (cond a (wentOn w y k r) (lineIn (w .phase) ln w y k r table known inbox (length store)))
       go true = same-on n q
       go false = line-ok ln q n
-
--- ---------------------------------------------------------------- our turn
-
--- What we await after our turn and what we say in it; nothing is being sent.
-pub record SpokenOk (k : Keep) (inbox store : Bytes) (o : Spoken) : Type 0 where
-  pub now : AwaitOk (o .now)
-  pub say : SayOk (o .say)
-  pub then : o .say .then ≤ 3
-  pub awaited : (r : Reader) → Awaited (o .now) (o .say) k r inbox store
-
-speak-ok : (w : Await) (y : Say) (k : Keep) (table inbox store : Bytes) (ff : Bool) → AwaitOk w → SayOk y → k .sending .count ≡ 0
-    → SpokenOk k inbox store (speakOf w y k table ff)
-unfolding speakOf
-speak-ok w y k table inbox store ff W Y z = go (eqb (chooseOf table (k .framed) (k .deferred) .count) 0) ff
-  where
-    go : (a b : Bool) → SpokenOk k inbox store (cond a (cond b (spoken (inPhase 6 w) (saysThen 2 y)) (spoken (toTurn true w) (saysThen 1 y)))
-        (spoken (toAnswer (chooseOf table (k .framed) (k .deferred)) w) (saysThen 3 y)))
-    go true true =
-        record {
-          now = in-phase 6 w (omega arith) W;
-          say = says-then 2 y (omega arith) Y;
-          then = omega arith;
-          awaited = λ r. calm (inPhase 6 w) (saysThen 2 y) k r inbox store z (λ e. omega arith);
-        }
-    go true false =
-        record {
-          now = to-turn true w W;
-          say = says-then 1 y (omega arith) Y;
-          then = omega arith;
-          awaited = λ r. calm (toTurn true w) (saysThen 1 y) k r inbox store z (λ e. omega arith);
-        }
-    go false b =
-        record {
-          now = to-answer (chooseOf table (k .framed) (k .deferred)) w (choose-ok table (k .framed) (k .deferred)) W;
-          say = says-then 3 y (omega arith) Y;
-          then = omega arith;
-          awaited = λ r. calm (toAnswer (chooseOf table (k .framed) (k .deferred)) w) (saysThen 3 y) k r inbox store z (λ e. omega arith);
-        }
-
--- ---------------------------------------------------------------- the session after it
-
--- what is said is not given yet: nothing of it is lost
-unsaid-awaited : (w : Await) (y : Say) (k : Keep) (r : Reader) (inbox store : Bytes) → Awaited w y k r inbox store → Awaited w (unsaid y) k r inbox store
-unsaid-awaited w y k r inbox store h =
-    record {
-      quiet = h .quiet;
-      under = λ e. let u = h .under e in record { current = u .current; signs = u .signs; plus = u .plus; places = u .places; short = u .short; room = u .room };
-    }
-
--- a refusal: the session is over, nothing waits
-pub refused-good : (F : Fixed) (nt ni ns : ℕ) (s : Session) (table inbox store : Bytes) → AwaitOk (s .now) → SayOk (s .say) → KeepOk (s .keep)
-    → ReaderOk (s .reading .reader) → HeadingOk (s .reading .heading) → LineOk (s .line) → Box (s .keep) inbox store → Lent nt ni ns table inbox store
-    → Good F nt ni ns (cs (refusedOf s) table inbox store)
-unfolding refusedOf waits
-refused-good F nt ni ns s table inbox store W Y K R H L B M =
-    record {
-      now = in-phase 7 (s .now) (omega arith) W;
-      say = record { first = omega arith; then = omega arith; pos = omega arith; signs = Y .signs };
-      keep = K;
-      reader = R;
-      heading = H;
-      line = record { len = omega arith; size = L .size; octets = L .octets };
-      box = B;
-      awaited = free (inPhase 7 (s .now)) (record { first = 0; then = 0; pos = 0; signs = s .say .signs }) (s .keep) (s .reading .reader) inbox store (λ a b. omega arith) (λ e. omega arith);
-      waiting = λ e. no-refusal false refl e;
-      lent = M;
-    }
-
-module _ (F : Fixed) (nt ni ns : ℕ) (s : Session) (j : Judged) (afterCr : Bool) (inbox store : Bytes) (H : HeadingOk (s .reading .heading)) (L : LineOk (s .line)) where
-  settled-good : (w : Await) (y : Say) (table : Bytes) → Lent nt ni ns table inbox store → JudgedOk inbox store j → AwaitOk w → SayOk y
-      → (3 < y .then → 0 < j .keep .sending .count) → Awaited w y (j .keep) (j .reader) inbox store
-      → Good F nt ni ns (cs (settledOf s j afterCr w y) table inbox store)
-  settled-good w y table M J W Y t A =
-      record {
-        now = W;
-        say = record { first = Y .first; then = Y .then; pos = omega arith; signs = Y .signs };
-        keep = J .keep;
-        reader = J .reader;
-        heading = H;
-        line = record { len = omega arith; size = L .size; octets = L .octets };
-        box = J .box;
-        awaited = unsaid-awaited w y (j .keep) (j .reader) inbox store A;
-        waiting = λ e. waiting-some (settledOf s j afterCr w y) table (F .titles) (F .names) (F .bodies) (J .keep .sending) t e;
-        lent = M;
-      }
-
-  spoken-good : (table : Bytes) → Lent nt ni ns table inbox store → JudgedOk inbox store j → Good F nt ni ns (cs (spokenOf s j afterCr table) table inbox store)
-  spoken-good table M J = go (eqb (j .speaks) 0) refl
-    where
-      go : (a : Bool) → eqb (j .speaks) 0 ≡ a
-          → Good F nt ni ns (cs (cond a (settledOf s j afterCr (j .now) (j .say))
-          (settledOf s j afterCr (speakOf (j .now) (j .say) (j .keep) table (eqb (j .speaks) 2) .now) (speakOf (j .now) (j .say) (j .keep) table (eqb (j .speaks) 2) .say)))
-          table inbox store)
-      go true e = settled-good (j .now) (j .say) table M J (J .now) (J .say) (J .sent) (J .awaited e)
-      go false e =
-          let h = speak-ok (j .now) (j .say) (j .keep) table inbox store (eqb (j .speaks) 2) (J .now) (J .say) (J .quiet e) in
-          settled-good (speakOf (j .now) (j .say) (j .keep) table (eqb (j .speaks) 2) .now) (speakOf (j .now) (j .say) (j .keep) table (eqb (j .speaks) 2) .say)
-          table M J (h .now) (h .say) (λ l. absurd (omega (arith, h .then))) (h .awaited (j .reader))
-
-  marked-lent : (is : List ℕ) (v : ℕ) (table : Bytes) → v < 256 → Lent nt ni ns table inbox store → Lent nt ni ns (markAll is v table) inbox store
-  marked-lent is v table h M =
-      record {
-        table = mark-length is v table ∙ M .table;
-        inbox = M .inbox;
-        store = M .store;
-        fits = M .fits;
-        tableOctets = mark-octets is v table h (M .tableOctets);
-        inboxOctets = M .inboxOctets;
-        storeOctets = M .storeOctets;
-      }
-
-  pub settle-ok : (table : Bytes) → Lent nt ni ns table inbox store → JGood inbox store j
-      → (eqb (j .answer) 0 ≡ false → Good F nt ni ns (cs (refusedOf s) table inbox store))
-      → Good F nt ni ns (cs (settleOf s j afterCr table .session) (settleOf s j afterCr table .table) inbox store)
-  unfolding settleOf
-  settle-ok table M J X = go (eqb (j .answer) 0) refl
-    where
-      out : Bool → Settled
-      out a = cond a (settled 0 (spokenOf s j afterCr (markAll (held (j .marks .places)) (j .marks .state) table)) (markAll (held (j .marks .places)) (j .marks .state) table))
-          (settled (j .answer) (refusedOf s) table)
-
-      go : (a : Bool) → eqb (j .answer) 0 ≡ a → Good F nt ni ns (cs (out a .session) (out a .table) inbox store)
-      go true e =
-          let h = J e in
-          spoken-good (markAll (held (j .marks .places)) (j .marks .state) table) (marked-lent (held (j .marks .places)) (j .marks .state) table (h .state) M) h
-      go false e = X e

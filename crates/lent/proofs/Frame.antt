@@ -1,14 +1,14 @@
 -- What is left alone, put together: a part unchanged, one change after another, states set; and a table of which only states changed is
 -- the old one with the new states.
-use mathlib.Core.Path.{_≡_, refl, sym, ap, _∙_, subst}
+use mathlib.Core.Path.{_≡_, refl, sym, ap, _∙_}
 use mathlib.Core.Bool.{Bool, true, false}
 use mathlib.Core.List.{List, [], _∷_, _++_}
-use Prim.Native.Nat.{ℕ, zero, suc, _+_, _-_, _*_, _/_, _%_, _≤_, _<_}
+use Prim.Native.Nat.{ℕ, zero, suc, _+_, _*_, _/_, _%_, _≤_, _<_}
 use native.Mathlib.Omega.{arith}
 use native.Mathlib.Nat.{add-zero}
 use lib.Dec.{eqb}
 use lib.ListN.{length, getD, take, drop, set, length-set, length-append, take-append-drop}
-use lib.Seq.{take-take, drop-drop, take-add, take-at, take-append-add, drop-append-add, drop-append-seam, length-take-le, getD-set-same, getD-set-other, ext-getD, getD-take, getD-drop}
+use lib.Seq.{drop-drop, take-add, take-at, take-append-add, drop-append-add, drop-append-seam, length-take-le, getD-set-same, getD-set-other, ext-getD, getD-take, getD-drop}
 use borrow.Author.Tests.{eqb-true, eqb-false}
 use Rattle.grammar.specs.Bytes.{Bytes}
 use Rattle.buffer.specs.Put.{putBytes}
@@ -17,31 +17,12 @@ use Rattle.layout.proofs.Places.{put-fits}
 use Rattle.layout.specs.Layout.{byteAt, recordSize}
 use Rattle.transfer_read.specs.Meaning.{Kept}
 use Rattle.choice.specs.Decoded.{recordCount, statesOf}
+use Rattle.choice.proofs.Laws.{entries-length, entries-at}
 use Rattle.receiving.specs.Receiving.{markAll}
 use Rattle.lent.specs.Frame.{withStatesFrom, withStates, StatesOnly}
-use Rattle.lent.proofs.Lists.{entries-length, entries-at}
 use Rattle.lent.proofs.Table.{Whole, entry-whole}
 
 -- ---------------------------------------------------------------- a part of a buffer
-
-pub kept-same : (i j : ℕ) (l : Bytes) → i ≤ j → Kept i j l l
-kept-same i j l h = record { on = h; before = refl; past = refl; size = refl }
-
-drop-more : (j k : ℕ) (a b : Bytes) → j ≤ k → drop j b ≡ drop j a → drop k b ≡ drop k a
-drop-more j k a b h e =
-    let n : j + (k - j) ≡ k = omega arith in
-    subst (λ (m : ℕ). drop m b ≡ drop m a) n (sym (drop-drop (k - j) j b) ∙ ap (drop (k - j)) e ∙ drop-drop (k - j) j a)
-
-pub kept-then : (i j k : ℕ) (a b c : Bytes) → Kept i j a b → Kept j k b c → Kept i k a c
-kept-then i j k a b c p q =
-    let h = p .on in
-    let l = q .on in
-    record {
-      on = omega arith;
-      before = sym (take-take i j c h) ∙ ap (take i) (q .before) ∙ take-take i j b h ∙ p .before;
-      past = q .past ∙ drop-more j k a b l (p .past);
-      size = q .size ∙ p .size;
-    }
 
 -- of a part from u on, seen in the whole
 pub kept-behind : (u i j : ℕ) (l d : Bytes) → u ≤ length l → Kept i j (drop u l) d → Kept (u + i) (u + j) l (take u l ++ d)
@@ -103,12 +84,12 @@ with-at i (v ∷ vs) t (suc k) h l =
     let e : (i + suc k) * 89 ≡ (suc i + k) * 89 = omega arith in
     rw e (with-at (suc i) vs (set t (i * 89) v) k (omega arith) (rw (length-set t (i * 89) v) (omega arith)))
 
-states-length : (t : Bytes) → length (statesOf t) ≡ recordCount t
+pub states-length : (t : Bytes) → length (statesOf t) ≡ recordCount t
 unfolding statesOf
 states-length t = entries-length (λ (c : Bytes). byteAt c 0) recordSize t 0 (recordCount t)
 
 -- the state of a record is its first byte
-state-at : (t : Bytes) (k : ℕ) → Whole t → k < recordCount t → getD (statesOf t) k 0 ≡ getD t (k * 89) 0
+pub state-at : (t : Bytes) (k : ℕ) → Whole t → k < recordCount t → getD (statesOf t) k 0 ≡ getD t (k * 89) 0
 unfolding statesOf
 state-at t k w h =
     entries-at (λ (c : Bytes). byteAt c 0) recordSize t (recordCount t) k 0 h ∙ ap (λ (c : Bytes). byteAt c 0) (entry-whole t k w h)

@@ -12,28 +12,31 @@ use lib.Seq.{drop-drop, drop-nil, take-nil, drop-at, take-append-seam, length-ta
 use borrow.Author.Tests.{ltb-true, ltb-false}
 use Rattle.grammar.specs.Bytes.{Bytes, null}
 use Rattle.grammar.specs.Refusals.{badMemory}
-use Rattle.grammar.proofs.Basics.{no-both}
+use Rattle.grammar.proofs.Basics.{no-both, by-cond, by-test}
 use Rattle.mail.specs.Mail.{Record, transferOf, recordAt}
 use Rattle.session.specs.Choices.{Shelf}
 use Rattle.session.specs.Session as on-lists
 use Rattle.session.specs.Calls.{handedOut, give}
 use Rattle.buffer.specs.Put.{wrote, putBytes}
 use Rattle.buffer.proofs.Laws.{wrote-nil}
+use Rattle.transfer_read.proofs.Untouched.{kept-same}
+use Rattle.layout.specs.Layout.{entryAt, recordSize, recordOf}
 use Rattle.state.specs.State.{loadOf, saveOf}
 use Rattle.state.specs.declared.Session.{Session}
 use Rattle.state.specs.declared.Sizes.{Sizes}
 use Rattle.waiting.specs.Waiting.{waits, waitingOf, firstText, thenText, silentOf}
+use Rattle.waiting.proofs.Short.{waiting-short}
 use Rattle.giving.specs.Giving.{Given, reply, handedOf, handing, giveOf}
 use Rattle.receiving.specs.Receiving.{Cs, cs}
 use Rattle.lent.specs.Represents.{Fixed, Says, Awaits, Represents}
 use Rattle.lent.specs.Frame.{Spared}
 use Rattle.lent.specs.Calls.{Lent, withSession, given}
 use Rattle.lent.proofs.Table.{record-at}
-use Rattle.lent.proofs.Frame.{kept-same, only-same}
+use Rattle.lent.proofs.Frame.{only-same}
 use Rattle.lent.proofs.Byte.{waits-law}
-use Rattle.lent.proofs.Small.{by-cond, by-test, Small, word}
-use Rattle.lent.proofs.Lengths.{waiting-most}
+use Rattle.lent.proofs.Small.{Small, word}
 use Rattle.lent.proofs.Held.{csOf, Held, held-form, saved-held}
+use Rattle.lent.proofs.Parts.{represents, block-of, signs-of, holds-of, rest-of}
 
 -- ---------------------------------------------------------------- lists
 
@@ -89,46 +92,8 @@ module _ (F : Fixed) (E : Shelf) (c : Cs) (first then pos : ℕ)
 
   resaid : (s : on-lists.Session) (o : Bytes) → Represents F E c s → Says F (csSaying c first then pos) o → Represents F E (csSaying c first then pos) (withOut s o)
   resaid s o h y =
-      let a = h .arrays in
-      let l = h .shelved in
-      let b = h .boxed in
-      record {
-        arrays = record {
-          ours = a .ours;
-          sending = a .sending;
-          signs = a .signs;
-          block = a .block;
-          flags = a .flags;
-          heading = a .heading;
-          line = a .line;
-          oursCount = a .oursCount;
-          sendingCount = a .sendingCount;
-          signsCount = a .signsCount;
-          proposals = a .proposals;
-          lineLen = a .lineLen;
-          head = a .head;
-          forms = a .forms;
-        };
-        shelved = record { records = l .records; known = l .known; places = l .places; bytes = l .bytes; table = l .table; inbox = l .inbox; few = l .few };
-        boxed = record {
-          kept = b .kept;
-          messages = b .messages;
-          row = b .row;
-          sum = b .sum;
-          small = b .small;
-          used = b .used;
-          placed = b .placed;
-          within = b .within;
-        };
-        says = y;
-        awaits = awaits-still (s .phase) (h .awaits);
-        part = h .part;
-        afterCr = h .afterCr;
-        framed = h .framed;
-        states = h .states;
-        sending = h .sending;
-        flags = h .flags;
-      }
+      represents F E (csSaying c first then pos) (withOut s o) (block-of h) (signs-of h) (holds-of h) (rest-of h) (h .arrays .head) (h .arrays .lineLen) y
+      (awaits-still (s .phase) (h .awaits)) (h .part) (h .afterCr)
 
 -- ---------------------------------------------------------------- the state after a give
 
@@ -193,12 +158,12 @@ Short T = (i : ℕ) → length (transferOf (recordAt T i)) ≤ 200000
 module _ (F : Fixed) (E : Shelf) (c₀ : Cs) (z : Sizes) (roomy : E .bytes < word) (short : Short (E .table)) where
   short-waiting : (c : Cs) (s : on-lists.Session) → Represents F E c s → length (waitingOf (c .session) (c .table) (F .titles) (F .names) (F .bodies)) < word
   short-waiting c s h =
-      waiting-most (c .table) (F .titles) (F .names) (F .bodies)
-      (λ i.
+      let each : (i : ℕ) → length (transferOf (recordOf (F .titles) (F .names) (F .bodies) (entryAt recordSize (c .table) i))) ≤ 200000 = λ i.
       subst (λ (r : Record). length (transferOf r) ≤ 200000)
       (ap (λ (T : List Record). recordAt T i) (sym (h .shelved .records)) ∙ record-at (F .titles) (F .names) (F .bodies) (c .table) i (h .shelved .table))
-      (short i))
-      (c .session) (h .arrays)
+      (short i) in
+      let a = h .arrays in
+      omega (arith, waiting-short (c .table) (F .titles) (F .names) (F .bodies) each (c .session) (a .ours) (a .signs) (a .sending))
 
   pub record GaveAs (m : Lent) (buf : Bytes) (place : ℕ) (s : on-lists.Session) (g : Given) : Type 0 where
     pub answer : g .reply .answer ≡ 0

@@ -2,48 +2,27 @@
 -- test is a part of the relation, but for the places of the messages still owed, which are counted there as proposals and here as signs.
 use mathlib.Core.Path.{_≡_, refl, sym, ap, ap₂, _∙_}
 use mathlib.Core.Bool.{Bool, true, false, cond, not, _&&_, _||_}
-use mathlib.Core.List.{List, [], _∷_}
-use Prim.Native.Nat.{ℕ, suc, _+_, _-_}
+use mathlib.Core.List.{List}
+use Prim.Native.Nat.{ℕ, _+_, _-_}
 use native.Mathlib.Omega.{arith}
 use lib.Dec.{eqb, ltb, leb}
 use lib.ListN.{length, getD, drop, length-take, length-drop}
 use borrow.Author.Tests.{eq-eqb, le-leb, lt-ltb}
 use Rattle.grammar.specs.Bytes.{Bytes}
 use Rattle.grammar.specs.Turns.{Proposal}
-use Rattle.grammar.specs.Answers.{accept, decline, defer}
 use Rattle.grammar.specs.Scan.{Scan}
-use Rattle.grammar.proofs.Basics.{both}
-use Rattle.mail.specs.Mail.{accepted}
+use Rattle.grammar.proofs.Basics.{both, by-cond}
 use Rattle.session.specs.Choices.{Shelf}
 use Rattle.session.specs.Session as on-lists
 use Rattle.choice.specs.Decoded.{placeCount, proposalsOf}
-use Rattle.layout.specs.Layout.{proposalSize, proposalOf}
 use Rattle.state.specs.State.{sessionSize, held, loadOf, loadSizes}
 use Rattle.state.specs.declared.Session.{Session}
 use Rattle.state.specs.declared.Sizes.{Sizes}
 use Rattle.waiting.specs.Waiting.{waits, waitingOf}
 use Rattle.form.specs.Form.{markOk, sameSizes, countsOk, usedBy, inboxOk, waitingOk, pluses, transferOk, phaseOk, stateOk, lentSizes, formOf}
 use Rattle.receiving.specs.Receiving.{Cs, cs}
-use Rattle.lent.specs.Represents.{Fixed, Arrays, Awaits, Represents, signsIn, owed}
-use Rattle.lent.proofs.Lists.{entries-length}
-use Rattle.lent.proofs.Small.{by-cond}
-
--- ---------------------------------------------------------------- signs and the proposals that they accept
-
-proposals-length : (block : Bytes) (n : ℕ) → length (proposalsOf block n) ≡ n
-unfolding proposalsOf
-proposals-length block n = entries-length proposalOf proposalSize block 0 n
-
-accepted-pluses : {A : Type 0} (bs : List ℕ) (xs : List A) → length bs ≡ length xs → length (accepted (signsIn bs) xs) ≡ pluses bs
-accepted-pluses [] xs h = refl
-accepted-pluses (b ∷ bs) [] h = absurd (omega arith)
-accepted-pluses (b ∷ bs) (x ∷ xs) h = go (eqb b 43) (eqb b 45) (accepted-pluses bs xs (omega arith))
-  where
-    go : (c d : Bool) → length (accepted (signsIn bs) xs) ≡ pluses bs
-        → length (accepted (cond c accept (cond d decline defer) ∷ signsIn bs) (x ∷ xs)) ≡ cond c (suc (pluses bs)) (pluses bs)
-    go true d e = ap suc e
-    go false true e = e
-    go false false e = e
+use Rattle.lent.specs.Represents.{Fixed, Arrays, Awaits, Represents, owed}
+use Rattle.lent.proofs.Proposals.{proposals-length, accepted-pluses}
 
 -- ---------------------------------------------------------------- the parts of the test
 
@@ -129,7 +108,7 @@ module _ (F : Fixed) (E : Shelf) (c : Cs) (s : on-lists.Session) (h : Represents
           by-cond (λ (b : Bool). b ≡ true) (eqb (c .session .now .phase) 3) refl
           (ap (λ (b : Bool). cond b true (eqb (c .session .keep .sending .count) 0 && cond (eqb (c .session .now .phase) 5) t true)) (lt-ltb 5 (c .session .now .phase) (let k = a .0 in omega arith)))
 
-same-itself : (z : Sizes) → sameSizes z z ≡ true
+pub same-itself : (z : Sizes) → sameSizes z z ≡ true
 unfolding sameSizes
 same-itself z =
     both (eqb (z .table) (z .table)) _ (eq-eqb (z .table) (z .table) refl)

@@ -2,41 +2,26 @@
 -- and the state of a record is its first byte.
 use mathlib.Core.Path.{_≡_, sym, ap, _∙_, subst}
 use mathlib.Core.List.{List, map}
-use Prim.Native.Nat.{ℕ, _*_, _/_, _<_, min}
-use native.Mathlib.Omega.{arith}
-use native.Mathlib.Nat.{add-zero}
+use Prim.Native.Nat.{ℕ, _/_, _<_, min}
 use lib.Dec.{eqb}
-use lib.ListN.{length, getD, drop}
-use lib.Seq.{getD-take, getD-drop}
-use Rattle.grammar.specs.Bytes.{Bytes}
+use lib.ListN.{getD}
 use Rattle.session.specs.Choices.{Shelf}
 use Rattle.session.specs.Session as on-lists
 use Rattle.log.specs.Log.{Event, log}
 use Rattle.demand3.specs.Demand as on-lists-run
 use Rattle.demand3.specs.Demand.{Good}
-use Rattle.layout.specs.Layout.{byteAt, recordSize, stateOf}
+use Rattle.layout.specs.Layout.{stateOf}
 use Rattle.choice.specs.Decoded.{recordCount, statesOf}
 use Rattle.lent.specs.Calls.{Lent}
 use Rattle.lent.specs.Demand3.{finally, traced, logged}
 use Rattle.lent.specs.Deeds.{deeds, Fate, messagesBrought}
 use Rattle.lent.specs.InWords.{done, ClaimInWords}
-use Rattle.lent.proofs.Lists.{entries-length, entries-at}
-use Rattle.lent.proofs.Table.{Whole, entry-whole}
+use Rattle.lent.proofs.Table.{Whole}
 use Rattle.lent.proofs.Opening.{shelfOf, accepted}
 use Rattle.lent.proofs.Run.{callOf}
 use Rattle.lent.proofs.Demand3.{open-as, ran, states-logged, inbox-logged}
 use Rattle.lent.proofs.Fates.{fates, messages}
-
--- the state of a record is its first byte
-state-at : (t : Bytes) (i : ℕ) → Whole t → i < recordCount t → getD (statesOf t) i 0 ≡ stateOf t i
-unfolding statesOf
-state-at t i w h =
-    entries-at (λ (c : Bytes). byteAt c 0) recordSize t (recordCount t) i 0 h ∙ ap (λ (c : Bytes). byteAt c 0) (entry-whole t i w h)
-    ∙ getD-take 89 (drop (i * 89) t) 0 0 (omega arith) ∙ getD-drop (i * 89) t 0 0 ∙ ap (λ (k : ℕ). getD t k 0) (add-zero (i * 89))
-
-states-length : (t : Bytes) → length (statesOf t) ≡ recordCount t
-unfolding statesOf
-states-length t = entries-length (λ (c : Bytes). byteAt c 0) recordSize t 0 (recordCount t)
+use Rattle.lent.proofs.Frame.{states-length, state-at}
 
 pub in-words : ClaimInWords
 in-words role F m l e cs f =

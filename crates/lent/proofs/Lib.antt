@@ -18,18 +18,26 @@ pub mod Transfer
 pub mod Keep
 pub mod TransferStep
 pub mod Byte
--- The form test is closed: laws of lists, the facts that the test stands for, each step keeps them, the three calls.
+-- LineWays: the ways of a whole line. The form test is closed: laws of lists, the facts that the test stands for, each step keeps them, the three calls. FormProposals, FormChoices,
+-- FormJudged, FormLines, FormSettled: a whole line. FormReader, FormKept: a transfer. FormBytes: any byte.
+pub mod LineWays
 pub mod FormLaws
 pub mod FormWaiting
 pub mod FormFacts
+pub mod FormProposals
+pub mod FormChoices
+pub mod FormJudged
 pub mod FormLines
+pub mod FormSettled
+pub mod FormReader
+pub mod FormKept
 pub mod FormBytes
 pub mod FormClosed
 pub mod FormAnswers
--- Small, Lengths: numbers that must fit their bytes. InForm: the form test. Held: memory as a call left it, and saving. Giving, Accepted,
--- Opening: the laws of give and open. Run: a list of calls. Demand3: the theorem. Deeds, Once, Fates, InWords: the same in the mission's words.
+-- Small: numbers that must fit their bytes. InForm: the form test. Held: memory as a call left it, and saving. Giving, Accepted,
+-- Opening: the laws of give and open. Run: a list of calls. Demand3: the theorem. DeedStates, Deeds, Becomes, Once, Fates, InWords: the same in
+-- the mission's words.
 pub mod Small
-pub mod Lengths
 pub mod InForm
 pub mod Held
 pub mod Giving
@@ -37,7 +45,9 @@ pub mod Accepted
 pub mod Opening
 pub mod Run
 pub mod Demand3
+pub mod DeedStates
 pub mod Deeds
+pub mod Becomes
 pub mod Once
 pub mod Fates
 pub mod InWords

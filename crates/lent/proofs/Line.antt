@@ -16,6 +16,7 @@ use Rattle.grammar.specs.Sid.{hasFeature, framed}
 use Rattle.grammar.specs.Turns.{Proposal, TurnLine, saysFF, saysFQ, endsBlock, notAllowed, proposes, withCr, fixedText, ourSid}
 use Rattle.grammar.specs.Answers.{Sign, fsLine, writeSign}
 use Rattle.grammar.specs.Scan.{scanFrom}
+use Rattle.grammar.proofs.AsRead.{TurnOk}
 use Rattle.mail.specs.Mail.{Message, accepted}
 use Rattle.session.specs.Choices.{Shelf, answersTo, bodyBytes}
 use Rattle.session.proofs.Choices.{one-sign-each}
@@ -36,6 +37,7 @@ use Rattle.state.specs.declared.Await.{Await}
 use Rattle.state.specs.declared.Say.{Say}
 use Rattle.state.specs.declared.Keep.{Keep}
 use Rattle.state.specs.declared.Session.{Session}
+use Rattle.state.proofs.Laws.{held-five}
 use Rattle.choice.specs.Decoded.{proposalsOf, placeCount}
 use Rattle.choice.specs.Choice.{answersOf}
 use Rattle.judge.specs.Judge.{noMarks, judged, wentOn, refusal, inPhase, toTurn, toTransfer, saysFirst, saysSigns, sidRead, plusFrom, nextAccepted, readerFor, endLine, withProposal, proposalLine, ffLine, fqLine, turnRead, speakOf}
@@ -45,9 +47,9 @@ use Rattle.judge.specs.declared.Marks.{Marks}
 use Rattle.waiting.specs.Waiting.{waits, firstText, thenText}
 use Rattle.receiving.specs.Receiving.{cs, unsaid, markAll}
 use Rattle.lent.specs.Represents.{Fixed, Awaits, signsIn}
-use Rattle.lent.proofs.Lists.{FiveOk, held-five, five-ok}
+use Rattle.lent.proofs.Lists.{FiveOk, five-ok}
 use Rattle.lent.proofs.Choices.{answers-law, answers-fit}
-use Rattle.lent.proofs.Proposals.{no-proposals, FitsIf, proposals-length, proposals-more, forms-more, signs-back, Found, Owing, owing, owed-now, next-found, start-law, stands-fresh}
+use Rattle.lent.proofs.Proposals.{no-proposals, proposals-length, proposals-more, forms-more, signs-back, Found, Owing, owing, owed-now, next-found, start-law, stands-fresh, proper-fits}
 use Rattle.lent.proofs.Says.{first-nothing, then-nothing, waits-not}
 use Rattle.lent.proofs.Parts.{Holds, Block, Rest, Ready, block-none}
 use Rattle.lent.proofs.Settle.{holds-turn, holds-mode, left, settled-is, our-turn-law, Settles}
@@ -282,10 +284,10 @@ module _ (F : Fixed) (E : Shelf) (s : Session) (a : Bool) (i st : Bytes) (rest :
 
     -- ---------------------------------------------------------------- a line of the partner's turn
 
-    pub turn-law : w .phase ≡ 3 → (l : TurnLine) → FitsIf l
+    pub turn-law : w .phase ≡ 3 → (md : Bool) (l : TurnLine) → TurnOk md l
         → Lead (turnRead l w y k r t (F .known) i (length st)) (on-lists.turnJudged E l (w .ff) (proposalsOf (w .block) (w .proposals)) m)
-    turn-law e saysFF f = ff-law
-    turn-law e saysFQ f = fq-law
-    turn-law e endsBlock f = end-law
-    turn-law e notAllowed f = (refl, refl)
-    turn-law e (proposes q) f = proposal-law q f e
+    turn-law e md saysFF f = ff-law
+    turn-law e md saysFQ f = fq-law
+    turn-law e md endsBlock f = end-law
+    turn-law e md notAllowed f = (refl, refl)
+    turn-law e md (proposes q) f = proposal-law q (proper-fits md q f) e

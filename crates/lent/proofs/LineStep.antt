@@ -15,6 +15,7 @@ use Rattle.grammar.specs.Lines.{LineByte, dropped, ends, grows, overruns, lineB
 use Rattle.grammar.specs.Sid.{readSid}
 use Rattle.grammar.specs.Turns.{Proposal, readTurnLine}
 use Rattle.grammar.specs.Answers.{readFs, fsNumber}
+use Rattle.grammar.proofs.AsRead.{turn-read-ok}
 use Rattle.session.specs.Choices.{Shelf}
 use Rattle.session.specs.Session as on-lists
 use Rattle.session.specs.Session.{Memory, Phase, Outcome, goesOn}
@@ -25,7 +26,6 @@ use Rattle.judge.specs.declared.Judged.{Judged}
 use Rattle.waiting.specs.Waiting.{waits, waitingOf}
 use Rattle.receiving.specs.Receiving.{Cs, cs, Settled, longer, lineMoved, lineStepOf, refusedOf}
 use Rattle.lent.specs.Represents.{Fixed, Says, Awaits, Represents}
-use Rattle.lent.proofs.Proposals.{turn-fits}
 use Rattle.lent.proofs.Says.{waits-none}
 use Rattle.lent.proofs.Parts.{Ready, block-of, signs-of, rest-of, holds-of, represents, refuse-law}
 use Rattle.lent.proofs.Frame.{only-same}
@@ -113,7 +113,7 @@ module _ (F : Fixed) (E : Shelf) (c : Cs) (v : on-lists.Session) (h : Represents
         noted (on-lists.awaitsTurn ff ps) 3 _ (a .0) a
         (subst (λ (o : Outcome). Lead (judgedIn 3) o) (same (h .framed) (a .1) (a .2))
         (turn-law F E s true (c .inbox) (c .store) (rest-of h) (s .now) (s .say) (s .keep) (s .reading .reader) (c .table) m ready (a .0)
-        (readTurnLine (s .keep .framed) ln) (turn-fits (s .keep .framed) ln)))
+        (s .keep .framed) (readTurnLine (s .keep .framed) ln) (turn-read-ok (s .keep .framed) ln)))
       where
         same : {d e : Bool} {f g : Bool} {qs rs : List Proposal} → d ≡ e → f ≡ g → qs ≡ rs
             → on-lists.turnJudged E (readTurnLine d ln) f qs m ≡ on-lists.turnJudged E (readTurnLine e ln) g rs m

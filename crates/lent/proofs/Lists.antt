@@ -1,32 +1,19 @@
 -- Entries of one size as a list, and up to five numbers: element by element.
 use mathlib.Core.Path.{_≡_, refl, sym, ap, _∙_}
 use mathlib.Core.List.{List, [], _∷_, _++_}
-use Prim.Native.Nat.{ℕ, zero, suc, _+_, _-_, _≤_, _<_}
+use Prim.Native.Nat.{ℕ, zero, suc, _+_, _≤_, _<_}
 use native.Mathlib.Omega.{arith}
-use native.Mathlib.Nat.{add-zero, zero-add, le-of-suc-le-suc, not-suc-le-zero}
-use lib.ListN.{length, getD, replicate, length-append, length-replicate}
-use lib.Seq.{take-append-seam}
+use native.Mathlib.Nat.{add-zero, zero-add}
+use lib.ListN.{length, length-append, length-replicate}
 use Rattle.grammar.specs.Bytes.{Bytes}
 use Rattle.layout.specs.Layout.{entryAt}
 use Rattle.choice.specs.Decoded.{entriesFrom, entries}
-use Rattle.state.specs.State.{held, fiveOf}
+use Rattle.state.specs.State.{fiveOf}
 use Rattle.state.specs.declared.Five.{Five}
 
 -- ---------------------------------------------------------------- entries
 
 module _ {A : Type 0} (f : Bytes → A) (size : ℕ) (s : Bytes) where
-  pub entries-length : (i n : ℕ) → length (entriesFrom f size s i n) ≡ n
-  entries-length i zero = refl
-  entries-length i (suc n) = ap suc (entries-length (suc i) n)
-
-  from-at : (i n j : ℕ) (d : A) → j < n → getD (entriesFrom f size s i n) j d ≡ f (entryAt size s (i + j))
-  from-at i zero j d h = absurd (not-suc-le-zero h)
-  from-at i (suc n) zero d h = ap (λ (k : ℕ). f (entryAt size s k)) (sym (add-zero i))
-  from-at i (suc n) (suc j) d h = from-at (suc i) n j d (le-of-suc-le-suc h) ∙ ap (λ (k : ℕ). f (entryAt size s k)) (omega arith)
-
-  pub entries-at : (n j : ℕ) (d : A) → j < n → getD (entries f size s n) j d ≡ f (entryAt size s j)
-  entries-at n j d h = from-at 0 n j d h ∙ ap (λ (k : ℕ). f (entryAt size s k)) (zero-add j)
-
   from-snoc : (i n : ℕ) → entriesFrom f size s i (suc n) ≡ entriesFrom f size s i n ++ (f (entryAt size s (i + n)) ∷ [])
   from-snoc i zero = ap (λ (k : ℕ). f (entryAt size s k) ∷ []) (sym (add-zero i))
   from-snoc i (suc n) =
@@ -46,9 +33,6 @@ entries-same {A} f g size s t i (suc n) h =
     ∙ ap (λ (l : List A). g (entryAt size t i) ∷ l) (entries-same f g size s t (suc i) n (λ j k. h j (omega arith)))
 
 -- ---------------------------------------------------------------- up to five numbers
-
-pub held-five : (xs : List ℕ) → held (fiveOf xs) ≡ xs
-held-five xs = take-append-seam xs (replicate (5 - length xs) 0)
 
 -- as many as five, within an array of five
 pub record FiveOk (f : Five) : Type 0 where

@@ -16,13 +16,13 @@ use Rattle.grammar.specs.Sid.{readSid, hasFeature}
 use Rattle.grammar.specs.Turns.{Proposal, TurnLine, saysFF, saysFQ, endsBlock, notAllowed, proposes, readTurnLine, ourBlock, inMode}
 use Rattle.grammar.specs.Answers.{Sign, accept, decline, defer, readFs, fsNumber}
 use Rattle.grammar.specs.Scan.{Scanned, goes, got, malformed, wrongSum, noRoom, scanByte}
-use Rattle.grammar.proofs.Basics.{and2, or2}
+use Rattle.grammar.proofs.Basics.{and2, or2, by-cond}
 use Rattle.mail.specs.Mail.{Record, accepted, marked, declined}
 use Rattle.session.specs.Choices.{Shelf, wanted, candidates, sizeAt, chosen, answersTo}
 use Rattle.session.specs.Session.{Phase, awaitsSid, awaitsPrompt, leaving, over, awaitsTurn, awaitsAnswer, awaitsTransfer, Memory, Session, Outcome, refuses, goesOn, speaking, ourTurn, turnMarks, answering, turnJudged, answerJudged, sidJudged, textJudged, lineJudged, Stepped, settled, lineMoved, isPlain, nextTransfer, transferMoved, roomFor, phaseStep, freeStep, step}
 use Rattle.lent.specs.Deeds.{gives}
-use Rattle.lent.proofs.Small.{by-cond}
-use Rattle.lent.proofs.Deeds.{has, Keeps, marked-other, declined-other}
+use Rattle.lent.proofs.DeedStates.{has, marked-other, declined-other}
+use Rattle.lent.proofs.Becomes.{Keeps}
 
 -- ---------------------------------------------------------------- waiting places, each once
 

@@ -17,7 +17,6 @@ use Rattle.state.specs.declared.Five.{Five}
 use Rattle.state.specs.declared.Await.{Await}
 use Rattle.state.specs.declared.Say.{Say}
 use Rattle.state.specs.declared.Keep.{Keep}
-use Rattle.state.specs.declared.Session.{Session}
 use Rattle.choice.specs.Decoded.{recordsOf, statesOf, knownBids, placeCount}
 use Rattle.waiting.specs.Waiting.{waits, waitingOf, firstText, thenText}
 use Rattle.receiving.specs.Receiving.{Cs, cs, refusedOf}

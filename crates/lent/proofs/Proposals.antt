@@ -1,23 +1,22 @@
 -- The partner's proposals in the block: one more as it is written, those that we accept, and where the transfer of the next one begins.
 use mathlib.Core.Path.{_≡_, refl, sym, ap, _∙_, subst}
-use mathlib.Core.Bool.{Bool, true, false, cond, _&&_}
-use mathlib.Core.Option.{Option, none, some}
+use mathlib.Core.Bool.{Bool, true, false, cond}
+use mathlib.Core.Option.{none}
 use mathlib.Core.List.{List, [], _∷_, _++_, map}
 use Prim.Native.Nat.{ℕ, zero, suc, _+_, _-_, _*_, _≤_, _<_}
 use native.Mathlib.Omega.{arith}
 use native.Mathlib.Numerals.{add-one}
-use lib.Dec.{eqb, leb}
+use lib.Dec.{eqb}
 use lib.ListN.{length, getD, drop, length-drop}
 use lib.Seq.{drop-cons, drop-drop, getD-drop, getD-take, length-take-le}
-use borrow.Author.Tests.{eqb-true, eqb-false, leb-true}
+use borrow.Author.Tests.{eqb-true, eqb-false}
 use Rattle.grammar.specs.Bytes.{Bytes, same}
-use Rattle.grammar.specs.Ascii.{text}
-use Rattle.grammar.specs.Fields.{Form, plain, message, file, formIs, formNumber, upper, isCall, isAt, isBid, callByte, bidByte, allCalls, parts, afterDot}
-use Rattle.grammar.specs.Turns.{Proposal, TurnLine, saysFF, saysFQ, endsBlock, notAllowed, proposes, readTurnLine, readProposal, orNotAllowed}
+use Rattle.grammar.specs.Fields.{Form, plain, message, file, formIs, formNumber}
+use Rattle.grammar.specs.Turns.{Proposal}
 use Rattle.grammar.specs.Answers.{Sign, accept, decline, defer, writeSign}
 use Rattle.grammar.specs.Scan.{scanFrom}
-use Rattle.grammar.proofs.Basics.{and2, field-is}
-use Rattle.grammar.proofs.AsRead.{Proper, ProperIf, proposal-proper}
+use Rattle.grammar.proofs.AsRead.{Proper}
+use Rattle.grammar.proofs.Fields.{call-field, at-field, bid-field}
 use Rattle.mail.specs.Mail.{accepted}
 use Rattle.session.specs.Session.{isPlain}
 use Rattle.buffer.specs.Put.{putBytes}
@@ -27,44 +26,25 @@ use Rattle.layout.proofs.Laws.{Fits, written, proposal-length, proposal-back, b
 use Rattle.transfer_step.specs.Step.{startOf}
 use Rattle.transfer_read.specs.Meaning.{numbersOf, Stands}
 use Rattle.choice.specs.Decoded.{entries, proposalsOf}
+use Rattle.choice.proofs.Laws.{entries-length, entries-at}
 use Rattle.judge.specs.Judge.{plusFrom}
 use Rattle.state.specs.State.{at, held}
 use Rattle.state.specs.declared.Five.{Five}
+use Rattle.form.specs.Form.{pluses}
 use Rattle.lent.specs.Represents.{signsIn}
-use Rattle.lent.proofs.Lists.{FiveOk, entries-length, entries-at, entries-same, entries-snoc}
+use Rattle.lent.proofs.Lists.{FiveOk, entries-same, entries-snoc}
 
 -- ---------------------------------------------------------------- a proposal as read fits its entry
 
-abbrev pub FitsIf : TurnLine → Type 0
-FitsIf saysFF = Unit {0}
-FitsIf saysFQ = Unit {0}
-FitsIf endsBlock = Unit {0}
-FitsIf notAllowed = Unit {0}
-FitsIf (proposes p) = Fits p
-
-proper-fits : (md : Bool) (p : Proposal) → Proper md p → Fits p
-unfolding isCall isAt isBid
+pub proper-fits : (md : Bool) (p : Proposal) → Proper md p → Fits p
 proper-fits md p h =
-    let at = and2 (allCalls (parts (p .at))) (leb (length (p .at)) 38 && leb (length (afterDot (p .at))) 31) (h .at) in
-    let short = and2 (leb (length (p .at)) 38) (leb (length (afterDot (p .at))) 31) (at .1) in
     record {
-      from = field-is callByte 6 (p .from) (h .from) .most;
-      at = leb-true (length (p .at)) 38 (short .0);
-      to = field-is callByte 6 (p .to) (h .to) .most;
-      bid = field-is bidByte 12 (p .bid) (h .bid) .most;
+      from = call-field (p .from) (h .from) .most;
+      at = at-field (p .at) (h .at) .most;
+      to = call-field (p .to) (h .to) .most;
+      bid = bid-field (p .bid) (h .bid) .most;
       size = omega (arith, h .size);
     }
-
-pub turn-fits : (md : Bool) (ln : Bytes) → FitsIf (readTurnLine md ln)
-unfolding readTurnLine
-turn-fits md ln = go (same (map upper ln) (text "FF")) (same (map upper ln) (text "FQ")) (same (map upper ln) (text "F>")) (readProposal md ln) (proposal-proper md ln)
-  where
-    go : (a b c : Bool) (o : Option Proposal) → ProperIf md o → FitsIf (cond a saysFF (cond b saysFQ (cond c endsBlock (orNotAllowed o))))
-    go true b c o h = tt
-    go false true c o h = tt
-    go false false true o h = tt
-    go false false false none h = tt
-    go false false false (some p) h = proper-fits md p h
 
 -- ---------------------------------------------------------------- one proposal more
 
@@ -119,6 +99,18 @@ signs-back [] = refl
 signs-back (accept ∷ ss) = ap (λ (l : List Sign). accept ∷ l) (signs-back ss)
 signs-back (decline ∷ ss) = ap (λ (l : List Sign). decline ∷ l) (signs-back ss)
 signs-back (defer ∷ ss) = ap (λ (l : List Sign). defer ∷ l) (signs-back ss)
+
+-- as many are accepted as there are `+`
+pub accepted-pluses : {A : Type 0} (bs : List ℕ) (xs : List A) → length bs ≡ length xs → length (accepted (signsIn bs) xs) ≡ pluses bs
+accepted-pluses [] xs h = refl
+accepted-pluses (b ∷ bs) [] h = absurd (omega arith)
+accepted-pluses (b ∷ bs) (x ∷ xs) h = go (eqb b 43) (eqb b 45) (accepted-pluses bs xs (omega arith))
+  where
+    go : (c d : Bool) → length (accepted (signsIn bs) xs) ≡ pluses bs
+        → length (accepted (cond c accept (cond d decline defer) ∷ signsIn bs) (x ∷ xs)) ≡ cond c (suc (pluses bs)) (pluses bs)
+    go true d e = ap suc e
+    go false true e = e
+    go false false e = e
 
 -- i is k and some steps on, there stands a `+`, and from there on p and qs are accepted
 pub record Ahead (bs : List ℕ) (ps : List Proposal) (k i : ℕ) (p : Proposal) (qs : List Proposal) : Type 0 where

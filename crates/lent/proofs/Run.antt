@@ -9,8 +9,7 @@ use lib.Dec.{eqb}
 use lib.ListN.{length, take, drop}
 use Rattle.grammar.specs.Bytes.{Bytes, all}
 use Rattle.grammar.specs.Refusals.{badMemory, sessionEnded}
-use Rattle.grammar.proofs.Basics.{no-both}
-use Rattle.grammar.proofs.Exact.{octet}
+use Rattle.grammar.proofs.Basics.{no-both, octet, and-false}
 use Rattle.session.specs.Choices.{Shelf}
 use Rattle.session.specs.Session as on-lists
 use Rattle.session.specs.Calls as on-lists-calls
@@ -32,10 +31,6 @@ use Rattle.lent.proofs.Held.{csOf, Held, held-form, saved-held}
 use Rattle.lent.proofs.Giving.{Short, given-back, give-law}
 
 -- ---------------------------------------------------------------- a call that is lent other buffers
-
-and-false : (a b : Bool) → b ≡ false → a && b ≡ false
-and-false true b e = e
-and-false false b e = refl
 
 -- the sizes are not those that open kept
 other-form : (sm : Bytes) (z : Sizes) (G : Fixed) (table inbox store : Bytes) → loadSizes sm ≡ z

@@ -72,7 +72,7 @@ pub some-turn : (ps : List Proposal) → 0 < length (turnText ps)
 unfolding turnText
 some-turn ps = simp length-append (omega arith)
 
-some-transfer : (f : Form) (h x : Bytes) → 0 < length (writeTransfer f h x)
+pub some-transfer : (f : Form) (h x : Bytes) → 0 < length (writeTransfer f h x)
 unfolding writeTransfer
 some-transfer plain h x = simp length-append (omega arith)
 some-transfer message h x = omega arith

@@ -22,6 +22,7 @@ use Rattle.state.specs.declared.Await.{Await}
 use Rattle.state.specs.declared.Say.{Say}
 use Rattle.state.specs.declared.Keep.{Keep}
 use Rattle.state.specs.declared.Session.{Session}
+use Rattle.state.proofs.Laws.{held-five}
 use Rattle.choice.specs.Decoded.{statesOf, proposalsOf}
 use Rattle.choice.specs.Choice.{chooseOf}
 use Rattle.judge.specs.Judge.{picked, flagged, settledKeep, sends, inPhase, toTurn, toAnswer, saysThen, spoken, speaking, speakOf}
@@ -30,7 +31,7 @@ use Rattle.judge.specs.declared.Spoken.{Spoken}
 use Rattle.waiting.specs.Waiting.{waits, waitingOf, firstText, thenText, blockText}
 use Rattle.receiving.specs.Receiving.{cs, unsaid, markAll}
 use Rattle.lent.specs.Represents.{Fixed, Awaits, Represents}
-use Rattle.lent.proofs.Lists.{FiveOk, held-five, five-ok}
+use Rattle.lent.proofs.Lists.{FiveOk, five-ok}
 use Rattle.lent.proofs.Table.{records-mark, whole-mark, states-marked, states-declined, picked-accepted, picked-few, flags-deferred, length-flagged, zerosAfter}
 use Rattle.lent.proofs.Choices.{choose-law}
 use Rattle.lent.proofs.Says.{block-text, some-turn}

@@ -16,15 +16,16 @@ use Rattle.transfer_step.specs.declared.Outcome.{Outcome}
 use Rattle.transfer_step.specs.declared.Outcome.the-variants.{Whole, Malformed, WrongSum, NoRoom}
 use Rattle.transfer_read.specs.Feed.{roomOf}
 use Rattle.transfer_read.specs.Meaning.{FedAs, Stands, Kept}
+use Rattle.transfer_read.proofs.Untouched.{kept-same, kept-then}
 use Rattle.state.specs.declared.Session.{Session}
 use Rattle.waiting.specs.Waiting.{waits}
 use Rattle.receiving.specs.Receiving.{Cs, cs, Moved, moved, transferMoved, transferStepOf, keepOf, keptInbox, refusedOf}
 use Rattle.lent.specs.Represents.{Fixed, Awaits, Represents}
 use Rattle.lent.specs.Frame.{reachOf}
 use Rattle.lent.specs.Link.{Moving}
-use Rattle.lent.proofs.Frame.{kept-same, kept-then, only-same}
+use Rattle.lent.proofs.Frame.{only-same}
 use Rattle.lent.proofs.Transfer.{afterOne, one-fed, behind, behind′, store′, s′, stepped, store-kept, room-law, goes-on, refused-here}
-use Rattle.lent.proofs.Keep.{keep-law, inbox-kept, kept}
+use Rattle.lent.proofs.Keep.{keep-law, inbox-kept}
 
 -- ---------------------------------------------------------------- how far the store is written
 

@@ -1,15 +1,14 @@
 -- Lent memory and the state in it (Cs of crates/receiving) represent a session on lists (crates/session). One relation holds both what the
 -- bytes mean and what keeps them in order.
 use mathlib.Core.Path.{_≡_}
-use mathlib.Core.Bool.{Bool, true, false, cond}
-use mathlib.Core.List.{List, [], _∷_, _++_}
+use mathlib.Core.Bool.{true, false, cond}
+use mathlib.Core.List.{List, [], _∷_}
 use Prim.Native.Nat.{ℕ, zero, suc, _+_, _*_, _≤_, _<_}
 use lib.Dec.{eqb}
 use lib.ListN.{length, getD, take, drop}
 use Rattle.grammar.specs.Bytes.{Bytes}
 use Rattle.grammar.specs.Turns.{Proposal}
 use Rattle.grammar.specs.Answers.{Sign, accept, decline, defer}
-use Rattle.grammar.specs.Scan.{Scan}
 use Rattle.grammar.specs.Transfers.{partOf}
 use Rattle.mail.specs.Mail.{Message, accepted}
 use Rattle.session.specs.Choices.{Shelf, bodyBytes}
@@ -18,8 +17,6 @@ use Rattle.layout.specs.Layout.{byteAt, entryAt, recordSize, entrySize, proposa
 use Rattle.transfer_read.specs.Feed.{roomOf}
 use Rattle.transfer_read.specs.Meaning.{Stands}
 use Rattle.state.specs.State.{held}
-use Rattle.state.specs.declared.Five.{Five}
-use Rattle.state.specs.declared.Await.{Await}
 use Rattle.state.specs.declared.Session.{Session}
 use Rattle.choice.specs.Decoded.{recordsOf, statesOf, knownBids, proposalsOf, placeCount, recordCount}
 use Rattle.waiting.specs.Waiting.{waits, waitingOf}

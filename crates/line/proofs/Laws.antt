@@ -18,11 +18,6 @@ use Rattle.grammar.specs.Lines.{trim, isComment, isPrompt}
 pub no-cr : (a b : Bool) → a ≡ false → (a && b) ≡ false
 no-cr a b e = rw e
 
--- a CR did, and the byte is no LF
-pub no-lf : (a b : Bool) → b ≡ false → (a && b) ≡ false
-no-lf true b e = e
-no-lf false b e = refl
-
 -- ---------------------------------------------------------------- spaces at the end
 
 trim-sp : (l : Bytes) → trim (l ++ SP ∷ []) ≡ trim l

@@ -13,8 +13,8 @@ use lib.ListN.{length, take, length-append}
 use borrow.Author.Tests.{lt-ltb, le-ltb, ltb-true, ltb-false, le-leb, lt-leb, leb-true, leb-false}
 use Rattle.grammar.specs.Bytes.{Bytes, CR, LF, all, splitAt, before}
 use Rattle.grammar.specs.Lines.{LineRead, unfinished, line, refused, lineSteps, lineLimit, dropLf, wholeLine, withinLimit, ends, grows, overruns, lineOn, lineWith}
+use Rattle.grammar.proofs.Basics.{suc-ltb, and-false}
 use Rattle.line.specs.Steps.{notCr, overlong, StepsAgree}
-use Rattle.line.proofs.Laws.{no-lf}
 
 -- ---------------------------------------------------------------- byte by byte, by the first CR
 
@@ -66,13 +66,6 @@ steps-lf a (b ∷ bs) w = go a (eqb b LF) refl
 abbrev pub overBy : ℕ → Bytes → Bool
 overBy k d = ltb k (length d) && all notCr (take (suc k) d)
 
-suc-ltb : (a b : ℕ) → ltb (suc a) (suc b) ≡ ltb a b
-suc-ltb a b = go (ltb a b) refl
-  where
-    go : (t : Bool) → ltb a b ≡ t → ltb (suc a) (suc b) ≡ t
-    go true e = let h = ltb-true a b e in lt-ltb (suc a) (suc b) (omega arith)
-    go false e = let h = ltb-false a b e in le-ltb (suc a) (suc b) (omega arith)
-
 -- how long a line is that has come so far
 abbrev pub come : Bytes → Option (Bytes × Bytes) → ℕ
 come d none = length d
@@ -88,7 +81,7 @@ over-come (b ∷ d) k = go k (eqb b CR) (over-come d)
   where
     go : (k : ℕ) (c : Bool) → ((k : ℕ) → overBy k d ≡ ltb k (come d (splitAt CR d)))
         → (ltb k (length (b ∷ d)) && (not c && all notCr (take k d))) ≡ ltb k (come (b ∷ d) (cond c (some ([], d)) (before b (splitAt CR d))))
-    go k true ih = rw (le-ltb k 0 (omega arith)) (no-lf (ltb k (length (b ∷ d))) false refl)
+    go k true ih = rw (le-ltb k 0 (omega arith)) (and-false (ltb k (length (b ∷ d))) false refl)
     go zero false ih = rw (lt-ltb 0 (length (b ∷ d)) (omega arith), come-before b d (splitAt CR d), lt-ltb 0 (suc (come d (splitAt CR d))) (omega arith))
     go (suc k) false ih = rw (suc-ltb k (length d), come-before b d (splitAt CR d), suc-ltb k (come d (splitAt CR d))) (ih k)
 

@@ -12,7 +12,7 @@ use Rattle.grammar.specs.Bytes.{Bytes, CR, LF, null, isSome}
 use Rattle.grammar.specs.Fields.{Form}
 use Rattle.grammar.specs.Turns.{Proposal, withCr}
 use Rattle.grammar.specs.Transfers.{Content, Parsed, parse, valid, readTransfer}
-use Rattle.grammar.proofs.Basics.{Lacks, snoc-cons}
+use Rattle.grammar.proofs.Basics.{Lacks, snoc-cons, and-false}
 use Rattle.grammar.proofs.Refusal.{no-longer}
 use Rattle.mail.specs.Mail.{Record, Message, messageOf, recordAt, transferOf}
 use Rattle.log.specs.Log.{Event, took, gave, Next, over, ourGreeting, ourFirstPrompt, ourSidLine, theirText, theirSid, theirTurn, ourTurn, theirAnswer, ourAnswer, theirTransfer, ourTransfer, Book, Log, isOurs, oursOwed, theirsOwed, isPlain, whole, applied, stopped, Cut, notWhole, outOfTurn, unit, cutUnit, withAfterCr, afterCut, logUnits, logOpened, log}
@@ -293,8 +293,4 @@ our-transfer-fed T a i is sent k =
 -- before that, nothing
 pub our-part-fed : (T : List Record) (a : Bool) (i : ℕ) (is sent : List ℕ) (k : Book) (u : Bytes) (b : ℕ) (r : Bytes) → transferOf (recordAt T i) ≡ u ++ b ∷ r
     → fedAll T (record { log = owing a (ourTransfer i is) sent k; raw = [] }) (map gave u) ≡ record { log = owing a (ourTransfer i is) sent k; raw = u }
-our-part-fed T a i is sent k u b r e = grows T (owing a (ourTransfer i is) sent k) u [] (no-lf a) (our-yet T i is u [] b r e)
-  where
-    no-lf : (c : Bool) → c && false ≡ false
-    no-lf true = refl
-    no-lf false = refl
+our-part-fed T a i is sent k u b r e = grows T (owing a (ourTransfer i is) sent k) u [] (and-false a false refl) (our-yet T i is u [] b r e)

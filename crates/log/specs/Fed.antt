@@ -1,12 +1,12 @@
 -- The log fed byte by byte: a tool for proofs, shown equal to the log over whole units. Between units its only state is the raw bytes of
 -- the unit that is not whole yet.
-use mathlib.Core.Bool.{Bool, true, false, cond, _&&_}
+use mathlib.Core.Bool.{Bool, false, cond, _&&_}
 use mathlib.Core.List.{List, [], _∷_, _++_}
 use Prim.Native.Nat.{ℕ}
 use lib.Dec.{eqb}
 use Rattle.grammar.specs.Bytes.{Bytes, LF}
 use Rattle.mail.specs.Mail.{Record}
-use Rattle.log.specs.Log.{Event, took, gave, Log, Course, Book, isOurs, whole, applied, stopped, withAfterCr}
+use Rattle.log.specs.Log.{Event, took, gave, Log, isOurs, whole, applied, stopped, withAfterCr}
 
 pub record Fed : Type 0 where
   pub log : Log

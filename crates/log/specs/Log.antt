@@ -3,7 +3,7 @@
 -- session.
 use mathlib.Core.Bool.{Bool, true, false, cond, _&&_}
 use mathlib.Core.Option.{Option, none, some}
-use mathlib.Core.List.{List, [], _∷_, _++_, map}
+use mathlib.Core.List.{List, [], _∷_, _++_}
 use Prim.Native.Nat.{ℕ, zero, suc}
 use lib.Dec.{eqb, ltb, leb}
 use lib.ListN.{length}
@@ -11,7 +11,7 @@ use Rattle.grammar.specs.Bytes.{Bytes, CR, LF, same, isSome}
 use Rattle.grammar.specs.Fields.{Form, plain, message, file}
 use Rattle.grammar.specs.Lines.{trim, isComment, isPrompt, lineLimit}
 use Rattle.grammar.specs.Sid.{readSid, hasFeature, framed}
-use Rattle.grammar.specs.Turns.{Proposal, TurnLine, saysFF, saysFQ, endsBlock, notAllowed, proposes, readTurnLine, fixedText, ourSid, ourPrompt}
+use Rattle.grammar.specs.Turns.{Proposal, TurnLine, saysFF, saysFQ, endsBlock, notAllowed, proposes, readTurnLine, fixedText, ourSid}
 use Rattle.grammar.specs.Answers.{Sign, readFs}
 use Rattle.grammar.specs.Transfers.{Content, readTransfer}
 use Rattle.mail.specs.Mail.{Record, Message, messageOf, recordAt, transferOf, placeOf, accepted, marked, declined}

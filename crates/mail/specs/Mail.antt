@@ -1,6 +1,6 @@
 -- 01, "Lent memory": a record of the table, a message of the inbox, and what we write for a record.
-use mathlib.Core.Bool.{Bool, true, false, cond}
-use mathlib.Core.List.{List, [], _∷_, _++_, map}
+use mathlib.Core.Bool.{cond}
+use mathlib.Core.List.{List, [], _∷_, _++_}
 use Prim.Native.Nat.{ℕ, zero, suc}
 use lib.ListN.{getD, set}
 use Rattle.grammar.specs.Bytes.{Bytes}

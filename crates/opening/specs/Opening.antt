@@ -1,7 +1,6 @@
 -- 01, "Open checks role (0 called, 1 caller), sizes and known BIDs first, then records in order; of two records with one BID the later is
 -- bad."
-use mathlib.Core.Bool.{Bool, true, false, cond, not, _&&_}
-use mathlib.Core.List.{List, [], _∷_}
+use mathlib.Core.Bool.{Bool, true, cond, not, _&&_}
 use Prim.Native.Nat.{ℕ, zero, suc, _-_, _/_, _%_}
 use lib.Dec.{eqb, leb}
 use lib.ListN.{length}

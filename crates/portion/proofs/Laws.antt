@@ -6,15 +6,17 @@ use Prim.Native.Nat.{ℕ, _+_, _-_, _<_, _≤_}
 use native.Mathlib.Omega.{arith}
 use lib.Dec.{eqb}
 use lib.ListN.{length, getD, take, drop, length-drop, drop-of-length-le}
-use lib.Seq.{take-all, drop-cons}
+use lib.Seq.{drop-cons}
 use borrow.Author.Tests.{eq-eqb, ne-eqb}
 use Rattle.grammar.specs.Bytes.{Bytes, LF}
+use Rattle.grammar.proofs.Basics.{to-end}
 use Rattle.transfer_step.specs.declared.Reader.{Reader}
 use Rattle.transfer_read.specs.declared.Fed.{Fed}
 use Rattle.transfer_step.specs.declared.Outcome.{Outcome}
 use Rattle.transfer_step.specs.declared.Outcome.the-variants.{More, Whole, Malformed, WrongSum, NoRoom}
 use Rattle.transfer_read.specs.Feed as transfer
 use Rattle.transfer_read.specs.Feed.{roomOf, feedOf}
+use Rattle.transfer_read.proofs.Room.{feed-within}
 use Rattle.state.specs.declared.Await.{Await}
 use Rattle.state.specs.declared.Keep.{Keep}
 use Rattle.state.specs.declared.Session.{Session}
@@ -27,7 +29,6 @@ use Rattle.portion.specs.declared.Taken.{Taken}
 use Rattle.portion.specs.declared.Reached.{Reached}
 use Rattle.portion.specs.Portion.{fed, counted, ofTransfer, transferPortionOf, portionOf}
 use Rattle.portion.specs.Parts.{taken, Keepable, ReadOn, Leaves}
-use Rattle.portion.proofs.Room.{feed-within}
 
 -- ---------------------------------------------------------------- a kept message
 
@@ -77,9 +78,6 @@ module _ (s : Session) (table inbox : Bytes) (o : Outcome) where
 
 pub taken-by : (t : Taken) (n k : ℕ) (x : Session) (table inbox store : Bytes) (y : Run) → t ≡ taken n k x → run n k (cs x table inbox store) ≡ y → run (t .answer) (t .count) (cs (t .session) table inbox store) ≡ y
 taken-by t n k x table inbox store y e f = ap (λ (u : Taken). run (u .answer) (u .count) (cs (u .session) table inbox store)) e ∙ f
-
-to-end : (l : Bytes) (i : ℕ) → take (length l - i) (drop i l) ≡ drop i l
-to-end l i = take-all (length l - i) (drop i l) (simp length-drop (omega arith))
 
 -- the part of the store behind the kept messages is lent
 module _ (s : Session) (bs st : Bytes) (f : Fed) (hd w : Bytes)

@@ -1,7 +1,7 @@
 -- What receive takes at once: one byte, or the run of a transfer's bytes up to its end or the input's. That this is byte after byte as
 -- crates/receiving has it is proved in crates/receive; the run is there for speed.
 use mathlib.Core.Path.{_≡_}
-use mathlib.Core.Bool.{Bool, true, false, cond, not, _&&_}
+use mathlib.Core.Bool.{Bool, cond, not, _&&_}
 use mathlib.Core.List.{[], _∷_, _++_}
 use Prim.Native.Nat.{ℕ, _≤_}
 use lib.Dec.{eqb}

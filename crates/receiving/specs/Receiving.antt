@@ -2,8 +2,8 @@
 -- any memory. That this is what crates/session says, on lists, is proved in crates/lent.
 use mathlib.Core.Bool.{Bool, true, false, cond, not, _&&_, _||_}
 use mathlib.Core.List.{List, [], _∷_, _++_}
-use Prim.Native.Nat.{ℕ, zero, suc, _+_, _*_}
-use lib.Dec.{eqb, ltb}
+use Prim.Native.Nat.{ℕ, suc, _+_, _*_}
+use lib.Dec.{eqb}
 use lib.ListN.{length, set, take, drop}
 use Rattle.grammar.specs.Bytes.{Bytes, LF}
 use Rattle.grammar.specs.Refusals.{badMemory, lineTooLong, badTransfer, badChecksum, storeFull, bytesWait, sessionEnded}
@@ -16,16 +16,14 @@ use Rattle.transfer_step.specs.declared.Outcome.{Outcome}
 use Rattle.transfer_step.specs.declared.Outcome.the-variants.{More, Whole, Malformed, WrongSum, NoRoom}
 use Rattle.transfer_step.specs.Step.{stepOf}
 use Rattle.transfer_read.specs.Feed.{headingPut, storePut, roomOf}
-use Rattle.state.specs.State.{at, held, noFive, loadOf, saveOf}
-use Rattle.state.specs.declared.Five.{Five}
+use Rattle.state.specs.State.{at, held, loadOf, saveOf}
 use Rattle.state.specs.declared.Await.{Await}
 use Rattle.state.specs.declared.Say.{Say}
 use Rattle.state.specs.declared.Keep.{Keep}
 use Rattle.state.specs.declared.Session.{Session}
 use Rattle.judge.specs.Judge.{noMarks, judged, inPhase, toTransfer, nextAccepted, readerFor, judgeOf, speakOf}
 use Rattle.judge.specs.declared.Judged.{Judged}
-use Rattle.judge.specs.declared.Spoken.{Spoken}
-use Rattle.waiting.specs.Waiting.{waits, overOf, silentOf}
+use Rattle.waiting.specs.Waiting.{waits, overOf}
 use Rattle.form.specs.Form.{formOf}
 use Rattle.giving.specs.Giving.{reply}
 use Rattle.giving.specs.declared.Reply.{Reply}

@@ -1,13 +1,13 @@
 -- THE SESSION: one end of one session with one partner (01, "SID and opening", "Turns", "Transfers"), a byte at a time.
 -- What a whole line or a whole transfer makes us say is fixed at its last byte and put into `out` at once; the phase is then already the
 -- one after it, so no phase stands for our own giving. A byte that comes while `out` is not empty is refused.
-use mathlib.Core.Bool.{Bool, true, false, cond, not, _&&_}
+use mathlib.Core.Bool.{Bool, true, false, cond, _&&_}
 use mathlib.Core.Option.{Option, none, some}
 use mathlib.Core.List.{List, [], _∷_, _++_, map}
-use Prim.Native.Nat.{ℕ, zero, suc, _-_, min}
+use Prim.Native.Nat.{ℕ, _-_, min}
 use lib.Dec.{eqb, ltb}
 use lib.ListN.{length, set, replicate}
-use Rattle.grammar.specs.Bytes.{Bytes, CR, LF, null}
+use Rattle.grammar.specs.Bytes.{Bytes, LF, null}
 use Rattle.grammar.specs.Refusals.{lineTooLong, notSid, noForwarding, lineNotAllowed, proposalCount, badTransfer, badChecksum, storeFull, bytesWait, sessionEnded}
 use Rattle.grammar.specs.Fields.{Form, plain, message, file}
 use Rattle.grammar.specs.Lines.{LineByte, dropped, ends, grows, overruns, lineByte, trim, isComment, isPrompt}

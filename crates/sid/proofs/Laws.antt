@@ -7,21 +7,18 @@ use Prim.Native.Nat.{ℕ, zero, suc, _+_, _-_, _<_, _≤_}
 use native.Mathlib.Omega.{arith}
 use native.Mathlib.Numerals.{add-one, add-two}
 use lib.Dec.{eqb, ltb}
-use lib.ListN.{length, getD, set, take, drop, length-drop, drop-of-length-le, List·getD-eq-default}
-use lib.Seq.{drop-cons, take-all, set-out}
+use lib.ListN.{length, getD, take, drop, length-drop, drop-of-length-le, List·getD-eq-default}
+use lib.Seq.{drop-cons, set-out}
 use borrow.Author.Tests.{eq-eqb, ne-eqb, lt-ltb, le-ltb, ltb-true, ltb-false, not-true, not-false}
 use Rattle.grammar.specs.Bytes.{Bytes, null, all, splitAt}
 use Rattle.grammar.specs.Fields.{upper, digit}
-use Rattle.grammar.specs.Sid.{isLetter, letterPlace, noFeatures, hasFeature, withFeature, sidEnd, readLevels, readFeatures, orLast, splitLast, dataRead, authorRead, sidRead, readSid}
+use Rattle.grammar.specs.Sid.{isLetter, letterPlace, noFeatures, hasFeature, withFeature, sidEnd, readLevels, readFeatures, splitLast, dataRead, authorRead, sidRead, readSid}
+use Rattle.grammar.proofs.Basics.{to-end}
 use Rattle.byte.specs.declared.Class.{Class}
 use Rattle.byte.specs.Classes.{classOf}
 use Rattle.field.specs.Places.{upto}
 use Rattle.field.proofs.Laws.{split-upto}
 use Rattle.sid.specs.Meaning.{lastBy}
-
--- a part that runs to the end
-rest : (l : Bytes) (p : ℕ) → take (length l - p) (drop p l) ≡ drop p l
-rest l p = take-all (length l - p) (drop p l) (simp length-drop (omega arith))
 
 -- ---------------------------------------------------------------- the features
 
@@ -76,7 +73,7 @@ end-by fs (x ∷ y ∷ z ∷ l) = rw (ne-eqb (length (x ∷ y ∷ z ∷ l)) 1 (�
 
 -- fewer than two bytes left: the end
 pub levels-end : (fs s : Bytes) (i : ℕ) → length s ≤ i + 1 → sidEnd fs (take (length s - i) (drop i s)) ≡ readLevels fs (drop i s)
-levels-end fs s i h = rw (rest s i) (go (drop i s) (length-drop i s))
+levels-end fs s i h = rw (to-end s i) (go (drop i s) (length-drop i s))
   where
     go : (t : Bytes) → length t ≡ length s - i → sidEnd fs t ≡ readLevels fs t
     go [] e = refl
@@ -92,7 +89,7 @@ module _ (fs s : Bytes) (i : ℕ) (h : i + 1 < length s) (r : Bool) (l : r ≡ i
   pair = drop-cons s i 0 (omega arith) ∙ ap (λ (t : Bytes). getD s i 0 ∷ t) (rw (← add-one i) next)
 
   pub levels-stop : not r ≡ true → sidEnd fs (take (length s - i) (drop i s)) ≡ readLevels fs (drop i s)
-  levels-stop e = rw (rest s i, pair, sym l ∙ not-true r e)
+  levels-stop e = rw (to-end s i, pair, sym l ∙ not-true r e)
 
   module _ (e : not r ≡ false) (p : ℕ) (q : p ≡ letterPlace (getD s i 0)) (f : Bool) (g : f ≡ hasFeature p fs) where
     pub levels-twice : f ≡ true → none ≡ readLevels fs (drop i s)
@@ -159,7 +156,7 @@ module _ (l : Bytes) (p : ℕ) (f : splitLast l ≡ lastBy l p) where
   unfolding classOf
   data-by r n g =
       let z : p - 1 - 0 ≡ p - 1 = omega arith in
-      rw (f, ne-eqb p 0 n, g, z, rest l p)
+      rw (f, ne-eqb p 0 n, g, z, to-end l p)
 
 -- "The author runs to the first hyphen"
 module _ (l : Bytes) (h : ℕ) (f : h ≡ upto 45 l) where
@@ -171,7 +168,7 @@ module _ (l : Bytes) (h : ℕ) (f : h ≡ upto 45 l) where
   unfolding classOf
   author-by r k g =
       let z : h - 0 ≡ h = omega arith in
-      rw (split-upto 45 l, ← f, lt-ltb _ _ k, g, z, rest l (h + 1), add-one h)
+      rw (split-upto 45 l, ← f, lt-ltb _ _ k, g, z, to-end l (h + 1), add-one h)
 
 -- the bracket has no small letter
 bracket : (x : ℕ) → eqb (upper x) 91 ≡ eqb x 91
@@ -193,7 +190,7 @@ sid-empty (x ∷ l) h = let z : ⊥ = omega arith in absurd z
 pub sid-by : (l : Bytes) → 1 ≤ length l → readSid l ≡ cond (eqb (getD l 0 0) 91) (authorRead (splitAt 45 (take (length l - 1) (drop 1 l)))) none
 unfolding readSid
 sid-by [] h = let z : ⊥ = omega arith in absurd z
-sid-by (x ∷ l) h = rw (rest (x ∷ l) 1, bracket x) (go (eqb x 91))
+sid-by (x ∷ l) h = rw (to-end (x ∷ l) 1, bracket x) (go (eqb x 91))
   where
     go : (t : Bool) → sidRead (cond t (some l) none) ≡ cond t (authorRead (splitAt 45 l)) none
     go true = refl

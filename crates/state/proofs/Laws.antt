@@ -10,7 +10,7 @@ use lib.ListN.{length, take, drop, getD, replicate, length-append, length-drop, 
 use lib.Seq.{take-append-seam, take-at, take-all, length-take-le}
 use Rattle.grammar.specs.Bytes.{Bytes, all}
 use Rattle.grammar.specs.Transfers.{partOf}
-use Rattle.grammar.proofs.Exact.{octet}
+use Rattle.grammar.proofs.Basics.{octet}
 use Rattle.buffer.specs.Put.{putBytes}
 use Rattle.buffer.proofs.Laws.{put-length}
 use Rattle.layout.specs.Layout.{byteAt, le8At}

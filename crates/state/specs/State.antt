@@ -11,7 +11,6 @@ use Rattle.grammar.specs.Transfers.{partOf}
 use Rattle.buffer.specs.Put.{putBytes}
 use Rattle.buffer.specs.declared.Cursor.{Cursor}
 use Rattle.layout.specs.Layout.{byteAt, le2At, le4At, le8At, le2, le4, le8}
-use Rattle.transfer_step.specs.declared.Reader.{Reader}
 use Rattle.transfer_step.specs.Step.{startOf}
 use Rattle.state.specs.declared.Five.{Five}
 use Rattle.state.specs.declared.Await.{Await}

@@ -13,8 +13,7 @@ use Rattle.grammar.specs.Bytes.{Bytes, CR, SP, CTRLZ}
 use Rattle.grammar.specs.Fields.{headingByte}
 use Rattle.grammar.specs.Transfers.{sum, sumRight}
 use Rattle.grammar.specs.Scan.{Scan, inTitle, inBody, inMark, atStart, atLen, inHead, inOff, inData, atSize, atSum, Scanned, goes, got, malformed, wrongSum, noRoom, scanByte, scanOn, bodyOf}
-use Rattle.grammar.proofs.Basics.{and2}
-use Rattle.grammar.proofs.Exact.{snoc-length}
+use Rattle.grammar.proofs.Basics.{by-test, and2, snoc-length}
 use Rattle.grammar.proofs.TransferBack.{sum-wraps, right-wraps}
 use Rattle.transfer_step.specs.declared.Reader.{Reader}
 use Rattle.transfer_step.specs.declared.Stepped.{Stepped}
@@ -89,10 +88,6 @@ Grows room sc b malformed = Unit {0}
 Grows room sc b wrongSum = Unit {0}
 Grows room sc b noRoom = Unit {0}
 
-by-test : (P : Scanned → Type 0) (c : Bool) (v w : Scanned) → (c ≡ true → P v) → (c ≡ false → P w) → P (cond c v w)
-by-test P true v w p q = p refl
-by-test P false v w p q = q refl
-
 snoc-fits : (w : Bytes) (b n : ℕ) → ltb (length w) n ≡ true → length (w ++ (b ∷ [])) ≤ n
 snoc-fits w b n e = omega (arith, snoc-length w b, ltb-true (length w) n e)
 
@@ -100,40 +95,40 @@ grows : (room : ℕ) (sc : Scan) (b : ℕ) → length (headingSoFar sc) ≤ 80 �
 unfolding Grows
 grows room (inTitle t) b k l =
     let P = Grows room (inTitle t) b in
-    by-test P (eqb b CR) _ _
-    (λ e. by-test P (eqb (length t) 0) malformed (goes (inBody t [])) (λ _. tt) (λ _. (rw e, rw e, k, l)))
-    (λ e. by-test P (headingByte b && ltb (length t) 80) (goes (inTitle (t ++ (b ∷ [])))) malformed
+    by-test P (eqb b CR)
+    (λ e. by-test P (eqb (length t) 0) (λ _. tt) (λ _. (rw e, rw e, k, l)))
+    (λ e. by-test P (headingByte b && ltb (length t) 80)
     (λ f. (rw e, rw e, snoc-fits t b 80 ((and2 (headingByte b) (ltb (length t) 80) f) .1), l)) (λ _. tt))
 grows room (inBody t x) b k l =
     let P = Grows room (inBody t x) b in
-    by-test P (eqb b CTRLZ) (goes (inMark t x)) _ (λ e. (rw e, rw e, k, l))
-    (λ e. by-test P (ltb (length x) room) (goes (inBody t (x ++ (b ∷ [])))) noRoom (λ f. (rw e, rw e, k, snoc-fits x b room f)) (λ _. tt))
+    by-test P (eqb b CTRLZ) (λ e. (rw e, rw e, k, l))
+    (λ e. by-test P (ltb (length x) room) (λ f. (rw e, rw e, k, snoc-fits x b room f)) (λ _. tt))
 grows room (inMark t x) b k l =
     let P = Grows room (inMark t x) b in
-    by-test P (eqb b CR) (got t x) _ (λ _. (refl, refl)) (λ _. by-test P (eqb b SP) (goes (inMark t x)) malformed (λ _. (refl, refl, k, l)) (λ _. tt))
-grows room atStart b k l = by-test (Grows room atStart b) (eqb b 1) (goes atLen) malformed (λ _. (refl, refl, k, l)) (λ _. tt)
-grows room atLen b k l = by-test (Grows room atLen b) (leb 4 b && leb b 88) (goes (inHead b [])) malformed (λ _. (refl, refl, k, l)) (λ _. tt)
+    by-test P (eqb b CR) (λ _. (refl, refl)) (λ _. by-test P (eqb b SP) (λ _. (refl, refl, k, l)) (λ _. tt))
+grows room atStart b k l = by-test (Grows room atStart b) (eqb b 1) (λ _. (refl, refl, k, l)) (λ _. tt)
+grows room atLen b k l = by-test (Grows room atLen b) (leb 4 b && leb b 88) (λ _. (refl, refl, k, l)) (λ _. tt)
 grows room (inHead len h) b k l =
     let P = Grows room (inHead len h) b in
-    by-test P (eqb b 0) _ _
-    (λ e. by-test P (eqb (length h) 0 || ltb (length h + 8) len) malformed (goes (inOff len h [])) (λ _. tt) (λ _. (rw e, rw e, k, l)))
-    (λ e. by-test P (headingByte b && (ltb (length h) 80 && ltb (length h + 3) len)) (goes (inHead len (h ++ (b ∷ [])))) malformed
+    by-test P (eqb b 0)
+    (λ e. by-test P (eqb (length h) 0 || ltb (length h + 8) len) (λ _. tt) (λ _. (rw e, rw e, k, l)))
+    (λ e. by-test P (headingByte b && (ltb (length h) 80 && ltb (length h + 3) len))
     (λ f.
     let g = (and2 (headingByte b) (ltb (length h) 80 && ltb (length h + 3) len) f) .1 in
     (rw e, rw e, snoc-fits h b 80 ((and2 (ltb (length h) 80) (ltb (length h + 3) len) g) .0), l))
     (λ _. tt))
 grows room (inOff len h o) b k l =
     let P = Grows room (inOff len h o) b in
-    by-test P (eqb b 0) _ _
-    (λ _. by-test P (eqb len (length h + length o + 2)) (goes (inData h [] 0)) malformed (λ _. (refl, refl, k, l)) (λ _. tt))
-    (λ _. by-test P (eqb b 48 && ltb (length h + length o + 2) len) (goes (inOff len h (o ++ (b ∷ [])))) malformed (λ _. (refl, refl, k, l)) (λ _. tt))
+    by-test P (eqb b 0)
+    (λ _. by-test P (eqb len (length h + length o + 2)) (λ _. (refl, refl, k, l)) (λ _. tt))
+    (λ _. by-test P (eqb b 48 && ltb (length h + length o + 2) len) (λ _. (refl, refl, k, l)) (λ _. tt))
 grows room (inData h x zero) b k l =
     let P = Grows room (inData h x zero) b in
-    by-test P (eqb b 2) (goes (atSize h x)) _ (λ _. (refl, refl, k, l)) (λ _. by-test P (eqb b 4) (goes (atSum h x)) malformed (λ _. (refl, refl, k, l)) (λ _. tt))
+    by-test P (eqb b 2) (λ _. (refl, refl, k, l)) (λ _. by-test P (eqb b 4) (λ _. (refl, refl, k, l)) (λ _. tt))
 grows room (inData h x (suc n)) b k l =
-    by-test (Grows room (inData h x (suc n)) b) (ltb (length x) room) (goes (inData h (x ++ (b ∷ [])) n)) noRoom (λ f. (refl, refl, k, snoc-fits x b room f)) (λ _. tt)
+    by-test (Grows room (inData h x (suc n)) b) (ltb (length x) room) (λ f. (refl, refl, k, snoc-fits x b room f)) (λ _. tt)
 grows room (atSize h x) b k l = (refl, refl, k, l)
-grows room (atSum h x) b k l = by-test (Grows room (atSum h x) b) (sumRight x b) (got h x) wrongSum (λ _. (refl, refl)) (λ _. tt)
+grows room (atSum h x) b k l = by-test (Grows room (atSum h x) b) (sumRight x b) (λ _. (refl, refl)) (λ _. tt)
 
 -- ---------------------------------------------------------------- the buffers
 

@@ -1,21 +1,13 @@
 -- Laws that the proofs of several functions cite.
 use mathlib.Core.Path.{_≡_, sym, ap, _∙_}
-use mathlib.Core.Bool.{Bool, true, false, not}
+use mathlib.Core.Bool.{true, false}
 use Prim.Native.Nat.{ℕ, _+_, _%_, _<_}
 use native.Mathlib.Omega.{arith}
 use lib.Dec.{eqb}
-use borrow.Author.Tests.{eq-eqb, ne-eqb, not-true, not-false}
-use Rattle.grammar.specs.Fields.{headingByte}
+use borrow.Author.Tests.{eq-eqb, ne-eqb}
 use Rattle.transfer_step.specs.declared.Reader.{Reader}
 use Rattle.transfer_step.specs.declared.Stepped.{Stepped}
 use Rattle.transfer_step.specs.Step.{stepAt, stepOf}
-
--- the code's test `!heading_byte(b)`
-pub no-heading-byte : {h : Bool} (b : ℕ) → h ≡ headingByte b → not h ≡ true → headingByte b ≡ false
-no-heading-byte {h} b e t = sym e ∙ not-true h t
-
-pub a-heading-byte : {h : Bool} (b : ℕ) → h ≡ headingByte b → not h ≡ false → headingByte b ≡ true
-a-heading-byte {h} b e t = sym e ∙ not-false h t
 
 -- the wrapping negation n of a sum s, and the byte b that makes the sum 0 modulo 256
 pub sum-closes : (s b : ℕ) {n : ℕ} → s < 256 → b < 256 → (n + s) % 256 ≡ 0 → b ≡ n → eqb ((s + b) % 256) 0 ≡ true

@@ -3,8 +3,8 @@ use mathlib.Core.Path.{ap, _∙_}
 use borrow.Author.Tests.{eq-eqb, ne-eqb}
 use Rattle.state.specs.declared.Session.{Session}
 use Rattle.form.specs.Form.{stateOk, formOf}
-use Rattle.form.proofs.Laws.{told, told-not}
 use borrow.Author.Needs.{needs}
+use Rattle.grammar.proofs.Basics.{told, told-not}
 use Rattle.form.proofs.form.Statement.{statement}
 use Rattle.form.proofs.form.Tie as tie
 

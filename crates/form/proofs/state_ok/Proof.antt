@@ -1,7 +1,7 @@
 -- Test by test, each by its own contract.
 use Rattle.form.specs.Form.{stateOk}
-use Rattle.form.proofs.Laws.{told, told-not}
 use borrow.Author.Needs.{needs}
+use Rattle.grammar.proofs.Basics.{told, told-not}
 use Rattle.form.proofs.state_ok.Statement.{statement}
 use Rattle.form.proofs.state_ok.Tie as tie
 

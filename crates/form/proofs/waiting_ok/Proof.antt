@@ -1,7 +1,7 @@
 -- Nothing waits, or a byte of it is left.
 use Rattle.form.specs.Form.{waitingOk}
-use Rattle.form.proofs.Laws.{told, told-not}
 use borrow.Author.Needs.{needs}
+use Rattle.grammar.proofs.Basics.{told, told-not}
 use Rattle.form.proofs.waiting_ok.Statement.{statement}
 use Rattle.form.proofs.waiting_ok.Tie as tie
 

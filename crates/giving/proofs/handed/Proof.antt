@@ -5,7 +5,7 @@ use mathlib.Core.Path.{_≡_, sym, _∙_}
 use lib.ListN.{length}
 use borrow.Author.Needs.{needs, length-unmapped}
 use Rattle.waiting.specs.Waiting.{waitingOf}
-use Rattle.waiting.proofs.Short.{waiting-short}
+use Rattle.waiting.proofs.Short.{record-short, waiting-short}
 use Rattle.giving.specs.Giving.{handedOf}
 use Rattle.giving.proofs.Laws.{pos-fits}
 use Rattle.giving.proofs.handed.Statement.{statement}
@@ -20,7 +20,8 @@ add-pos c =
     let h : length (a .s .keep .sending .items) ≡ 5 = length-unmapped ℕ (a .s .keep .sending .items) 5 (o .1 .1 .0 .1 .1 .1 .1 .1 .0 .1 .1 .1 .0 .1 .0 .1) in
     let p : a .s .say .pos < 18446744073709551616 = search (needs, c .struct-known .given) in
     let w = waitingOf (a .s) (a .table .now) (a .titles .now) (a .names .now) (a .bodies .now) in
-    let k = waiting-short (a .table .now) (a .titles .now) (a .names .now) (a .bodies .now) (λ i. (c .before .before .before .before .shared-slice-known .given i) .fits) (a .s) f g h in
+    let short = record-short (a .table .now) (a .titles .now) (a .names .now) (a .bodies .now) (λ i. (c .before .before .before .before .shared-slice-known .given i) .fits) in
+    let k = waiting-short (a .table .now) (a .titles .now) (a .names .now) (a .bodies .now) short (a .s) f g h in
     record { fits = pos-fits (a .s .say .pos) (a .n) w p (c .before .before .before .before .before .pre) k }
 
 is-left-requires : tie.Need-is-left-requires

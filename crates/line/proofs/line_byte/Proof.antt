@@ -5,7 +5,8 @@ use mathlib.Core.Logic.{⊎-elim}
 use lib.Dec.{eqb}
 use borrow.Author.Tests.{eq-eqb, ne-eqb, lt-ltb, le-ltb}
 use Rattle.grammar.specs.Bytes.{LF}
-use Rattle.line.proofs.Laws.{no-cr, no-lf}
+use Rattle.grammar.proofs.Basics.{and-false}
+use Rattle.line.proofs.Laws.{no-cr}
 use Rattle.line.proofs.line_byte.Statement.{statement}
 use Rattle.line.proofs.line_byte.Tie as tie
 use Rattle.line.proofs.line_byte.Reads as reads
@@ -15,7 +16,7 @@ returns : tie.Need-returns
 returns c = simp (c .before .if1 .taken, eq-eqb _ _ (c .if2 .taken))
 
 kept : (c : lts.Joined1 reads.Pre reads.Post) → (c .before .args .after-cr && eqb (c .before .args .b) LF) ≡ false
-kept c = ⊎-elim (λ w. no-lf (c .before .args .after-cr) _ (ne-eqb _ _ (w .1 .left))) (λ w. no-cr _ _ (w .left)) (c .if1 .came)
+kept c = ⊎-elim (λ w. and-false (c .before .args .after-cr) _ (ne-eqb _ _ (w .1 .left))) (λ w. no-cr _ _ (w .left)) (c .if1 .came)
 
 returns-2 : tie.Need-returns-2
 returns-2 c = rw (kept (c .before), eq-eqb _ _ (c .if3 .taken))

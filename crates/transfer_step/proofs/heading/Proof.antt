@@ -1,8 +1,8 @@
 -- Each return follows its tests in the order of headingStep; what heading_byte ensures is the class.
-use Rattle.transfer_step.proofs.Laws.{no-heading-byte, a-heading-byte}
 use borrow.Author.Tests.{eq-eqb, ne-eqb, lt-ltb, le-ltb}
 use Rattle.transfer_step.specs.Step.{headingStep}
 use borrow.Author.Needs.{needs}
+use Rattle.grammar.proofs.Basics.{told, told-not}
 use Rattle.transfer_step.proofs.heading.Statement.{statement}
 use Rattle.transfer_step.proofs.heading.Tie as tie
 
@@ -44,14 +44,14 @@ end-requires-3 c κs = search needs
 
 returns-4 : tie.Need-returns-4
 unfolding headingStep
-returns-4 c = rw (ne-eqb _ _ (c .before .before .before .if1 .left), no-heading-byte _ (c .before .before .heading-byte .ensures) (c .before .if4 .taken)) (c .end3 .ensures)
+returns-4 c = rw (ne-eqb _ _ (c .before .before .before .if1 .left), told-not (c .before .before .heading-byte .ensures) (c .before .if4 .taken)) (c .end3 .ensures)
 
 end-requires-4 : tie.Need-end-requires-4
 end-requires-4 c κs = search needs
 
 returns-5 : tie.Need-returns-5
 unfolding headingStep
-returns-5 c = rw (ne-eqb _ _ (c .before .before .before .before .before .if1 .left), a-heading-byte _ (c .before .before .before .before .heading-byte .ensures) (c .before .before .before .if4 .left), le-ltb _ _ (c .before .if5 .taken)) (c .end4 .ensures)
+returns-5 c = rw (ne-eqb _ _ (c .before .before .before .before .before .if1 .left), told (c .before .before .before .before .heading-byte .ensures) (c .before .before .before .if4 .left), le-ltb _ _ (c .before .if5 .taken)) (c .end4 .ensures)
 
 add-if6 : tie.Need-add-if6
 add-if6 c = search needs
@@ -64,14 +64,14 @@ on-requires-2 c κs = search needs
 
 returns-6 : tie.Need-returns-6
 unfolding headingStep
-returns-6 c = rw (ne-eqb _ _ (c .before .before .before .before .before .before .before .if1 .left), a-heading-byte _ (c .before .before .before .before .before .before .heading-byte .ensures) (c .before .before .before .before .before .if4 .left), lt-ltb _ _ (c .before .before .before .if5 .left), lt-ltb _ _ (c .before .before .if6 .taken)) (c .on2 .ensures)
+returns-6 c = rw (ne-eqb _ _ (c .before .before .before .before .before .before .before .if1 .left), told (c .before .before .before .before .before .before .heading-byte .ensures) (c .before .before .before .before .before .if4 .left), lt-ltb _ _ (c .before .before .before .if5 .left), lt-ltb _ _ (c .before .before .if6 .taken)) (c .on2 .ensures)
 
 end-requires-5 : tie.Need-end-requires-5
 end-requires-5 c κs = search needs
 
 returns-7 : tie.Need-returns-7
 unfolding headingStep
-returns-7 c = rw (ne-eqb _ _ (c .before .before .before .before .before .before .if1 .left), a-heading-byte _ (c .before .before .before .before .before .heading-byte .ensures) (c .before .before .before .before .if4 .left), lt-ltb _ _ (c .before .before .if5 .left), le-ltb _ _ (c .before .if6 .left)) (c .end5 .ensures)
+returns-7 c = rw (ne-eqb _ _ (c .before .before .before .before .before .before .if1 .left), told (c .before .before .before .before .before .heading-byte .ensures) (c .before .before .before .before .if4 .left), lt-ltb _ _ (c .before .before .if5 .left), le-ltb _ _ (c .before .if6 .left)) (c .end5 .ensures)
 
 pub heading-spec : {M : Type 1} → statement M
 heading-spec =

@@ -1,8 +1,8 @@
 -- Each return follows its tests in the order of titleStep; what heading_byte ensures is the class.
-use Rattle.transfer_step.proofs.Laws.{no-heading-byte, a-heading-byte}
 use borrow.Author.Tests.{eq-eqb, ne-eqb, lt-ltb, le-ltb}
 use Rattle.transfer_step.specs.Step.{titleStep}
 use borrow.Author.Needs.{needs}
+use Rattle.grammar.proofs.Basics.{told, told-not}
 use Rattle.transfer_step.proofs.title.Statement.{statement}
 use Rattle.transfer_step.proofs.title.Tie as tie
 
@@ -28,7 +28,7 @@ end-requires-2 c κs = search needs
 
 returns-3 : tie.Need-returns-3
 unfolding titleStep
-returns-3 c = rw (ne-eqb _ _ (c .before .before .before .if1 .left), no-heading-byte _ (c .before .before .heading-byte .ensures) (c .before .if3 .taken)) (c .end2 .ensures)
+returns-3 c = rw (ne-eqb _ _ (c .before .before .before .if1 .left), told-not (c .before .before .heading-byte .ensures) (c .before .if3 .taken)) (c .end2 .ensures)
 
 add-t : tie.Need-add-t
 add-t c = search needs
@@ -38,14 +38,14 @@ on-requires-2 c κs = search needs
 
 returns-4 : tie.Need-returns-4
 unfolding titleStep
-returns-4 c = rw (ne-eqb _ _ (c .before .before .before .before .before .before .if1 .left), a-heading-byte _ (c .before .before .before .before .before .heading-byte .ensures) (c .before .before .before .before .if3 .left), lt-ltb _ _ (c .before .before .if4 .taken)) (c .on2 .ensures)
+returns-4 c = rw (ne-eqb _ _ (c .before .before .before .before .before .before .if1 .left), told (c .before .before .before .before .before .heading-byte .ensures) (c .before .before .before .before .if3 .left), lt-ltb _ _ (c .before .before .if4 .taken)) (c .on2 .ensures)
 
 end-requires-3 : tie.Need-end-requires-3
 end-requires-3 c κs = search needs
 
 returns-5 : tie.Need-returns-5
 unfolding titleStep
-returns-5 c = rw (ne-eqb _ _ (c .before .before .before .before .before .if1 .left), a-heading-byte _ (c .before .before .before .before .heading-byte .ensures) (c .before .before .before .if3 .left), le-ltb _ _ (c .before .if4 .left)) (c .end3 .ensures)
+returns-5 c = rw (ne-eqb _ _ (c .before .before .before .before .before .if1 .left), told (c .before .before .before .before .heading-byte .ensures) (c .before .before .before .if3 .left), le-ltb _ _ (c .before .if4 .left)) (c .end3 .ensures)
 
 pub title-spec : {M : Type 1} → statement M
 title-spec =
