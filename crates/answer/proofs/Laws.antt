@@ -226,13 +226,6 @@ refusal : (t : Bool) → cond t badAnswer lineNotAllowed ≡ 0 → ⊥
 refusal true e = omega arith
 refusal false e = omega arith
 
--- no line answers more
-pub over-refused : (n : ℕ) (l : Bytes) → blockLimit < n → answerNumber n l ≡ 0 → ⊥
-unfolding answerNumber
-over-refused n l h e =
-    let g : answerNumber n l ≡ cond (isSome (after (text "FS") l)) badAnswer lineNotAllowed = rw (lt-ltb blockLimit n h) in
-    refusal (isSome (after (text "FS") l)) (sym g ∙ e)
-
 -- as many signs as proposals
 abbrev pub Counted : ℕ → Option (List Sign) → Type 0
 Counted n none = Unit {0}

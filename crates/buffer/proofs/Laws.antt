@@ -119,9 +119,6 @@ pub cursor-at : (n : ℕ) (c : Cursor) (p : Bytes) → (putCursor n c p) .at ≡
 unfolding putCursor
 cursor-at n c p = refl
 
-pub cursor-grows : (n : ℕ) (c : Cursor) (p : Bytes) → c .at ≤ (putCursor n c p) .at
-cursor-grows n c p = omega (arith, cursor-at n c p)
-
 pub cursor-within : (n : ℕ) (c : Cursor) (p : Bytes) → c .at ≤ n → (putCursor n c p) .at ≤ n
 cursor-within n c p h = omega (arith, cursor-at n c p, cut-length (n - c .at) (c .skip) p)
 

@@ -14,12 +14,10 @@ use Rattle.grammar.specs.Fields.{plain, message, file}
 use Rattle.grammar.specs.Turns.{inMode, ourBlock}
 use Rattle.mail.specs.Mail.{Record, noRecord}
 use Rattle.session.specs.Choices.{wanted, candidates, sizeAt, chosen}
-use Rattle.session.proofs.Choices.{few}
 use Rattle.layout.specs.Layout.{byteAt, le4At, entryAt, recordOf, recordSize}
 use Rattle.layout.proofs.Laws.{le4-small}
 use Rattle.state.specs.State.{held, fiveOf}
 use Rattle.state.specs.declared.Five.{Five}
-use Rattle.state.proofs.Laws.{held-five}
 use Rattle.choice.specs.Decoded.{entriesFrom, entries, recordCount, recordsOf, statesOf}
 use Rattle.choice.specs.Choice.{chooseOf}
 use Rattle.choice.specs.Promises.{Filled}
@@ -154,17 +152,8 @@ module _ (table : Bytes) (framed : Bool) (flags : List ℕ) (n : ℕ) where
 
 -- ---------------------------------------------------------------- for callers
 
--- the places that are given, five at most
-pub choose-held : (table : Bytes) (framed : Bool) (flags : List ℕ) → held (chooseOf table framed flags) ≡ chosen (recordsOf [] [] [] table) framed (statesOf table) flags
-unfolding chooseOf
-choose-held table framed flags = held-five (chosen (recordsOf [] [] [] table) framed (statesOf table) flags)
-
-pub choose-few : (table : Bytes) (framed : Bool) (flags : List ℕ) → chooseOf table framed flags .count ≤ 5
-unfolding chooseOf
-choose-few table framed flags = few (recordsOf [] [] [] table) framed (statesOf table) flags
-
 -- titles, names and bodies change no choice
-pub block-same : (f g : ℕ → ℕ) → ((i : ℕ) → f i ≡ g i) → (k b : ℕ) (xs : List ℕ) → ourBlock f k b xs ≡ ourBlock g k b xs
+block-same : (f g : ℕ → ℕ) → ((i : ℕ) → f i ≡ g i) → (k b : ℕ) (xs : List ℕ) → ourBlock f k b xs ≡ ourBlock g k b xs
 block-same f g h k b [] = refl
 block-same f g h k b (x ∷ xs) =
     ap (λ (l : List ℕ). cond (ltb k 5 && ltb b 10240) (x ∷ l) []) (block-same f g h (k + 1) (b + f x) xs ∙ ap (λ (n : ℕ). ourBlock g (k + 1) (b + n) xs) (h x))

@@ -2,11 +2,11 @@
 use mathlib.Core.Path.{_≡_, refl, sym, ap, _∙_}
 use mathlib.Core.Bool.{Bool, true, false, cond, not, _||_}
 use mathlib.Core.List.{List, [], _∷_, _++_, map, append-nil}
-use Prim.Native.Nat.{ℕ, zero, suc, _+_, _-_, _<_, _≤_, min}
+use Prim.Native.Nat.{ℕ, zero, suc, _+_, _-_, _<_, _≤_}
 use native.Mathlib.Omega.{arith}
 use native.Mathlib.Nat.{sub-zero}
 use lib.Dec.{ltb}
-use lib.ListN.{length, length-map}
+use lib.ListN.{length}
 use lib.Seq.{append-snoc}
 use borrow.Author.Tests.{ltb-false}
 use Rattle.grammar.specs.Bytes.{Bytes}
@@ -15,16 +15,12 @@ use Rattle.grammar.specs.Answers.{Sign, accept, decline, defer, writeSign}
 use Rattle.grammar.proofs.Basics.{or2}
 use Rattle.mail.specs.Mail.{Message}
 use Rattle.session.specs.Choices.{Shelf, among, recordBids, messageBids, proposalBids, bodyBytes, announced, haveBid, noRoomFor, signFor, withAccepted, answersAfter, answersTo}
-use Rattle.session.proofs.Choices.{one-sign-each}
 use Rattle.layout.specs.Layout.{le4At, fieldIn, entryAt, recordOf, proposalOf, messageOf, recordSize, knownSize, entrySize, proposalSize}
 use Rattle.state.specs.State.{held, fiveOf}
 use Rattle.state.specs.declared.Five.{Five}
-use Rattle.state.specs.declared.Await.{Await}
-use Rattle.state.specs.declared.Keep.{Keep}
-use Rattle.state.proofs.Laws.{held-five}
 use Rattle.choice.specs.declared.Promised.{Promised}
 use Rattle.choice.specs.Decoded.{entriesFrom, entries, recordCount, knownCount, recordsOf, knownBids, headsOf, placeCount, proposalsOf}
-use Rattle.choice.specs.Choice.{shelfOf, answersOf}
+use Rattle.choice.specs.Choice.{shelfOf}
 use Rattle.choice.specs.Promises.{Filled, proposalsAt, promisedIn, Promises, noRoomBy}
 use Rattle.choice.proofs.Laws.{entries-more, entries-all, entries-end, entries-length, record-bids, message-bids, no-bodies, five-held, five-filled, five-count, five-next}
 
@@ -224,20 +220,6 @@ module _ (table known inbox block : Bytes) (kept free n : ℕ) where
 
 -- ---------------------------------------------------------------- for callers
 
-module _ (w : Await) (k : Keep) (table known inbox : Bytes) (store : ℕ) where
-  -- the sign bytes that are given, one a proposal
-  pub answers-held : held (answersOf w k table known inbox store)
-      ≡ map writeSign (answersTo (shelfOf table known inbox (store - k .used)) (headsOf inbox (k .kept)) (proposalsOf (w .block) (min 5 (w .proposals))))
-  unfolding answersOf
-  answers-held = held-five (map writeSign (answersTo (shelfOf table known inbox (store - k .used)) (headsOf inbox (k .kept)) (proposalsOf (w .block) (min 5 (w .proposals)))))
-
-  pub answers-count : answersOf w k table known inbox store .count ≡ min 5 (w .proposals)
-  unfolding answersOf proposalsOf
-  answers-count =
-      let ps = entries proposalOf proposalSize (w .block) (min 5 (w .proposals)) in
-      let E = shelfOf table known inbox (store - k .used) in
-      length-map (answersTo E (headsOf inbox (k .kept)) ps) writeSign ∙ one-sign-each E (headsOf inbox (k .kept)) ps ∙ entries-length proposalOf proposalSize (w .block) 0 (min 5 (w .proposals))
-
 -- of two shelves with their messages only BIDs, places and free bytes count
 module _ (E F : Shelf) (ms hs : List Message) (bt : recordBids (E .table) ≡ recordBids (F .table)) (bk : E .known ≡ F .known) (bp : E .places ≡ F .places)
     (bb : E .bytes - bodyBytes ms ≡ F .bytes - bodyBytes hs) (bm : messageBids ms ≡ messageBids hs) (bl : length ms ≡ length hs) where
@@ -254,20 +236,9 @@ module _ (E F : Shelf) (ms hs : List Message) (bt : recordBids (E .table) ≡ re
   unfolding answersTo
   answers-same ps = after-same [] ps
 
-bids-same : (titles names bodies table : Bytes) (i n : ℕ)
+-- titles, names and bodies are no part of a BID
+pub bids-same : (titles names bodies table : Bytes) (i n : ℕ)
     → recordBids (entriesFrom (recordOf titles names bodies) recordSize table i n) ≡ recordBids (entriesFrom (recordOf [] [] []) recordSize table i n)
 bids-same titles names bodies table i zero = refl
 bids-same titles names bodies table i (suc n) =
     ap (λ (l : List Bytes). fieldIn 12 56 (entryAt recordSize table i) ∷ l) (bids-same titles names bodies table (suc i) n)
-
--- titles, names and bodies change no answer, but that bodies kept use up the store
-pub answers-stores : (titles names bodies table known inbox : Bytes) (store kept : ℕ) (ms : List Message) → messageBids ms ≡ messageBids (headsOf inbox kept) → length ms ≡ kept
-    → (ps : List Proposal)
-    → answersTo (record { table = recordsOf titles names bodies table; known = knownBids known; places = placeCount inbox; bytes = store }) ms ps
-    ≡ answersTo (shelfOf table known inbox (store - bodyBytes ms)) (headsOf inbox kept) ps
-unfolding recordsOf headsOf
-answers-stores titles names bodies table known inbox store kept ms bm bl ps =
-    let h : Bytes → Message = λ c. messageOf c [] in
-    answers-same (record { table = recordsOf titles names bodies table; known = knownBids known; places = placeCount inbox; bytes = store })
-    (shelfOf table known inbox (store - bodyBytes ms)) ms (headsOf inbox kept) (bids-same titles names bodies table 0 (recordCount table)) refl refl
-    (rw (no-bodies inbox 0 kept) (sym (sub-zero (store - bodyBytes ms)))) bm (bl ∙ sym (entries-length h entrySize inbox 0 kept)) ps

@@ -16,7 +16,8 @@ use Rattle.session.specs.Choices.{Shelf}
 use Rattle.session.specs.Session.{Phase, awaitsSid, awaitsPrompt, leaving, over, awaitsTurn, awaitsAnswer, awaitsTransfer, Session, Stepped, isPlain, keptIn, transferMoved, roomFor, moved, freeStep, lfDropped, step, ended, endedIn}
 use Rattle.session.specs.Calls.{oneMore, stoppedAt, stops, receiveOn, receive}
 use Rattle.demand2.specs.Refusals.{isDropped, Heeded, awaitsLine, SoFar, numberOf, Live, Exact12}
-use Rattle.demand2.proofs.Refusals.{Found, happened, found, some-number, refuses-with, line-found}
+use Rattle.demand2.proofs.Refusals.{Found, happened, found, some-number, line-found}
+use Rattle.demand2.proofs.Situations.{refuses-with}
 use Rattle.demand2.proofs.Steps.{transfer-step}
 use Rattle.demand2.proofs.Events.{happens, next}
 

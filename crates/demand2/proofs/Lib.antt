@@ -2,8 +2,10 @@
 -- sessions that are reached, whole lines and transfers.
 pub mod Steps
 pub mod Events
+pub mod Situations
 pub mod Refusals
 pub mod Ended
+pub mod Candidates
 pub mod OurTurn
 pub mod OurAnswers
 pub mod Portions

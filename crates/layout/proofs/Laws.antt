@@ -1,10 +1,10 @@
 -- What is written is read back: numbers, fields, a proposal in its block, a message in the inbox.
 use Prim.Native.Nat.{ℕ, zero, suc, _+_, _-_, _*_, _/_, _%_, _<_, _≤_, min}
-use mathlib.Core.Path.{_≡_, refl, sym, ap, _∙_, subst}
+use mathlib.Core.Path.{_≡_, refl, sym, ap, _∙_}
 use mathlib.Core.Bool.{true}
 use mathlib.Core.List.{[], _∷_, _++_, append-assoc}
 use native.Mathlib.Omega.{arith}
-use native.Mathlib.Nat.{add-zero, div-div-eq-div-mul}
+use native.Mathlib.Nat.{div-div-eq-div-mul}
 use lib.ListN.{length, take, replicate, length-append, length-take, length-replicate}
 use lib.Seq.{length-take-le}
 use borrow.Author.Tests.{ltb-true}
@@ -19,7 +19,7 @@ use Rattle.buffer.specs.Put.{putBytes}
 use Rattle.buffer.proofs.Laws.{cursor}
 use Rattle.layout.specs.Layout.{byteAt, le2At, le4At, le8At, le2, le4, le8, fieldIn, fieldOut, entryAt, proposalOut, proposalOf, messageOf, bodyStart, bodyLength, entryOut, proposalSize, entrySize}
 use Rattle.layout.proofs.Writing.{field-padded}
-use Rattle.layout.proofs.Places.{le2-skip, le4-skip, le8-skip, part-skip, field-skip, part-in, byte-kept, field-kept, part-here, entry-written, entry-kept}
+use Rattle.layout.proofs.Places.{le2-skip, le4-skip, part-skip, field-skip, part-in, byte-kept, field-kept, part-here, entry-written, entry-kept}
 
 -- ---------------------------------------------------------------- numbers
 
@@ -51,20 +51,6 @@ le4-here x r h = omega (arith, low4 x)
 pub le8-here : (x : ℕ) (r : Bytes) → x < 18446744073709551616 → le8At (le8 x ++ r) 0 ≡ x
 le8-here x r h = let y = x / 4294967296 in omega (arith, low4 x, low4 (x / 4294967296))
 
--- a number that stands behind a piece l
-module _ (l r : Bytes) (x : ℕ) where
-  pub le2-back : x < 65536 → le2At (l ++ (le2 x ++ r)) (length l) ≡ x
-  le2-back h =
-      subst (λ (k : ℕ). le2At (l ++ (le2 x ++ r)) k ≡ x) (add-zero (length l)) (le2-skip l (le2 x ++ r) (length l) refl 0 ∙ le2-here x r h)
-
-  pub le4-back : x < 4294967296 → le4At (l ++ (le4 x ++ r)) (length l) ≡ x
-  le4-back h =
-      subst (λ (k : ℕ). le4At (l ++ (le4 x ++ r)) k ≡ x) (add-zero (length l)) (le4-skip l (le4 x ++ r) (length l) refl 0 ∙ le4-here x r h)
-
-  pub le8-back : x < 18446744073709551616 → le8At (l ++ (le8 x ++ r)) (length l) ≡ x
-  le8-back h =
-      subst (λ (k : ℕ). le8At (l ++ (le8 x ++ r)) k ≡ x) (add-zero (length l)) (le8-skip l (le8 x ++ r) (length l) refl 0 ∙ le8-here x r h)
-
 -- numbers of bytes are as small as their bytes allow
 module _ (s : Bytes) (small : (i : ℕ) → byteAt s i < 256) (i : ℕ) where
   pub le2-small : le2At s i < 65536
@@ -95,12 +81,6 @@ field-here n w r h k =
     let f : min n (length w) ≡ length w = omega arith in
     rw (← field-padded n n w h (omega arith), append-assoc w z r, e, f)
     (part-skip (length w ∷ []) (w ++ (z ++ r)) 1 refl 0 (length w) ∙ part-here w (z ++ r) (length w) refl)
-
--- a field that stands behind a piece l
-pub field-back : (n : ℕ) (l w r : Bytes) → length w ≤ n → n ≤ 255 → fieldIn n (length l) (l ++ (fieldOut n w ++ r)) ≡ w
-field-back n l w r h k =
-    subst (λ (i : ℕ). fieldIn n i (l ++ (fieldOut n w ++ r)) ≡ w) (add-zero (length l))
-    (field-skip l (fieldOut n w ++ r) (length l) refl 0 n ∙ field-here n w r h k)
 
 -- ---------------------------------------------------------------- proposals
 
@@ -207,13 +187,6 @@ module _ (c heading : Bytes) (start n : ℕ) (h : 68 ≤ length c) where
       ap (λ (l : Bytes). bodyLength (l ++ rest)) fields
       ∙ le2-skip (take 68 c) rest 68 fields-length 85 ∙ le2-skip (fieldOut 80 heading) (le4 start ++ le2 n) 81 (field-length 80 heading) 4
       ∙ le2-skip (le4 start) (le2 n) 4 refl 0 ∙ le2-here n [] k
-
--- the message kept of a proposal that was written
-pub entry-back : (p : Proposal) (heading body : Bytes) (start n : ℕ) → Fits p → length heading ≤ 80
-    → messageOf (entryOut (written p) heading start n) body ≡ withContent p heading body
-entry-back p heading body start n h k =
-    let e = proposal-length (formNumber (p .form)) (p .type) (p .from) (p .at) (p .to) (p .bid) (p .size) in
-    message-back (written p) heading start n (omega arith) body k ∙ ap (λ (q : Proposal). withContent q heading body) (proposal-back p h)
 
 -- written as entry k of an inbox of m entries, it is read there, and the others are as before
 module _ (inbox : Bytes) (m k : ℕ) (c : Bytes) (n : length inbox ≡ m * 155) (h : k < m) (l : length c ≡ 155) where

@@ -2,8 +2,8 @@
 -- leaves memory that represents the session after it, and spares every byte that it has no business with. So do the bytes of a receive.
 use mathlib.Core.Path.{_≡_, refl, sym, ap, _∙_, subst}
 use mathlib.Core.Bool.{Bool, true, false, cond, not, _&&_, _||_}
-use mathlib.Core.List.{List, [], _∷_, _++_}
-use Prim.Native.Nat.{ℕ, suc, _+_, _-_, _*_, _/_, _≤_, _<_, min}
+use mathlib.Core.List.{[], _∷_, _++_}
+use Prim.Native.Nat.{ℕ, suc, _+_, _-_, _≤_, _<_}
 use native.Mathlib.Omega.{arith}
 use lib.Dec.{eqb, ltb}
 use lib.ListN.{length, drop, length-drop}
@@ -21,10 +21,9 @@ use Rattle.state.specs.declared.Session.{Session}
 use Rattle.waiting.specs.Waiting.{waits, waitingOf, overOf, thenText}
 use Rattle.receiving.specs.Receiving.{Cs, cs, Moved, moved, lfDropped, refusedOf, lineStepOf, lineByteOf, transferStepOf, byteOf, Run, run, stops, receiveFrom}
 use Rattle.lent.specs.Represents.{Fixed, Says, Awaits, Represents}
-use Rattle.lent.specs.Frame.{withStates, reachOf, Spared}
+use Rattle.lent.specs.Frame.{reachOf, Spared}
 use Rattle.lent.specs.Link.{Moving, Receiving}
-use Rattle.lent.proofs.Frame.{only-same, only-then, with-law}
-use Rattle.lent.proofs.Table.{Whole}
+use Rattle.lent.proofs.Frame.{only-same, only-then}
 use Rattle.lent.proofs.Says.{first-nothing, then-nothing, waits-none}
 use Rattle.lent.proofs.Parts.{block-of, signs-of, rest-of, holds-of, represents, refuse-law}
 use Rattle.lent.proofs.LineStep.{AwaitsLine, awaits-line, says-line, line-step}
@@ -227,11 +226,3 @@ receive-law F E c v n (b ∷ bs) h live =
     let k = byte-law F E c v b h live in
     receive-more F E c x o k n (receiveFrom (F .known) (x .cs) (suc n) bs) (calls.receiveOn E (o .session) bs)
     (λ e. receive-law F E (x .cs) (o .session) (suc n) bs (k .represents) ((or2 (not (eqb (o .answer) 0)) (on-lists.ended (o .session)) e) .1))
-
--- ---------------------------------------------------------------- the table
-
--- where only states have changed, the table is the old one with the states of the session on lists
-pub table-law : (F : Fixed) (E : Shelf) (c d : Cs) (v : on-lists.Session) → Represents F E d v → Spared c d → d .table ≡ withStates (v .memory .states) (c .table)
-table-law F E c d v h k =
-    let whole : Whole (c .table) = subst (λ (n : ℕ). n ≡ min 64 (n / 89) * 89) (k .table .size) (h .shelved .table) in
-    with-law (c .table) (d .table) whole (k .table) ∙ ap (λ (l : List ℕ). withStates l (c .table)) (h .states)

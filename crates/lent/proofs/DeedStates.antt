@@ -9,7 +9,7 @@ use lib.ListN.{length, getD, set, length-set}
 use lib.Seq.{getD-set-same, getD-set-other}
 use borrow.Author.Tests.{eqb-true, eqb-false}
 use Rattle.grammar.specs.Answers.{Sign, accept, decline, defer}
-use Rattle.grammar.proofs.Basics.{or2, no-both}
+use Rattle.grammar.proofs.Basics.{or2, no-both, or-second, and-false}
 use Rattle.mail.specs.Mail.{accepted, marked, declined}
 use Rattle.lent.specs.Deeds.{gives}
 
@@ -98,11 +98,7 @@ declined-other i (j ∷ is) (defer ∷ ss) st h = declined-other i is ss st (or2
 pub declined-here : (i : ℕ) (is : List ℕ) (ss : List Sign) (st : List ℕ) → gives decline i is ss ≡ true → i < length st → getD (declined is ss st) i 0 ≡ 2
 declined-here i [] ss st h l = absurd (no-both false h refl)
 declined-here i (j ∷ is) [] st h l = absurd (no-both false h refl)
-declined-here i (j ∷ is) (accept ∷ ss) st h l = declined-here i is ss st (later (eqb i j) h) l
-  where
-    later : (b : Bool) → (b && false) || gives decline i is ss ≡ true → gives decline i is ss ≡ true
-    later true e = e
-    later false e = e
+declined-here i (j ∷ is) (accept ∷ ss) st h l = declined-here i is ss st (or-second (eqb i j && false) (gives decline i is ss) (and-false (eqb i j) false refl) h) l
 declined-here i (j ∷ is) (decline ∷ ss) st h l = go (gives decline i is ss) refl (λ k. declined-here i is ss (set st j 2) k (rw (length-set st j 2) l))
   where
     go : (b : Bool) → gives decline i is ss ≡ b → (gives decline i is ss ≡ true → getD (declined is ss (set st j 2)) i 0 ≡ 2) → getD (declined is ss (set st j 2)) i 0 ≡ 2
@@ -115,8 +111,4 @@ declined-here i (j ∷ is) (decline ∷ ss) st h l = go (gives decline i is ss) 
         here : (c : Bool) → (c && true) || gives decline i is ss ≡ true → c ≡ true
         here true q = refl
         here false q = absurd (no-both (gives decline i is ss) q e)
-declined-here i (j ∷ is) (defer ∷ ss) st h l = declined-here i is ss st (later (eqb i j) h) l
-  where
-    later : (b : Bool) → (b && false) || gives decline i is ss ≡ true → gives decline i is ss ≡ true
-    later true e = e
-    later false e = e
+declined-here i (j ∷ is) (defer ∷ ss) st h l = declined-here i is ss st (or-second (eqb i j && false) (gives decline i is ss) (and-false (eqb i j) false refl) h) l

@@ -30,7 +30,8 @@ use Rattle.receiving.specs.Receiving.{Cs, cs, Moved, Settled, settleOf, lineMov
 use Rattle.giving.specs.Giving.{reply, giveOf, handing, Given}
 use Rattle.lent.specs.Represents.{Fixed}
 use Rattle.lent.proofs.FormLaws.{Octets}
-use Rattle.lent.proofs.FormClosed.{InForm, receive-closed, give-closed}
+use Rattle.lent.proofs.FormSaved.{InForm}
+use Rattle.lent.proofs.FormClosed.{receive-closed, give-closed}
 use Rattle.lent.proofs.LineWays.{by-line-ways}
 
 -- Another number than 1.

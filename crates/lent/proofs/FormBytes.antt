@@ -1,13 +1,13 @@
 -- A byte keeps the facts of the form test (`byte-ok`), and so does any portion (`receive-ok`). Idea: a byte of a transfer moves the reader
 -- within its limits and the body within the room that is left; a byte of a line moves only the line, until its CR.
 use mathlib.Core.Path.{_≡_, refl, _∙_}
-use mathlib.Core.Bool.{Bool, true, false, cond, not, _&&_}
+use mathlib.Core.Bool.{Bool, true, false, cond, _&&_}
 use mathlib.Core.List.{[], _∷_}
 use Prim.Native.Nat.{ℕ, suc, _+_, _≤_, _<_}
 use native.Mathlib.Omega.{arith}
 use lib.Dec.{eqb, ltb}
 use lib.ListN.{length, take, drop, length-drop, length-set}
-use borrow.Author.Tests.{not-false, eqb-true, eqb-false, ltb-true}
+use borrow.Author.Tests.{eqb-true, eqb-false, ltb-true}
 use Rattle.grammar.specs.Bytes.{Bytes, CR, LF}
 use Rattle.grammar.specs.Refusals.{bytesWait}
 use Rattle.grammar.specs.Lines.{LineByte, ends, grows, overruns, trim}
@@ -17,7 +17,7 @@ use Rattle.transfer_step.specs.declared.Outcome.{Outcome}
 use Rattle.transfer_step.specs.declared.Outcome.the-variants.{More, Whole, Malformed, WrongSum, NoRoom}
 use Rattle.transfer_step.specs.Step.{stepOf}
 use Rattle.transfer_read.specs.Feed.{headingPut, roomOf}
-use Rattle.state.specs.declared.Say.{Say}
+use Rattle.transfer_read.proofs.Room.{step-within}
 use Rattle.judge.specs.Judge.{judgeOf}
 use Rattle.waiting.specs.Waiting.{waits, waitingOf}
 use Rattle.receiving.specs.Receiving.{Cs, cs, moved, refusedOf, Settled, lineMoved, lineStepOf, reading, transferMoved, transferStep, transferStepOf, lfDropped, lineByteOf, byteOf, run, stops, receiveFrom}
@@ -28,17 +28,9 @@ use Rattle.lent.proofs.FormLines.{judge-ok}
 use Rattle.lent.proofs.FormSettled.{refused-good, settle-ok}
 use Rattle.lent.proofs.FormReader.{step-stays, heading-ok, stored, stored-length, stored-octets}
 use Rattle.lent.proofs.FormKept.{keep-ok}
+use Rattle.lent.proofs.Says.{waits-none}
 
 -- ---------------------------------------------------------------- a byte
-
--- nothing is said
-silent : (y : Say) → waits y ≡ false → y .then ≡ 0
-unfolding waits
-silent y e = go (eqb (y .first) 0) e
-  where
-    go : (a : Bool) → cond a (not (eqb (y .then) 0)) true ≡ false → y .then ≡ 0
-    go true e = eqb-true (y .then) 0 (not-false (eqb (y .then) 0) e)
-    go false e = absurd (no-both true refl e)
 
 module _ (F : Fixed) (nt ni ns : ℕ) (c : Cs) (b : ℕ) (G : Good F nt ni ns c) (O : b < 256) where
   refused : Good F nt ni ns (cs (refusedOf (c .session)) (c .table) (c .inbox) (c .store))
@@ -124,7 +116,7 @@ module _ (F : Fixed) (nt ni ns : ℕ) (c : Cs) (b : ℕ) (G : Good F nt ni ns c)
             }
         go Whole =
             keep-ok F nt ni ns (reading (c .session) (t .reader) (headingPut (t .put) (c .session .reading .reader) b (c .session .reading .heading))) (c .table) (c .inbox)
-            (stored (c .session .keep .used) (t .put) (c .session .reading .reader) b (c .store)) (G .now) (G .say) (G .keep) (h .0) H L B U′ Z (silent (c .session .say) E) M
+            (stored (c .session .keep .used) (t .put) (c .session .reading .reader) b (c .store)) (G .now) (G .say) (G .keep) (h .0) H L B U′ Z (waits-none (c .session .say) E .1) M
         go Malformed = ended
         go WrongSum = ended
         go NoRoom = ended
@@ -133,7 +125,7 @@ module _ (F : Fixed) (nt ni ns : ℕ) (c : Cs) (b : ℕ) (G : Good F nt ni ns c)
     unfolding transferStepOf
     transfer-ok =
         moved-ok (stepOf room (c .session .reading .reader) b)
-        (step-stays room (c .session .reading .reader) b (G .reader) (room-left .2) (room-left .0) O)
+        (step-stays room (c .session .reading .reader) b (G .reader) (room-left .0) O, step-within room (c .session .reading .reader) b (room-left .2))
 
   -- a byte of a line
   line-ok : (known : Bytes) → waits (c .session .say) ≡ false → (c .session .now .phase ≡ 5 → ⊥) → Good F nt ni ns (lineByteOf known c b .cs)
@@ -150,7 +142,7 @@ module _ (F : Fixed) (nt ni ns : ℕ) (c : Cs) (b : ℕ) (G : Good F nt ni ns c)
           (judgeOf (trim (take (c .session .line .len) (c .session .line .bytes))) (c .session .now) (c .session .say) (c .session .keep) (c .session .reading .reader) (c .table) known (c .inbox) (length (c .store)))
           true (c .inbox) (c .store) (G .heading) (G .line) (c .table) (G .lent)
           (judge-ok (c .table) known (c .inbox) (c .store) (c .session .now) (c .session .say) (c .session .keep) (c .session .reading .reader)
-          (G .now) (G .say) (G .keep) (G .reader) (G .box) (silent (c .session .say) E) (trim (take (c .session .line .len) (c .session .line .bytes))) (G .awaited .quiet) N)
+          (G .now) (G .say) (G .keep) (G .reader) (G .box) (waits-none (c .session .say) E .1) (trim (take (c .session .line .len) (c .session .line .bytes))) (G .awaited .quiet) N)
           (λ x. refused)
       go false true q =
           record {

@@ -6,7 +6,7 @@ use Prim.Native.Nat.{ℕ, zero, suc, _+_, _-_, _*_, _/_, _≤_, _<_}
 use native.Mathlib.Omega.{arith}
 use native.Mathlib.Nat.{add-zero}
 use lib.Dec.{eqb, leb}
-use lib.ListN.{length, getD, set, take, drop, replicate, length-append, length-drop, length-replicate}
+use lib.ListN.{length, getD, set, take, drop, replicate, length-drop}
 use lib.Seq.{length-take-le, drop-drop, getD-drop, getD-take}
 use borrow.Author.Tests.{eq-eqb, eqb-true, ltb-true, lt-ltb}
 use Rattle.grammar.specs.Bytes.{Bytes, all}
@@ -19,6 +19,7 @@ use Rattle.layout.specs.Layout.{le2, le4, le8, entryAt, entrySize, bodyLength, 
 use Rattle.layout.proofs.Places.{entry-written, entry-kept}
 use Rattle.state.specs.State.{at, held, fiveOf}
 use Rattle.state.specs.declared.Five.{Five}
+use Rattle.state.proofs.Laws.{five-length}
 use Rattle.judge.specs.Judge.{plusFrom, nextAccepted, picked, flagged}
 use Rattle.form.specs.Form.{usedFrom, usedBy, pluses}
 use Rattle.receiving.specs.Receiving.{markAll}
@@ -119,7 +120,7 @@ pub five-of : (xs : List ℕ) → length xs ≤ 5 → Octets xs → FiveOk (five
 five-of xs h o =
     record {
       few = h;
-      size = simp (length-append, length-replicate) (omega arith);
+      size = five-length xs h;
       octets = octets-append xs (replicate (5 - length xs) 0) o (octets-zeros (5 - length xs));
     }
 

@@ -1,5 +1,5 @@
--- A byte of a transfer keeps the reading in order: the reader stays within its limits and the body within its room (`step-stays`), heading and
--- store keep their sizes and hold bytes. Idea: each step that counts a byte tests its limit first. Assumes nothing.
+-- A byte of a transfer keeps the reading in order: the reader stays within its limits (`step-stays`), heading and store keep their sizes and
+-- hold bytes. Idea: each step that counts a byte tests its limit first. Assumes nothing.
 use mathlib.Core.Path.{_≡_, refl, _∙_}
 use mathlib.Core.List.{_++_}
 use Prim.Native.Nat.{ℕ, _≤_, _<_}
@@ -11,7 +11,7 @@ use Rattle.grammar.specs.Transfers.{blockSize}
 use Rattle.grammar.proofs.Basics.{by-cond}
 use Rattle.transfer_step.specs.declared.Reader.{Reader}
 use Rattle.transfer_step.specs.declared.Stepped.{Stepped}
-use Rattle.transfer_step.specs.Step.{at as movedTo, stepOf}
+use Rattle.transfer_step.specs.Step.{stepOf}
 use Rattle.transfer_step.proofs.Ways.{by-ways}
 use Rattle.transfer_read.specs.Feed.{headingPut, storePut}
 use Rattle.lent.proofs.FormLaws.{Octets, octets-append, octets-take, octets-drop, octets-set}
@@ -19,33 +19,24 @@ use Rattle.lent.proofs.FormFacts.{ReaderOk, HeadingOk}
 
 -- ---------------------------------------------------------------- the reader after a byte of a transfer
 
-module _ (room : ℕ) (r : Reader) (b : ℕ) (R : ReaderOk r) (B : r .body ≤ room) (M : room ≤ 65535) (O : b < 256) where
-  abbrev Stays : Stepped → Type 0
-  Stays t = ReaderOk (t .reader) × (t .reader .body ≤ room)
-
-  at-place : (p : ℕ) → p < 256 → ReaderOk (movedTo p r)
-  at-place p h = record { place = h; len = R .len; head = R .head; off = R .off; left = R .left; sum = R .sum; body = R .body }
-
+module _ (room : ℕ) (r : Reader) (b : ℕ) (R : ReaderOk r) (M : room ≤ 65535) (O : b < 256) where
   block-size : blockSize b < 65536
   block-size = by-cond (λ (n : ℕ). n < 65536) (eqb b 0) (omega arith) (omega arith)
 
-  pub step-stays : ReaderOk (stepOf room r b .reader) × (stepOf room r b .reader .body ≤ room)
+  pub step-stays : ReaderOk (stepOf room r b .reader)
   step-stays =
-      by-ways room r b Stays
+      by-ways room r b (λ (t : Stepped). ReaderOk (t .reader))
       (record {
-        ends = λ o. (R, B);
-        skips = (R, B);
-        goes = λ p h. (at-place p (omega arith), B);
-        length = (record { place = omega arith; len = O; head = R .head; off = R .off; left = R .left; sum = R .sum; body = R .body }, B);
-        heading = λ h. (record { place = R .place; len = R .len; head = omega arith; off = R .off; left = R .left; sum = R .sum; body = R .body }, B);
-        digit = λ h. (record { place = R .place; len = R .len; head = R .head; off = omega (arith, R .len); left = R .left; sum = R .sum; body = R .body }, B);
-        header = (record { place = omega arith; len = omega arith; head = R .head; off = omega arith; left = R .left; sum = R .sum; body = R .body }, B);
-        size = (record { place = omega arith; len = R .len; head = R .head; off = R .off; left = block-size; sum = R .sum; body = R .body }, B);
-        body = λ h. (record { place = R .place; len = R .len; head = R .head; off = R .off; left = R .left; sum = R .sum; body = omega arith }, omega arith);
-        block = λ h. (
-          record { place = R .place; len = R .len; head = R .head; off = R .off; left = omega (arith, R .left); sum = omega arith; body = omega arith },
-          omega arith,
-        );
+        ends = λ o. R;
+        skips = R;
+        goes = λ p h. record { place = omega arith; len = R .len; head = R .head; off = R .off; left = R .left; sum = R .sum; body = R .body };
+        length = record { place = omega arith; len = O; head = R .head; off = R .off; left = R .left; sum = R .sum; body = R .body };
+        heading = λ h. record { place = R .place; len = R .len; head = omega arith; off = R .off; left = R .left; sum = R .sum; body = R .body };
+        digit = λ h. record { place = R .place; len = R .len; head = R .head; off = omega (arith, R .len); left = R .left; sum = R .sum; body = R .body };
+        header = record { place = omega arith; len = omega arith; head = R .head; off = omega arith; left = R .left; sum = R .sum; body = R .body };
+        size = record { place = omega arith; len = R .len; head = R .head; off = R .off; left = block-size; sum = R .sum; body = R .body };
+        body = λ h. record { place = R .place; len = R .len; head = R .head; off = R .off; left = R .left; sum = R .sum; body = omega arith };
+        block = λ h. record { place = R .place; len = R .len; head = R .head; off = R .off; left = omega (arith, R .left); sum = omega arith; body = omega arith };
       })
 
 -- ---------------------------------------------------------------- heading and store after a byte of a transfer
@@ -55,7 +46,7 @@ unfolding headingPut
 heading-ok put r b h o g =
     by-cond HeadingOk (eqb put 1)
     (record { size = length-set h (r .head) b ∙ g .size; octets = octets-set h (r .head) b o (g .octets) })
-    (g)
+    g
 
 module _ (used put : ℕ) (r : Reader) (b : ℕ) (store : Bytes) where
   -- the store with the byte, past the bytes that kept messages use
@@ -64,7 +55,7 @@ module _ (used put : ℕ) (r : Reader) (b : ℕ) (store : Bytes) where
 
   put-length-same : length (storePut put r b (drop used store)) ≡ length (drop used store)
   unfolding storePut
-  put-length-same = by-cond (λ (l : Bytes). length l ≡ length (drop used store)) (eqb put 2) (length-set (drop used store) (r .body) b) (refl)
+  put-length-same = by-cond (λ (l : Bytes). length l ≡ length (drop used store)) (eqb put 2) (length-set (drop used store) (r .body) b) refl
 
   put-octets : b < 256 → Octets store → Octets (storePut put r b (drop used store))
   unfolding storePut

@@ -2,7 +2,7 @@
 use mathlib.Core.Path.{_≡_, refl, sym, ap, _∙_, subst}
 use mathlib.Core.Bool.{Bool, false, cond}
 use mathlib.Core.List.{List, [], _∷_, _++_}
-use Prim.Native.Nat.{ℕ, suc, _+_, _-_, _*_, _/_, _≤_}
+use Prim.Native.Nat.{ℕ, suc, _+_, _*_, _/_, _≤_}
 use native.Mathlib.Omega.{arith}
 use native.Mathlib.Numerals.{add-one}
 use lib.ListN.{length, take, drop, length-drop, length-take}
@@ -81,9 +81,6 @@ module _ (F : Fixed) (E : Shelf) (c : Cs) (v : on-lists.Session) (h : Represents
   -- it and those after it have places
   places : u .keep .kept + suc (length ps) ≤ E .places
   places = omega (arith, a .6, ap (λ (l : List Proposal). length l) (a .2), h .shelved .places)
-
-  room-behind : length (behind′ F E c v h b) ≡ length (c .store) - u .keep .used
-  room-behind = ap (λ (l : Bytes). length l) (sym (behind-back F E c v h b)) ∙ length-drop (u .keep .used) st ∙ ap (λ (x : ℕ). x - u .keep .used) (store-kept F E c v h b .size)
 
   fitting : Fitting (u .keep .kept) (u .keep .used) (c .inbox) st (E .places) n
   fitting =

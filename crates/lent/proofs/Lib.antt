@@ -18,12 +18,14 @@ pub mod Transfer
 pub mod Keep
 pub mod TransferStep
 pub mod Byte
--- LineWays: the ways of a whole line. The form test is closed: laws of lists, the facts that the test stands for, each step keeps them, the three calls. FormProposals, FormChoices,
--- FormJudged, FormLines, FormSettled: a whole line. FormReader, FormKept: a transfer. FormBytes: any byte.
+-- LineWays: the ways of a whole line. FormLaws, FormWaiting, FormFacts, FormTest: laws of lists, the facts that the form test stands for. Each
+-- step keeps them: FormProposals, FormChoices, FormJudged, FormLines, FormSettled, a whole line; FormReader, FormKept, a transfer; FormBytes, any
+-- byte. FormSaved, FormClosed, FormAnswers: the test is closed under the three calls.
 pub mod LineWays
 pub mod FormLaws
 pub mod FormWaiting
 pub mod FormFacts
+pub mod FormTest
 pub mod FormProposals
 pub mod FormChoices
 pub mod FormJudged
@@ -32,6 +34,7 @@ pub mod FormSettled
 pub mod FormReader
 pub mod FormKept
 pub mod FormBytes
+pub mod FormSaved
 pub mod FormClosed
 pub mod FormAnswers
 -- Small: numbers that must fit their bytes. InForm: the form test. Held: memory as a call left it, and saving. Giving, Accepted,

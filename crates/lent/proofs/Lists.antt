@@ -4,12 +4,13 @@ use mathlib.Core.List.{List, [], _∷_, _++_}
 use Prim.Native.Nat.{ℕ, zero, suc, _+_, _≤_, _<_}
 use native.Mathlib.Omega.{arith}
 use native.Mathlib.Nat.{add-zero, zero-add}
-use lib.ListN.{length, length-append, length-replicate}
+use lib.ListN.{length}
 use Rattle.grammar.specs.Bytes.{Bytes}
 use Rattle.layout.specs.Layout.{entryAt}
 use Rattle.choice.specs.Decoded.{entriesFrom, entries}
 use Rattle.state.specs.State.{fiveOf}
 use Rattle.state.specs.declared.Five.{Five}
+use Rattle.state.proofs.Laws.{five-length}
 
 -- ---------------------------------------------------------------- entries
 
@@ -40,4 +41,4 @@ pub record FiveOk (f : Five) : Type 0 where
   pub size : length (f .items) ≡ 5
 
 pub five-ok : (xs : List ℕ) → length xs ≤ 5 → FiveOk (fiveOf xs)
-five-ok xs h = record { few = h; size = simp (length-append, length-replicate) (omega arith) }
+five-ok xs h = record { few = h; size = five-length xs h }

@@ -12,13 +12,11 @@ use Rattle.grammar.specs.Fields.{Form, plain, message, file}
 use Rattle.grammar.specs.Turns.{Proposal}
 use Rattle.grammar.specs.Transfers.{writeTransfer}
 use Rattle.mail.specs.Mail.{Record, headingFor, proposalOf, recordAt, transferOf, turnText, transfersText}
-use Rattle.layout.specs.Layout.{entryAt, recordSize}
 use Rattle.choice.specs.Decoded.{recordsOf}
 use Rattle.state.specs.declared.Five.{Five}
 use Rattle.state.specs.declared.Say.{Say}
 use Rattle.waiting.specs.Waiting.{proposalAt, blockText, sendingText, firstText, thenText, waits}
 use Rattle.lent.proofs.Table.{Whole, record-at}
-use Rattle.lent.proofs.Choices.{record-bare}
 
 -- ---------------------------------------------------------------- nothing
 
@@ -53,8 +51,7 @@ module _ (ti na bo t : Bytes) (w : Whole t) where
   proposals-text : (is : List ℕ) → map (proposalAt t) is ≡ map (λ (k : ℕ). proposalOf (recordAt (recordsOf ti na bo t) k)) is
   proposals-text [] = refl
   proposals-text (i ∷ is) =
-      ap (λ (r : Record). proposalOf r ∷ map (proposalAt t) is) (record-bare ti na bo (entryAt recordSize t i))
-      ∙ ap (λ (r : Record). proposalOf r ∷ map (proposalAt t) is) (sym (record-at ti na bo t i w))
+      ap (λ (r : Record). proposalOf r ∷ map (proposalAt t) is) (sym (record-at ti na bo t i w))
       ∙ ap (λ (ps : List Proposal). proposalOf (recordAt (recordsOf ti na bo t) i) ∷ ps) (proposals-text is)
 
   pub block-text : (is : List ℕ) → blockText t is ≡ turnText (map (λ (k : ℕ). proposalOf (recordAt (recordsOf ti na bo t) k)) is)

@@ -1,5 +1,5 @@
 -- Numbers of the state that are saved in few bytes stay small through a receive: the position in what waits, the bytes of a block to come,
--- the bytes of the body. Idea: each way through a byte's step is looked at alone, its tests are not.
+-- the bytes of the body. Idea: each way of a step and of a line is looked at alone, its tests are not.
 use mathlib.Core.Path.{_≡_}
 use mathlib.Core.Bool.{Bool, true, false, _&&_}
 use mathlib.Core.List.{[], _∷_, _++_}

@@ -19,7 +19,7 @@ use Rattle.portion.specs.Portion.{portionOf, Roomy}
 use Rattle.lent.specs.Represents.{Fixed}
 use Rattle.lent.proofs.FormLaws.{Octets, octets-nil, octets-cons, octets-drop}
 use Rattle.lent.proofs.FormFacts.{Good}
-use Rattle.lent.proofs.FormClosed.{good}
+use Rattle.lent.proofs.FormSaved.{good}
 use Rattle.receive.specs.Sound.{Sound}
 use Rattle.receive.proofs.Portions.{good-roomy, further, portion-count, portion-law, portion-good}
 
