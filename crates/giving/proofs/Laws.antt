@@ -11,7 +11,7 @@ use Rattle.buffer.specs.declared.Cursor.{Cursor}
 use Rattle.buffer.proofs.Laws.{cursor, cursor-at, cut-length}
 use Rattle.state.specs.State.{loadOf, saveOf}
 use Rattle.state.specs.declared.Session.{Session}
-use Rattle.waiting.specs.Waiting.{waitingOf, waits}
+use Rattle.waiting.specs.Waiting.{waitingOf, hasToGive}
 use Rattle.form.specs.Form.{formOf}
 use Rattle.giving.specs.declared.Reply.{Reply}
 use Rattle.giving.specs.declared.Handout.{Handout}
@@ -58,25 +58,25 @@ module _ (sm table titles names bodies known inbox store buf : Bytes) (place : �
   unfolding giveOf
   give-bad q = rw (sym f ∙ q)
 
-  module _ (q : b ≡ true) {s : Session} {v : Bool} (l : s ≡ loadOf sm) (w : v ≡ waits (s .say)) where
-    waits-is : v ≡ waits (loadOf sm .say)
-    waits-is = w ∙ ap (λ (t : Session). waits (t .say)) l
+  module _ (q : b ≡ true) {s : Session} {v : Bool} (l : s ≡ loadOf sm) (w : v ≡ hasToGive s) where
+    test-is : v ≡ hasToGive (loadOf sm)
+    test-is = w ∙ ap hasToGive l
 
-    -- nothing waits
+    -- nothing is to be given
     pub give-quiet : v ≡ false → given (reply 0 0 0) sm buf ≡ giveOf sm table titles names bodies known inbox store buf place
     unfolding giveOf
-    give-quiet o = rw (sym f ∙ q, sym waits-is ∙ o)
+    give-quiet o = rw (sym f ∙ q, sym test-is ∙ o)
 
     -- no room
     pub give-full : v ≡ true → length buf ≤ place → given (reply 0 0 0) sm buf ≡ giveOf sm table titles names bodies known inbox store buf place
     unfolding giveOf
-    give-full o h = rw (sym f ∙ q, sym waits-is ∙ o, le-ltb place (length buf) h)
+    give-full o h = rw (sym f ∙ q, sym test-is ∙ o, le-ltb place (length buf) h)
 
     -- bytes are handed out
     pub give-some : v ≡ true → place < length buf → {r : Handout} {m e : Bytes} → Hands s (waitingOf s table titles names bodies) buf place r e → m ≡ saveOf sm (r .state)
         → given (reply 0 0 (r .count)) m e ≡ giveOf sm table titles names bodies known inbox store buf place
     unfolding giveOf
     give-some o h x y =
-        rw (sym f ∙ q, sym waits-is ∙ o, lt-ltb place (length buf) h)
+        rw (sym f ∙ q, sym test-is ∙ o, lt-ltb place (length buf) h)
         (handed-out s (waitingOf s table titles names bodies) sm buf place x y
         ∙ ap (λ (t : Session). handing t (waitingOf t table titles names bodies) sm buf place) l)

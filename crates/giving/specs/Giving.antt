@@ -9,7 +9,7 @@ use Rattle.grammar.specs.Refusals.{badMemory}
 use Rattle.buffer.specs.Put.{putBytes, cut}
 use Rattle.state.specs.State.{loadOf, saveOf}
 use Rattle.state.specs.declared.Session.{Session}
-use Rattle.waiting.specs.Waiting.{waitingOf, waits, silentOf}
+use Rattle.waiting.specs.Waiting.{waitingOf, hasToGive, silentOf}
 use Rattle.form.specs.Form.{formOf}
 use Rattle.giving.specs.declared.Reply.{Reply}
 use Rattle.giving.specs.declared.Handout.{Handout}
@@ -55,7 +55,7 @@ Hands s w buf place r e =
 unfoldable pub giveOf : Bytes → Bytes → Bytes → Bytes → Bytes → Bytes → Bytes → Bytes → Bytes → ℕ → Given
 giveOf sm table titles names bodies known inbox store buf place =
     cond (formOf sm table titles names bodies known inbox store)
-    (cond (waits (loadOf sm .say))
+    (cond (hasToGive (loadOf sm))
     (cond (ltb place (length buf))
     (handing (loadOf sm) (waitingOf (loadOf sm) table titles names bodies) sm buf place)
     (record { reply = reply 0 0 0; sm = sm; buf = buf }))

@@ -83,8 +83,7 @@ pub fn give(
         };
     }
     let s = state::load(sm);
-    let say = s.say;
-    if !waiting::is_waiting(say) {
+    if !waiting::has_to_give(s) {
         return Reply {
             answer: 0,
             place: 0,

@@ -15,15 +15,21 @@ use Rattle.choice.specs.Decoded.{statesOf}
 use Rattle.form.specs.Form.{formOf}
 use Rattle.lent.specs.Represents.{Fixed, messagesOf}
 use Rattle.lent.specs.Frame.{withStates}
-use Rattle.lent.specs.Calls.{Lent, Call, sizesOf, messageCount, received, given, withSession, run, AllFair}
-use Rattle.lent.specs.Demand3.{openedBy, Addressable, finally, logged, Claim}
+use Rattle.lent.specs.Calls.{Lent, Memory, fixedIn, lentIn, sizesOf, messageCount, received, given, withSession, run}
+use Rattle.lent.specs.Demand3.{openedBy, CallsOn, finally, logged, Claim}
 use Rattle.lent.proofs.Frame.{with-law}
 use Rattle.lent.proofs.FormAnswers.{receive-exactly, give-exactly}
 use Rattle.lent.proofs.Held.{held-form}
 use Rattle.lent.proofs.Opening.{freshCs, shelfOf, accepted, OpenedAs, open-law}
 use Rattle.lent.proofs.Run.{callOf, RanAs, run-law}
 
-module _ (role : ℕ) (F : Fixed) (m : Lent) (l : Addressable F m) (e : openedBy role F m .reply .answer ≡ 0) (cs : List Call) (f : AllFair (sizesOf F m) cs) where
+module _ (role : ℕ) (M : Memory) (e : openedBy role M .reply .answer ≡ 0) (cs : CallsOn M) where
+  abbrev pub F : Fixed
+  F = fixedIn M
+
+  abbrev pub m : Lent
+  m = lentIn M
+
   abbrev pub E : Shelf
   E = shelfOf F m
 
@@ -34,48 +40,48 @@ module _ (role : ℕ) (F : Fixed) (m : Lent) (l : Addressable F m) (e : openedBy
   states = statesOf (m .table)
 
   pub open-as : OpenedAs role F m
-  open-as = open-law role F m l e
+  open-as = open-law role M e
 
   -- after the list of calls
-  pub ran : RanAs F E (freshCs role m) (sizesOf F m) (l .store) (open-as .short) (run F (withSession m (openedBy role F m .sm)) cs)
+  pub ran : RanAs F E (freshCs role m) (sizesOf F m) (M .store .short) (open-as .short) (run F (withSession m (openedBy role M .sm)) cs)
       (on-lists-run.run E (on-lists.opened caller states) (map callOf cs))
-  ran = run-law F E (freshCs role m) (sizesOf F m) (l .store) (open-as .short) cs (withSession m (openedBy role F m .sm)) (on-lists.opened caller states) f (open-as .held)
+  ran = run-law F E (freshCs role m) (sizesOf F m) (M .store .short) (open-as .short) cs (withSession m (openedBy role M .sm)) (on-lists.opened caller states) (open-as .held)
 
   on-lists-demand : on-lists-run.Demand3 E caller states (map callOf cs)
   on-lists-demand = demand-3 E (open-as .good) caller states (map callOf cs)
 
-  pub states-logged : statesOf (finally role F m cs .table) ≡ logged role F m cs .book .states
+  pub states-logged : statesOf (finally role M cs .table) ≡ logged role M cs .book .states
   states-logged =
       ran .held .represents .states ∙ on-lists-demand .table ∙ ap (λ (es : List Event). log (E .table) caller states es .book .states) (sym (ran .events))
 
-  pub inbox-logged : messagesOf (finally role F m cs .inbox) (finally role F m cs .store) (messageCount (finally role F m cs)) ≡ logged role F m cs .book .kept
+  pub inbox-logged : messagesOf (finally role M cs .inbox) (finally role M cs .store) (messageCount (finally role M cs)) ≡ logged role M cs .book .kept
   inbox-logged =
       ran .held .represents .boxed .messages ∙ on-lists-demand .inbox ∙ ap (λ (es : List Event). log (E .table) caller states es .book .kept) (sym (ran .events))
 
   -- the memory passes the form test, so that no call that is lent it answers 1
-  form-along : formOf (finally role F m cs .sm) (finally role F m cs .table) (F .titles) (F .names) (F .bodies) (F .known) (finally role F m cs .inbox) (finally role F m cs .store) ≡ true
+  form-along : formOf (finally role M cs .sm) (finally role M cs .table) (F .titles) (F .names) (F .bodies) (F .known) (finally role M cs .inbox) (finally role M cs .store) ≡ true
   form-along =
-      held-form F E (freshCs role m) (sizesOf F m) (finally role F m cs) ((on-lists-run.run E (on-lists.opened caller states) (map callOf cs)) .0) (ran .held)
+      held-form F E (freshCs role m) (sizesOf F m) (finally role M cs) ((on-lists-run.run E (on-lists.opened caller states) (map callOf cs)) .0) (ran .held)
 
-  pub receive-not-one : (bs : Bytes) → eqb (received F (finally role F m cs) bs .reply .answer) 1 ≡ false
+  pub receive-not-one : (bs : Bytes) → eqb (received F (finally role M cs) bs .reply .answer) 1 ≡ false
   receive-not-one bs =
-      receive-exactly F (finally role F m cs .sm) (finally role F m cs .table) (finally role F m cs .inbox) (finally role F m cs .store) bs ∙ ap not form-along
+      receive-exactly F (finally role M cs .sm) (finally role M cs .table) (finally role M cs .inbox) (finally role M cs .store) bs ∙ ap not form-along
 
-  pub give-not-one : (buf : Bytes) (place : ℕ) → eqb (given F (finally role F m cs) buf place .reply .answer) 1 ≡ false
+  pub give-not-one : (buf : Bytes) (place : ℕ) → eqb (given F (finally role M cs) buf place .reply .answer) 1 ≡ false
   give-not-one buf place =
-      give-exactly F (finally role F m cs .sm) (finally role F m cs .table) (finally role F m cs .inbox) (finally role F m cs .store) buf place ∙ ap not form-along
+      give-exactly F (finally role M cs .sm) (finally role M cs .table) (finally role M cs .inbox) (finally role M cs .store) buf place ∙ ap not form-along
 
-  table-logged : finally role F m cs .table ≡ withStates (logged role F m cs .book .states) (m .table)
+  table-logged : finally role M cs .table ≡ withStates (logged role M cs .book .states) (m .table)
   table-logged =
-      with-law (m .table) (finally role F m cs .table) (accepted role F m e .table .0) (ran .held .spared .table)
+      with-law (m .table) (finally role M cs .table) (accepted role F m e .table .0) (ran .held .spared .table)
       ∙ ap (λ (x : List ℕ). withStates x (m .table)) states-logged
 
 -- THE THEOREM
 pub demand-3-lent : Claim
-demand-3-lent role F m l e cs f =
+demand-3-lent role M e cs =
     record {
-      table = table-logged role F m l e cs f;
-      inbox = inbox-logged role F m l e cs f;
-      places = ran role F m l e cs f .held .spared .inbox .past;
-      rest = ran role F m l e cs f .held .spared .store .past;
+      table = table-logged role M e cs;
+      inbox = inbox-logged role M e cs;
+      places = ran role M e cs .held .spared .inbox .past;
+      rest = ran role M e cs .held .spared .store .past;
     }

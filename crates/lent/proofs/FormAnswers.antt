@@ -24,7 +24,7 @@ use Rattle.state.specs.declared.Keep.{Keep}
 use Rattle.state.specs.declared.Session.{Session}
 use Rattle.judge.specs.Judge.{nextAccepted, judgeOf}
 use Rattle.judge.specs.declared.Judged.{Judged}
-use Rattle.waiting.specs.Waiting.{waits, waitingOf, overOf}
+use Rattle.waiting.specs.Waiting.{waits, waitingOf, overOf, hasToGive}
 use Rattle.form.specs.Form.{formOf}
 use Rattle.receiving.specs.Receiving.{Cs, cs, Moved, Settled, settleOf, lineMoved, lineStepOf, keepOf, transferMoved, transferStep, transferStepOf, byteOf, Run, stops, receiveFrom, unchanged, saved, receiveOf}
 use Rattle.giving.specs.Giving.{reply, giveOf, handing, Given}
@@ -112,7 +112,7 @@ module _ (F : Fixed) (sm table inbox store : Bytes) where
   -- GIVE ANSWERS 1 EXACTLY where the test fails
   pub give-exactly : (buf : Bytes) (place : ℕ) → eqb (giveOf sm table (F .titles) (F .names) (F .bodies) (F .known) inbox store buf place .reply .answer) 1 ≡ not test
   unfolding giveOf
-  give-exactly buf place = go test (waits (loadOf sm .say)) (ltb place (length buf))
+  give-exactly buf place = go test (hasToGive (loadOf sm)) (ltb place (length buf))
     where
       w : Bytes
       w = waitingOf (loadOf sm) table (F .titles) (F .names) (F .bodies)

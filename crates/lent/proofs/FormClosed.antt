@@ -20,7 +20,7 @@ use Rattle.state.specs.declared.Session.{Session}
 use Rattle.state.specs.declared.Sizes.{Sizes}
 use Rattle.state.proofs.Laws.{sizes-length, Sized, sizes-saved, load-sizes}
 use Rattle.choice.specs.Decoded.{placeCount}
-use Rattle.waiting.specs.Waiting.{waits, waitingOf, silentOf, overOf}
+use Rattle.waiting.specs.Waiting.{waits, waitingOf, silentOf, overOf, hasToGive}
 use Rattle.waiting.proofs.Short.{record-short, waiting-short}
 use Rattle.form.specs.Form.{usedBy, markOk, sameSizes, lentSizes, formOf}
 use Rattle.giving.specs.Giving.{Given, reply, handedOf, handing, giveOf}
@@ -134,7 +134,7 @@ module _ (F : Fixed) (sm table inbox store buf : Bytes) (place : ℕ) where
   -- GIVE: what it leaves passes the test
   pub give-closed : InForm F sm table inbox store → InForm F (given .sm) table inbox store
   unfolding giveOf
-  give-closed I = rw (I .form) (go (waits (loadOf sm .say)) (ltb place (length buf)))
+  give-closed I = rw (I .form) (go (hasToGive (loadOf sm)) (ltb place (length buf)))
     where
       w : Bytes
       w = waitingOf (loadOf sm) table (F .titles) (F .names) (F .bodies)

@@ -24,7 +24,7 @@ use Rattle.layout.specs.Layout.{entryAt, recordSize, recordOf}
 use Rattle.state.specs.State.{loadOf, saveOf}
 use Rattle.state.specs.declared.Session.{Session}
 use Rattle.state.specs.declared.Sizes.{Sizes}
-use Rattle.waiting.specs.Waiting.{waits, waitingOf, firstText, thenText, silentOf}
+use Rattle.waiting.specs.Waiting.{waits, waitingOf, firstText, thenText, overOf, hasToGive, silentOf}
 use Rattle.waiting.proofs.Short.{waiting-short}
 use Rattle.giving.specs.Giving.{Given, reply, handedOf, handing, giveOf}
 use Rattle.receiving.specs.Receiving.{Cs, cs}
@@ -33,7 +33,7 @@ use Rattle.lent.specs.Frame.{Spared}
 use Rattle.lent.specs.Calls.{Lent, withSession, given}
 use Rattle.lent.proofs.Table.{record-at}
 use Rattle.lent.proofs.Frame.{only-same}
-use Rattle.lent.proofs.Byte.{waits-law}
+use Rattle.lent.proofs.Byte.{waits-law, over-law}
 use Rattle.lent.proofs.Small.{Small, word}
 use Rattle.lent.proofs.Held.{csOf, Held, held-form, saved-held}
 use Rattle.lent.proofs.Parts.{represents, block-of, signs-of, holds-of, rest-of}
@@ -204,30 +204,42 @@ module _ (F : Fixed) (E : Shelf) (c₀ : Cs) (z : Sizes) (roomy : E .bytes < wor
         }
 
     pub give-law : GaveAs m buf place s (given F m buf place)
-    unfolding giveOf
+    unfolding giveOf hasToGive
     give-law =
         subst (λ (q : Bool). GaveAs m buf place s (cond q asked (record { reply = reply badMemory 255 0; sm = m .sm; buf = buf })))
-        (sym (held-form F E c₀ z m s h)) (go (waits (loadOf (m .sm) .say)) (ltb place (length buf)) refl refl)
+        (sym (held-form F E c₀ z m s h)) (go (hasToGive (loadOf (m .sm))) (ltb place (length buf)) refl refl)
       where
         same : Given
         same = record { reply = reply 0 0 0; sm = m .sm; buf = buf }
 
         asked : Given
-        asked = cond (waits (loadOf (m .sm) .say)) (cond (ltb place (length buf)) (handing (loadOf (m .sm)) lot (m .sm) buf place) same) same
+        asked = cond (hasToGive (loadOf (m .sm))) (cond (ltb place (length buf)) (handing (loadOf (m .sm)) lot (m .sm) buf place) same) same
 
         null-is : (o : Bytes) → not (null o) ≡ false → o ≡ []
         null-is [] e = refl
         null-is (x ∷ o) e = absurd (no-both true refl e)
 
-        silent : waits (loadOf (m .sm) .say) ≡ false → s .out ≡ []
-        silent e = null-is (s .out) (sym (waits-law F (csOf m) (s .out) (h .represents .says)) ∙ e)
+        -- on an ended session nothing waits
+        ended-null : (p : on-lists.Phase) → Awaits (csOf m) p → on-lists.endedIn p (s .out) ≡ true → not (null (s .out)) ≡ false
+        ended-null (on-lists.awaitsSid c) a e = absurd (no-both false e refl)
+        ended-null on-lists.awaitsPrompt a e = absurd (no-both false e refl)
+        ended-null (on-lists.awaitsTurn ff ps) a e = absurd (no-both false e refl)
+        ended-null (on-lists.awaitsAnswer is) a e = absurd (no-both false e refl)
+        ended-null (on-lists.awaitsTransfer p ps sc) a e = absurd (no-both false e refl)
+        ended-null on-lists.leaving a e = ap not e
+        ended-null on-lists.over a e = sym (waits-law F (csOf m) (s .out) (h .represents .says)) ∙ a .1
 
-        go : (w l : Bool) → waits (loadOf (m .sm) .say) ≡ w → ltb place (length buf) ≡ l
+        silent : (b w : Bool) → overOf (loadOf (m .sm)) ≡ b → waits (loadOf (m .sm) .say) ≡ w → cond b false w ≡ false → s .out ≡ []
+        silent true w o e q =
+            null-is (s .out) (ended-null (s .phase) (h .represents .awaits) (sym (over-law F E (csOf m) s (h .represents)) ∙ o))
+        silent false w o e q = null-is (s .out) (sym (waits-law F (csOf m) (s .out) (h .represents .says)) ∙ e ∙ q)
+
+        go : (w l : Bool) → hasToGive (loadOf (m .sm)) ≡ w → ltb place (length buf) ≡ l
             → GaveAs m buf place s (cond w (cond l (handing (loadOf (m .sm)) lot (m .sm) buf place) same) same)
         go true true e f = some-given
         go true false e f =
             let k : space ≡ 0 = let g = ltb-false place (length buf) f in omega arith in
             still (ap (λ (n : ℕ). take n (s .out)) k) (ap (λ (n : ℕ). drop n (s .out)) k)
         go false l e f =
-            let o = silent e in
+            let o = silent (overOf (loadOf (m .sm))) (waits (loadOf (m .sm) .say)) refl refl e in
             still (ap (take space) o ∙ take-nil space) (ap (drop space) o ∙ drop-nil space ∙ sym o)

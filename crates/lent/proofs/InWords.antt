@@ -12,7 +12,8 @@ use Rattle.demand3.specs.Demand as on-lists-run
 use Rattle.demand3.specs.Demand.{Good}
 use Rattle.layout.specs.Layout.{stateOf}
 use Rattle.choice.specs.Decoded.{recordCount, statesOf}
-use Rattle.lent.specs.Calls.{Lent}
+use Rattle.lent.specs.Represents.{Fixed}
+use Rattle.lent.specs.Calls.{Lent, fixedIn, lentIn}
 use Rattle.lent.specs.Demand3.{finally, traced, logged}
 use Rattle.lent.specs.Deeds.{deeds, Fate, messagesBrought}
 use Rattle.lent.specs.InWords.{done, ClaimInWords}
@@ -24,16 +25,22 @@ use Rattle.lent.proofs.Fates.{fates, messages}
 use Rattle.lent.proofs.Frame.{states-length, state-at}
 
 pub in-words : ClaimInWords
-in-words role F m l e cs f =
+in-words role M e cs =
     record {
-      each = λ i h. subst (λ (x : ℕ). Fate i (done role F m cs) x (stateOf (end .table) i)) (state-at (m .table) i whole h)
-          (subst (λ (y : ℕ). Fate i (done role F m cs) (getD st i 0) y) (state-at (end .table) i whole-end (subst (λ (n : ℕ). i < n) count h)) (fate i h));
-      others = ran role F m l e cs f .held .spared .table;
-      inbox = inbox-logged role F m l e cs f ∙ kept;
+      each = λ i h. subst (λ (x : ℕ). Fate i (done role M cs) x (stateOf (end .table) i)) (state-at (m .table) i whole h)
+          (subst (λ (y : ℕ). Fate i (done role M cs) (getD st i 0) y) (state-at (end .table) i whole-end (subst (λ (n : ℕ). i < n) count h)) (fate i h));
+      others = ran role M e cs .held .spared .table;
+      inbox = inbox-logged role M e cs ∙ kept;
     }
   where
+    F : Fixed
+    F = fixedIn M
+
+    m : Lent
+    m = lentIn M
+
     end : Lent
-    end = finally role F m cs
+    end = finally role M cs
 
     st : List ℕ
     st = statesOf (m .table)
@@ -42,27 +49,27 @@ in-words role F m l e cs f =
     shelf = shelfOf F m
 
     good : Good (shelf .table)
-    good = open-as role F m l e cs f .good
+    good = open-as role M e cs .good
 
-    events : traced role F m cs ≡ (on-lists-run.run shelf (on-lists.opened (eqb role 1) st) (map callOf cs)) .1
-    events = ran role F m l e cs f .events
+    events : traced role M cs ≡ (on-lists-run.run shelf (on-lists.opened (eqb role 1) st) (map callOf cs)) .1
+    events = ran role M e cs .events
 
     whole : Whole (m .table)
     whole = accepted role F m e .table .0
 
     whole-end : Whole (end .table)
-    whole-end = ran role F m l e cs f .held .represents .shelved .table
+    whole-end = ran role M e cs .held .represents .shelved .table
 
     count : recordCount (m .table) ≡ recordCount (end .table)
-    count = ap (λ (n : ℕ). min 64 (n / 89)) (sym (ran role F m l e cs f .held .spared .table .size))
+    count = ap (λ (n : ℕ). min 64 (n / 89)) (sym (ran role M e cs .held .spared .table .size))
 
-    fate : (i : ℕ) → i < recordCount (m .table) → Fate i (done role F m cs) (getD st i 0) (getD (statesOf (end .table)) i 0)
+    fate : (i : ℕ) → i < recordCount (m .table) → Fate i (done role M cs) (getD st i 0) (getD (statesOf (end .table)) i 0)
     fate i h =
-        subst (λ (x : List ℕ). Fate i (done role F m cs) (getD st i 0) (getD x i 0)) (sym (states-logged role F m l e cs f))
+        subst (λ (x : List ℕ). Fate i (done role M cs) (getD st i 0) (getD x i 0)) (sym (states-logged role M e cs))
         (subst (λ (es : List Event). Fate i (deeds (shelf .table) (eqb role 1) st es) (getD st i 0) (getD (log (shelf .table) (eqb role 1) st es .book .states) i 0)) (sym events)
         (fates shelf good (eqb role 1) st (map callOf cs) i (subst (λ (n : ℕ). i < n) (sym (states-length (m .table))) h)))
 
-    kept : logged role F m cs .book .kept ≡ messagesBrought (done role F m cs)
+    kept : logged role M cs .book .kept ≡ messagesBrought (done role M cs)
     kept =
         subst (λ (es : List Event). log (shelf .table) (eqb role 1) st es .book .kept ≡ messagesBrought (deeds (shelf .table) (eqb role 1) st es)) (sym events)
         (messages shelf good (eqb role 1) st (map callOf cs))

@@ -23,8 +23,8 @@ use Rattle.opening.specs.Opening.{Opened, opened, entriesOk, sizesOk, knownOk, 
 use Rattle.receiving.specs.Receiving.{Cs, cs}
 use Rattle.lent.specs.Represents.{Fixed, Says, Awaits, Represents, messagesOf}
 use Rattle.lent.specs.Frame.{Spared}
-use Rattle.lent.specs.Calls.{Lent, sizesOf, withSession}
-use Rattle.lent.specs.Demand3.{openedBy, Addressable}
+use Rattle.lent.specs.Calls.{Lent, Memory, fixedIn, lentIn, openedOn, sizesOf, withSession}
+use Rattle.lent.specs.Demand3.{openedBy}
 use Rattle.lent.proofs.Byte.{spared-same}
 use Rattle.lent.proofs.Small.{Small}
 use Rattle.lent.proofs.Held.{mark-kept, Held}
@@ -39,7 +39,7 @@ pub record Accepted (role : ℕ) (F : Fixed) (m : Lent) : Type 0 where
   pub known : length (F .known) ≤ 13312
   pub inbox : (length (m .inbox) ≡ placeCount (m .inbox) * 155) × (placeCount (m .inbox) ≤ 64)
   pub fault : tableFault (m .table) (F .titles) (F .names) (F .bodies) ≡ 255
-  pub left : openedBy role F m .sm ≡ saveOf (saveSizes (m .sm) (sizesOf F m)) (freshOf (eqb role 1))
+  pub left : openedOn role F m .sm ≡ saveOf (saveSizes (m .sm) (sizesOf F m)) (freshOf (eqb role 1))
 
 entries-are : (n size most : ℕ) → entriesOk n size most ≡ true → (n % size ≡ 0) × (n / size ≤ most)
 entries-are n size most e = let p = and2 (eqb (n % size) 0) (leb (n / size) most) e in (eqb-true (n % size) 0 (p .0), leb-true (n / size) most (p .1))
@@ -51,7 +51,7 @@ module _ (role : ℕ) (F : Fixed) (m : Lent) where
   abbrev fault : ℕ
   fault = tableFault (m .table) (F .titles) (F .names) (F .bodies)
 
-  pub accepted : openedBy role F m .reply .answer ≡ 0 → Accepted role F m
+  pub accepted : openedOn role F m .reply .answer ≡ 0 → Accepted role F m
   unfolding openOf sizesOk
   accepted e = go (leb role 1) (sizesOk (m .sm) (m .table) (F .known) (m .inbox)) (knownOk (F .known)) (eqb fault 255) refl refl refl refl e
     where
@@ -171,16 +171,22 @@ module _ (role : ℕ) (F : Fixed) (m : Lent) (a : Accepted role F m) where
 pub record OpenedAs (role : ℕ) (F : Fixed) (m : Lent) : Type 0 where
   pub good : Good (shelfOf F m .table)
   pub short : Short (shelfOf F m .table)
-  pub held : Held F (shelfOf F m) (freshCs role m) (sizesOf F m) (withSession m (openedBy role F m .sm)) (on-lists.opened (eqb role 1) (statesOf (m .table)))
+  pub held : Held F (shelfOf F m) (freshCs role m) (sizesOf F m) (withSession m (openedOn role F m .sm)) (on-lists.opened (eqb role 1) (statesOf (m .table)))
 
-pub open-law : (role : ℕ) (F : Fixed) (m : Lent) → Addressable F m → openedBy role F m .reply .answer ≡ 0 → OpenedAs role F m
-open-law role F m l e =
+pub open-law : (role : ℕ) (M : Memory) → openedBy role M .reply .answer ≡ 0 → OpenedAs role (fixedIn M) (lentIn M)
+open-law role M e =
     record {
       good = table-good (m .table) (F .titles) (F .names) (F .bodies) (a .fault);
       short = table-short (m .table) (F .titles) (F .names) (F .bodies) (a .fault);
       held = subst (λ (x : Bytes). Held F (shelfOf F m) (freshCs role m) (sizesOf F m) (withSession m x) (on-lists.opened (eqb role 1) (statesOf (m .table)))) (sym (a .left)) held;
     }
   where
+    F : Fixed
+    F = fixedIn M
+
+    m : Lent
+    m = lentIn M
+
     a : Accepted role F m
     a = accepted role F m e
 
@@ -192,7 +198,7 @@ open-law role F m l e =
         let t = a .table .1 in
         let k = a .known in
         let i = a .inbox in
-        record { table = omega arith; titles = l .titles; names = l .names; bodies = l .bodies; known = omega arith; inbox = omega arith; store = l .store }
+        record { table = omega arith; titles = M .titles .short; names = M .names .short; bodies = M .bodies .short; known = omega arith; inbox = omega arith; store = M .store .short }
 
     long : 60 ≤ length (m .sm)
     long = let n = a .session in omega arith

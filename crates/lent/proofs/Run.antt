@@ -22,7 +22,7 @@ use Rattle.form.specs.Form.{markOk, sameSizes, lentSizes, stateOk, formOf}
 use Rattle.giving.specs.Giving.{Given, reply}
 use Rattle.receiving.specs.Receiving.{Cs, cs, Run, Received, unchanged, saved, receiveFrom, receiveOf}
 use Rattle.lent.specs.Represents.{Fixed}
-use Rattle.lent.specs.Calls.{Lent, Call, receives, gives, receivesOther, givesOther, received, given, leftBy, withSession, tookBy, gaveBy, run, AllFair}
+use Rattle.lent.specs.Calls.{Lent, Call, receives, gives, receivesOther, givesOther, Other, instead, received, given, leftBy, withSession, tookBy, gaveBy, run}
 use Rattle.lent.proofs.FormClosed.{receive-one, give-one}
 use Rattle.lent.proofs.Byte as byte
 use Rattle.lent.proofs.Byte.{over-law}
@@ -33,24 +33,23 @@ use Rattle.lent.proofs.Giving.{Short, given-back, give-law}
 -- ---------------------------------------------------------------- a call that is lent other buffers
 
 -- the sizes are not those that open kept
-other-form : (sm : Bytes) (z : Sizes) (G : Fixed) (table inbox store : Bytes) → loadSizes sm ≡ z
-    → sameSizes z (lentSizes table (G .titles) (G .names) (G .bodies) (G .known) inbox store) ≡ false
-    → formOf sm table (G .titles) (G .names) (G .bodies) (G .known) inbox store ≡ false
+other-form : (sm : Bytes) (z : Sizes) (o : Other z) → loadSizes sm ≡ z
+    → formOf sm (o .table) (o .fixed .titles) (o .fixed .names) (o .fixed .bodies) (o .fixed .known) (o .inbox) (o .store) ≡ false
 unfolding formOf
-other-form sm z G table inbox store e f =
-    let y = lentSizes table (G .titles) (G .names) (G .bodies) (G .known) inbox store in
+other-form sm z o e =
+    let y = lentSizes (o .table) (o .fixed .titles) (o .fixed .names) (o .fixed .bodies) (o .fixed .known) (o .inbox) (o .store) in
     and-false (eqb (length sm) 876) _
     (and-false (markOk sm) _
-    (ap (λ (b : Bool). b && stateOk (loadOf sm) table (G .titles) (G .names) (G .bodies) inbox store) (ap (λ (x : Sizes). sameSizes x y) e ∙ f)))
+    (ap (λ (b : Bool). b && stateOk (loadOf sm) (o .table) (o .fixed .titles) (o .fixed .names) (o .fixed .bodies) (o .inbox) (o .store)) (ap (λ (x : Sizes). sameSizes x y) e ∙ o .another)))
 
 -- ---------------------------------------------------------------- one call
 
 -- the call on lists that a call over lent memory stands for
-abbrev pub callOf : Call → on-lists-run.Call
-callOf (receives bs) = on-lists-run.receiving bs
-callOf (gives buf place) = on-lists-run.giving (length buf - place)
-callOf (receivesOther G table inbox store bs) = on-lists-run.refusedCall
-callOf (givesOther G table inbox store buf place) = on-lists-run.refusedCall
+abbrev pub callOf : {z : Sizes} → Call z → on-lists-run.Call
+callOf (receives b) = on-lists-run.receiving (b .bytes)
+callOf (gives b place) = on-lists-run.giving (length (b .bytes) - place)
+callOf (receivesOther o b) = on-lists-run.refusedCall
+callOf (givesOther o b place) = on-lists-run.refusedCall
 
 module _ (F : Fixed) (E : Shelf) (c₀ : Cs) (z : Sizes) (roomy : E .bytes < word) (short : Short (E .table)) where
   pub record TookAs (r : Received) (q : on-lists-calls.Received) : Type 0 where
@@ -94,29 +93,30 @@ module _ (F : Fixed) (E : Shelf) (c₀ : Cs) (z : Sizes) (roomy : E .bytes < wor
     pub held : Held F E c₀ z (r .0) (q .0)
     pub events : r .1 ≡ q .1
 
-  pub run-law : (cs : List Call) (m : Lent) (s : on-lists.Session) → AllFair z cs → Held F E c₀ z m s → RanAs (run F m cs) (on-lists-run.run E s (map callOf cs))
-  run-law [] m s f h = record { held = h; events = refl }
-  run-law (receives bs ∷ cs) m s f h =
-      let t = receive-law m s h bs (f .0) in
-      let g = run-law cs (leftBy (received F m bs)) (on-lists-calls.receive E s bs .session) (f .1) (t .held) in
+  pub run-law : (cs : List (Call z)) (m : Lent) (s : on-lists.Session) → Held F E c₀ z m s → RanAs (run F m cs) (on-lists-run.run E s (map callOf cs))
+  run-law [] m s h = record { held = h; events = refl }
+  run-law (receives b ∷ cs) m s h =
+      let t = receive-law m s h (b .bytes) (b .octets) in
+      let g = run-law cs (leftBy (received F m (b .bytes))) (on-lists-calls.receive E s (b .bytes) .session) (t .held) in
       record {
         held = g .held;
-        events = ap (λ (n : ℕ). map took (take n bs) ++ (run F (leftBy (received F m bs)) cs) .1) (t .count)
-            ∙ ap (λ (es : List Event). map took (take (on-lists-calls.receive E s bs .count) bs) ++ es) (g .events);
+        events = ap (λ (n : ℕ). map took (take n (b .bytes)) ++ (run F (leftBy (received F m (b .bytes))) cs) .1) (t .count)
+            ∙ ap (λ (es : List Event). map took (take (on-lists-calls.receive E s (b .bytes) .count) (b .bytes)) ++ es) (g .events);
       }
-  run-law (gives buf place ∷ cs) m s f h =
+  run-law (gives b place ∷ cs) m s h =
+      let buf : Bytes = b .bytes in
       let t = give-law F E c₀ z roomy short m s h buf place in
-      let g = run-law cs (withSession m (given F m buf place .sm)) (on-lists-calls.give s (length buf - place)) (f .1) (t .held) in
+      let g = run-law cs (withSession m (given F m buf place .sm)) (on-lists-calls.give s (length buf - place)) (t .held) in
       let o = on-lists-calls.handedOut s (length buf - place) in
-      let b : take (given F m buf place .reply .count) (drop place (given F m buf place .buf)) ≡ o =
+      let w : take (given F m buf place .reply .count) (drop place (given F m buf place .buf)) ≡ o =
       ap (λ (n : ℕ). take n (drop place (given F m buf place .buf))) (t .count) ∙ ap (λ (l : Bytes). take (length o) (drop place l)) (t .buffer) ∙ given-back buf place (s .out) in
       record {
         held = g .held;
-        events = ap (λ (l : Bytes). map gave l ++ (run F (withSession m (given F m buf place .sm)) cs) .1) b ∙ ap (λ (es : List Event). map gave o ++ es) (g .events);
+        events = ap (λ (l : Bytes). map gave l ++ (run F (withSession m (given F m buf place .sm)) cs) .1) w ∙ ap (λ (es : List Event). map gave o ++ es) (g .events);
       }
-  run-law (receivesOther G table inbox store bs ∷ cs) m s f h =
-      subst (λ (r : Received). RanAs ((run F (withSession m (r .sm)) cs) .0, tookBy bs r ++ (run F (withSession m (r .sm)) cs) .1) (on-lists-run.run E s (map callOf cs)))
-      (sym (receive-one G (m .sm) table inbox store bs (other-form (m .sm) z G table inbox store (h .sizes) (f .0)))) (run-law cs m s (f .1) h)
-  run-law (givesOther G table inbox store buf place ∷ cs) m s f h =
+  run-law (receivesOther o b ∷ cs) m s h =
+      subst (λ (r : Received). RanAs ((run F (withSession m (r .sm)) cs) .0, tookBy (b .bytes) r ++ (run F (withSession m (r .sm)) cs) .1) (on-lists-run.run E s (map callOf cs)))
+      (sym (receive-one (o .fixed) (m .sm) (o .table) (o .inbox) (o .store) (b .bytes) (other-form (m .sm) z o (h .sizes)))) (run-law cs m s h)
+  run-law (givesOther o b place ∷ cs) m s h =
       subst (λ (g : Given). RanAs ((run F (withSession m (g .sm)) cs) .0, gaveBy place g ++ (run F (withSession m (g .sm)) cs) .1) (on-lists-run.run E s (map callOf cs)))
-      (sym (give-one G (m .sm) table inbox store buf place (other-form (m .sm) z G table inbox store (h .sizes) (f .0)))) (run-law cs m s (f .1) h)
+      (sym (give-one (o .fixed) (m .sm) (o .table) (o .inbox) (o .store) (b .bytes) place (other-form (m .sm) z o (h .sizes)))) (run-law cs m s h)

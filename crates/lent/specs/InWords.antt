@@ -5,24 +5,24 @@ use Prim.Native.Nat.{ℕ, _<_}
 use lib.Dec.{eqb}
 use Rattle.layout.specs.Layout.{stateOf}
 use Rattle.choice.specs.Decoded.{recordCount, recordsOf, statesOf}
-use Rattle.lent.specs.Represents.{Fixed, messagesOf}
+use Rattle.lent.specs.Represents.{messagesOf}
 use Rattle.lent.specs.Frame.{StatesOnly}
-use Rattle.lent.specs.Calls.{Lent, Call, sizesOf, messageCount, AllFair}
-use Rattle.lent.specs.Demand3.{openedBy, Addressable, finally, traced}
+use Rattle.lent.specs.Calls.{Memory, messageCount}
+use Rattle.lent.specs.Demand3.{openedBy, CallsOn, finally, traced}
 use Rattle.lent.specs.Deeds.{Deed, deeds, Fate, messagesBrought}
 
 -- What the bytes consumed and given did, unit by unit, as the log cuts them.
-abbrev pub done : ℕ → Fixed → Lent → List Call → List Deed
-done role F m cs = deeds (recordsOf (F .titles) (F .names) (F .bodies) (m .table)) (eqb role 1) (statesOf (m .table)) (traced role F m cs)
+abbrev pub done : ℕ → (M : Memory) → CallsOn M → List Deed
+done role M cs =
+    deeds (recordsOf (M .titles .bytes) (M .names .bytes) (M .bodies .bytes) (M .table .bytes)) (eqb role 1) (statesOf (M .table .bytes)) (traced role M cs)
 
-pub record InWords (role : ℕ) (F : Fixed) (m : Lent) (cs : List Call) : Type 0 where
+pub record InWords (role : ℕ) (M : Memory) (cs : CallsOn M) : Type 0 where
   -- each record is forwarded, declined or as it was, as Fate says
-  pub each : (i : ℕ) → i < recordCount (m .table) → Fate i (done role F m cs) (stateOf (m .table) i) (stateOf (finally role F m cs .table) i)
+  pub each : (i : ℕ) → i < recordCount (M .table .bytes) → Fate i (done role M cs) (stateOf (M .table .bytes) i) (stateOf (finally role M cs .table) i)
   -- "Nothing else in the table changes."
-  pub others : StatesOnly (m .table) (finally role F m cs .table)
+  pub others : StatesOnly (M .table .bytes) (finally role M cs .table)
   -- "The inbox holds exactly the accepted messages received whole, in order, byte for byte."
-  pub inbox : messagesOf (finally role F m cs .inbox) (finally role F m cs .store) (messageCount (finally role F m cs)) ≡ messagesBrought (done role F m cs)
+  pub inbox : messagesOf (finally role M cs .inbox) (finally role M cs .store) (messageCount (finally role M cs)) ≡ messagesBrought (done role M cs)
 
 abbrev pub ClaimInWords : Type 0
-ClaimInWords =
-    (role : ℕ) (F : Fixed) (m : Lent) → Addressable F m → openedBy role F m .reply .answer ≡ 0 → (cs : List Call) → AllFair (sizesOf F m) cs → InWords role F m cs
+ClaimInWords = (role : ℕ) (M : Memory) → openedBy role M .reply .answer ≡ 0 → (cs : CallsOn M) → InWords role M cs

@@ -1,14 +1,14 @@
 -- Laws of the pieces that wait, on plain values.
 use mathlib.Core.Path.{_≡_, refl, sym, ap, _∙_}
-use mathlib.Core.Bool.{Bool, true, false, not}
+use mathlib.Core.Bool.{Bool, true, false}
 use mathlib.Core.List.{List, [], _∷_, _++_, map, append-assoc}
 use Prim.Native.Nat.{ℕ, _+_, _-_, _<_, _≤_, min}
 use native.Mathlib.Omega.{arith}
 use native.Mathlib.Numerals.{add-one}
-use lib.Dec.{eqb, ltb}
+use lib.Dec.{ltb}
 use lib.ListN.{length, getD, take, drop, length-take, drop-of-length-le}
 use lib.Seq.{drop-cons, getD-take, take-all}
-use borrow.Author.Tests.{eq-eqb, ne-eqb, ltb-true, ltb-false}
+use borrow.Author.Tests.{ne-eqb, ltb-true, ltb-false}
 use Rattle.grammar.specs.Bytes.{Bytes}
 use Rattle.grammar.specs.Fields.{Form, plain, message, file, formIs}
 use Rattle.grammar.specs.Turns.{proposalLine, withCr, fixedText, ourEnd}
@@ -17,7 +17,7 @@ use Rattle.mail.specs.Mail.{proposalOf, transferOf, headingFor, proposalLines, 
 use Rattle.layout.specs.Layout.{byteAt, le2At, le4At, entryAt, recordSize, recordOf}
 use Rattle.buffer.specs.Put.{Puts, putBytes, putCursor}
 use Rattle.buffer.specs.declared.Cursor.{Cursor}
-use Rattle.buffer.proofs.Laws.{cursor, cut-length, cursor-at, after-cursor, after-bytes, puts-as}
+use Rattle.buffer.proofs.Laws.{cursor, after-cursor, after-bytes, puts-as}
 use Rattle.our_line.specs.Lines.{fsText}
 use Rattle.state.specs.State.{held}
 use Rattle.state.specs.declared.Five.{Five}
@@ -162,21 +162,9 @@ pub first-rest : (k : ℕ) (signs : Five) (n : ℕ) → n ≡ min 5 (signs .coun
 unfolding firstText
 first-rest k signs n q h h₀ h₁ h₂ = rw (ne-eqb k 0 h₀, ne-eqb k 1 h₁, ne-eqb k 2 h₂) (ap fsText (held-in-use signs n q h))
 
--- ---------------------------------------------------------------- a byte tried after p bytes of w
+-- ---------------------------------------------------------------- a text passed over
 
-one-tried : (p : ℕ) (w : Bytes) → not (eqb ((putCursor 1 (cursor 0 p) w) .at) 0) ≡ ltb p (length w)
-one-tried p w = go (ltb p (length w)) refl
-  where
-    at : (putCursor 1 (cursor 0 p) w) .at ≡ min 1 (length w - p)
-    at = omega (arith, cursor-at 1 (cursor 0 p) w, cut-length 1 p w)
-
-    go : (b : Bool) → ltb p (length w) ≡ b → not (eqb ((putCursor 1 (cursor 0 p) w) .at) 0) ≡ b
-    go true e =
-        let h = ltb-true p (length w) e in
-        rw (ne-eqb ((putCursor 1 (cursor 0 p) w) .at) 0 (λ z. let y : ⊥ = omega (arith, at) in y))
-    go false e =
-        let h = ltb-false p (length w) e in
-        rw (eq-eqb ((putCursor 1 (cursor 0 p) w) .at) 0 (omega (arith, at)))
-
-pub one-left : (p : ℕ) (w : Bytes) {d : Cursor} → d ≡ putCursor 1 (cursor 0 p) w → not (eqb (d .at) 0) ≡ ltb p (length w)
-one-left p w q = ap (λ (d : Cursor). not (eqb (d .at) 0)) q ∙ one-tried p w
+-- of a text that is passed over whole, its length is passed over
+pub passed-over : (n : ℕ) (w : Bytes) {d : Cursor} → d ≡ putCursor 1 (cursor 0 n) w → d .skip ≡ n - length w
+unfolding putCursor
+passed-over n w q = ap (λ (d : Cursor). d .skip) q

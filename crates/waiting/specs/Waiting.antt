@@ -59,6 +59,10 @@ waits y = cond (eqb (y .first) 0) (not (eqb (y .then) 0)) true
 unfoldable pub overOf : Session → Bool
 overOf s = cond (ltb (s .now .phase) 6) false (cond (eqb (s .now .phase) 6) (not (waits (s .say))) true)
 
+-- "Give on an ended session writes nothing": what is to be given waits, and the session has not ended.
+unfoldable pub hasToGive : Session → Bool
+hasToGive s = cond (overOf s) false (waits (s .say))
+
 -- Nothing waits any more.
 unfoldable pub silentOf : Session → Session
 silentOf s =

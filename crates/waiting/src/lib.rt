@@ -20,7 +20,7 @@ ghost use Rattle.mail.specs.Mail.{proposalOf, transferOf};
 ghost use Rattle.layout.specs.Layout.{recordOf};
 ghost use Rattle.buffer.specs.Put.{Puts};
 ghost use Rattle.state.specs.State.{held};
-ghost use Rattle.waiting.specs.Waiting.{firstText, blockText, sendingText, thenText, waitingOf, waits, overOf, silentOf};
+ghost use Rattle.waiting.specs.Waiting.{firstText, blockText, sendingText, thenText, waitingOf, waits, overOf, hasToGive, silentOf};
 
 // How many of up to five numbers are in use.
 fn in_use(f: Five) -> usize
@@ -198,7 +198,19 @@ pub fn write_waiting(
     write_then(buf, d, s, table, titles, names, bodies)
 }
 
-// More than pos bytes wait, given bytes included: a byte is tried after them.
+// How many bytes wait, given bytes included. All of them are passed over, so none is written and no checksum is summed; what the cursor has
+// passed over is their number.
+fn waiting_length(s: Session, table: &[u8], titles: &[u8], names: &[u8], bodies: &[u8]) -> usize
+    ensures { λ r. ⌜ r ≡ length (waitingOf s (now (table .entry)) (now (titles .entry)) (now (names .entry)) (now (bodies .entry))) ⌝ }
+{
+    let mut one = [0u8; 1];
+    let all = 4294967295usize;
+    let c = Cursor { at: 0, skip: all };
+    let d = write_waiting(&mut one, c, s, table, titles, names, bodies);
+    all - d.skip
+}
+
+// More than pos bytes wait, given bytes included.
 pub fn is_left(
     s: Session,
     pos: usize,
@@ -209,10 +221,7 @@ pub fn is_left(
 ) -> bool
     ensures { λ r. ⌜ r ≡ ltb pos (length (waitingOf s (now (table .entry)) (now (titles .entry)) (now (names .entry)) (now (bodies .entry)))) ⌝ }
 {
-    let mut one = [0u8; 1];
-    let c = Cursor { at: 0, skip: pos };
-    let d = write_waiting(&mut one, c, s, table, titles, names, bodies);
-    d.at != 0
+    pos < waiting_length(s, table, titles, names, bodies)
 }
 
 // Something waits.
@@ -238,6 +247,17 @@ pub fn is_over(s: Session) -> bool
         return !is_waiting(say);
     }
     true
+}
+
+// Something is to be given: it waits, and the session has not ended.
+pub fn has_to_give(s: Session) -> bool
+    ensures { λ r. ⌜ r ≡ hasToGive s ⌝ }
+{
+    if is_over(s) {
+        return false;
+    }
+    let say = s.say;
+    is_waiting(say)
 }
 
 // The session with nothing waiting.

@@ -156,9 +156,8 @@ impl Alone<'_> {
         // "Receive consumes every byte lent to it, unless it answers 1 or 12 or the
         // session ends on the way".
         self.over = reply.answer > 1 || (reply.answer == 0 && reply.count < bytes.len());
-        // 12 changes nothing, so on memory that somebody wrote something may still
-        // wait.
-        self.empty = self.over && reply.answer != 12;
+        // "Give on an ended session writes nothing".
+        self.empty = self.over;
         Ok(())
     }
 

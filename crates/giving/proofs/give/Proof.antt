@@ -1,4 +1,4 @@
--- One law for each answer: the memory fails the form test, nothing waits, there is no room, bytes are handed out and the state is saved.
+-- One law for each answer: the memory fails the form test, nothing is to be given, there is no room, bytes are handed out and the state is saved.
 use borrow.Author.Tests.{not-true, not-false}
 use Rattle.giving.proofs.Laws.{give-bad, give-quiet, give-full, give-some}
 use borrow.Author.Needs.{needs}
@@ -19,26 +19,26 @@ returns c =
 load-requires : tie.Need-load-requires
 load-requires c κs = search needs
 
-is-waiting-requires : tie.Need-is-waiting-requires
-is-waiting-requires c κs = search needs
+has-to-give-requires : tie.Need-has-to-give-requires
+has-to-give-requires c κs = search needs
 
 same-length-2 : tie.Need-same-length-2
 same-length-2 c = search needs
 
 returns-2 : tie.Need-returns-2
 returns-2 c =
-    let a = c .before .before .before .before .before .before .before .before .before .before .before .before .before .before .before .before .before .args in
-    give-quiet (a .sm .now) (a .table .now) (a .titles .now) (a .names .now) (a .bodies .now) (a .known .now) (a .inbox .now) (a .store .now) (a .buf .now) (a .place) (c .before .before .before .before .before .before .form .ensures) (not-false _ (c .before .before .before .before .before .if1 .left))
-    (c .before .before .before .load .ensures) (c .before .is-waiting .ensures) (not-true _ (c .if2 .taken))
+    let a = c .before .before .before .before .before .before .before .before .before .before .before .before .before .before .before .before .args in
+    give-quiet (a .sm .now) (a .table .now) (a .titles .now) (a .names .now) (a .bodies .now) (a .known .now) (a .inbox .now) (a .store .now) (a .buf .now) (a .place) (c .before .before .before .before .before .form .ensures) (not-false _ (c .before .before .before .before .if1 .left))
+    (c .before .before .load .ensures) (c .before .has-to-give .ensures) (not-true _ (c .if2 .taken))
 
 same-length-3 : tie.Need-same-length-3
 same-length-3 c = search needs
 
 returns-3 : tie.Need-returns-3
 returns-3 c =
-    let a = c .before .before .before .before .before .before .before .before .before .before .before .before .before .before .before .before .before .before .args in
-    give-full (a .sm .now) (a .table .now) (a .titles .now) (a .names .now) (a .bodies .now) (a .known .now) (a .inbox .now) (a .store .now) (a .buf .now) (a .place) (c .before .before .before .before .before .before .before .form .ensures) (not-false _ (c .before .before .before .before .before .before .if1 .left))
-    (c .before .before .before .before .load .ensures) (c .before .before .is-waiting .ensures) (not-false _ (c .before .if2 .left)) (c .if3 .taken)
+    let a = c .before .before .before .before .before .before .before .before .before .before .before .before .before .before .before .before .before .args in
+    give-full (a .sm .now) (a .table .now) (a .titles .now) (a .names .now) (a .bodies .now) (a .known .now) (a .inbox .now) (a .store .now) (a .buf .now) (a .place) (c .before .before .before .before .before .before .form .ensures) (not-false _ (c .before .before .before .before .before .if1 .left))
+    (c .before .before .before .load .ensures) (c .before .before .has-to-give .ensures) (not-false _ (c .before .if2 .left)) (c .if3 .taken)
 
 hand-requires : tie.Need-hand-requires
 hand-requires c κs = search needs
@@ -54,9 +54,9 @@ same-length-5 c = search needs
 
 returns-4 : tie.Need-returns-4
 returns-4 c =
-    let a = c .before .before .before .before .before .before .before .before .before .before .before .before .before .before .before .before .before .before .before .before .before .before .before .before .before .before .before .args in
-    give-some (a .sm .now) (a .table .now) (a .titles .now) (a .names .now) (a .bodies .now) (a .known .now) (a .inbox .now) (a .store .now) (a .buf .now) (a .place) (c .before .before .before .before .before .before .before .before .before .before .before .before .before .before .before .before .form .ensures) (not-false _ (c .before .before .before .before .before .before .before .before .before .before .before .before .before .before .before .if1 .left))
-    (c .before .before .before .before .before .before .before .before .before .before .before .before .before .load .ensures) (c .before .before .before .before .before .before .before .before .before .before .before .is-waiting .ensures) (not-false _ (c .before .before .before .before .before .before .before .before .before .before .if2 .left)) (c .before .before .before .before .before .before .before .before .before .if3 .left) (c .before .before .before .before .before .before .before .hand .ensures) (c .before .before .save .ensures)
+    let a = c .before .before .before .before .before .before .before .before .before .before .before .before .before .before .before .before .before .before .before .before .before .before .before .before .before .before .args in
+    give-some (a .sm .now) (a .table .now) (a .titles .now) (a .names .now) (a .bodies .now) (a .known .now) (a .inbox .now) (a .store .now) (a .buf .now) (a .place) (c .before .before .before .before .before .before .before .before .before .before .before .before .before .before .before .form .ensures) (not-false _ (c .before .before .before .before .before .before .before .before .before .before .before .before .before .before .if1 .left))
+    (c .before .before .before .before .before .before .before .before .before .before .before .before .load .ensures) (c .before .before .before .before .before .before .before .before .before .before .before .has-to-give .ensures) (not-false _ (c .before .before .before .before .before .before .before .before .before .before .if2 .left)) (c .before .before .before .before .before .before .before .before .before .if3 .left) (c .before .before .before .before .before .before .before .hand .ensures) (c .before .before .save .ensures)
 
 pub give-spec : {M : Type 1} → statement M
 give-spec =
@@ -66,7 +66,7 @@ give-spec =
     same-length
     returns
     load-requires
-    is-waiting-requires
+    has-to-give-requires
     same-length-2
     returns-2
     same-length-3

@@ -1,0 +1,77 @@
+-- "What the rules forbid isn't valid: it changes nothing and ends the log.": of a line the log says so itself (`over`); here it is shown of a
+-- transfer, which has no end to be judged at. Once no whole transfer begins with the bytes so far, whatever bytes come after them change
+-- nothing, for ever. Idea: no unit is cut off any more, so the log stays as it is, or stops at a byte of the other side.
+use mathlib.Core.Path.{_≡_, refl, sym, ap, _∙_}
+use mathlib.Core.Bool.{Bool, true, false, cond, _&&_}
+use mathlib.Core.Option.{none}
+use mathlib.Core.List.{List, [], _∷_, _++_, append-assoc, append-nil}
+use Prim.Native.Nat.{ℕ}
+use lib.Dec.{eqb}
+use Rattle.grammar.specs.Bytes.{Bytes, LF, same, isSome}
+use Rattle.grammar.specs.Turns.{Proposal}
+use Rattle.grammar.specs.Transfers.{readTransfer}
+use Rattle.grammar.proofs.Basics.{snoc-cons}
+use Rattle.mail.specs.Mail.{Record, recordAt, transferOf}
+use Rattle.log.specs.Log.{Event, took, gave, Course, Book, Log, isOurs, theirTransfer, ourTransfer, whole, withAfterCr}
+use Rattle.log.specs.Fed.{Fed, unitByte, outOfOrder, fedByte, fedAll}
+use Rattle.log.proofs.Units.{within, ended-stays, owing}
+
+-- the log k has the same records sent, states, mode and messages kept as l
+pub record Stays (k l : Log) : Type 0 where
+  pub sent : k .course .sent ≡ l .course .sent
+  pub book : k .book ≡ l .book
+
+-- the unit that has begun with u can never be whole
+abbrev pub Hopeless : List Record → Log → Bytes → Type 0
+Hopeless T l u = (r : Bytes) (b : ℕ) → whole T (l .course .next) (u ++ r) b ≡ false
+
+longer-hopeless : (T : List Record) (l : Log) (u : Bytes) (b : ℕ) → Hopeless T l u → Hopeless T l (u ++ (b ∷ []))
+longer-hopeless T l u b h r c = ap (λ (v : Bytes). whole T (l .course .next) v c) (snoc-cons u r b) ∙ h (b ∷ r) c
+
+-- one event; more: those after it
+hopeless-at : (T : List Record) (es : List Event) (l : Log) (a : Bool) (u : Bytes) → Hopeless T l u
+    → ((c : Bool) (v : Bytes) → Hopeless T l v → Stays (fedAll T (within l c v) es .log) l) → (e : Event) → Stays (fedAll T (fedByte T (within l a u) e) es .log) l
+hopeless-at T es l a u h more e = at e
+  where
+    stops : Stays (fedAll T (outOfOrder (within l a u)) es .log) l
+    stops = let k = ended-stays T es l a [] in record { sent = ap (λ (o : Course). o .sent) (k .0); book = k .1 }
+
+    -- a byte of the unit
+    one : (b : ℕ) (c : Bool) → Stays (fedAll T (unitByte T (withAfterCr l a) u b c) es .log) l
+    one b c =
+        let w : whole T (l .course .next) u b ≡ false = ap (λ (v : Bytes). whole T (l .course .next) v b) (sym (append-nil u)) ∙ h [] b in
+        rw w (more c (u ++ (b ∷ [])) (longer-hopeless T l u b h))
+
+    took-at : (b : ℕ) (d o : Bool)
+        → Stays (fedAll T (cond d (within l false u) (cond o (outOfOrder (within l a u)) (unitByte T (withAfterCr l a) u b false))) es .log) l
+    took-at b true o = more false u h
+    took-at b false true = stops
+    took-at b false false = one b false
+
+    gave-at : (b : ℕ) (o : Bool) → Stays (fedAll T (cond o (unitByte T (withAfterCr l a) u b a) (outOfOrder (within l a u))) es .log) l
+    gave-at b true = one b a
+    gave-at b false = stops
+
+    at : (e : Event) → Stays (fedAll T (fedByte T (within l a u) e) es .log) l
+    at (took b) = took-at b (a && eqb b LF) (isOurs (l .course .next))
+    at (gave b) = gave-at b (isOurs (l .course .next))
+
+-- A UNIT THAT CAN NEVER BE WHOLE ENDS THE LOG
+pub hopeless-ends : (T : List Record) (es : List Event) (l : Log) (a : Bool) (u : Bytes) → Hopeless T l u → Stays (fedAll T (within l a u) es .log) l
+hopeless-ends T [] l a u h = record { sent = refl; book = refl }
+hopeless-ends T (e ∷ es) l a u h = hopeless-at T es l a u h (λ c v k. hopeless-ends T es l c v k) e
+
+-- the partner's: no valid transfer begins with its bytes so far
+pub their-transfer-ends : (T : List Record) (p : Proposal) (ps : List Proposal) (sent : List ℕ) (k : Book) (a : Bool) (u : Bytes)
+    → ((r : Bytes) → readTransfer (p .form) (u ++ r) ≡ none) → (es : List Event)
+    → Stays (fedAll T (within (owing a (theirTransfer p ps) sent k) a u) es .log) (owing a (theirTransfer p ps) sent k)
+their-transfer-ends T p ps sent k a u h es =
+    hopeless-ends T es (owing a (theirTransfer p ps) sent k) a u (λ r b. ap isSome (ap (readTransfer (p .form)) (append-assoc u r (b ∷ [])) ∙ h (r ++ (b ∷ []))))
+
+-- ours: its bytes so far do not begin what we write for its record
+pub our-transfer-ends : (T : List Record) (i : ℕ) (is sent : List ℕ) (k : Book) (a : Bool) (u : Bytes)
+    → ((r : Bytes) → same (u ++ r) (transferOf (recordAt T i)) ≡ false) → (es : List Event)
+    → Stays (fedAll T (within (owing a (ourTransfer i is) sent k) a u) es .log) (owing a (ourTransfer i is) sent k)
+our-transfer-ends T i is sent k a u h es =
+    hopeless-ends T es (owing a (ourTransfer i is) sent k) a u
+    (λ r b. ap (λ (v : Bytes). same v (transferOf (recordAt T i))) (append-assoc u r (b ∷ [])) ∙ h (r ++ (b ∷ [])))

@@ -1,0 +1,23 @@
+-- The definition's two tests are the two calls.
+use mathlib.Core.Path.{sym, _∙_}
+use Rattle.waiting.specs.Waiting.{hasToGive}
+use borrow.Author.Needs.{needs}
+use Rattle.waiting.proofs.has_to_give.Statement.{statement}
+use Rattle.waiting.proofs.has_to_give.Tie as tie
+
+is-over-requires : tie.Need-is-over-requires
+is-over-requires c κs = search needs
+
+returns : tie.Need-returns
+unfolding hasToGive
+returns c = rw (sym (c .before .is-over .ensures) ∙ c .if1 .taken)
+
+is-waiting-requires : tie.Need-is-waiting-requires
+is-waiting-requires c κs = search needs
+
+returns-2 : tie.Need-returns-2
+unfolding hasToGive
+returns-2 c = rw (sym (c .before .before .before .is-over .ensures) ∙ c .before .before .if1 .left) (c .is-waiting .ensures)
+
+pub has-to-give-spec : {M : Type 1} → statement M
+has-to-give-spec = tie.close (tie.spec is-over-requires returns is-waiting-requires returns-2)
