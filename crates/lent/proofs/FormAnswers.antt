@@ -100,14 +100,21 @@ module _ (F : Fixed) (sm table inbox store : Bytes) where
   -- RECEIVE ANSWERS 1 EXACTLY where the test fails
   pub receive-exactly : (bs : Bytes) → eqb (receiveOf sm table (F .titles) (F .names) (F .bodies) (F .known) inbox store bs .reply .answer) 1 ≡ not test
   unfolding receiveOf
-  receive-exactly bs = go test (overOf (loadOf sm))
+  receive-exactly bs = go test (overOf (loadOf sm)) (eqb (length bs) 0)
     where
-      go : (a b : Bool) → eqb ((cond a (cond b (unchanged (reply 12 0 0) sm table inbox store)
-          (saved sm (receiveFrom (F .known) (cs (loadOf sm) table inbox store) 0 bs)))
+      go : (a b n : Bool) → eqb ((cond a (cond b (unchanged (reply 12 0 0) sm table inbox store)
+          (cond n (unchanged (reply 0 0 0) sm table inbox store) (saved sm (receiveFrom (F .known) (cs (loadOf sm) table inbox store) 0 bs))))
           (unchanged (reply 1 255 0) sm table inbox store)) .reply .answer) 1 ≡ not a
-      go true true = refl
-      go true false = portion-other (F .known) bs (cs (loadOf sm) table inbox store) 0
-      go false b = refl
+      go true true n = refl
+      go true false true = refl
+      go true false false = portion-other (F .known) bs (cs (loadOf sm) table inbox store) 0
+      go false b n = refl
+
+  -- "Receiving no bytes on a live session answers 0 and changes nothing."
+  pub receive-none : test ≡ true → overOf (loadOf sm) ≡ false
+      → receiveOf sm table (F .titles) (F .names) (F .bodies) (F .known) inbox store [] ≡ unchanged (reply 0 0 0) sm table inbox store
+  unfolding receiveOf
+  receive-none e o = rw (e, o)
 
   -- GIVE ANSWERS 1 EXACTLY where the test fails
   pub give-exactly : (buf : Bytes) (place : ℕ) → eqb (giveOf sm table (F .titles) (F .names) (F .bodies) (F .known) inbox store buf place .reply .answer) 1 ≡ not test

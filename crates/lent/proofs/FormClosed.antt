@@ -50,14 +50,17 @@ module _ (F : Fixed) (sm table inbox store bs : Bytes) where
   -- RECEIVE: what it leaves passes the test
   pub receive-closed : InForm F sm table inbox store → Octets bs → InForm F (left .sm) (left .table) (left .inbox) (left .store)
   unfolding receiveOf
-  receive-closed I O = rw (I .form) (go (overOf (loadOf sm)))
+  receive-closed I O = rw (I .form) (go (overOf (loadOf sm)) (eqb (length bs) 0))
     where
-      out : Bool → Received
-      out a = cond a (unchanged (reply sessionEnded 0 0) sm table inbox store) (saved sm (receiveFrom (F .known) (cs (loadOf sm) table inbox store) 0 bs))
+      out : Bool → Bool → Received
+      out a b =
+          cond a (unchanged (reply sessionEnded 0 0) sm table inbox store)
+          (cond b (unchanged (reply 0 0 0) sm table inbox store) (saved sm (receiveFrom (F .known) (cs (loadOf sm) table inbox store) 0 bs)))
 
-      go : (a : Bool) → InForm F (out a .sm) (out a .table) (out a .inbox) (out a .store)
-      go true = I
-      go false =
+      go : (a b : Bool) → InForm F (out a b .sm) (out a b .table) (out a b .inbox) (out a b .store)
+      go true b = I
+      go false true = I
+      go false false =
           let p = parted F sm table inbox store I in
           saved-form F sm (length table) (length inbox) (length store) (receiveFrom (F .known) (cs (loadOf sm) table inbox store) 0 bs .cs)
           (receive-ok F (length table) (length inbox) (length store) (F .known) bs (cs (loadOf sm) table inbox store) 0 O (good F sm table inbox store I))

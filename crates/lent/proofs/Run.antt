@@ -5,8 +5,10 @@ use mathlib.Core.Bool.{Bool, true, false, cond, _&&_}
 use mathlib.Core.List.{List, [], _∷_, _++_, map}
 use Prim.Native.Nat.{ℕ, _-_, _<_}
 use native.Mathlib.Nat.{zero-add}
+use native.Mathlib.Omega.{arith}
 use lib.Dec.{eqb}
 use lib.ListN.{length, take, drop}
+use borrow.Author.Tests.{eqb-true}
 use Rattle.grammar.specs.Bytes.{Bytes, all}
 use Rattle.grammar.specs.Refusals.{badMemory, sessionEnded}
 use Rattle.grammar.proofs.Basics.{no-both, octet, and-false}
@@ -29,6 +31,10 @@ use Rattle.lent.proofs.Byte.{over-law}
 use Rattle.lent.proofs.Small.{word, receive-small}
 use Rattle.lent.proofs.Held.{csOf, Held, held-form, saved-held}
 use Rattle.lent.proofs.Giving.{Short, given-back, give-law}
+
+length-zero : (l : Bytes) → length l ≡ 0 → l ≡ []
+length-zero [] e = refl
+length-zero (x ∷ l) e = absurd (omega arith)
 
 -- ---------------------------------------------------------------- a call that is lent other buffers
 
@@ -70,15 +76,17 @@ module _ (F : Fixed) (E : Shelf) (c₀ : Cs) (z : Sizes) (roomy : E .bytes < wor
       fed : Run
       fed = receiveFrom (F .known) (csOf m) 0 bs
 
-      asked : Received
-      asked = cond (overOf (loadOf (m .sm))) over (saved (m .sm) fed)
+      -- no bytes change nothing
+      some : Bool → Received
+      some n = cond n (unchanged (reply 0 0 0) (m .sm) (m .table) (m .inbox) (m .store)) (saved (m .sm) fed)
 
-      go : (a b : Bool) → a ≡ b → on-lists.ended s ≡ b
-          → TookAs (cond a over (saved (m .sm) fed)) (cond b (record { answer = sessionEnded; count = 0; session = s }) (on-lists-calls.receiveOn E s bs))
-      go true true e f = record { answer = refl; count = refl; held = h }
-      go true false e f = absurd (no-both true refl e)
-      go false true e f = absurd (no-both false e refl)
-      go false false e f =
+      asked : Received
+      asked = cond (overOf (loadOf (m .sm))) over (some (eqb (length bs) 0))
+
+      live : (n : Bool) → eqb (length bs) 0 ≡ n → on-lists.ended s ≡ false → TookAs (some n) (on-lists-calls.receiveOn E s bs)
+      live true e f =
+          subst (λ (l : Bytes). TookAs (some true) (on-lists-calls.receiveOn E s l)) (sym (length-zero bs (eqb-true (length bs) 0 e))) (record { answer = refl; count = refl; held = h })
+      live false e f =
           let r = byte.receive-law F E (csOf m) s 0 bs (h .represents) f in
           record {
             answer = r .answer;
@@ -86,6 +94,13 @@ module _ (F : Fixed) (E : Shelf) (c₀ : Cs) (z : Sizes) (roomy : E .bytes < wor
             held = saved-held F E c₀ z roomy m s h (fed .cs) (on-lists-calls.receiveOn E s bs .session) (r .represents) (r .spared)
                 (receive-small (F .known) bs (csOf m) 0 o (h .small));
           }
+
+      go : (a b : Bool) → a ≡ b → on-lists.ended s ≡ b
+          → TookAs (cond a over (some (eqb (length bs) 0))) (cond b (record { answer = sessionEnded; count = 0; session = s }) (on-lists-calls.receiveOn E s bs))
+      go true true e f = record { answer = refl; count = refl; held = h }
+      go true false e f = absurd (no-both true refl e)
+      go false true e f = absurd (no-both false e refl)
+      go false false e f = live (eqb (length bs) 0) refl f
 
   -- ---------------------------------------------------------------- a list of calls
 

@@ -139,8 +139,13 @@ module _ (sm table titles names bodies known inbox store bs : Bytes) {b : Bool} 
       unfolding receiveOf
       receive-over w = rw (sym f ∙ q, sym over-is ∙ w)
 
+      -- there are no bytes
+      pub receive-none : v ≡ false → length bs ≡ 0 → record { reply = reply 0 0 0; sm = sm; table = table; inbox = inbox; store = store } ≡ asked
+      unfolding receiveOf
+      receive-none w n = rw (sym f ∙ q, sym over-is ∙ w, eq-eqb (length bs) 0 n)
+
       -- bytes are taken, and the state after them is saved
-      pub receive-taken : v ≡ false → {r : Run} {m : Bytes} → r ≡ receiveFrom known (cs s table inbox store) 0 bs → m ≡ saveOf sm (r .cs .session)
+      pub receive-taken : v ≡ false → (length bs ≡ 0 → ⊥) → {r : Run} {m : Bytes} → r ≡ receiveFrom known (cs s table inbox store) 0 bs → m ≡ saveOf sm (r .cs .session)
           → record { reply = reply (r .answer) 0 (r .count); sm = m; table = r .cs .table; inbox = r .cs .inbox; store = r .cs .store } ≡ asked
       unfolding receiveOf
-      receive-taken w e k = rw (sym f ∙ q, sym over-is ∙ w, k, e, l)
+      receive-taken w n e k = rw (sym f ∙ q, sym over-is ∙ w, ne-eqb (length bs) 0 n, k, e, l)

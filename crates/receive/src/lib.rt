@@ -76,6 +76,13 @@ pub fn receive(
             count: 0,
         };
     }
+    if bytes.len() == 0 {
+        return Reply {
+            answer: 0,
+            place: 0,
+            count: 0,
+        };
+    }
     let r = take_bytes(s, bytes, table, known, inbox, store);
     let t = r.session;
     state_save::save(sm, t);

@@ -245,9 +245,11 @@ abbrev pub saved : Bytes → Run → Received
 saved sm r =
     record { reply = reply (r .answer) 0 (r .count); sm = saveOf sm (r .cs .session); table = r .cs .table; inbox = r .cs .inbox; store = r .cs .store }
 
+-- "Receiving no bytes on a live session answers 0 and changes nothing."
 unfoldable pub receiveOf : Bytes → Bytes → Bytes → Bytes → Bytes → Bytes → Bytes → Bytes → Bytes → Received
 receiveOf sm table titles names bodies known inbox store bs =
     cond (formOf sm table titles names bodies known inbox store)
     (cond (overOf (loadOf sm)) (unchanged (reply sessionEnded 0 0) sm table inbox store)
-    (saved sm (receiveFrom known (cs (loadOf sm) table inbox store) 0 bs)))
+    (cond (eqb (length bs) 0) (unchanged (reply 0 0 0) sm table inbox store)
+    (saved sm (receiveFrom known (cs (loadOf sm) table inbox store) 0 bs))))
     (unchanged (reply badMemory 255 0) sm table inbox store)
