@@ -1,11 +1,14 @@
 -- DEMAND 3 OVER LENT MEMORY. Idea: an accepted open leaves memory that represents the session opened on lists; a list of calls keeps that
 -- (Run); demand 3 holds of that session (crates/demand3); and the table, of which only states changed, is the old one with the new states.
-use mathlib.Core.Path.{_≡_, sym, ap, _∙_}
+use mathlib.Core.Path.{_≡_, sym, ap, _∙_, subst}
 use mathlib.Core.Bool.{Bool, true, false, not}
 use mathlib.Core.List.{List, map}
-use Prim.Native.Nat.{ℕ}
+use Prim.Native.Nat.{ℕ, _*_}
+use native.Mathlib.Omega.{arith}
 use lib.Dec.{eqb}
+use lib.ListN.{length, take}
 use Rattle.grammar.specs.Bytes.{Bytes}
+use Rattle.mail.specs.Mail.{Message}
 use Rattle.session.specs.Choices.{Shelf}
 use Rattle.session.specs.Session as on-lists
 use Rattle.log.specs.Log.{Event, log}
@@ -13,6 +16,7 @@ use Rattle.demand3.specs.Demand as on-lists-run
 use Rattle.demand3.proofs.Demand.{demand-3}
 use Rattle.choice.specs.Decoded.{statesOf}
 use Rattle.form.specs.Form.{formOf}
+use Rattle.lent.specs.Laid.{entriesBytes, bodiesBytes}
 use Rattle.lent.specs.Represents.{Fixed, messagesOf}
 use Rattle.lent.specs.Frame.{withStates}
 use Rattle.lent.specs.Calls.{Lent, Memory, fixedIn, lentIn, sizesOf, messageCount, received, given, withSession, run}
@@ -21,7 +25,9 @@ use Rattle.lent.proofs.Frame.{with-law}
 use Rattle.lent.proofs.FormAnswers.{receive-exactly, give-exactly}
 use Rattle.lent.proofs.Held.{held-form}
 use Rattle.lent.proofs.Opening.{freshCs, shelfOf, accepted, OpenedAs, open-law}
-use Rattle.lent.proofs.Run.{callOf, RanAs, run-law}
+use Rattle.lent.proofs.FormClosed.{receive-one, give-one}
+use Rattle.lent.proofs.Run.{other-form, callOf, RanAs, run-law}
+use Rattle.lent.proofs.Laid.{entries-laid, bodies-laid}
 
 module _ (role : ℕ) (M : Memory) (e : openedBy role M .reply .answer ≡ 0) (cs : CallsOn M) where
   abbrev pub F : Fixed
@@ -54,9 +60,30 @@ module _ (role : ℕ) (M : Memory) (e : openedBy role M .reply .answer ≡ 0) (c
   states-logged =
       ran .held .represents .states ∙ on-lists-demand .table ∙ ap (λ (es : List Event). log (E .table) caller states es .book .states) (sym (ran .events))
 
+  abbrev kept : List Message
+  kept = (on-lists-run.run E (on-lists.opened caller states) (map callOf cs)) .0 .memory .inbox
+
+  -- the messages kept of the session on lists are the log's
+  kept-logged : kept ≡ logged role M cs .book .kept
+  kept-logged = on-lists-demand .inbox ∙ ap (λ (es : List Event). log (E .table) caller states es .book .kept) (sym (ran .events))
+
   pub inbox-logged : messagesOf (finally role M cs .inbox) (finally role M cs .store) (messageCount (finally role M cs)) ≡ logged role M cs .book .kept
-  inbox-logged =
-      ran .held .represents .boxed .messages ∙ on-lists-demand .inbox ∙ ap (λ (es : List Event). log (E .table) caller states es .book .kept) (sym (ran .events))
+  inbox-logged = ran .held .represents .boxed .messages ∙ kept-logged
+
+  count-logged : messageCount (finally role M cs) ≡ length (logged role M cs .book .kept)
+  count-logged = ran .held .represents .boxed .kept ∙ ap (λ (ms : List Message). length ms) kept-logged
+
+  entries-logged : take (length (logged role M cs .book .kept) * 155) (finally role M cs .inbox) ≡ entriesBytes 0 (logged role M cs .book .kept)
+  entries-logged =
+      let r = ran .held .represents in
+      subst (λ (ms : List Message). take (length ms * 155) (finally role M cs .inbox) ≡ entriesBytes 0 ms) kept-logged
+      (entries-laid (finally role M cs .inbox) 0 0 kept (r .boxed .laid) (omega (arith, r .boxed .kept, r .boxed .placed, r .shelved .places, r .shelved .inbox)))
+
+  bodies-logged : take (length (bodiesBytes (logged role M cs .book .kept))) (finally role M cs .store) ≡ bodiesBytes (logged role M cs .book .kept)
+  bodies-logged =
+      let b = ran .held .represents .boxed in
+      subst (λ (ms : List Message). take (length (bodiesBytes ms)) (finally role M cs .store) ≡ bodiesBytes ms) kept-logged
+      (bodies-laid (finally role M cs .store) _ kept (b .within) (b .bodies))
 
   -- the memory passes the form test, so that no call that is lent it answers 1
   form-along : formOf (finally role M cs .sm) (finally role M cs .table) (F .titles) (F .names) (F .bodies) (F .known) (finally role M cs .inbox) (finally role M cs .store) ≡ true
@@ -81,7 +108,13 @@ pub demand-3-lent : Claim
 demand-3-lent role M e cs =
     record {
       table = table-logged role M e cs;
-      inbox = inbox-logged role M e cs;
+      count = count-logged role M e cs;
+      inbox = entries-logged role M e cs;
+      bodies = bodies-logged role M e cs;
       places = ran role M e cs .held .spared .inbox .past;
       rest = ran role M e cs .held .spared .store .past;
+      others = λ o b place.
+          let sm = finally role M cs .sm in
+          let f = other-form sm (sizesOf (fixedIn M) (lentIn M)) o (ran role M e cs .held .sizes) in
+          (receive-one (o .fixed) sm (o .table) (o .inbox) (o .store) (b .bytes) f, give-one (o .fixed) sm (o .table) (o .inbox) (o .store) (b .bytes) place f);
     }

@@ -29,7 +29,7 @@ use Rattle.judge.specs.declared.Judged.{Judged}
 use Rattle.waiting.specs.Waiting.{waits, thenText}
 use Rattle.receiving.specs.Receiving.{Cs, unsaid, keptKeep, nextJudged, isPlainAt, keepOf}
 use Rattle.lent.specs.Represents.{Fixed, Awaits, Represents, signsIn}
-use Rattle.lent.proofs.Proposals.{Found, owing, owed-now, next-found, plain-law}
+use Rattle.lent.proofs.Proposals.{Found, owing, owed-now, next-found, plain-law, written-form}
 use Rattle.lent.proofs.Inbox.{Box, Fitting, box-more}
 use Rattle.lent.proofs.Frame.{kept-put}
 use Rattle.lent.proofs.Says.{first-nothing, then-nothing, waits-not, waits-none}
@@ -127,7 +127,7 @@ module _ (F : Fixed) (E : Shelf) (c : Cs) (v : on-lists.Session) (h : Represents
         };
         box = subst (λ (x : Message). Box (u .keep .kept + 1) (u .keep .used + n) inbox′ st (v .memory .inbox ++ (x ∷ [])))
             (ap (λ (q : Proposal). withContent q title (take n (drop (u .keep .used) st))) (sym this) ∙ ap (λ (x : Bytes). withContent p title (take n x)) (behind-back F E c v h b))
-            (box-more (u .keep .kept) (u .keep .used) (c .inbox) st (v .memory .inbox) (E .places) n entry title fitting (omega (arith, entry-size)) title-short (g .box));
+            (box-more (u .keep .kept) (u .keep .used) (c .inbox) st (v .memory .inbox) (E .places) n entry title fitting (omega (arith, entry-size)) title-short (h .arrays .entries (u .now .current) (a .3)) (g .box));
         marks = g .marks;
       }
 
@@ -187,4 +187,4 @@ module _ (F : Fixed) (E : Shelf) (c : Cs) (v : on-lists.Session) (h : Represents
       (next-found (u .say .signs) (u .now .block) (u .now .proposals) (signs-of h) (a .4) (suc (u .now .current)))))))
     where
       plain : isPlainAt u ≡ on-lists.isPlain (p .form)
-      plain = plain-law (byteAt entry 0) (h .arrays .forms (u .now .current) (a .3)) ∙ ap (λ (q : Proposal). on-lists.isPlain (q .form)) (sym this)
+      plain = plain-law (byteAt entry 0) (written-form (h .arrays .entries (u .now .current) (a .3))) ∙ ap (λ (q : Proposal). on-lists.isPlain (q .form)) (sym this)

@@ -38,7 +38,7 @@ pub mod FormSaved
 pub mod FormClosed
 pub mod FormAnswers
 -- Small: numbers that must fit their bytes. InForm: the form test. Held: memory as a call left it, and saving. Giving, Accepted,
--- Opening: the laws of give and open. Run: a list of calls. Demand3: the theorem. DeedStates, Deeds, Becomes, Once, Fates, InWords: the same in
+-- Opening: the laws of give and open. Run: a list of calls. Laid: entries and bodies byte for byte. Demand3: the theorem. DeedStates, Deeds, Becomes, Once, Fates, InWords: the same in
 -- the mission's words.
 pub mod Small
 pub mod InForm
@@ -47,6 +47,7 @@ pub mod Giving
 pub mod Accepted
 pub mod Opening
 pub mod Run
+pub mod Laid
 pub mod Demand3
 pub mod DeedStates
 pub mod Deeds

@@ -49,7 +49,7 @@ use Rattle.receiving.specs.Receiving.{cs, unsaid, markAll}
 use Rattle.lent.specs.Represents.{Fixed, Awaits, signsIn}
 use Rattle.lent.proofs.Lists.{FiveOk, five-ok}
 use Rattle.lent.proofs.Choices.{answers-law, answers-fit}
-use Rattle.lent.proofs.Proposals.{no-proposals, proposals-length, proposals-more, forms-more, signs-back, Found, Owing, owing, owed-now, next-found, start-law, stands-fresh, proper-fits}
+use Rattle.lent.proofs.Proposals.{no-proposals, proposals-length, proposals-more, entries-more, written-form, signs-back, Found, Owing, owing, owed-now, next-found, start-law, stands-fresh, proper-fits}
 use Rattle.lent.proofs.Says.{first-nothing, then-nothing, waits-not}
 use Rattle.lent.proofs.Parts.{Holds, Block, Rest, Ready, block-none}
 use Rattle.lent.proofs.Settle.{holds-turn, holds-mode, left, settled-is, our-turn-law, Settles}
@@ -79,7 +79,7 @@ module _ (F : Fixed) (E : Shelf) (s : Session) (a : Bool) (i st : Bytes) (rest :
         o .plus,
         subst (λ (l : List Proposal). k .kept + length l ≤ placeCount i) (sym (o .owed)) room,
         subst (λ (q : Proposal). Stands (roomOf (drop (k .used) st)) (startOf byte) (s .reading .heading) (drop (k .used) st) (scanFrom (q .form))) (sym this)
-            (subst (λ (q : Reader). Stands (roomOf (drop (k .used) st)) q (s .reading .heading) (drop (k .used) st) (scanFrom (formIs byte))) (sym (start-law byte (b .forms j (o .within)))) fresh),
+            (subst (λ (q : Reader). Stands (roomOf (drop (k .used) st)) q (s .reading .heading) (drop (k .used) st) (scanFrom (formIs byte))) (sym (start-law byte (written-form (b .entries j (o .within))))) fresh),
       )
 
   module _ (w : Await) (y : Say) (k : Keep) (r : Reader) (t : Bytes) (m : Memory) (ready : Ready F E i st w y k r t m) where
@@ -198,7 +198,7 @@ module _ (F : Fixed) (E : Shelf) (s : Session) (a : Bool) (i st : Bytes) (rest :
         go true f =
             let l = ltb-true (w .proposals) 5 f in
             went-on (withProposal q w) k (on-lists.awaitsTurn (w .ff) (proposalsOf (w .block) (w .proposals) ++ (q ∷ []))) m
-            (record { five = b .five; size = put-length (w .block) _ _ ∙ b .size; few = omega arith; forms = forms-more (w .block) (w .proposals) (b .size) l q (b .forms) })
+            (record { five = b .five; size = put-length (w .block) _ _ ∙ b .size; few = omega arith; entries = entries-more (w .block) (w .proposals) (b .size) l q fits (b .entries) })
             h refl refl (e, refl, proposals-more (w .block) (w .proposals) (b .size) l q fits)
         go false f = (refl, refl)
 

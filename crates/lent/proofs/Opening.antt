@@ -126,7 +126,7 @@ module _ (role : ℕ) (F : Fixed) (m : Lent) (a : Accepted role F m) where
           proposals = omega arith;
           lineLen = omega arith;
           head = omega arith;
-          forms = λ i h. absurd (omega arith);
+          entries = λ i h. absurd (omega arith);
         };
         shelved = record {
           records = refl;
@@ -140,6 +140,8 @@ module _ (role : ℕ) (F : Fixed) (m : Lent) (a : Accepted role F m) where
         boxed = record {
           kept = refl;
           messages = refl;
+          laid = tt;
+          bodies = refl;
           row = tt;
           sum = refl;
           small = omega arith;

@@ -10,7 +10,7 @@ use Rattle.grammar.specs.Bytes.{Bytes}
 use Rattle.session.specs.Choices.{Shelf}
 use Rattle.session.specs.Session as on-lists
 use Rattle.session.specs.Session.{Memory}
-use Rattle.layout.specs.Layout.{byteAt, entryAt, proposalSize}
+use Rattle.layout.specs.Layout.{entryAt, proposalSize}
 use Rattle.transfer_step.specs.declared.Reader.{Reader}
 use Rattle.state.specs.State.{held}
 use Rattle.state.specs.declared.Five.{Five}
@@ -20,7 +20,7 @@ use Rattle.state.specs.declared.Keep.{Keep}
 use Rattle.choice.specs.Decoded.{recordsOf, statesOf, knownBids, placeCount}
 use Rattle.waiting.specs.Waiting.{waits, waitingOf, firstText, thenText}
 use Rattle.receiving.specs.Receiving.{Cs, cs, refusedOf}
-use Rattle.lent.specs.Represents.{Fixed, Says, Awaits, Represents}
+use Rattle.lent.specs.Represents.{Fixed, Written, Says, Awaits, Represents}
 use Rattle.lent.proofs.Lists.{FiveOk}
 use Rattle.lent.proofs.Table.{Whole}
 use Rattle.lent.proofs.Inbox.{Box}
@@ -57,11 +57,11 @@ pub record Block (ours : Five) (block : Bytes) (n : ℕ) : Type 0 where
   pub five : FiveOk ours
   pub size : length block ≡ 360
   pub few : n ≤ 5
-  pub forms : (i : ℕ) → i < n → byteAt (entryAt proposalSize block i) 0 ≤ 2
+  pub entries : (i : ℕ) → i < n → Written (entryAt proposalSize block i)
 
 -- no proposal yet
 pub block-none : {f : Five} {bl : Bytes} {n : ℕ} → Block f bl n → Block f bl 0
-block-none b = record { five = b .five; size = b .size; few = omega arith; forms = λ j e. absurd (not-suc-le-zero e) }
+block-none b = record { five = b .five; size = b .size; few = omega arith; entries = λ j e. absurd (not-suc-le-zero e) }
 
 -- the arrays of heading and line
 pub record Rest (hd ln : Bytes) : Type 0 where
@@ -83,7 +83,7 @@ module _ {F : Fixed} {E : Shelf} {c : Cs} {s : on-lists.Session} (h : Represents
   pub block-of : Block (c .session .now .ours) (c .session .now .block) (c .session .now .proposals)
   block-of =
       let a = h .arrays in
-      record { five = record { few = a .oursCount; size = a .ours }; size = a .block; few = a .proposals; forms = a .forms }
+      record { five = record { few = a .oursCount; size = a .ours }; size = a .block; few = a .proposals; entries = a .entries }
 
   pub signs-of : FiveOk (c .session .say .signs)
   signs-of = record { few = h .arrays .signsCount; size = h .arrays .signs }
@@ -100,6 +100,8 @@ module _ {F : Fixed} {E : Shelf} {c : Cs} {s : on-lists.Session} (h : Represents
         box = record {
           count = b .kept;
           messages = b .messages;
+          laid = b .laid;
+          bodies = b .bodies;
           row = b .row;
           sum = b .sum;
           small = b .small;
@@ -148,7 +150,7 @@ represents F E c s b g h r head len y a part cr =
         sendingCount = k .five .few;
         signsCount = g .few;
         proposals = b .few;
-        forms = b .forms;
+        entries = b .entries;
         lineLen = len;
         head = head;
       };
@@ -156,6 +158,8 @@ represents F E c s b g h r head len y a part cr =
       boxed = record {
         kept = x .count;
         messages = x .messages;
+        laid = x .laid;
+        bodies = x .bodies;
         row = x .row;
         sum = x .sum;
         small = x .small;

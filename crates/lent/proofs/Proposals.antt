@@ -31,7 +31,7 @@ use Rattle.judge.specs.Judge.{plusFrom}
 use Rattle.state.specs.State.{at, held}
 use Rattle.state.specs.declared.Five.{Five}
 use Rattle.form.specs.Form.{pluses}
-use Rattle.lent.specs.Represents.{signsIn}
+use Rattle.lent.specs.Represents.{Written, signsIn}
 use Rattle.lent.proofs.Lists.{FiveOk, entries-same, entries-snoc}
 
 -- ---------------------------------------------------------------- a proposal as read fits its entry
@@ -82,15 +82,19 @@ module _ (block : Bytes) (n : ℕ) (size : length block ≡ 360) (few : n < 5) (
       (entries-same proposalOf proposalOf proposalSize more block 0 n (λ j h. ap proposalOf (other j (omega arith))))
       ∙ ap (λ (p : Proposal). entries proposalOf proposalSize block n ++ (p ∷ [])) (ap proposalOf here ∙ proposal-back q fits)
 
-  pub forms-more : ((j : ℕ) → j < n → byteAt (entryAt proposalSize block j) 0 ≤ 2) → (j : ℕ) → j < n + 1 → byteAt (entryAt proposalSize more j) 0 ≤ 2
-  forms-more h j k = go (eqb j n) refl
+  pub entries-more : Fits q → ((j : ℕ) → j < n → Written (entryAt proposalSize block j)) → (j : ℕ) → j < n + 1 → Written (entryAt proposalSize more j)
+  entries-more fits h j k = go (eqb j n) refl
     where
-      go : (c : Bool) → eqb j n ≡ c → byteAt (entryAt proposalSize more j) 0 ≤ 2
-      go true e = subst (λ (i : ℕ). byteAt (entryAt proposalSize more i) 0 ≤ 2) (sym (eqb-true j n e)) (subst (λ (c : Bytes). byteAt c 0 ≤ 2) (sym here) (form-small (q .form)))
+      go : (c : Bool) → eqb j n ≡ c → Written (entryAt proposalSize more j)
+      go true e = subst (λ (i : ℕ). Written (entryAt proposalSize more i)) (sym (eqb-true j n e)) (subst Written (sym here) (ap written (proposal-back q fits)))
       go false e =
           let ne = eqb-false j n e in
           let l : j < n = omega arith in
-          subst (λ (c : Bytes). byteAt c 0 ≤ 2) (sym (other j l)) (h j l)
+          subst Written (sym (other j l)) (h j l)
+
+-- so it has one of the three forms
+pub written-form : {c : Bytes} → Written c → byteAt c 0 ≤ 2
+written-form {c} e = subst (λ (x : Bytes). byteAt x 0 ≤ 2) e (form-small (proposalOf c .form))
 
 -- ---------------------------------------------------------------- the next proposal that we accept
 

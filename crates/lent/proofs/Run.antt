@@ -39,7 +39,7 @@ length-zero (x ∷ l) e = absurd (omega arith)
 -- ---------------------------------------------------------------- a call that is lent other buffers
 
 -- the sizes are not those that open kept
-other-form : (sm : Bytes) (z : Sizes) (o : Other z) → loadSizes sm ≡ z
+pub other-form : (sm : Bytes) (z : Sizes) (o : Other z) → loadSizes sm ≡ z
     → formOf sm (o .table) (o .fixed .titles) (o .fixed .names) (o .fixed .bodies) (o .fixed .known) (o .inbox) (o .store) ≡ false
 unfolding formOf
 other-form sm z o e =

@@ -145,7 +145,7 @@ module _ (F : Fixed) (E : Shelf) (s : Session) (a : Bool) (i st : Bytes) (rest :
         (λ e. some-after (firstText (y .first) (y .signs)) (withCr (fixedText ourFQ)) (omega arith)) refl
     speak-law false [] l =
         settled-is (toTurn true w) (saysThen 1 y) k r t (on-lists.awaitsTurn true []) m _
-        (record { five = b .five; size = b .size; few = omega arith; forms = λ j e. absurd (not-suc-le-zero e) }) g h head refl
+        (record { five = b .five; size = b .size; few = omega arith; entries = λ j e. absurd (not-suc-le-zero e) }) g h head refl
         (λ e. some-after (firstText (y .first) (y .signs)) (withCr (fixedText ourFF)) (omega arith)) (refl, refl, refl)
     speak-law ff (j ∷ is) l =
         subst
@@ -153,7 +153,7 @@ module _ (F : Fixed) (E : Shelf) (s : Session) (a : Bool) (i st : Bytes) (rest :
         (on-lists.speaking E (firstText (y .first) (y .signs)) ff (j ∷ is) m))
         (sym (ne-eqb (suc (length is)) 0 (λ e. omega arith)))
         (settled-is (toAnswer (fiveOf (j ∷ is)) w) (saysThen 3 y) k r t (on-lists.awaitsAnswer (j ∷ is)) m _
-        (record { five = five-ok (j ∷ is) l; size = b .size; few = b .few; forms = b .forms }) g h head
+        (record { five = five-ok (j ∷ is) l; size = b .size; few = b .few; entries = b .entries }) g h head
         (ap (λ (x : Bytes). firstText (y .first) (y .signs) ++ x) (ap (blockText t) (held-five (j ∷ is)) ∙ ours))
         (λ e. some-after (firstText (y .first) (y .signs)) _ (some-turn _))
         (refl, none, held-five (j ∷ is)))

@@ -3,14 +3,17 @@ use mathlib.Core.Path.{_≡_}
 use mathlib.Core.List.{List}
 use Prim.Native.Nat.{ℕ, _*_}
 use lib.Dec.{eqb}
-use lib.ListN.{drop}
+use lib.ListN.{length, take, drop}
 use Rattle.log.specs.Log.{Event, Log, log}
 use Rattle.layout.specs.Layout.{entrySize}
 use Rattle.choice.specs.Decoded.{recordsOf, statesOf}
+use Rattle.grammar.specs.Refusals.{badMemory}
+use Rattle.giving.specs.Giving.{reply}
 use Rattle.opening.specs.Opening.{Opened}
-use Rattle.lent.specs.Represents.{messagesOf}
+use Rattle.receiving.specs.Receiving.{unchanged}
+use Rattle.lent.specs.Laid.{entriesBytes, bodiesBytes}
 use Rattle.lent.specs.Frame.{withStates}
-use Rattle.lent.specs.Calls.{Lent, Memory, fixedIn, lentIn, Call, openedOn, sizesOf, messageCount, storeReach, withSession, run}
+use Rattle.lent.specs.Calls.{Lent, Buffer, Memory, fixedIn, lentIn, Other, Call, openedOn, received, given, sizesOf, messageCount, storeReach, withSession, instead, run}
 
 -- "Take an accepted open"
 abbrev pub openedBy : ℕ → Memory → Opened
@@ -36,13 +39,19 @@ logged role M cs =
 pub record Demand3 (role : ℕ) (M : Memory) (cs : CallsOn M) : Type 0 where
   -- "after the list, the table is as open found it but with the log's states"
   pub table : finally role M cs .table ≡ withStates (logged role M cs .book .states) (M .table .bytes)
-  -- "and the inbox up to its count is the log's messages kept, in order"
-  pub inbox : messagesOf (finally role M cs .inbox) (finally role M cs .store) (messageCount (finally role M cs)) ≡ logged role M cs .book .kept
-  -- "Inbox store bytes past the last kept message hold the body bytes received so far of the message under way, or of one that failed; the
-  -- rest is untouched"
+  -- "and the inbox up to its count is the log's messages kept, in order: form, type as a capital, from, at, to, BID, title or name, and
+  -- body", byte for byte as docs/MEMORY.md lays them out
+  pub count : messageCount (finally role M cs) ≡ length (logged role M cs .book .kept)
+  pub inbox : take (length (logged role M cs .book .kept) * entrySize) (finally role M cs .inbox) ≡ entriesBytes 0 (logged role M cs .book .kept)
+  pub bodies : take (length (bodiesBytes (logged role M cs .book .kept))) (finally role M cs .store) ≡ bodiesBytes (logged role M cs .book .kept)
+  -- Beyond demand 3's words. Of the inbox store: past the bytes written so far, "the rest is untouched"
   pub rest : drop (storeReach (finally role M cs)) (finally role M cs .store) ≡ drop (storeReach (finally role M cs)) (M .store .bytes)
-  -- "and so are inbox places past the count"
+  -- and of the inbox, "so are inbox places past the count"
   pub places : drop (messageCount (finally role M cs) * entrySize) (finally role M cs .inbox) ≡ drop (messageCount (finally role M cs) * entrySize) (M .inbox .bytes)
+  -- and a call that is lent other buffers, whichever of them are other ones, answers 1 with place 255 and count 0 and changes none of them
+  pub others : (o : Other (sizesOf (fixedIn M) (lentIn M))) (b : Buffer) (place : ℕ)
+      → (received (o .fixed) (instead o (finally role M cs .sm)) (b .bytes) ≡ unchanged (reply badMemory 255 0) (finally role M cs .sm) (o .table) (o .inbox) (o .store))
+      × (given (o .fixed) (instead o (finally role M cs .sm)) (b .bytes) place ≡ record { reply = reply badMemory 255 0; sm = finally role M cs .sm; buf = b .bytes })
 
 -- THE CLAIM
 abbrev pub Claim : Type 0

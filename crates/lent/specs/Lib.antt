@@ -1,4 +1,5 @@
 -- How lent memory stands for a session on lists, and demand 3 over lent memory.
+pub mod Laid
 pub mod Represents
 pub mod Frame
 pub mod Link

@@ -13,7 +13,7 @@ use Rattle.grammar.specs.Transfers.{partOf}
 use Rattle.mail.specs.Mail.{Message, accepted}
 use Rattle.session.specs.Choices.{Shelf, bodyBytes}
 use Rattle.session.specs.Session as on-lists
-use Rattle.layout.specs.Layout.{byteAt, entryAt, recordSize, entrySize, proposalSize, messageOf, bodyStart, bodyLength}
+use Rattle.layout.specs.Layout.{entryAt, recordSize, entrySize, proposalSize, proposalOf, messageOf, bodyStart, bodyLength}
 use Rattle.transfer_read.specs.Feed.{roomOf}
 use Rattle.transfer_read.specs.Meaning.{Stands}
 use Rattle.state.specs.State.{held}
@@ -22,6 +22,7 @@ use Rattle.choice.specs.Decoded.{recordsOf, statesOf, knownBids, proposalsOf, p
 use Rattle.waiting.specs.Waiting.{waits, waitingOf}
 use Rattle.form.specs.Form.{usedBy}
 use Rattle.receiving.specs.Receiving.{Cs}
+use Rattle.lent.specs.Laid.{proposalBytes, messageBytes, bodiesBytes}
 
 -- The lent bytes that no call changes.
 pub record Fixed : Type 0 where
@@ -48,6 +49,15 @@ InRow inbox i zero place = Unit {0}
 InRow inbox i (suc n) place =
     (bodyStart (entryAt entrySize inbox i) ≡ place) × InRow inbox (suc i) n (place + bodyLength (entryAt entrySize inbox i))
 
+-- Entries of the inbox from place i on are those of these messages, whose bodies lie in the store from start on.
+abbrev pub LaidFrom : Bytes → ℕ → ℕ → List Message → Type 0
+LaidFrom inbox i start [] = Unit {0}
+LaidFrom inbox i start (m ∷ ms) = (entryAt entrySize inbox i ≡ messageBytes m start) × LaidFrom inbox (suc i) (start + length (m .body)) ms
+
+-- The entry of a proposal is what is written for the proposal that it is read as.
+abbrev pub Written : Bytes → Type 0
+Written c = proposalBytes (proposalOf c) ≡ c
+
 -- The sign that a byte of our FS line is; our lines hold no other.
 abbrev pub signIs : ℕ → Sign
 signIs b = cond (eqb b 43) accept (cond (eqb b 45) decline defer)
@@ -62,7 +72,7 @@ owed s = accepted (signsIn (drop (s .now .current) (held (s .say .signs)))) (dro
 
 -- ---------------------------------------------------------------- the parts of the relation
 
--- The sizes of the arrays, and counts within them; every proposal of the block has one of the three forms.
+-- The sizes of the arrays, and counts within them; every proposal of the block lies there as it is written.
 pub record Arrays (s : Session) : Type 0 where
   pub ours : length (s .now .ours .items) ≡ 5
   pub sending : length (s .keep .sending .items) ≡ 5
@@ -75,7 +85,7 @@ pub record Arrays (s : Session) : Type 0 where
   pub sendingCount : s .keep .sending .count ≤ 5
   pub signsCount : s .say .signs .count ≤ 5
   pub proposals : s .now .proposals ≤ 5
-  pub forms : (i : ℕ) → i < s .now .proposals → byteAt (entryAt proposalSize (s .now .block) i) 0 ≤ 2
+  pub entries : (i : ℕ) → i < s .now .proposals → Written (entryAt proposalSize (s .now .block) i)
   pub lineLen : s .line .len ≤ 256
   pub head : s .reading .reader .head ≤ 80
 
@@ -93,6 +103,8 @@ pub record Shelved (F : Fixed) (E : Shelf) (c : Cs) : Type 0 where
 pub record Boxed (c : Cs) (ms : List Message) : Type 0 where
   pub kept : c .session .keep .kept ≡ length ms
   pub messages : messagesOf (c .inbox) (c .store) (c .session .keep .kept) ≡ ms
+  pub laid : LaidFrom (c .inbox) 0 0 ms
+  pub bodies : take (c .session .keep .used) (c .store) ≡ bodiesBytes ms
   pub row : InRow (c .inbox) 0 (c .session .keep .kept) 0
   pub sum : usedBy (c .inbox) (c .session .keep .kept) ≡ c .session .keep .used
   pub small : c .session .keep .used ≤ c .session .keep .kept * 65535
