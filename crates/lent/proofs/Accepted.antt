@@ -1,6 +1,6 @@
 -- What an accepted open has found: sizes, and of every record that its fields obey their rules, that its BID is its own and that its texts
 -- are no longer than they may be. Idea: the first fault is 255 only where there is none, since a table has 64 records at most.
-use mathlib.Core.Path.{_≡_, refl, ap, _∙_}
+use mathlib.Core.Path.{_≡_, refl, ap, _∙_, subst}
 use mathlib.Core.Bool.{Bool, true, false, cond, not, _&&_}
 use mathlib.Core.List.{List, []}
 use Prim.Native.Nat.{ℕ, zero, suc, _+_, _≤_, _<_}
@@ -9,10 +9,10 @@ use lib.Dec.{eqb, ltb, leb}
 use lib.ListN.{length, List·getD-eq-default}
 use borrow.Author.Tests.{eqb-true, eqb-false, leb-true, le-leb, lt-ltb, ltb-true, ltb-false, not-true}
 use Rattle.grammar.specs.Bytes.{Bytes}
-use Rattle.grammar.specs.Fields.{plain, formIs, isCall, isAt, isBid, isHeading, isBody, bodyFair, headingByte, sameBid}
+use Rattle.grammar.specs.Fields.{plain, message, file, formIs, isCall, isAt, isBid, isHeading, isBody, bodyFair, headingByte, sameBid}
 use Rattle.grammar.specs.Turns.{isType, proposable}
-use Rattle.grammar.specs.Transfers.{partOf}
-use Rattle.grammar.proofs.Basics.{and2, both, or2, field-is}
+use Rattle.grammar.specs.Transfers.{partOf, sendable}
+use Rattle.grammar.proofs.Basics.{and2, both, or2, no-both, field-is}
 use Rattle.mail.specs.Mail.{Record, noRecord, recordAt, proposalOf, headingFor, transferOf}
 use Rattle.session.specs.Choices.{among}
 use Rattle.demand3.specs.Demand.{Good, allProposable, noneWith, distinctBids}
@@ -60,18 +60,57 @@ module _ (c titles names bodies : Bytes) (h : recordOk c titles names bodies ≡
       go true p q = let z = eqb-true len 0 p in omega (arith, part-short s start len)
       go false p q = omega (arith, field-is headingByte 80 (partOf s start len) q .most)
 
-  record-short : length (transferOf (recordOf titles names bodies c)) ≤ 200000
+  abbrev r : Record
+  r = recordOf titles names bodies c
+
+  -- its title, its name and its body, as open has looked at them
+  record Texts : Type 0 where
+    pub title : headingOk titles (le4At c 73) (byteAt c 77) (not (eqb (byteAt c 1) 2)) ≡ true
+    pub name : headingOk names (le4At c 78) (byteAt c 82) (eqb (byteAt c 1) 2) ≡ true
+    pub body : isBody (r .form) (r .body) ≡ true
+
+  texts : Texts
   unfolding textsOk
-  record-short =
-      let r = recordOf titles names bodies c in
+  texts =
       let t = and2 (fieldsOk c) (textsOk c titles names bodies) rest-ok .1 in
       let t₁ = and2 (headingOk titles (le4At c 73) (byteAt c 77) (not (eqb (byteAt c 1) 2))) _ t in
       let t₂ = and2 (headingOk names (le4At c 78) (byteAt c 82) (eqb (byteAt c 1) 2)) _ (t₁ .1) in
-      let t₃ = and2 (within bodies (le4At c 83) (le2At c 87)) (isBody (formIs (byteAt c 1)) (partOf bodies (le4At c 83) (le2At c 87))) (t₂ .1) .1 in
-      let b = leb-true (length (r .body)) 65535 (and2 (leb (length (r .body)) 65535) (bodyFair (r .form) (r .body)) t₃ .0) in
-      let t = text-short titles (le4At c 73) (byteAt c 77) (not (eqb (byteAt c 1) 2)) (t₁ .0) in
-      let n = text-short names (le4At c 78) (byteAt c 82) (eqb (byteAt c 1) 2) (t₂ .0) in
+      record {
+        title = t₁ .0;
+        name = t₂ .0;
+        body = and2 (within bodies (le4At c 83) (le2At c 87)) (isBody (r .form) (r .body)) (t₂ .1) .1;
+      }
+
+  record-short : length (transferOf r) ≤ 200000
+  record-short =
+      let b = leb-true (length (r .body)) 65535 (and2 (leb (length (r .body)) 65535) (bodyFair (r .form) (r .body)) (texts .body) .0) in
+      let t = text-short titles (le4At c 73) (byteAt c 77) (not (eqb (byteAt c 1) 2)) (texts .title) in
+      let n = text-short names (le4At c 78) (byteAt c 82) (eqb (byteAt c 1) 2) (texts .name) in
       transfer-short (r .form) (headingFor (r .form) r) (r .body) (heading-short (r .form) r t n) b
+
+  -- "Forms 0 and 1 need a title, form 2 a name"
+  needed-is : (s : Bytes) (start len : ℕ) → headingOk s start len true ≡ true → isHeading (partOf s start len) ≡ true
+  unfolding headingOk
+  needed-is s start len e = go (eqb len 0) (and2 (within s start len) (cond (eqb len 0) (not true) (isHeading (partOf s start len))) e .1)
+    where
+      go : (b : Bool) → cond b (not true) (isHeading (partOf s start len)) ≡ true → isHeading (partOf s start len) ≡ true
+      go true q = absurd (no-both false q refl)
+      go false q = q
+
+  heading-is : isHeading (headingFor (r .form) r) ≡ true
+  heading-is = go (eqb (byteAt c 1) 1) (eqb (byteAt c 1) 2) refl refl
+    where
+      title : eqb (byteAt c 1) 2 ≡ false → isHeading (r .title) ≡ true
+      title e = needed-is titles (le4At c 73) (byteAt c 77) (subst (λ (b : Bool). headingOk titles (le4At c 73) (byteAt c 77) (not b) ≡ true) e (texts .title))
+
+      go : (a b : Bool) → eqb (byteAt c 1) 1 ≡ a → eqb (byteAt c 1) 2 ≡ b → isHeading (headingFor (cond a message (cond b file plain)) r) ≡ true
+      go true true p q = let y = eqb-true (byteAt c 1) 1 p in let z = eqb-true (byteAt c 1) 2 q in absurd (omega arith)
+      go true false p q = title q
+      go false true p q = needed-is names (le4At c 78) (byteAt c 82) (subst (λ (b : Bool). headingOk names (le4At c 78) (byteAt c 82) b ≡ true) q (texts .name))
+      go false false p q = title q
+
+  record-sendable : sendable (r .form) (headingFor (r .form) r) (r .body) ≡ true
+  record-sendable = both (isHeading (headingFor (r .form) r)) (isBody (r .form) (r .body)) heading-is (texts .body)
 
 -- ---------------------------------------------------------------- all records
 

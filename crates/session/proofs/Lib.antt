@@ -1,2 +1,3 @@
 -- Theorems about the session alone.
 pub mod Choices
+pub mod Sessions

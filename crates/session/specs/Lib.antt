@@ -2,3 +2,4 @@
 pub mod Choices
 pub mod Session
 pub mod Calls
+pub mod Sessions
