@@ -13,8 +13,9 @@ use Rattle.grammar.specs.Scan.{Scan, Scanned, goes, got, malformed, wrongSum, n
 use Rattle.grammar.proofs.Basics.{or2, no-both}
 use Rattle.mail.specs.Mail.{messageOf}
 use Rattle.session.specs.Choices.{Shelf}
-use Rattle.session.specs.Session.{Phase, awaitsSid, awaitsPrompt, leaving, over, awaitsTurn, awaitsAnswer, awaitsTransfer, Session, Stepped, isPlain, keptIn, transferMoved, roomFor, moved, freeStep, lfDropped, step, ended, endedIn}
+use Rattle.session.specs.Session.{Phase, awaitsSid, awaitsPrompt, leaving, over, awaitsTurn, awaitsAnswer, awaitsTransfer, Session, Stepped, isPlain, keptIn, transferMoved, moved, freeStep, lfDropped, step, ended, endedIn}
 use Rattle.session.specs.Calls.{oneMore, stoppedAt, stops, receiveOn, receive}
+use Rattle.demand2.specs.Room.{room}
 use Rattle.demand2.specs.Refusals.{isDropped, Heeded, awaitsLine, SoFar, numberOf, Live, Exact12}
 use Rattle.demand2.proofs.Refusals.{Found, happened, found, some-number, line-found}
 use Rattle.demand2.proofs.Situations.{refuses-with}
@@ -44,7 +45,7 @@ module _ (E : Shelf) (s : Session) (b : ℕ) (L : Live s) where
   transfer-low : Heeded s b → (p : Proposal) (ps : List Proposal) (sc : Scan) → s .phase ≡ awaitsTransfer p ps sc → step E s b .answer ≤ 11
   transfer-low h p ps sc e =
       subst (λ (n : ℕ). n ≤ 11) (sym (ap (λ (o : Stepped). o .answer) (transfer-step E s b p sc (record { heeded = h; others = ps; awaited = e }))))
-      (go (scanByte (roomFor E (s .memory)) sc b))
+      (go (scanByte (room E (s .memory .inbox)) sc b))
     where
       go : (o : Scanned) → transferMoved E p ps s o .answer ≤ 11
       go (goes sc′) = omega arith

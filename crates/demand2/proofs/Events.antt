@@ -16,9 +16,11 @@ use Rattle.grammar.proofs.Basics.{no-both}
 use Rattle.grammar.proofs.Refusal.{whole-got}
 use Rattle.mail.specs.Mail.{messageOf, accepted}
 use Rattle.session.specs.Choices.{Shelf, answersTo}
-use Rattle.session.specs.Session.{Phase, awaitsSid, awaitsPrompt, leaving, over, awaitsTurn, awaitsAnswer, awaitsTransfer, Memory, Session, goesOn, speaking, turnMarks, answering, lineJudged, moved, settled, lineMoved, isPlain, keptIn, nextTransfer, transferMoved, roomFor, freeStep, lfDropped, step}
+use Rattle.session.specs.Session.{Phase, awaitsSid, awaitsPrompt, leaving, over, awaitsTurn, awaitsAnswer, awaitsTransfer, Memory, Session, goesOn, speaking, turnMarks, answering, lineJudged, moved, settled, lineMoved, isPlain, keptIn, nextTransfer, transferMoved, freeStep, lfDropped, step}
+use Rattle.demand2.specs.Room.{room}
 use Rattle.demand2.specs.Refusals.{isDropped, Heeded, awaitsLine, SoFar, TransferByte}
 use Rattle.demand2.specs.Events.{session, proposed, turnSaid, turnAwaits, transfersOr, Event, lfGoes, lineGrows, ignored, callerSid, calledSid, textLine, prompt, proposal, ffTurn, fqTurn, blockEnd, fsLineComes, transferGrows, transferWhole}
+use Rattle.demand2.proofs.Room.{fits-within}
 use Rattle.demand2.proofs.Steps.{line-step, phase-step, transfer-step, turn-step, scan-more}
 
 -- ---------------------------------------------------------------- our turn
@@ -67,7 +69,7 @@ module _ (E : Shelf) (q : Bytes) (s : Session) (b : ℕ) where
       go over a = absurd (no-both false a refl)
 
   module _ (S : SoFar E (s .phase) (s .memory) q) where
-    goes-transfer : (p : Proposal) (sc : Scan) (t : TransferByte s b p sc) (o : Scanned) → scanByte (roomFor E (s .memory)) sc b ≡ o → step E s b ≡ transferMoved E p (t .others) s o
+    goes-transfer : (p : Proposal) (sc : Scan) (t : TransferByte s b p sc) (o : Scanned) → scanByte (room E (s .memory .inbox)) sc b ≡ o → step E s b ≡ transferMoved E p (t .others) s o
     goes-transfer p sc t o e = transfer-step E s b p sc t ∙ ap (transferMoved E p (t .others) s) e
 
     pub happens : (t : Session) → Event E q s b t → step E s b ≡ moved t
@@ -88,5 +90,5 @@ module _ (E : Shelf) (q : Bytes) (s : Session) (b : ℕ) where
     happens t (fsLineComes ln is w p ss r) = phase-step E s b ln (awaitsAnswer is) w p refl ∙ rw (w .judged, r)
     happens t (transferGrows p sc sc′ u e) = goes-transfer p sc u (goes sc′) (sym (scan-more E s b q p sc u S) ∙ e)
     happens t (transferWhole p sc u h x e l) =
-        goes-transfer p sc u (got h x) (sym (scan-more E s b q p sc u S) ∙ whole-got (roomFor E (s .memory)) (p .form) (q ++ (b ∷ [])) h x e l)
+        goes-transfer p sc u (got h x) (sym (scan-more E s b q p sc u S) ∙ whole-got (room E (s .memory .inbox)) (p .form) (q ++ (b ∷ [])) h x e (fits-within E (s .memory .inbox) x l))
         ∙ next E s (isPlain (p .form)) (u .others) (keptIn (s .memory) (messageOf p (record { heading = h; body = x })))

@@ -18,8 +18,9 @@ use Rattle.grammar.proofs.Basics.{no-both}
 use Rattle.grammar.proofs.Portions.{scan-append}
 use Rattle.mail.specs.Mail.{messageOf, accepted}
 use Rattle.session.specs.Choices.{Shelf, chosen, answersTo}
-use Rattle.session.specs.Session.{Phase, awaitsSid, awaitsPrompt, leaving, over, awaitsTurn, awaitsAnswer, awaitsTransfer, Memory, Session, Outcome, refuses, goesOn, speaking, ourTurn, turnMarks, answering, turnJudged, answerJudged, inMode, afterSid, sidJudged, textJudged, lineJudged, refused, moved, settled, lineMoved, isPlain, keptIn, nextTransfer, transferMoved, roomFor, phaseStep, freeStep, lfDropped, step, ended, endedIn, opened}
+use Rattle.session.specs.Session.{Phase, awaitsSid, awaitsPrompt, leaving, over, awaitsTurn, awaitsAnswer, awaitsTransfer, Memory, Session, Outcome, refuses, goesOn, speaking, ourTurn, turnMarks, answering, turnJudged, answerJudged, inMode, afterSid, sidJudged, textJudged, lineJudged, refused, moved, settled, lineMoved, isPlain, keptIn, nextTransfer, transferMoved, phaseStep, freeStep, lfDropped, step, ended, endedIn, opened}
 use Rattle.session.specs.Calls.{oneMore, stoppedAt, stops, receiveOn, receive, give}
+use Rattle.demand2.specs.Room.{room}
 use Rattle.demand2.specs.Refusals.{isDropped, SoFar, Exact, Live}
 use Rattle.demand2.specs.Reached.{Reached, atOpen, received, given, Sound}
 use Rattle.demand2.proofs.Refusals.{exact}
@@ -123,10 +124,10 @@ module _ (E : Shelf) where
       → scan room (p .form) (q ++ (b ∷ [])) ≡ goes sc′
   more-so-far room p sc sc′ q b e f = scan-append room (goes (scanFrom (p .form))) q (b ∷ []) ∙ ap (λ (o : Scanned). onward room o b) e ∙ f
 
-  transfer-sound : (p : Proposal) (ps : List Proposal) (sc : Scan) (s : Session) (b : ℕ) (q : Bytes) → scan (roomFor E (s .memory)) (p .form) q ≡ goes sc
-      → (o : Scanned) → scanByte (roomFor E (s .memory)) sc b ≡ o → Sound E (transferMoved E p ps s o .session)
+  transfer-sound : (p : Proposal) (ps : List Proposal) (sc : Scan) (s : Session) (b : ℕ) (q : Bytes) → scan (room E (s .memory .inbox)) (p .form) q ≡ goes sc
+      → (o : Scanned) → scanByte (room E (s .memory .inbox)) sc b ≡ o → Sound E (transferMoved E p ps s o .session)
   transfer-sound p ps sc s b q e (goes sc′) f =
-      record { bytes = q ++ (b ∷ []); soFar = more-so-far (roomFor E (s .memory)) p sc sc′ q b e f; silent = λ x. absurd (no-both false x refl) }
+      record { bytes = q ++ (b ∷ []); soFar = more-so-far (room E (s .memory .inbox)) p sc sc′ q b e f; silent = λ x. absurd (no-both false x refl) }
   transfer-sound p ps sc s b q e (got h x) f =
       let m = keptIn (s .memory) (messageOf p (record { heading = h; body = x })) in
       settled-sound s (isPlain (p .form)) (nextTransfer E ps m) (next-fair ps m)
@@ -140,7 +141,7 @@ module _ (E : Shelf) where
   phase-sound (awaitsTurn ff ps) s b e h = line-sound s b (lineByte false (length (s .part)) b) h
   phase-sound (awaitsAnswer is) s b e h = line-sound s b (lineByte false (length (s .part)) b) h
   phase-sound (awaitsTransfer p ps sc) s b e h =
-      transfer-sound p ps sc s b (h .bytes) (subst (λ (r : Phase). SoFar E r (s .memory) (h .bytes)) e (h .soFar)) (scanByte (roomFor E (s .memory)) sc b) refl
+      transfer-sound p ps sc s b (h .bytes) (subst (λ (r : Phase). SoFar E r (s .memory) (h .bytes)) e (h .soFar)) (scanByte (room E (s .memory .inbox)) sc b) refl
   phase-sound leaving s b e h = refused-sound s 12
   phase-sound over s b e h = refused-sound s 12
 

@@ -20,9 +20,11 @@ use Rattle.grammar.proofs.Basics.{and2, no-both, and-false}
 use Rattle.grammar.proofs.Rest.{Wrong}
 use Rattle.grammar.proofs.Refusal.{exact as exact-byte, Verdict, exact-8, exact-10, isTen}
 use Rattle.session.specs.Choices.{Shelf}
-use Rattle.session.specs.Session.{Phase, awaitsSid, awaitsPrompt, leaving, over, awaitsTurn, awaitsAnswer, awaitsTransfer, Session, Stepped, roomFor, step, ended, endedIn}
+use Rattle.session.specs.Session.{Phase, awaitsSid, awaitsPrompt, leaving, over, awaitsTurn, awaitsAnswer, awaitsTransfer, Session, Stepped, step, ended, endedIn}
+use Rattle.demand2.specs.Room.{room}
 use Rattle.demand2.specs.Refusals.{isDropped, Heeded, awaitsLine, WholeLine, isAllowed, isMiscounted, TurnSaid, beginsFs, inTurn, forAnswer, SoFar, TransferByte, Refusal, no2, no3, no4, no5, no6, no7, no8, no9, no10, no11, numberOf, Situation, Exact, Live}
 use Rattle.demand2.specs.Events.{Event, lfGoes, lineGrows, ignored, callerSid, calledSid, textLine, prompt, proposal, ffTurn, fqTurn, blockEnd, fsLineComes, transferGrows, transferWhole}
+use Rattle.demand2.proofs.Room.{at-full, within-fits}
 use Rattle.demand2.proofs.Steps.{so-far, scan-more}
 use Rattle.demand2.proofs.Events.{happens}
 use Rattle.demand2.proofs.Situations.{refuses-with}
@@ -109,29 +111,29 @@ module _ (E : Shelf) (q : Bytes) (s : Session) (b : ℕ) (H : Heeded s b) where
       go true d false x y z = whole-found (s .phase) refl a (record { heeded = H; end = eqb-true b CR x; bytes = refl; judged = z })
 
   transfer-found : (p : Proposal) (sc : Scan) → TransferByte s b p sc → SoFar E (s .phase) (s .memory) q → Found E q s b
-  transfer-found p sc w S = go (scanByte (roomFor E (s .memory)) sc b) refl (exact-byte (roomFor E (s .memory)) (p .form) q sc T b)
+  transfer-found p sc w S = go (scanByte (room E (s .memory .inbox)) sc b) refl (exact-byte (room E (s .memory .inbox)) (p .form) q sc T b)
     where
-      T : scan (roomFor E (s .memory)) (p .form) q ≡ goes sc
+      T : scan (room E (s .memory .inbox)) (p .form) q ≡ goes sc
       T = so-far E s b q p sc w S
 
       wrong : (o : Option Parsed) → parse (p .form) (q ++ (b ∷ [])) ≡ o → Wrong o → Found E q s b
       wrong none x e = absurd e
       wrong (some t) x e = found no9 (record { proposal = p; reading = sc; within = w; transfer = t; whole = x; wrong = e })
 
-      go : (o : Scanned) → scanByte (roomFor E (s .memory)) sc b ≡ o → Verdict (roomFor E (s .memory)) (p .form) o (q ++ (b ∷ [])) → Found E q s b
+      go : (o : Scanned) → scanByte (room E (s .memory .inbox)) sc b ≡ o → Verdict (room E (s .memory .inbox)) (p .form) o (q ++ (b ∷ [])) → Found E q s b
       go (goes sc′) x k = happened _ (transferGrows p sc sc′ w (scan-more E s b q p sc w S ∙ x))
-      go (got h y) x k = happened _ (transferWhole p sc w h y (k .0) (k .1))
-      go malformed x k = found no8 (record { proposal = p; reading = sc; within = w; hopeless = exact-8 (roomFor E (s .memory)) (p .form) q sc T b .0 x })
+      go (got h y) x k = happened _ (transferWhole p sc w h y (k .0) (within-fits E (s .memory .inbox) y (k .1)))
+      go malformed x k = found no8 (record { proposal = p; reading = sc; within = w; hopeless = exact-8 (room E (s .memory .inbox)) (p .form) q sc T b .0 x })
       go wrongSum x k = wrong (parse (p .form) (q ++ (b ∷ []))) refl (k .0)
       go noRoom x k =
-          let t = and2 (isBodyByte sc b) (not (ltb (length (bodyOf sc)) (roomFor E (s .memory)))) (sym (exact-10 (roomFor E (s .memory)) sc b) ∙ ap isTen x) in
+          let t = and2 (isBodyByte sc b) (not (ltb (length (bodyOf sc)) (room E (s .memory .inbox)))) (sym (exact-10 (room E (s .memory .inbox)) sc b) ∙ ap isTen x) in
           found no10
           (record {
             proposal = p;
             reading = sc;
             within = w;
             body = t .0;
-            full = ltb-false (length (bodyOf sc)) (roomFor E (s .memory)) (not-true (ltb (length (bodyOf sc)) (roomFor E (s .memory))) (t .1));
+            full = at-full E (s .memory .inbox) (bodyOf sc) (ltb-false (length (bodyOf sc)) (room E (s .memory .inbox)) (not-true (ltb (length (bodyOf sc)) (room E (s .memory .inbox))) (t .1)));
           })
 
 module _ (E : Shelf) (q : Bytes) (s : Session) (b : ℕ) (L : Live s) (S : SoFar E (s .phase) (s .memory) q) where

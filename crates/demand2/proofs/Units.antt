@@ -19,8 +19,9 @@ use Rattle.grammar.proofs.Rest.{Wrong, Longer, rest-nil}
 use Rattle.grammar.proofs.Refusal.{Reach, reach-step, from, exact-at, Verdict}
 use Rattle.mail.specs.Mail.{messageOf}
 use Rattle.session.specs.Choices.{Shelf}
-use Rattle.session.specs.Session.{Phase, awaitsSid, awaitsPrompt, leaving, over, awaitsTurn, awaitsAnswer, awaitsTransfer, Memory, Session, lineJudged, Stepped, moved, settled, lineMoved, lineStep, isPlain, keptIn, transferMoved, roomFor, step, ended, endedIn}
+use Rattle.session.specs.Session.{Phase, awaitsSid, awaitsPrompt, leaving, over, awaitsTurn, awaitsAnswer, awaitsTransfer, Memory, Session, lineJudged, Stepped, moved, settled, lineMoved, lineStep, isPlain, keptIn, transferMoved, step, ended, endedIn}
 use Rattle.session.specs.Calls.{oneMore, stoppedAt, stops, receiveOn}
+use Rattle.demand2.specs.Room.{room}
 use Rattle.demand2.specs.Refusals.{awaitsLine}
 use Rattle.demand2.specs.Events.{session, transfersOr}
 use Rattle.demand2.proofs.Steps.{line-step}
@@ -121,30 +122,30 @@ module _ (E : Shelf) (p : Proposal) (ps : List Proposal) (m : Memory) where
   reading sc = session (awaitsTransfer p ps sc) false [] m
 
   -- an outcome other than going on stays
-  not-malformed : (bs : Bytes) → scanOn (roomFor E m) malformed bs ≡ malformed
+  not-malformed : (bs : Bytes) → scanOn (room E (m .inbox)) malformed bs ≡ malformed
   not-malformed [] = refl
   not-malformed (b ∷ bs) = not-malformed bs
 
-  not-wrong : (bs : Bytes) → scanOn (roomFor E m) wrongSum bs ≡ wrongSum
+  not-wrong : (bs : Bytes) → scanOn (room E (m .inbox)) wrongSum bs ≡ wrongSum
   not-wrong [] = refl
   not-wrong (b ∷ bs) = not-wrong bs
 
-  not-room : (bs : Bytes) → scanOn (roomFor E m) noRoom bs ≡ noRoom
+  not-room : (bs : Bytes) → scanOn (room E (m .inbox)) noRoom bs ≡ noRoom
   not-room [] = refl
   not-room (b ∷ bs) = not-room bs
 
-  not-got : (h x bs : Bytes) → scanOn (roomFor E m) (got h x) bs ≡ got h x
+  not-got : (h x bs : Bytes) → scanOn (room E (m .inbox)) (got h x) bs ≡ got h x
   not-got h x [] = refl
   not-got h x (b ∷ bs) = not-got h x bs
 
   -- THE BYTES SO FAR are those received since the transfer began
-  pub transfer-more : (u : Bytes) (sc sc′ : Scan) → scanOn (roomFor E m) (goes sc) u ≡ goes sc′
+  pub transfer-more : (u : Bytes) (sc sc′ : Scan) → scanOn (room E (m .inbox)) (goes sc) u ≡ goes sc′
       → receiveOn E (reading sc) u ≡ record { answer = 0; count = length u; session = reading sc′ }
   transfer-more [] sc sc′ e = let z : sc ≡ sc′ = cc in ap (λ (x : Scan). record { answer = 0; count = 0; session = reading x }) z
-  transfer-more (b ∷ u) sc sc′ e = go (scanByte (roomFor E m) sc b) refl e (λ x k. transfer-more u x sc′ k)
+  transfer-more (b ∷ u) sc sc′ e = go (scanByte (room E (m .inbox)) sc b) refl e (λ x k. transfer-more u x sc′ k)
     where
-      go : (o : Scanned) → scanByte (roomFor E m) sc b ≡ o → scanOn (roomFor E m) o u ≡ goes sc′
-          → ((x : Scan) → scanOn (roomFor E m) (goes x) u ≡ goes sc′ → receiveOn E (reading x) u ≡ record { answer = 0; count = length u; session = reading sc′ })
+      go : (o : Scanned) → scanByte (room E (m .inbox)) sc b ≡ o → scanOn (room E (m .inbox)) o u ≡ goes sc′
+          → ((x : Scan) → scanOn (room E (m .inbox)) (goes x) u ≡ goes sc′ → receiveOn E (reading x) u ≡ record { answer = 0; count = length u; session = reading sc′ })
           → receiveOn E (reading sc) (b ∷ u) ≡ record { answer = 0; count = suc (length u); session = reading sc′ }
       go (goes x) q e ih = more E (reading sc) (reading x) b u (ap (transferMoved E p ps (reading sc)) q) refl ∙ ap oneMore (ih x e)
       go (got h x) q e ih = let z : got h x ≡ goes sc′ = sym (not-got h x u) ∙ e in cc
@@ -160,8 +161,8 @@ module _ (E : Shelf) (p : Proposal) (ps : List Proposal) (m : Memory) where
   gone h x o e f = let z : none ≡ right h x = sym e ∙ f in let y : _≡_ {A = ℕ} 0 1 = cc in absurd (omega arith)
 
   -- the last byte
-  last : (h x q : Bytes) (sc : Scan) (b : ℕ) → parse (p .form) (q ++ (b ∷ [])) ≡ right h x → (o : Scanned) → scanByte (roomFor E m) sc b ≡ o
-      → Verdict (roomFor E m) (p .form) o (q ++ (b ∷ [])) → receiveOn E (reading sc) (b ∷ []) ≡ record { answer = 0; count = 1; session = keptThen h x }
+  last : (h x q : Bytes) (sc : Scan) (b : ℕ) → parse (p .form) (q ++ (b ∷ [])) ≡ right h x → (o : Scanned) → scanByte (room E (m .inbox)) sc b ≡ o
+      → Verdict (room E (m .inbox)) (p .form) o (q ++ (b ∷ [])) → receiveOn E (reading sc) (b ∷ []) ≡ record { answer = 0; count = 1; session = keptThen h x }
   last h x q sc b e (goes sc′) g k = gone h x (parse (p .form) (q ++ (b ∷ []))) (k .0) e
   last h x q sc b e (got t y) g k =
       let z : right t y ≡ right h x = sym (k .0) ∙ e in
@@ -173,28 +174,28 @@ module _ (E : Shelf) (p : Proposal) (ps : List Proposal) (m : Memory) where
   last h x q sc b e noRoom g k = gone h x (parse (p .form) (q ++ (b ∷ []))) (k .2) e
 
   -- after q, the bytes u make it whole
-  kept-after : (h x u q : Bytes) (sc : Scan) → Reach (roomFor E m) (p .form) (goes sc) q → parse (p .form) (q ++ u) ≡ right h x → length x ≤ roomFor E m
+  kept-after : (h x u q : Bytes) (sc : Scan) → Reach (room E (m .inbox)) (p .form) (goes sc) q → parse (p .form) (q ++ u) ≡ right h x → length x ≤ room E (m .inbox)
       → receiveOn E (reading sc) u ≡ record { answer = 0; count = length u; session = keptThen h x }
   kept-after h x [] q sc r e l = gone h x (parse (p .form) (q ++ [])) (r .0 [] ∙ rest-nil sc) e
-  kept-after h x (b ∷ []) q sc r e l = last h x q sc b e (scanByte (roomFor E m) sc b) refl (exact-at (roomFor E m) (p .form) q sc r b)
+  kept-after h x (b ∷ []) q sc r e l = last h x q sc b e (scanByte (room E (m .inbox)) sc b) refl (exact-at (room E (m .inbox)) (p .form) q sc r b)
   kept-after h x (b ∷ c ∷ u) q sc r e l =
-      go (scanByte (roomFor E m) sc b) refl (exact-at (roomFor E m) (p .form) q sc r b) (reach-step (roomFor E m) (p .form) (goes sc) q b r)
+      go (scanByte (room E (m .inbox)) sc b) refl (exact-at (room E (m .inbox)) (p .form) q sc r b) (reach-step (room E (m .inbox)) (p .form) (goes sc) q b r)
       (λ sc′ k. kept-after h x (c ∷ u) (q ++ (b ∷ [])) sc′ k (ap (parse (p .form)) (snoc-cons q (c ∷ u) b) ∙ e) l)
     where
       whole : parse (p .form) ((q ++ (b ∷ [])) ++ c ∷ u) ≡ right h x
       whole = ap (parse (p .form)) (snoc-cons q (c ∷ u) b) ∙ e
 
-      go : (o : Scanned) → scanByte (roomFor E m) sc b ≡ o → Verdict (roomFor E m) (p .form) o (q ++ (b ∷ [])) → Reach (roomFor E m) (p .form) o (q ++ (b ∷ []))
-          → ((sc′ : Scan) → Reach (roomFor E m) (p .form) (goes sc′) (q ++ (b ∷ []))
+      go : (o : Scanned) → scanByte (room E (m .inbox)) sc b ≡ o → Verdict (room E (m .inbox)) (p .form) o (q ++ (b ∷ [])) → Reach (room E (m .inbox)) (p .form) o (q ++ (b ∷ []))
+          → ((sc′ : Scan) → Reach (room E (m .inbox)) (p .form) (goes sc′) (q ++ (b ∷ []))
           → receiveOn E (reading sc′) (c ∷ u) ≡ record { answer = 0; count = suc (length u); session = keptThen h x })
           → receiveOn E (reading sc) (b ∷ c ∷ u) ≡ record { answer = 0; count = suc (suc (length u)); session = keptThen h x }
       go (goes sc′) g k r′ ih = more E (reading sc) (reading sc′) b (c ∷ u) (ap (transferMoved E p ps (reading sc)) g) refl ∙ ap oneMore (ih sc′ r′)
       go (got t y) g k r′ ih = gone h x (parse (p .form) ((q ++ (b ∷ [])) ++ c ∷ u)) (k .2 c u) whole
       go malformed g k r′ ih = gone h x (parse (p .form) ((q ++ (b ∷ [])) ++ c ∷ u)) (k (c ∷ u)) whole
       go wrongSum g k r′ ih = gone h x (parse (p .form) ((q ++ (b ∷ [])) ++ c ∷ u)) (k .1 c u) whole
-      go noRoom g k r′ ih = let z = subst (Longer (roomFor E m)) whole (k .0 (c ∷ u)) in absurd (omega arith)
+      go noRoom g k r′ ih = let z = subst (Longer (room E (m .inbox))) whole (k .0 (c ∷ u)) in absurd (omega arith)
 
   -- A VALID TRANSFER that fits is kept at its last byte
-  pub transfer-kept : (u h x : Bytes) → parse (p .form) u ≡ right h x → length x ≤ roomFor E m
+  pub transfer-kept : (u h x : Bytes) → parse (p .form) u ≡ right h x → length x ≤ room E (m .inbox)
       → receiveOn E (reading (scanFrom (p .form))) u ≡ record { answer = 0; count = length u; session = keptThen h x }
-  transfer-kept u h x e l = kept-after h x u [] (scanFrom (p .form)) (from (roomFor E m) (p .form)) e l
+  transfer-kept u h x e l = kept-after h x u [] (scanFrom (p .form)) (from (room E (m .inbox)) (p .form)) e l

@@ -16,7 +16,8 @@ use Rattle.grammar.specs.Transfers.{parse}
 use Rattle.grammar.specs.Scan.{Scan, goes, scan, scanFrom}
 use Rattle.mail.specs.Mail.{messageOf, proposalOf, recordAt, turnText, transfersText, accepted}
 use Rattle.session.specs.Choices.{Shelf, chosen, answersTo}
-use Rattle.session.specs.Session.{Phase, awaitsSid, awaitsPrompt, leaving, over, awaitsTurn, awaitsAnswer, awaitsTransfer, Memory, Session, turnMarks, answerMarks, inMode, keptIn, isPlain, roomFor}
+use Rattle.session.specs.Session.{Phase, awaitsSid, awaitsPrompt, leaving, over, awaitsTurn, awaitsAnswer, awaitsTransfer, Memory, Session, turnMarks, answerMarks, inMode, keptIn, isPlain}
+use Rattle.demand2.specs.Room.{Fits, room}
 use Rattle.demand2.specs.Refusals.{isDropped, Heeded, awaitsLine, WholeLine, TurnSaid, TransferByte}
 
 -- A session with no line begun. afterCr: an LF now is dropped; out: what waits for give
@@ -91,9 +92,9 @@ pub data Event (E : Shelf) (q : Bytes) (s : Session) (b : ℕ) : Session → Typ
   fsLineComes : (line : Bytes) (is : List ℕ) → WholeLine s b line → s .phase ≡ awaitsAnswer is → (ss : List Sign) → readFs (length is) line ≡ some ss
       → Event E q s b (session (awaitsTurn false []) true (transfersText (E .table) (accepted ss is)) (answerMarks is ss (s .memory)))
   -- a byte of a transfer
-  transferGrows : (p : Proposal) (reading onward : Scan) → (t : TransferByte s b p reading) → scan (roomFor E (s .memory)) (p .form) (q ++ (b ∷ [])) ≡ goes onward
+  transferGrows : (p : Proposal) (reading onward : Scan) → (t : TransferByte s b p reading) → scan (room E (s .memory .inbox)) (p .form) (q ++ (b ∷ [])) ≡ goes onward
       → Event E q s b (record { phase = awaitsTransfer p (t .others) onward; part = s .part; afterCr = false; out = s .out; memory = s .memory })
   -- its last byte: "A message is kept at its last byte."; an LF after it is dropped if it is plain
   transferWhole : (p : Proposal) (reading : Scan) → (t : TransferByte s b p reading) → (heading body : Bytes)
-      → parse (p .form) (q ++ (b ∷ [])) ≡ some (record { heading = heading; body = body; right = true }) → length body ≤ roomFor E (s .memory)
+      → parse (p .form) (q ++ (b ∷ [])) ≡ some (record { heading = heading; body = body; right = true }) → Fits E (s .memory .inbox) body
       → Event E q s b (transfersOr E (isPlain (p .form)) [] (t .others) (keptIn (s .memory) (messageOf p (record { heading = heading; body = body }))))

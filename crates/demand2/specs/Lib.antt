@@ -16,6 +16,7 @@
 -- one that does something else with   Refusals.complete with Events.happens: a byte that is answered 0 is one of the fourteen events, and the
 -- a byte                              session after it is the event's
 -- All this holds of every session that open, receive and give lead to: Reached.reached-sound, exact-reached.
+pub mod Room
 pub mod Refusals
 pub mod Events
 pub mod OurTurn

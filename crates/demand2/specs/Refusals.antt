@@ -19,8 +19,9 @@ use Rattle.grammar.specs.Answers.{readFs}
 use Rattle.grammar.specs.Transfers.{Parsed, parse}
 use Rattle.grammar.specs.Scan.{Scan, goes, scan, bodyOf, isBodyByte}
 use Rattle.session.specs.Choices.{Shelf}
-use Rattle.session.specs.Session.{Phase, awaitsSid, awaitsPrompt, leaving, over, awaitsTurn, awaitsAnswer, awaitsTransfer, Memory, Session, step, roomFor, ended}
+use Rattle.session.specs.Session.{Phase, awaitsSid, awaitsPrompt, leaving, over, awaitsTurn, awaitsAnswer, awaitsTransfer, Memory, Session, step, ended}
 use Rattle.session.specs.Calls.{receive}
+use Rattle.demand2.specs.Room.{Full, room}
 
 -- ---------------------------------------------------------------- the order: "then 12, 11, 2, then the rule of the line or transfer"
 
@@ -141,7 +142,7 @@ SoFar E (awaitsSid c) m q = Unit {0}
 SoFar E awaitsPrompt m q = Unit {0}
 SoFar E (awaitsTurn ff ps) m q = Unit {0}
 SoFar E (awaitsAnswer is) m q = Unit {0}
-SoFar E (awaitsTransfer p ps sc) m q = scan (roomFor E m) (p .form) q ≡ goes sc
+SoFar E (awaitsTransfer p ps sc) m q = scan (room E (m .inbox)) (p .form) q ≡ goes sc
 SoFar E leaving m q = Unit {0}
 SoFar E over m q = Unit {0}
 
@@ -173,7 +174,7 @@ pub record NoRoom (E : Shelf) (s : Session) (b : ℕ) : Type 0 where
   pub reading : Scan
   pub within : TransferByte s b proposal reading
   pub body : isBodyByte reading b ≡ true
-  pub full : roomFor E (s .memory) ≤ length (bodyOf reading)
+  pub full : Full E (s .memory .inbox) (bodyOf reading)
 
 -- ---------------------------------------------------------------- 11
 
