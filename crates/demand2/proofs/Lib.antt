@@ -11,4 +11,5 @@ pub mod OurTurn
 pub mod OurAnswers
 pub mod Portions
 pub mod Reached
+pub mod ReadBack
 pub mod Units

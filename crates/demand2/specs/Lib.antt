@@ -23,3 +23,4 @@ pub mod OurTurn
 pub mod OurAnswers
 pub mod Portions
 pub mod Reached
+pub mod ReadBack
