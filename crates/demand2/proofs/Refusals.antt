@@ -20,11 +20,12 @@ use Rattle.grammar.proofs.Basics.{and2, no-both, and-false}
 use Rattle.grammar.proofs.Rest.{Wrong}
 use Rattle.grammar.proofs.Refusal.{exact as exact-byte, Verdict, exact-8, exact-10, isTen}
 use Rattle.session.specs.Choices.{Shelf}
-use Rattle.session.specs.Session.{Phase, awaitsSid, awaitsPrompt, leaving, over, awaitsTurn, awaitsAnswer, awaitsTransfer, Session, Stepped, step, ended, endedIn}
+use Rattle.session.specs.Session.{Phase, awaitsSid, awaitsPrompt, leaving, over, awaitsTurn, awaitsAnswer, awaitsTransfer, Session, turnMarks, answerMarks, Stepped, step, ended, endedIn}
 use Rattle.demand2.specs.Room.{room}
 use Rattle.demand2.specs.Refusals.{isDropped, Heeded, awaitsLine, WholeLine, isAllowed, isMiscounted, TurnSaid, beginsFs, inTurn, forAnswer, SoFar, TransferByte, Refusal, no2, no3, no4, no5, no6, no7, no8, no9, no10, no11, numberOf, Situation, Exact, Live}
-use Rattle.demand2.specs.Events.{Event, lfGoes, lineGrows, ignored, callerSid, calledSid, textLine, prompt, proposal, ffTurn, fqTurn, blockEnd, fsLineComes, transferGrows, transferWhole}
+use Rattle.demand2.specs.Events.{Event, lfGoes, lineGrows, ignored, sidOfCaller, sidOfCalled, textLine, prompt, proposal, ffTurn, fqTurn, blockEnd, fsLineComes, transferGrows, transferWhole}
 use Rattle.demand2.proofs.Room.{at-full, within-fits}
+use Rattle.demand2.proofs.Marks.{answer-marks, turn-marks}
 use Rattle.demand2.proofs.Steps.{so-far, scan-more}
 use Rattle.demand2.proofs.Events.{happens}
 use Rattle.demand2.proofs.Situations.{refuses-with}
@@ -44,8 +45,8 @@ module _ (E : Shelf) (q : Bytes) (s : Session) (b : ℕ) (H : Heeded s b) where
   sid-found c e w = sid (readSid line) refl
     where
       heard : (c : Bool) → s .phase ≡ awaitsSid c → (fs : List ℕ) → readSid line ≡ some fs → (f : Bool) → hasFeature 5 fs ≡ f → Found E q s b
-      heard true e fs r true f = happened _ (calledSid line w e fs r f)
-      heard false e fs r true f = happened _ (callerSid line w e fs r f)
+      heard true e fs r true f = happened _ (sidOfCalled line w e fs r f)
+      heard false e fs r true f = happened _ (sidOfCaller line w e fs r f)
       heard c e fs r false f = found no4 (record { line = line; whole = w; caller = c; awaited = e; features = fs; valid = r; without = f })
 
       sid : (o : Option (List ℕ)) → readSid line ≡ o → Found E q s b
@@ -63,13 +64,13 @@ module _ (E : Shelf) (q : Bytes) (s : Session) (b : ℕ) (H : Heeded s b) where
   turn-happened : (t : TurnLine) (ff : Bool) (ps : List Proposal) → readTurnLine (s .memory .framed) line ≡ t → TurnSaid s b ff ps line → isAllowed ff ps t ≡ true
       → isMiscounted ps t ≡ false → Found E q s b
   turn-happened saysFF true [] r w x y = absurd (no-both false x refl)
-  turn-happened saysFF false [] r w x y = happened _ (ffTurn line w r)
+  turn-happened saysFF false [] r w x y = happened _ (ffTurn line w r (turnMarks (s .memory)) (turn-marks (s .memory)))
   turn-happened saysFF ff (p ∷ ps) r w x y = absurd (no-both (not ff && false) x (and-false (not ff) false refl))
   turn-happened saysFQ true [] r w x y = happened _ (fqTurn line w r)
   turn-happened saysFQ false [] r w x y = absurd (no-both false x refl)
   turn-happened saysFQ ff (p ∷ ps) r w x y = absurd (no-both (ff && false) x (and-false ff false refl))
   turn-happened endsBlock ff [] r w x y = absurd (no-both true refl y)
-  turn-happened endsBlock ff (p ∷ ps) r w x y = happened _ (blockEnd line ff p ps w r)
+  turn-happened endsBlock ff (p ∷ ps) r w x y = happened _ (blockEnd line ff p ps w r (turnMarks (s .memory)) (turn-marks (s .memory)))
   turn-happened notAllowed ff ps r w x y = absurd (no-both false x refl)
   turn-happened (proposes p) ff ps r w x y = happened _ (proposal line ff ps w p r (ltb-true (length ps) 5 (not-false (ltb (length ps) 5) y)))
 
@@ -90,7 +91,7 @@ module _ (E : Shelf) (q : Bytes) (s : Session) (b : ℕ) (H : Heeded s b) where
 
       go : (o : Option (List Sign)) → readFs (length is) line ≡ o → Found E q s b
       go none r = wrong r (beginsFs line) refl
-      go (some ss) r = happened _ (fsLineComes line is w e ss r)
+      go (some ss) r = happened _ (fsLineComes line is w e ss r (answerMarks is ss (s .memory)) (answer-marks is ss (s .memory)))
 
   whole-found : (p : Phase) → s .phase ≡ p → awaitsLine p ≡ true → WholeLine s b line → Found E q s b
   whole-found (awaitsSid c) e a w = sid-found c e w

@@ -11,13 +11,14 @@ use Rattle.grammar.specs.Bytes.{Bytes, CR}
 use Rattle.grammar.specs.Lines.{lineLimit, trim, isComment, isPrompt}
 use Rattle.grammar.specs.Sid.{readSid, hasFeature, framed}
 use Rattle.grammar.specs.Turns.{Proposal, saysFF, saysFQ, endsBlock, proposes, readTurnLine, blockLimit, fixedText, ourSid, ourFF, ourFQ, withCr}
-use Rattle.grammar.specs.Answers.{Sign, readFs, fsLine}
+use Rattle.grammar.specs.Answers.{Sign, accept, readFs, fsLine}
 use Rattle.grammar.specs.Transfers.{parse}
 use Rattle.grammar.specs.Scan.{Scan, goes, scan, scanFrom}
 use Rattle.mail.specs.Mail.{messageOf, proposalOf, recordAt, turnText, transfersText, accepted}
 use Rattle.session.specs.Choices.{Shelf, chosen, answersTo}
-use Rattle.session.specs.Session.{Phase, awaitsSid, awaitsPrompt, leaving, over, awaitsTurn, awaitsAnswer, awaitsTransfer, Memory, Session, turnMarks, answerMarks, inMode, keptIn, isPlain}
+use Rattle.session.specs.Session.{Phase, awaitsSid, awaitsPrompt, leaving, over, awaitsTurn, awaitsAnswer, awaitsTransfer, Memory, Session, inMode, keptIn, isPlain}
 use Rattle.demand2.specs.Room.{Fits, room}
+use Rattle.demand2.specs.Marks.{placesWith, AnswerLeaves, TurnLeaves}
 use Rattle.demand2.specs.Refusals.{isDropped, Heeded, awaitsLine, WholeLine, TurnSaid, TransferByte}
 
 -- A session with no line begun. afterCr: an LF now is dropped; out: what waits for give
@@ -65,10 +66,10 @@ pub data Event (E : Shelf) (q : Bytes) (s : Session) (b : ℕ) : Session → Typ
   ignored : Heeded s b → awaitsLine (s .phase) ≡ true → b ≡ CR → isComment (trim (s .part)) ≡ true
       → Event E q s b (session (s .phase) true [] (s .memory))
   -- the SID: "Called: we .. await the caller's SID, then its first turn."; "Partner has B: framed mode"
-  callerSid : (line : Bytes) → WholeLine s b line → s .phase ≡ awaitsSid false → (fs : List ℕ) → readSid line ≡ some fs → hasFeature 5 fs ≡ true
+  sidOfCaller : (line : Bytes) → WholeLine s b line → s .phase ≡ awaitsSid false → (fs : List ℕ) → readSid line ≡ some fs → hasFeature 5 fs ≡ true
       → Event E q s b (session (awaitsTurn false []) true [] (inMode (framed fs) (s .memory)))
   -- "Caller: we await the SID, skip text lines until the prompt"
-  calledSid : (line : Bytes) → WholeLine s b line → s .phase ≡ awaitsSid true → (fs : List ℕ) → readSid line ≡ some fs → hasFeature 5 fs ≡ true
+  sidOfCalled : (line : Bytes) → WholeLine s b line → s .phase ≡ awaitsSid true → (fs : List ℕ) → readSid line ≡ some fs → hasFeature 5 fs ≡ true
       → Event E q s b (session awaitsPrompt true [] (inMode (framed fs) (s .memory)))
   textLine : (line : Bytes) → WholeLine s b line → s .phase ≡ awaitsPrompt → isPrompt line ≡ false
       → Event E q s b (session awaitsPrompt true [] (s .memory))
@@ -79,18 +80,20 @@ pub data Event (E : Shelf) (q : Bytes) (s : Session) (b : ℕ) : Session → Typ
   proposal : (line : Bytes) (ff : Bool) (ps : List Proposal) → TurnSaid s b ff ps line → (p : Proposal) → readTurnLine (s .memory .framed) line ≡ proposes p
       → length ps < blockLimit → Event E q s b (session (awaitsTurn ff (ps ++ (p ∷ []))) true [] (s .memory))
   -- its FF: "State 1 is set at the CR that ends the partner's next whole valid turn.", then our turn
-  ffTurn : (line : Bytes) → TurnSaid s b false [] line → readTurnLine (s .memory .framed) line ≡ saysFF
-      → Event E q s b (weSpeak E true true [] (turnMarks (s .memory)))
+  ffTurn : (line : Bytes) → TurnSaid s b false [] line → readTurnLine (s .memory .framed) line ≡ saysFF → (after : Memory) → TurnLeaves (s .memory) after
+      → Event E q s b (weSpeak E true true [] after)
   -- "FQ received ends the session at its CR"
   fqTurn : (line : Bytes) → TurnSaid s b true [] line → readTurnLine (s .memory .framed) line ≡ saysFQ
       → Event E q s b (session over true [] (s .memory))
   -- its F>: the same marks, and our FS line waits
   blockEnd : (line : Bytes) (ff : Bool) (p : Proposal) (ps : List Proposal) → TurnSaid s b ff (p ∷ ps) line → readTurnLine (s .memory .framed) line ≡ endsBlock
-      → Event E q s b (transfersOr E true (withCr (fsLine (answersTo E (s .memory .inbox) (p ∷ ps)))) (accepted (answersTo E (s .memory .inbox) (p ∷ ps)) (p ∷ ps))
-      (turnMarks (s .memory)))
+      → (after : Memory) → TurnLeaves (s .memory) after
+      → Event E q s b
+      (transfersOr E true (withCr (fsLine (answersTo E (s .memory .inbox) (p ∷ ps)))) (accepted (answersTo E (s .memory .inbox) (p ∷ ps)) (p ∷ ps)) after)
   -- its FS line: "`-` sets state 2 .. Accepted records are sent in order.", then its turn
   fsLineComes : (line : Bytes) (is : List ℕ) → WholeLine s b line → s .phase ≡ awaitsAnswer is → (ss : List Sign) → readFs (length is) line ≡ some ss
-      → Event E q s b (session (awaitsTurn false []) true (transfersText (E .table) (accepted ss is)) (answerMarks is ss (s .memory)))
+      → (after : Memory) → AnswerLeaves is ss (s .memory) after
+      → Event E q s b (session (awaitsTurn false []) true (transfersText (E .table) (placesWith accept is ss)) after)
   -- a byte of a transfer
   transferGrows : (p : Proposal) (reading onward : Scan) → (t : TransferByte s b p reading) → scan (room E (s .memory .inbox)) (p .form) (q ++ (b ∷ [])) ≡ goes onward
       → Event E q s b (record { phase = awaitsTransfer p (t .others) onward; part = s .part; afterCr = false; out = s .out; memory = s .memory })

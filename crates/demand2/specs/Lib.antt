@@ -18,6 +18,7 @@
 -- All this holds of every session that open, receive and give lead to: Reached.reached-sound, exact-reached.
 pub mod Room
 pub mod Refusals
+pub mod Marks
 pub mod Events
 pub mod OurTurn
 pub mod OurAnswers
