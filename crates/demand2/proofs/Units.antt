@@ -26,19 +26,9 @@ use Rattle.demand2.specs.Refusals.{awaitsLine}
 use Rattle.demand2.specs.Events.{session, transfersOr}
 use Rattle.demand2.proofs.Steps.{line-step}
 use Rattle.demand2.proofs.Events.{next}
+use Rattle.demand2.proofs.Portions.{one}
 
 -- ---------------------------------------------------------------- one byte
-
--- a portion of one byte is that byte's step
-one : (E : Shelf) (s : Session) (b : ℕ) → receiveOn E s (b ∷ []) ≡ stoppedAt (step E s b)
-one E s b = go (stops (step E s b)) refl
-  where
-    go : (c : Bool) → stops (step E s b) ≡ c → cond c (stoppedAt (step E s b)) (oneMore (record { answer = 0; count = 0; session = step E s b .session })) ≡ stoppedAt (step E s b)
-    go true e = refl
-    go false e =
-        let p = or2 (not (eqb (step E s b .answer) 0)) (ended (step E s b .session)) e in
-        let z = eqb-true (step E s b .answer) 0 (not-false (eqb (step E s b .answer) 0) (p .0)) in
-        ap (λ (n : ℕ). record { answer = n; count = 1; session = step E s b .session }) (sym z)
 
 -- a byte after which a live session goes on
 more : (E : Shelf) (s t : Session) (b : ℕ) (bs : Bytes) → step E s b ≡ moved t → ended t ≡ false → receiveOn E s (b ∷ bs) ≡ oneMore (receiveOn E t bs)
