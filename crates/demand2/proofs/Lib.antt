@@ -11,6 +11,7 @@ pub mod Ended
 pub mod OurTurn
 pub mod OurAnswers
 pub mod Portions
+pub mod Opening
 pub mod Reached
 pub mod ReadBack
 pub mod Units

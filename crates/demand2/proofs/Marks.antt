@@ -96,7 +96,7 @@ turn-marks m =
 -- ---------------------------------------------------------------- and no others
 
 -- a memory by its five parts
-memory-is : (m n : Memory) → m .framed ≡ n .framed → m .states ≡ n .states → m .sending ≡ n .sending → m .inbox ≡ n .inbox → m .deferred ≡ n .deferred → m ≡ n
+pub memory-is : (m n : Memory) → m .framed ≡ n .framed → m .states ≡ n .states → m .sending ≡ n .sending → m .inbox ≡ n .inbox → m .deferred ≡ n .deferred → m ≡ n
 memory-is m n a b c d e =
     ap (λ (x : Bool). record { framed = x; states = m .states; sending = m .sending; inbox = m .inbox; deferred = m .deferred }) a
     ∙ ap (λ (x : List ℕ). record { framed = n .framed; states = x; sending = m .sending; inbox = m .inbox; deferred = m .deferred }) b

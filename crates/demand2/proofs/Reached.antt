@@ -11,7 +11,7 @@ use lib.Seq.{drop-nil}
 use Rattle.grammar.specs.Bytes.{Bytes, null}
 use Rattle.grammar.specs.Lines.{LineByte, dropped, ends, grows, overruns, lineByte, trim, isComment, isPrompt}
 use Rattle.grammar.specs.Sid.{readSid, hasFeature, framed}
-use Rattle.grammar.specs.Turns.{fixedText, ourSid, ourPrompt, withCr, Proposal, TurnLine, saysFF, saysFQ, endsBlock, notAllowed, proposes, readTurnLine}
+use Rattle.grammar.specs.Turns.{Proposal, TurnLine, saysFF, saysFQ, endsBlock, notAllowed, proposes, readTurnLine}
 use Rattle.grammar.specs.Answers.{Sign, readFs, fsNumber}
 use Rattle.grammar.specs.Scan.{Scan, Scanned, goes, got, malformed, wrongSum, noRoom, scan, scanByte, scanFrom, onward}
 use Rattle.grammar.proofs.Basics.{no-both}
@@ -196,13 +196,3 @@ module _ (E : Shelf) where
   -- REFUSALS ARE EXACT in every session that is reached and lives: there are bytes so far by which they are
   pub exact-reached : (s : Session) (r : Reached E s) → Live s → (b : ℕ) → Exact E (reached-sound s r .bytes) s b
   exact-reached s r L b = exact E (reached-sound s r .bytes) s b L (reached-sound s r .soFar)
-
--- ---------------------------------------------------------------- at open
-
--- "Called: we send it, CR, `>`, CR, and await the caller's SID"
-pub called-greets : (states : List ℕ) → opened false states .out ≡ withCr (fixedText ourSid) ++ withCr (fixedText ourPrompt)
-called-greets states = refl
-
--- "Caller: we await the SID"
-pub caller-waits : (states : List ℕ) → opened true states .out ≡ []
-caller-waits states = refl

@@ -23,5 +23,6 @@ pub mod Events
 pub mod OurTurn
 pub mod OurAnswers
 pub mod Portions
+pub mod Opening
 pub mod Reached
 pub mod ReadBack
