@@ -23,6 +23,7 @@ pub mod Events
 pub mod OurTurn
 pub mod OurAnswers
 pub mod Portions
+pub mod Units
 pub mod Opening
 pub mod Reached
 pub mod ReadBack
