@@ -9,6 +9,7 @@ use lib.Dec.{eqb, ltb}
 use lib.ListN.{length}
 use borrow.Author.Tests.{eq-eqb, lt-ltb}
 use Rattle.grammar.specs.Bytes.{Bytes, CR}
+use Rattle.grammar.specs.Fields.{Form, plain, message, file}
 use Rattle.grammar.specs.Lines.{ends, grows, overruns, trim, isComment}
 use Rattle.grammar.specs.Turns.{Proposal, saysFF, endsBlock, readTurnLine, fixedText, ourSid, withCr}
 use Rattle.grammar.specs.Answers.{Sign, accept, readFs, fsLine}
@@ -21,7 +22,7 @@ use Rattle.session.specs.Session.{Phase, awaitsSid, awaitsPrompt, leaving, over
 use Rattle.demand2.specs.Room.{room}
 use Rattle.demand2.specs.Marks.{placesWith, AnswerLeaves, TurnLeaves}
 use Rattle.demand2.specs.Refusals.{isDropped, Heeded, awaitsLine, WholeLine, TurnSaid, SoFar, TransferByte}
-use Rattle.demand2.specs.Events.{session, proposed, turnSaid, turnAwaits, weSpeak, transfersOr, Event, lfGoes, lineGrows, ignored, sidOfCaller, sidOfCalled, textLine, prompt, proposal, ffTurn, fqTurn, blockEnd, fsLineComes, transferGrows, transferWhole}
+use Rattle.demand2.specs.Events.{session, withMessage, endsWithCr, proposed, turnSaid, turnAwaits, weSpeak, transfersOr, Event, lfGoes, lineGrows, ignored, sidOfCaller, sidOfCalled, textLine, prompt, proposal, ffTurn, fqTurn, blockEnd, fsLineComes, transferGrows, transferWhole}
 use Rattle.demand2.proofs.Room.{fits-within}
 use Rattle.demand2.proofs.Marks.{accepted-is, answer-marks, turn-marks, answer-only, turn-only}
 use Rattle.demand2.proofs.Steps.{line-step, phase-step, transfer-step, turn-step, scan-more}
@@ -38,6 +39,11 @@ answers : (E : Shelf) (s : Session) (cr : Bool) (ss : List Sign) (ps : List Prop
     → settled s cr (answering E ss ps m) ≡ moved (transfersOr E cr (withCr (fsLine ss)) ps m)
 answers E s cr ss [] m = speaks E s cr (withCr (fsLine ss)) false (proposed E m) m
 answers E s cr ss (p ∷ ps) m = refl
+
+pub plain-is : (f : Form) → isPlain f ≡ endsWithCr f
+plain-is plain = refl
+plain-is message = refl
+plain-is file = refl
 
 pub next : (E : Shelf) (s : Session) (cr : Bool) (ps : List Proposal) (m : Memory) → settled s cr (nextTransfer E ps m) ≡ moved (transfersOr E cr [] ps m)
 next E s cr [] m = speaks E s cr [] false (proposed E m) m
@@ -113,11 +119,12 @@ module _ (E : Shelf) (q : Bytes) (s : Session) (b : ℕ) where
     happens t (transferWhole p sc u h x e l) =
         goes-transfer p sc u (got h x) (sym (scan-more E s b q p sc u S) ∙ whole-got (room E (s .memory .inbox)) (p .form) (q ++ (b ∷ [])) h x e (fits-within E (s .memory .inbox) x l))
         ∙ next E s (isPlain (p .form)) (u .others) (keptIn (s .memory) (messageOf p (record { heading = h; body = x })))
+        ∙ ap (λ (c : Bool). moved (transfersOr E c [] (u .others) (withMessage (s .memory) (messageOf p (record { heading = h; body = x }))))) (plain-is (p .form))
 
 -- ---------------------------------------------------------------- what the partner's lines leave of the memory
 
 -- what waits and what is awaited is no part of it
-memory-kept : (E : Shelf) (cr : Bool) (o : Bytes) (ps : List Proposal) (m : Memory) → transfersOr E cr o ps m .memory ≡ m
+pub memory-kept : (E : Shelf) (cr : Bool) (o : Bytes) (ps : List Proposal) (m : Memory) → transfersOr E cr o ps m .memory ≡ m
 memory-kept E cr o [] m = refl
 memory-kept E cr o (p ∷ ps) m = refl
 

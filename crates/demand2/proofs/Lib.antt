@@ -13,5 +13,6 @@ pub mod OurAnswers
 pub mod Portions
 pub mod Opening
 pub mod Reached
+pub mod Answered
 pub mod ReadBack
 pub mod Units

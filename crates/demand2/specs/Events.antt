@@ -8,15 +8,16 @@ use Prim.Native.Nat.{ℕ, _≤_, _<_}
 use lib.Dec.{eqb}
 use lib.ListN.{length}
 use Rattle.grammar.specs.Bytes.{Bytes, CR}
+use Rattle.grammar.specs.Fields.{Form, plain, message, file}
 use Rattle.grammar.specs.Lines.{lineLimit, trim, isComment, isPrompt}
 use Rattle.grammar.specs.Sid.{readSid, hasFeature, framed}
 use Rattle.grammar.specs.Turns.{Proposal, saysFF, saysFQ, endsBlock, proposes, readTurnLine, blockLimit, fixedText, ourSid, ourFF, ourFQ, withCr}
 use Rattle.grammar.specs.Answers.{Sign, accept, readFs, fsLine}
 use Rattle.grammar.specs.Transfers.{parse}
 use Rattle.grammar.specs.Scan.{Scan, goes, scan, scanFrom}
-use Rattle.mail.specs.Mail.{messageOf, proposalOf, recordAt, turnText, transfersText, accepted}
+use Rattle.mail.specs.Mail.{Message, messageOf, proposalOf, recordAt, turnText, transfersText, accepted}
 use Rattle.session.specs.Choices.{Shelf, chosen, answersTo}
-use Rattle.session.specs.Session.{Phase, awaitsSid, awaitsPrompt, leaving, over, awaitsTurn, awaitsAnswer, awaitsTransfer, Memory, Session, inMode, keptIn, isPlain}
+use Rattle.session.specs.Session.{Phase, awaitsSid, awaitsPrompt, leaving, over, awaitsTurn, awaitsAnswer, awaitsTransfer, Memory, Session}
 use Rattle.demand2.specs.Room.{Fits, room}
 use Rattle.demand2.specs.Marks.{placesWith, AnswerLeaves, TurnLeaves}
 use Rattle.demand2.specs.Refusals.{isDropped, Heeded, awaitsLine, WholeLine, TurnSaid, TransferByte}
@@ -24,6 +25,22 @@ use Rattle.demand2.specs.Refusals.{isDropped, Heeded, awaitsLine, WholeL
 -- A session with no line begun. afterCr: an LF now is dropped; out: what waits for give
 abbrev pub session : Phase → Bool → Bytes → Memory → Session
 session p afterCr out m = record { phase = p; part = []; afterCr = afterCr; out = out; memory = m }
+
+-- "Partner has B: framed mode, at any level. Otherwise plain mode.": the mode is this, all else is as it was
+abbrev pub withMode : Bool → Memory → Memory
+withMode framed m =
+    record { framed = framed; states = m .states; sending = m .sending; inbox = m .inbox; deferred = m .deferred }
+
+-- "A message is kept at its last byte.": after those that are kept, all else is as it was
+abbrev pub withMessage : Memory → Message → Memory
+withMessage m x =
+    record { framed = m .framed; states = m .states; sending = m .sending; inbox = m .inbox ++ (x ∷ []); deferred = m .deferred }
+
+-- "One LF directly after .. the CR that closes a plain transfer, is dropped"; a framed one is closed by its checksum
+abbrev pub endsWithCr : Form → Bool
+endsWithCr plain = true
+endsWithCr message = false
+endsWithCr file = false
 
 -- ---------------------------------------------------------------- our turn
 
@@ -67,10 +84,10 @@ pub data Event (E : Shelf) (q : Bytes) (s : Session) (b : ℕ) : Session → Typ
       → Event E q s b (session (s .phase) true [] (s .memory))
   -- the SID: "Called: we .. await the caller's SID, then its first turn."; "Partner has B: framed mode"
   sidOfCaller : (line : Bytes) → WholeLine s b line → s .phase ≡ awaitsSid false → (fs : List ℕ) → readSid line ≡ some fs → hasFeature 5 fs ≡ true
-      → Event E q s b (session (awaitsTurn false []) true [] (inMode (framed fs) (s .memory)))
+      → Event E q s b (session (awaitsTurn false []) true [] (withMode (framed fs) (s .memory)))
   -- "Caller: we await the SID, skip text lines until the prompt"
   sidOfCalled : (line : Bytes) → WholeLine s b line → s .phase ≡ awaitsSid true → (fs : List ℕ) → readSid line ≡ some fs → hasFeature 5 fs ≡ true
-      → Event E q s b (session awaitsPrompt true [] (inMode (framed fs) (s .memory)))
+      → Event E q s b (session awaitsPrompt true [] (withMode (framed fs) (s .memory)))
   textLine : (line : Bytes) → WholeLine s b line → s .phase ≡ awaitsPrompt → isPrompt line ≡ false
       → Event E q s b (session awaitsPrompt true [] (s .memory))
   -- "then send SID and first turn"
@@ -100,4 +117,4 @@ pub data Event (E : Shelf) (q : Bytes) (s : Session) (b : ℕ) : Session → Typ
   -- its last byte: "A message is kept at its last byte."; an LF after it is dropped if it is plain
   transferWhole : (p : Proposal) (reading : Scan) → (t : TransferByte s b p reading) → (heading body : Bytes)
       → parse (p .form) (q ++ (b ∷ [])) ≡ some (record { heading = heading; body = body; right = true }) → Fits E (s .memory .inbox) body
-      → Event E q s b (transfersOr E (isPlain (p .form)) [] (t .others) (keptIn (s .memory) (messageOf p (record { heading = heading; body = body }))))
+      → Event E q s b (transfersOr E (endsWithCr (p .form)) [] (t .others) (withMessage (s .memory) (messageOf p (record { heading = heading; body = body }))))

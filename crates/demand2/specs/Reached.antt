@@ -7,10 +7,12 @@ use Prim.Native.Nat.{ℕ, suc}
 use lib.Dec.{eqb}
 use lib.ListN.{length}
 use Rattle.grammar.specs.Bytes.{Bytes}
+use Rattle.grammar.specs.Answers.{Sign}
 use Rattle.session.specs.Choices.{Shelf}
-use Rattle.session.specs.Session.{Phase, awaitsSid, awaitsPrompt, leaving, over, awaitsTurn, awaitsAnswer, awaitsTransfer, Session, opened, ended}
+use Rattle.session.specs.Session.{Phase, awaitsSid, awaitsPrompt, leaving, over, awaitsTurn, awaitsAnswer, awaitsTransfer, Memory, Session, opened, ended}
 use Rattle.session.specs.Calls.{receive, give}
 use Rattle.demand2.specs.Refusals.{isDropped, SoFar}
+use Rattle.demand2.specs.Marks.{isIn, placesWith, AnswerLeaves}
 use Rattle.demand2.specs.OurTurn.{OurBlock}
 
 -- How many transfers are owed to us, the one under way with them.
@@ -47,3 +49,11 @@ pub record Sound (E : Shelf) (s : Session) (q : Bytes) : Type 0 where
   pub asked : (is : List ℕ) → s .phase ≡ awaitsAnswer is → OurBlock (E .table) (s .memory .framed) (s .memory .states) (s .memory .deferred) is
   -- after the end nothing waits: "After a refusal nothing more is sent"; "Give on an ended session writes nothing"
   pub silent : ended s ≡ true → s .out ≡ []
+
+-- The partner's valid FS line in such a session: these signs answer our block of the records at `is`, and the memory after it is as Marks says, for all
+-- 64 flags; no record is given two signs.
+pub record AnswerExact (E : Shelf) (s : Session) (is : List ℕ) (ss : List Sign) (after : Memory) : Type 0 where
+  pub leaves : AnswerLeaves is ss (s .memory) after
+  pub block : OurBlock (E .table) (s .memory .framed) (s .memory .states) (s .memory .deferred) is
+  pub flags : length (s .memory .deferred) ≡ 64
+  pub once : (x y : Sign) (k : ℕ) → isIn k (placesWith x is ss) ≡ true → isIn k (placesWith y is ss) ≡ true → x ≡ y
