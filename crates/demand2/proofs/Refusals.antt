@@ -79,7 +79,7 @@ module _ (E : Shelf) (q : Bytes) (s : Session) (b : ℕ) (H : Heeded s b) where
     where
       go : (c d : Bool) → isAllowed ff ps (readTurnLine (s .memory .framed) line) ≡ c → isMiscounted ps (readTurnLine (s .memory .framed) line) ≡ d → Found E q s b
       go false d x y = found no5 (inTurn ff ps line w x)
-      go true true x y = found no6 (record { answered = ff; proposals = ps; line = line; said = w; allowed = x; miscounted = y })
+      go true true x y = found no6 (record { ff = ff; proposals = ps; line = line; said = w; allowed = x; miscounted = y })
       go true false x y = turn-happened (readTurnLine (s .memory .framed) line) ff ps refl w x y
 
   answer-found : (is : List ℕ) → s .phase ≡ awaitsAnswer is → WholeLine s b line → Found E q s b

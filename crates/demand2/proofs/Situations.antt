@@ -72,7 +72,7 @@ module _ (E : Shelf) (s : Session) (b : ℕ) where
 
   wrong-count : WrongCount s b → Refuses E s b number.proposalCount
   wrong-count h =
-      turn-step E s b (h .answered) (h .proposals) (h .line) (h .said) ∙ miscounted (readTurnLine (s .memory .framed) (h .line)) (h .answered) (h .proposals) (h .miscounted)
+      turn-step E s b (h .ff) (h .proposals) (h .line) (h .said) ∙ miscounted (readTurnLine (s .memory .framed) (h .line)) (h .ff) (h .proposals) (h .miscounted)
 
   wrong-answer : WrongAnswer s b → Refuses E s b number.badAnswer
   wrong-answer h = answer-step (h .line) (h .answer) ∙ ap (refused s) (answer-number (h .line) (h .answer) true (h .begun))

@@ -1,5 +1,6 @@
 -- DEMAND 2, WHAT A BYTE DOES where it is not refused: every case, with what is awaited, what is kept and what waits for give after it, in
--- 01's order. `happens` and `complete` of proofs/Events show that a byte that is answered 0 does one of these things, and no other.
+-- 01's order. `happens` of proofs/Events shows that each leaves the session that it names, `complete` of proofs/Refusals that a byte that is answered 0
+-- does one of these things and no other (`complete-reached` of proofs/Reached: in every session that is reached).
 use mathlib.Core.Path.{_≡_}
 use mathlib.Core.Bool.{Bool, true, false}
 use mathlib.Core.Option.{some}
