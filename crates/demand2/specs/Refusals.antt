@@ -232,13 +232,24 @@ pub record Exact (E : Shelf) (q : Bytes) (s : Session) (b : ℕ) : Type 0 where
   pub leaves : (n : Refusal) → Situation E q s b n
       → step E s b .session ≡ record { phase = over; part = []; afterCr = false; out = []; memory = s .memory }
 
--- A live session: 12 is never given in it, and on an ended one nothing else is (`twelve` of proofs/Ended).
+-- ---------------------------------------------------------------- 12
+
+-- The session is over: "FQ received ends the session at its CR", a refusal ends it ("Besides ending the session"), and "Our FQ ends it when give has
+-- handed out its CR." (phase `leaving`: our FQ is said).
+pub data Over (s : Session) : Type 0 where
+  closed : s .phase ≡ over → Over s
+  fqGiven : s .phase ≡ leaving → s .out ≡ [] → Over s
+
+-- A live session: 12 is never given in it, and on one that is over nothing else is (`twelve` of proofs/Ended).
 abbrev pub Live : Session → Type 0
 Live s = ended s ≡ false
 
--- ---------------------------------------------------------------- 12
+-- Live is exactly what is not over.
+pub record LiveExact (s : Session) : Type 0 where
+  pub given : (Over s → ⊥) → Live s
+  pub only : Live s → Over s → ⊥
 
 -- 12: "receive on an ended session": "nothing consumed, nothing changed"
 pub record Exact12 (E : Shelf) (s : Session) (bs : Bytes) : Type 0 where
-  pub given : ended s ≡ true → receive E s bs ≡ record { answer = number.sessionEnded; count = 0; session = s }
-  pub only : receive E s bs .answer ≡ number.sessionEnded → ended s ≡ true
+  pub given : Over s → receive E s bs ≡ record { answer = number.sessionEnded; count = 0; session = s }
+  pub only : receive E s bs .answer ≡ number.sessionEnded → Over s
