@@ -49,7 +49,8 @@ module _ (E : Shelf) (s : Session) (b : ℕ) (L : Live s) where
     where
       go : (o : Scanned) → transferMoved E p ps s o .answer ≤ 11
       go (goes sc′) = omega arith
-      go (got t x) = omega (arith, ap (λ (o : Stepped). o .answer) (next E s (isPlain (p .form)) ps (keptIn (s .memory) (messageOf p (record { heading = t; body = x })))))
+      go (got t x) =
+          omega (arith, ap (λ (o : Stepped). o .answer) (next E s (isPlain (p .form)) ps (keptIn (s .memory) (messageOf p (record { heading = t; body = x })))))
       go malformed = omega arith
       go wrongSum = omega arith
       go noRoom = omega arith

@@ -66,7 +66,8 @@ module _ (E : Shelf) (q : Bytes) (s : Session) (b : ℕ) where
       ∙ ap (λ (c : Bool). lineMoved E s b (cond c ends (cond (ltb (length (s .part)) 256) grows overruns))) e
       ∙ ap (λ (c : Bool). lineMoved E s b (cond c grows overruns)) (lt-ltb (length (s .part)) 256 l)
 
-  goes-ignored : Heeded s b → awaitsLine (s .phase) ≡ true → b ≡ CR → isComment (trim (s .part)) ≡ true → step E s b ≡ moved (session (s .phase) true [] (s .memory))
+  goes-ignored : Heeded s b → awaitsLine (s .phase) ≡ true → b ≡ CR → isComment (trim (s .part)) ≡ true
+      → step E s b ≡ moved (session (s .phase) true [] (s .memory))
   goes-ignored h a e c =
       line-step E s b h a
       ∙ ap (λ (d : Bool). lineMoved E s b (cond d ends (cond (ltb (length (s .part)) 256) grows overruns))) (eq-eqb b CR e)
@@ -85,7 +86,8 @@ module _ (E : Shelf) (q : Bytes) (s : Session) (b : ℕ) where
       → step E s b ≡ moved (session (awaitsTurn false []) true (transfersText (E .table) (accepted ss is)) (answerMarks is ss (s .memory)))
   goes-answer ln is ss w p r = phase-step E s b ln (awaitsAnswer is) w p refl ∙ rw (w .judged, r)
 
-  goes-ff : (ln : Bytes) → TurnSaid s b false [] ln → readTurnLine (s .memory .framed) ln ≡ saysFF → step E s b ≡ moved (weSpeak E true true [] (turnMarks (s .memory)))
+  goes-ff : (ln : Bytes) → TurnSaid s b false [] ln → readTurnLine (s .memory .framed) ln ≡ saysFF
+      → step E s b ≡ moved (weSpeak E true true [] (turnMarks (s .memory)))
   goes-ff ln w r = turn-step E s b false [] ln w ∙ rw r (speaks E s true [] true (proposed E (turnMarks (s .memory))) (turnMarks (s .memory)))
 
   goes-block : (ln : Bytes) (ff : Bool) (p : Proposal) (ps : List Proposal) → TurnSaid s b ff (p ∷ ps) ln → readTurnLine (s .memory .framed) ln ≡ endsBlock
@@ -95,7 +97,8 @@ module _ (E : Shelf) (q : Bytes) (s : Session) (b : ℕ) where
       turn-step E s b ff (p ∷ ps) ln w ∙ rw r (answers E s true ss (accepted ss (p ∷ ps)) (turnMarks (s .memory)))
 
   module _ (S : SoFar E (s .phase) (s .memory) q) where
-    goes-transfer : (p : Proposal) (sc : Scan) (t : TransferByte s b p sc) (o : Scanned) → scanByte (room E (s .memory .inbox)) sc b ≡ o → step E s b ≡ transferMoved E p (t .others) s o
+    goes-transfer : (p : Proposal) (sc : Scan) (t : TransferByte s b p sc) (o : Scanned) → scanByte (room E (s .memory .inbox)) sc b ≡ o
+        → step E s b ≡ transferMoved E p (t .others) s o
     goes-transfer p sc t o e = transfer-step E s b p sc t ∙ ap (transferMoved E p (t .others) s) e
 
     pub happens : (t : Session) → Event E q s b t → step E s b ≡ moved t
@@ -114,12 +117,15 @@ module _ (E : Shelf) (q : Bytes) (s : Session) (b : ℕ) where
     happens t (fsLineComes ln is w p ss r m l) =
         goes-answer ln is ss w p r
         ∙ ap (λ (l : List ℕ). moved (session (awaitsTurn false []) true (transfersText (E .table) l) (answerMarks is ss (s .memory)))) (accepted-is is ss)
-        ∙ ap (λ (n : Memory). moved (session (awaitsTurn false []) true (transfersText (E .table) (placesWith accept is ss)) n)) (sym (answer-only is ss (s .memory) m l))
+        ∙ ap (λ (n : Memory). moved (session (awaitsTurn false []) true (transfersText (E .table) (placesWith accept is ss)) n))
+        (sym (answer-only is ss (s .memory) m l))
     happens t (transferGrows p sc sc′ u e) = goes-transfer p sc u (goes sc′) (sym (scan-more E s b q p sc u S) ∙ e)
     happens t (transferWhole p sc u h x e l) =
-        goes-transfer p sc u (got h x) (sym (scan-more E s b q p sc u S) ∙ whole-got (room E (s .memory .inbox)) (p .form) (q ++ (b ∷ [])) h x e (fits-within E (s .memory .inbox) x l))
+        goes-transfer p sc u (got h x)
+        (sym (scan-more E s b q p sc u S) ∙ whole-got (room E (s .memory .inbox)) (p .form) (q ++ (b ∷ [])) h x e (fits-within E (s .memory .inbox) x l))
         ∙ next E s (isPlain (p .form)) (u .others) (keptIn (s .memory) (messageOf p (record { heading = h; body = x })))
-        ∙ ap (λ (c : Bool). moved (transfersOr E c [] (u .others) (withMessage (s .memory) (messageOf p (record { heading = h; body = x }))))) (plain-is (p .form))
+        ∙ ap (λ (c : Bool). moved (transfersOr E c [] (u .others) (withMessage (s .memory) (messageOf p (record { heading = h; body = x })))))
+        (plain-is (p .form))
 
 -- ---------------------------------------------------------------- what the partner's lines leave of the memory
 
@@ -133,7 +139,8 @@ module _ (E : Shelf) (s : Session) (b : ℕ) (ln : Bytes) where
   pub fs-leaves : (is : List ℕ) (ss : List Sign) → WholeLine s b ln → s .phase ≡ awaitsAnswer is → readFs (length is) ln ≡ some ss
       → AnswerLeaves is ss (s .memory) (step E s b .session .memory)
   fs-leaves is ss w p r =
-      subst (AnswerLeaves is ss (s .memory)) (sym (ap (λ (o : Stepped). o .session .memory) (goes-answer E [] s b ln is ss w p r))) (answer-marks is ss (s .memory))
+      subst (AnswerLeaves is ss (s .memory)) (sym (ap (λ (o : Stepped). o .session .memory) (goes-answer E [] s b ln is ss w p r)))
+      (answer-marks is ss (s .memory))
 
   -- ITS WHOLE TURN: FF
   pub ff-leaves : TurnSaid s b false [] ln → readTurnLine (s .memory .framed) ln ≡ saysFF → TurnLeaves (s .memory) (step E s b .session .memory)

@@ -96,7 +96,8 @@ turn-marks m =
 -- ---------------------------------------------------------------- and no others
 
 -- a memory by its five parts
-pub memory-is : (m n : Memory) → m .framed ≡ n .framed → m .states ≡ n .states → m .sending ≡ n .sending → m .inbox ≡ n .inbox → m .deferred ≡ n .deferred → m ≡ n
+pub memory-is : (m n : Memory) → m .framed ≡ n .framed → m .states ≡ n .states → m .sending ≡ n .sending → m .inbox ≡ n .inbox
+    → m .deferred ≡ n .deferred → m ≡ n
 memory-is m n a b c d e =
     ap (λ (x : Bool). record { framed = x; states = m .states; sending = m .sending; inbox = m .inbox; deferred = m .deferred }) a
     ∙ ap (λ (x : List ℕ). record { framed = n .framed; states = x; sending = m .sending; inbox = m .inbox; deferred = m .deferred }) b
@@ -113,18 +114,18 @@ pub answer-only : (is : List ℕ) (ss : List Sign) (m n : Memory) → AnswerLeav
 answer-only is ss m n a =
     let z = answer-marks is ss m in
     memory-is n (answerMarks is ss m) (a .mode)
-    (alike (λ (k : ℕ). cond (isIn k (placesWith decline is ss)) 2 (getD (m .states) k 0)) (m .states) (n .states) (declined is ss (m .states)) (a .records) (z .records)
-    (a .state) (z .state))
+    (alike (λ (k : ℕ). cond (isIn k (placesWith decline is ss)) 2 (getD (m .states) k 0)) (m .states) (n .states) (declined is ss (m .states))
+    (a .records) (z .records) (a .state) (z .state))
     (a .sending ∙ sym (z .sending)) (a .inbox)
-    (alike (λ (k : ℕ). cond (isIn k (placesWith defer is ss)) 1 (getD (m .deferred) k 0)) (m .deferred) (n .deferred) (deferring is ss (m .deferred)) (a .flags) (z .flags)
-    (a .flag) (z .flag))
+    (alike (λ (k : ℕ). cond (isIn k (placesWith defer is ss)) 1 (getD (m .deferred) k 0)) (m .deferred) (n .deferred) (deferring is ss (m .deferred))
+    (a .flags) (z .flags) (a .flag) (z .flag))
 
 pub turn-only : (m n : Memory) → TurnLeaves m n → n ≡ turnMarks m
 turn-only m n a =
     let z = turn-marks m in
     memory-is n (turnMarks m) (a .mode)
-    (alike (λ (k : ℕ). cond (isIn k (m .sending)) 1 (getD (m .states) k 0)) (m .states) (n .states) (marked (m .sending) (m .states)) (a .records) (z .records)
-    (a .state) (z .state))
+    (alike (λ (k : ℕ). cond (isIn k (m .sending)) 1 (getD (m .states) k 0)) (m .states) (n .states) (marked (m .sending) (m .states))
+    (a .records) (z .records) (a .state) (z .state))
     (a .sending) (a .inbox) (a .deferred)
 
 -- ---------------------------------------------------------------- one sign a record

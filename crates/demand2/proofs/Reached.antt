@@ -96,7 +96,8 @@ module _ (E : Shelf) where
       let n = turnMarks m in
       answering-fair (answersTo E (n .inbox) (p ∷ ps)) (accepted (answersTo E (n .inbox) (p ∷ ps)) (p ∷ ps)) n
   said-fair notAllowed ff ps m = tt
-  said-fair (proposes q) ff ps m = fair-if (ltb (length ps) 5) (goesOn (awaitsTurn ff (ps ++ (q ∷ []))) m []) _ (alive (awaitsTurn ff (ps ++ (q ∷ []))) m [] refl refl tt) tt
+  said-fair (proposes q) ff ps m =
+      fair-if (ltb (length ps) 5) (goesOn (awaitsTurn ff (ps ++ (q ∷ []))) m []) _ (alive (awaitsTurn ff (ps ++ (q ∷ []))) m [] refl refl tt) tt
 
   sid-fair : (c : Bool) (m : Memory) (o : Option (List ℕ)) → Fair E (sidJudged c m o)
   sid-fair c m none = tt
@@ -120,7 +121,8 @@ module _ (E : Shelf) where
   line-fair (awaitsTurn ff ps) m ln k =
       fair-if (isComment ln) (goesOn (awaitsTurn ff ps) m []) _ (alive (awaitsTurn ff ps) m [] refl refl tt) (said-fair (readTurnLine (m .framed) ln) ff ps m)
   line-fair (awaitsAnswer is) m ln k =
-      fair-if (isComment ln) (goesOn (awaitsAnswer is) m []) _ (tt, k, λ e. absurd (no-both false e refl)) (answer-fair is m (fsNumber (length is) ln) (readFs (length is) ln))
+      fair-if (isComment ln) (goesOn (awaitsAnswer is) m []) _ (tt, k, λ e. absurd (no-both false e refl))
+      (answer-fair is m (fsNumber (length is) ln) (readFs (length is) ln))
   line-fair (awaitsTransfer p ps sc) m ln k = tt
   line-fair leaving m ln k = tt
   line-fair over m ln k = tt
@@ -140,7 +142,8 @@ module _ (E : Shelf) where
 
   line-sound : (s : Session) (b : ℕ) (l : LineByte) → Sound E s [] → Sound E (lineMoved E s b l .session) []
   line-sound s b dropped h = h
-  line-sound s b ends h = settled-sound s true (lineJudged E (s .phase) (s .memory) (trim (s .part))) (line-fair (s .phase) (s .memory) (trim (s .part)) (h .asked))
+  line-sound s b ends h =
+      settled-sound s true (lineJudged E (s .phase) (s .memory) (trim (s .part))) (line-fair (s .phase) (s .memory) (trim (s .part)) (h .asked))
   line-sound s b grows h = record { soFar = h .soFar; between = h .between; asked = h .asked; silent = h .silent }
   line-sound s b overruns h = refused-sound s 2
 
@@ -188,8 +191,9 @@ module _ (E : Shelf) where
     refuses-sound : (n : ℕ) → Sound E (refused s n .session) (with (refused s n .session))
     refuses-sound n = begins (refused s n .session) (to-none (owed (s .phase))) (refused-sound s n)
 
-    transfer-sound : (p : Proposal) (ps : List Proposal) (sc : Scan) → s .phase ≡ awaitsTransfer p ps sc → scan (room E (s .memory .inbox)) (p .form) q ≡ goes sc
-        → (o : Scanned) → scanByte (room E (s .memory .inbox)) sc b ≡ o → Sound E (transferMoved E p ps s o .session) (with (transferMoved E p ps s o .session))
+    transfer-sound : (p : Proposal) (ps : List Proposal) (sc : Scan) → s .phase ≡ awaitsTransfer p ps sc
+        → scan (room E (s .memory .inbox)) (p .form) q ≡ goes sc → (o : Scanned) → scanByte (room E (s .memory .inbox)) sc b ≡ o
+        → Sound E (transferMoved E p ps s o .session) (with (transferMoved E p ps s o .session))
     transfer-sound p ps sc a e (goes sc′) f =
         subst (λ (c : Bool). Sound E (transferMoved E p ps s (goes sc′) .session) (cond c (q ++ (b ∷ [])) []))
         (sym (ap (λ (r : Phase). sameTransfer (owed r) (suc (length ps))) a ∙ to-same (length ps)))
@@ -203,7 +207,8 @@ module _ (E : Shelf) where
         let m = keptIn (s .memory) (messageOf p (record { heading = h; body = x })) in
         let t : Session = settled s (isPlain (p .form)) (nextTransfer E ps m) .session in
         begins t
-        (ap (λ (r : Phase). sameTransfer (owed r) (owed (t .phase))) a ∙ ap (sameTransfer (suc (length ps))) (one-less ps m s (isPlain (p .form))) ∙ to-next (length ps))
+        (ap (λ (r : Phase). sameTransfer (owed r) (owed (t .phase))) a
+        ∙ ap (sameTransfer (suc (length ps))) (one-less ps m s (isPlain (p .form))) ∙ to-next (length ps))
         (settled-sound s (isPlain (p .form)) (nextTransfer E ps m) (next-fair ps m))
     transfer-sound p ps sc a e malformed f = refuses-sound 8
     transfer-sound p ps sc a e wrongSum f = refuses-sound 9
@@ -212,7 +217,8 @@ module _ (E : Shelf) where
     -- where a line is awaited
     lines-sound : owed (s .phase) ≡ 0 → Sound E s q → (l : LineByte) → Sound E (lineMoved E s b l .session) (with (lineMoved E s b l .session))
     lines-sound a h l =
-        begins (lineMoved E s b l .session) (ap (λ (n : ℕ). sameTransfer n (owed (lineMoved E s b l .session .phase))) a ∙ from-none (owed (lineMoved E s b l .session .phase)))
+        begins (lineMoved E s b l .session)
+        (ap (λ (n : ℕ). sameTransfer n (owed (lineMoved E s b l .session .phase))) a ∙ from-none (owed (lineMoved E s b l .session .phase)))
         (line-sound s b l (subst (Sound E s) (h .between a) h))
 
     phase-sound : (p : Phase) → s .phase ≡ p → Sound E s q → Sound E (phaseStep E p s b .session) (with (phaseStep E p s b .session))

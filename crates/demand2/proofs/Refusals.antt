@@ -127,15 +127,10 @@ module _ (E : Shelf) (q : Bytes) (s : Session) (b : ℕ) (H : Heeded s b) where
       go malformed x k = found no8 (record { proposal = p; reading = sc; within = w; hopeless = exact-8 (room E (s .memory .inbox)) (p .form) q sc T b .0 x })
       go wrongSum x k = wrong (parse (p .form) (q ++ (b ∷ []))) refl (k .0)
       go noRoom x k =
-          let t = and2 (isBodyByte sc b) (not (ltb (length (bodyOf sc)) (room E (s .memory .inbox)))) (sym (exact-10 (room E (s .memory .inbox)) sc b) ∙ ap isTen x) in
-          found no10
-          (record {
-            proposal = p;
-            reading = sc;
-            within = w;
-            body = t .0;
-            full = at-full E (s .memory .inbox) (bodyOf sc) (ltb-false (length (bodyOf sc)) (room E (s .memory .inbox)) (not-true (ltb (length (bodyOf sc)) (room E (s .memory .inbox))) (t .1)));
-          })
+          let n = room E (s .memory .inbox) in
+          let t = and2 (isBodyByte sc b) (not (ltb (length (bodyOf sc)) n)) (sym (exact-10 n sc b) ∙ ap isTen x) in
+          let l = ltb-false (length (bodyOf sc)) n (not-true (ltb (length (bodyOf sc)) n) (t .1)) in
+          found no10 (record { proposal = p; reading = sc; within = w; body = t .0; full = at-full E (s .memory .inbox) (bodyOf sc) l })
 
 module _ (E : Shelf) (q : Bytes) (s : Session) (b : ℕ) (L : Live s) (S : SoFar E (s .phase) (s .memory) q) where
   -- an ended session is not live

@@ -102,7 +102,8 @@ module _ (E : Shelf) (s : Session) (b : ℕ) where
       let sc = h .reading in
       let t : isTen (scanByte n sc b) ≡ true =
       exact-10 n sc b
-      ∙ both (isBodyByte sc b) (not (ltb (length (bodyOf sc)) n)) (h .body) (ap not (le-ltb (length (bodyOf sc)) n (full-at E (s .memory .inbox) (bodyOf sc) (h .full)))) in
+      ∙ both (isBodyByte sc b) (not (ltb (length (bodyOf sc)) n)) (h .body)
+      (ap not (le-ltb (length (bodyOf sc)) n (full-at E (s .memory .inbox) (bodyOf sc) (h .full)))) in
       transfer-step E s b (h .proposal) sc (h .within) ∙ ap (transferMoved E (h .proposal) (h .within .others) s) (ten (scanByte n sc b) t)
     where
       ten : (o : Scanned) → isTen o ≡ true → o ≡ noRoom

@@ -39,7 +39,8 @@ use Rattle.demand2.proofs.Portions.{live-receive, one, receive-byte, tw
 -- a byte after which a live session goes on
 more : (E : Shelf) (s t : Session) (b : ℕ) (bs : Bytes) → step E s b ≡ moved t → ended t ≡ false → receiveOn E s (b ∷ bs) ≡ oneMore (receiveOn E t bs)
 more E s t b bs e l =
-    ap (λ (o : Stepped). cond (stops o) (stoppedAt o) (oneMore (receiveOn E (o .session) bs))) e ∙ ap (λ (c : Bool). cond c (stoppedAt (moved t)) (oneMore (receiveOn E t bs))) l
+    ap (λ (o : Stepped). cond (stops o) (stoppedAt o) (oneMore (receiveOn E (o .session) bs))) e
+    ∙ ap (λ (c : Bool). cond c (stoppedAt (moved t)) (oneMore (receiveOn E t bs))) l
 
 -- ---------------------------------------------------------------- a line
 
@@ -138,7 +139,7 @@ bodyIn (some t) = t .body
 
 module _ (E : Shelf) (p : Proposal) (ps : List Proposal) (m : Memory) where
   -- a session where the transfer of p is awaited and its reading stands here
-  abbrev reading : Scan → Session
+  abbrev pub reading : Scan → Session
   reading sc = session (awaitsTransfer p ps sc) false [] m
 
   -- an outcome other than going on stays
@@ -165,7 +166,8 @@ module _ (E : Shelf) (p : Proposal) (ps : List Proposal) (m : Memory) where
   transfer-more (b ∷ u) sc sc′ e = go (scanByte (room E (m .inbox)) sc b) refl e (λ x k. transfer-more u x sc′ k)
     where
       go : (o : Scanned) → scanByte (room E (m .inbox)) sc b ≡ o → scanOn (room E (m .inbox)) o u ≡ goes sc′
-          → ((x : Scan) → scanOn (room E (m .inbox)) (goes x) u ≡ goes sc′ → receiveOn E (reading x) u ≡ record { answer = 0; count = length u; session = reading sc′ })
+          → ((x : Scan) → scanOn (room E (m .inbox)) (goes x) u ≡ goes sc′
+          → receiveOn E (reading x) u ≡ record { answer = 0; count = length u; session = reading sc′ })
           → receiveOn E (reading sc) (b ∷ u) ≡ record { answer = 0; count = suc (length u); session = reading sc′ }
       go (goes x) q e ih = more E (reading sc) (reading x) b u (ap (transferMoved E p ps (reading sc)) q) refl ∙ ap oneMore (ih x e)
       go (got h x) q e ih = let z : got h x ≡ goes sc′ = sym (not-got h x u) ∙ e in cc
@@ -187,7 +189,8 @@ module _ (E : Shelf) (p : Proposal) (ps : List Proposal) (m : Memory) where
   last h x q sc b e (got t y) g k =
       let z : right t y ≡ right h x = sym (k .0) ∙ e in
       one E (reading sc) b
-      ∙ ap stoppedAt (ap (transferMoved E p ps (reading sc)) g ∙ next E (reading sc) (isPlain (p .form)) ps (keptIn m (messageOf p (record { heading = t; body = y }))))
+      ∙ ap stoppedAt
+      (ap (transferMoved E p ps (reading sc)) g ∙ next E (reading sc) (isPlain (p .form)) ps (keptIn m (messageOf p (record { heading = t; body = y }))))
       ∙ ap (λ (c : Bool). stoppedAt (moved (transfersOr E c [] ps (withMessage m (messageOf p (record { heading = t; body = y })))))) (plain-is (p .form))
       ∙ ap (λ (o : Option Parsed). record { answer = 0; count = 1; session = keptThen (headingIn o) (bodyIn o) }) z
   last h x q sc b e malformed g k = gone h x (parse (p .form) (q ++ (b ∷ []))) (ap (parse (p .form)) (sym (append-nil (q ++ (b ∷ [])))) ∙ k []) e
@@ -195,8 +198,8 @@ module _ (E : Shelf) (p : Proposal) (ps : List Proposal) (m : Memory) where
   last h x q sc b e noRoom g k = gone h x (parse (p .form) (q ++ (b ∷ []))) (k .2) e
 
   -- after q, the bytes u make it whole
-  kept-after : (h x u q : Bytes) (sc : Scan) → Reach (room E (m .inbox)) (p .form) (goes sc) q → parse (p .form) (q ++ u) ≡ right h x → length x ≤ room E (m .inbox)
-      → receiveOn E (reading sc) u ≡ record { answer = 0; count = length u; session = keptThen h x }
+  kept-after : (h x u q : Bytes) (sc : Scan) → Reach (room E (m .inbox)) (p .form) (goes sc) q → parse (p .form) (q ++ u) ≡ right h x
+      → length x ≤ room E (m .inbox) → receiveOn E (reading sc) u ≡ record { answer = 0; count = length u; session = keptThen h x }
   kept-after h x [] q sc r e l = gone h x (parse (p .form) (q ++ [])) (r .0 [] ∙ rest-nil sc) e
   kept-after h x (b ∷ []) q sc r e l = last h x q sc b e (scanByte (room E (m .inbox)) sc b) refl (exact-at (room E (m .inbox)) (p .form) q sc r b)
   kept-after h x (b ∷ c ∷ u) q sc r e l =
@@ -206,8 +209,8 @@ module _ (E : Shelf) (p : Proposal) (ps : List Proposal) (m : Memory) where
       whole : parse (p .form) ((q ++ (b ∷ [])) ++ c ∷ u) ≡ right h x
       whole = ap (parse (p .form)) (snoc-cons q (c ∷ u) b) ∙ e
 
-      go : (o : Scanned) → scanByte (room E (m .inbox)) sc b ≡ o → Verdict (room E (m .inbox)) (p .form) o (q ++ (b ∷ [])) → Reach (room E (m .inbox)) (p .form) o (q ++ (b ∷ []))
-          → ((sc′ : Scan) → Reach (room E (m .inbox)) (p .form) (goes sc′) (q ++ (b ∷ []))
+      go : (o : Scanned) → scanByte (room E (m .inbox)) sc b ≡ o → Verdict (room E (m .inbox)) (p .form) o (q ++ (b ∷ []))
+          → Reach (room E (m .inbox)) (p .form) o (q ++ (b ∷ [])) → ((sc′ : Scan) → Reach (room E (m .inbox)) (p .form) (goes sc′) (q ++ (b ∷ []))
           → receiveOn E (reading sc′) (c ∷ u) ≡ record { answer = 0; count = suc (length u); session = keptThen h x })
           → receiveOn E (reading sc) (b ∷ c ∷ u) ≡ record { answer = 0; count = suc (suc (length u)); session = keptThen h x }
       go (goes sc′) g k r′ ih = more E (reading sc) (reading sc′) b (c ∷ u) (ap (transferMoved E p ps (reading sc)) g) refl ∙ ap oneMore (ih sc′ r′)

@@ -113,8 +113,9 @@ pub data Event (E : Shelf) (q : Bytes) (s : Session) (b : ℕ) : Session → Typ
       → (after : Memory) → AnswerLeaves is ss (s .memory) after
       → Event E q s b (session (awaitsTurn false []) true (transfersText (E .table) (placesWith accept is ss)) after)
   -- a byte of a transfer
-  transferGrows : (p : Proposal) (reading onward : Scan) → (t : TransferByte s b p reading) → scan (room E (s .memory .inbox)) (p .form) (q ++ (b ∷ [])) ≡ goes onward
-      → Event E q s b (record { phase = awaitsTransfer p (t .others) onward; part = s .part; afterCr = false; out = s .out; memory = s .memory })
+  transferGrows : (p : Proposal) (reading onward : Scan) → (t : TransferByte s b p reading)
+      → scan (room E (s .memory .inbox)) (p .form) (q ++ (b ∷ [])) ≡ goes onward → Event E q s b
+      (record { phase = awaitsTransfer p (t .others) onward; part = s .part; afterCr = false; out = s .out; memory = s .memory })
   -- its last byte: "A message is kept at its last byte."; an LF after it is dropped if it is plain
   transferWhole : (p : Proposal) (reading : Scan) → (t : TransferByte s b p reading) → (heading body : Bytes)
       → parse (p .form) (q ++ (b ∷ [])) ≡ some (record { heading = heading; body = body; right = true }) → Fits E (s .memory .inbox) body
