@@ -11,7 +11,8 @@ use Rattle.grammar.specs.Bytes.{all}
 use Rattle.grammar.proofs.Basics.{and2, both, or-right, no-both}
 use Rattle.mail.specs.Mail.{Record, recordAt}
 use Rattle.session.specs.Choices.{wanted, candidates}
-use Rattle.demand2.specs.OurTurn.{mayPropose, isIn, rising}
+use Rattle.demand2.specs.Marks.{isIn}
+use Rattle.demand2.specs.OurTurn.{mayPropose, rising}
 
 -- ---------------------------------------------------------------- lists of places
 

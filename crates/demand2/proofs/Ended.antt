@@ -1,4 +1,4 @@
--- 12 EXACTLY ON AN ENDED SESSION. Idea: a byte that comes to a live session is answered with 11 at most, and a portion goes on only while the
+-- 12 EXACTLY ON A SESSION THAT IS OVER. Idea: a byte that comes to a live session is answered with 11 at most, and a portion goes on only while the
 -- session lives.
 use mathlib.Core.Path.{_≡_, refl, sym, ap, _∙_, subst}
 use mathlib.Core.Bool.{Bool, true, false, cond, not}
@@ -6,16 +6,17 @@ use mathlib.Core.List.{List, [], _∷_}
 use Prim.Native.Nat.{ℕ, _≤_}
 use native.Mathlib.Omega.{arith}
 use lib.Dec.{eqb}
-use Rattle.grammar.specs.Bytes.{Bytes}
+use Rattle.grammar.specs.Bytes.{Bytes, null}
 use Rattle.grammar.specs.Refusals as number
 use Rattle.grammar.specs.Turns.{Proposal}
 use Rattle.grammar.specs.Scan.{Scan, Scanned, goes, got, malformed, wrongSum, noRoom, scanByte}
-use Rattle.grammar.proofs.Basics.{or2, no-both}
+use Rattle.grammar.proofs.Basics.{not-so, or2, no-both}
 use Rattle.mail.specs.Mail.{messageOf}
 use Rattle.session.specs.Choices.{Shelf}
-use Rattle.session.specs.Session.{Phase, awaitsSid, awaitsPrompt, leaving, over, awaitsTurn, awaitsAnswer, awaitsTransfer, Session, Stepped, isPlain, keptIn, transferMoved, roomFor, moved, freeStep, lfDropped, step, ended, endedIn}
+use Rattle.session.specs.Session.{Phase, awaitsSid, awaitsPrompt, leaving, over, awaitsTurn, awaitsAnswer, awaitsTransfer, Session, Stepped, isPlain, keptIn, transferMoved, moved, freeStep, lfDropped, step, ended, endedIn}
 use Rattle.session.specs.Calls.{oneMore, stoppedAt, stops, receiveOn, receive}
-use Rattle.demand2.specs.Refusals.{isDropped, Heeded, awaitsLine, SoFar, numberOf, Live, Exact12}
+use Rattle.demand2.specs.Room.{room}
+use Rattle.demand2.specs.Refusals.{isDropped, Heeded, awaitsLine, SoFar, numberOf, Over, closed, fqGiven, Live, LiveExact, Exact12}
 use Rattle.demand2.proofs.Refusals.{Found, happened, found, some-number, line-found}
 use Rattle.demand2.proofs.Situations.{refuses-with}
 use Rattle.demand2.proofs.Steps.{transfer-step}
@@ -44,11 +45,12 @@ module _ (E : Shelf) (s : Session) (b : ℕ) (L : Live s) where
   transfer-low : Heeded s b → (p : Proposal) (ps : List Proposal) (sc : Scan) → s .phase ≡ awaitsTransfer p ps sc → step E s b .answer ≤ 11
   transfer-low h p ps sc e =
       subst (λ (n : ℕ). n ≤ 11) (sym (ap (λ (o : Stepped). o .answer) (transfer-step E s b p sc (record { heeded = h; others = ps; awaited = e }))))
-      (go (scanByte (roomFor E (s .memory)) sc b))
+      (go (scanByte (room E (s .memory .inbox)) sc b))
     where
       go : (o : Scanned) → transferMoved E p ps s o .answer ≤ 11
       go (goes sc′) = omega arith
-      go (got t x) = omega (arith, ap (λ (o : Stepped). o .answer) (next E s (isPlain (p .form)) ps (keptIn (s .memory) (messageOf p (record { heading = t; body = x })))))
+      go (got t x) =
+          omega (arith, ap (λ (o : Stepped). o .answer) (next E s (isPlain (p .form)) ps (keptIn (s .memory) (messageOf p (record { heading = t; body = x })))))
       go malformed = omega arith
       go wrongSum = omega arith
       go noRoom = omega arith
@@ -82,10 +84,34 @@ portion-low E (b ∷ bs) s L = go (stops (step E s b)) refl (λ l. portion-low E
     go true e ih = byte-low E s b L
     go false e ih = ih (or2 (not (eqb (step E s b .answer) 0)) (ended (step E s b .session)) e .1)
 
+-- ---------------------------------------------------------------- over
+
+over-ended : (s : Session) → Over s → ended s ≡ true
+over-ended s (closed e) = ap (λ (p : Phase). endedIn p (s .out)) e
+over-ended s (fqGiven e o) = ap (λ (p : Phase). endedIn p (s .out)) e ∙ ap null o
+
+ended-over : (s : Session) → ended s ≡ true → Over s
+ended-over s h = go (s .phase) (s .out) refl refl h
+  where
+    go : (p : Phase) (o : Bytes) → s .phase ≡ p → s .out ≡ o → endedIn p o ≡ true → Over s
+    go (awaitsSid c) o e f h = absurd (no-both false h refl)
+    go awaitsPrompt o e f h = absurd (no-both false h refl)
+    go (awaitsTurn ff ps) o e f h = absurd (no-both false h refl)
+    go (awaitsAnswer is) o e f h = absurd (no-both false h refl)
+    go (awaitsTransfer p ps sc) o e f h = absurd (no-both false h refl)
+    go leaving [] e f h = fqGiven e f
+    go leaving (x ∷ o) e f h = absurd (no-both false h refl)
+    go over o e f h = closed e
+
+-- LIVE IS EXACTLY WHAT IS NOT OVER
+pub live-exact : (s : Session) → LiveExact s
+live-exact s =
+    record { given = λ n. not-so (ended s) (λ e. n (ended-over s e)); only = λ L o. no-both (ended s) (over-ended s o) L }
+
 -- 12 IS EXACT
 pub twelve : (E : Shelf) (s : Session) (bs : Bytes) → Exact12 E s bs
 unfolding receive
-twelve E s bs = record { given = λ e. rw e; only = λ e. go (ended s) refl e }
+twelve E s bs = record { given = λ o. rw (over-ended s o); only = λ e. ended-over s (go (ended s) refl e) }
   where
     go : (c : Bool) → ended s ≡ c → (cond c (record { answer = number.sessionEnded; count = 0; session = s }) (receiveOn E s bs)) .answer ≡ 12 → c ≡ true
     go true e f = refl

@@ -1,24 +1,30 @@
 -- WHAT A BYTE DOES: each event leaves the session that it names (`happens`). That there are no others is `complete` of proofs/Refusals.
 -- Idea: the step of each kind of byte (proofs/Steps), with what the event says put in.
-use mathlib.Core.Path.{_≡_, refl, sym, ap, _∙_}
+use mathlib.Core.Path.{_≡_, refl, sym, ap, _∙_, subst}
 use mathlib.Core.Bool.{Bool, true, false, cond}
+use mathlib.Core.Option.{some}
 use mathlib.Core.List.{List, [], _∷_, _++_}
 use Prim.Native.Nat.{ℕ, _<_}
 use lib.Dec.{eqb, ltb}
 use lib.ListN.{length}
 use borrow.Author.Tests.{eq-eqb, lt-ltb}
 use Rattle.grammar.specs.Bytes.{Bytes, CR}
+use Rattle.grammar.specs.Fields.{Form, plain, message, file}
 use Rattle.grammar.specs.Lines.{ends, grows, overruns, trim, isComment}
-use Rattle.grammar.specs.Turns.{Proposal, fixedText, ourSid, withCr}
-use Rattle.grammar.specs.Answers.{Sign, fsLine}
+use Rattle.grammar.specs.Turns.{Proposal, saysFF, endsBlock, readTurnLine, fixedText, ourSid, withCr}
+use Rattle.grammar.specs.Answers.{Sign, accept, readFs, fsLine}
 use Rattle.grammar.specs.Scan.{Scan, Scanned, goes, got, scanByte}
 use Rattle.grammar.proofs.Basics.{no-both}
 use Rattle.grammar.proofs.Refusal.{whole-got}
-use Rattle.mail.specs.Mail.{messageOf, accepted}
+use Rattle.mail.specs.Mail.{messageOf, transfersText, accepted}
 use Rattle.session.specs.Choices.{Shelf, answersTo}
-use Rattle.session.specs.Session.{Phase, awaitsSid, awaitsPrompt, leaving, over, awaitsTurn, awaitsAnswer, awaitsTransfer, Memory, Session, goesOn, speaking, turnMarks, answering, lineJudged, moved, settled, lineMoved, isPlain, keptIn, nextTransfer, transferMoved, roomFor, freeStep, lfDropped, step}
-use Rattle.demand2.specs.Refusals.{isDropped, Heeded, awaitsLine, SoFar, TransferByte}
-use Rattle.demand2.specs.Events.{session, proposed, turnSaid, turnAwaits, transfersOr, Event, lfGoes, lineGrows, ignored, callerSid, calledSid, textLine, prompt, proposal, ffTurn, fqTurn, blockEnd, fsLineComes, transferGrows, transferWhole}
+use Rattle.session.specs.Session.{Phase, awaitsSid, awaitsPrompt, leaving, over, awaitsTurn, awaitsAnswer, awaitsTransfer, Memory, Session, goesOn, speaking, turnMarks, answering, answerMarks, lineJudged, Stepped, moved, settled, lineMoved, isPlain, keptIn, nextTransfer, transferMoved, freeStep, lfDropped, step}
+use Rattle.demand2.specs.Room.{room}
+use Rattle.demand2.specs.Marks.{placesWith, AnswerLeaves, TurnLeaves}
+use Rattle.demand2.specs.Refusals.{isDropped, Heeded, awaitsLine, WholeLine, TurnSaid, SoFar, TransferByte}
+use Rattle.demand2.specs.Events.{session, withMessage, endsWithCr, proposed, turnSaid, turnAwaits, weSpeak, transfersOr, Event, lfGoes, lineGrows, ignored, sidOfCaller, sidOfCalled, textLine, prompt, proposal, ffTurn, fqTurn, blockEnd, fsLineComes, transferGrows, transferWhole}
+use Rattle.demand2.proofs.Room.{fits-within}
+use Rattle.demand2.proofs.Marks.{accepted-is, answer-marks, turn-marks, answer-only, turn-only}
 use Rattle.demand2.proofs.Steps.{line-step, phase-step, transfer-step, turn-step, scan-more}
 
 -- ---------------------------------------------------------------- our turn
@@ -34,6 +40,11 @@ answers : (E : Shelf) (s : Session) (cr : Bool) (ss : List Sign) (ps : List Prop
 answers E s cr ss [] m = speaks E s cr (withCr (fsLine ss)) false (proposed E m) m
 answers E s cr ss (p ∷ ps) m = refl
 
+pub plain-is : (f : Form) → isPlain f ≡ endsWithCr f
+plain-is plain = refl
+plain-is message = refl
+plain-is file = refl
+
 pub next : (E : Shelf) (s : Session) (cr : Bool) (ps : List Proposal) (m : Memory) → settled s cr (nextTransfer E ps m) ≡ moved (transfersOr E cr [] ps m)
 next E s cr [] m = speaks E s cr [] false (proposed E m) m
 next E s cr (p ∷ ps) m = refl
@@ -41,6 +52,10 @@ next E s cr (p ∷ ps) m = refl
 -- ---------------------------------------------------------------- each event leaves its session
 
 module _ (E : Shelf) (q : Bytes) (s : Session) (b : ℕ) where
+  -- our FS line waits, and the accepted transfers are awaited or it is our turn
+  abbrev answerTo : List Proposal → Memory → Session
+  answerTo ps m = transfersOr E true (withCr (fsLine (answersTo E (s .memory .inbox) ps))) (accepted (answersTo E (s .memory .inbox) ps) ps) m
+
   goes-lf : isDropped s b ≡ true → step E s b ≡ moved (lfDropped s)
   goes-lf e = ap (λ (c : Bool). cond c (moved (lfDropped s)) (freeStep E (s .out) s b)) e
 
@@ -51,7 +66,8 @@ module _ (E : Shelf) (q : Bytes) (s : Session) (b : ℕ) where
       ∙ ap (λ (c : Bool). lineMoved E s b (cond c ends (cond (ltb (length (s .part)) 256) grows overruns))) e
       ∙ ap (λ (c : Bool). lineMoved E s b (cond c grows overruns)) (lt-ltb (length (s .part)) 256 l)
 
-  goes-ignored : Heeded s b → awaitsLine (s .phase) ≡ true → b ≡ CR → isComment (trim (s .part)) ≡ true → step E s b ≡ moved (session (s .phase) true [] (s .memory))
+  goes-ignored : Heeded s b → awaitsLine (s .phase) ≡ true → b ≡ CR → isComment (trim (s .part)) ≡ true
+      → step E s b ≡ moved (session (s .phase) true [] (s .memory))
   goes-ignored h a e c =
       line-step E s b h a
       ∙ ap (λ (d : Bool). lineMoved E s b (cond d ends (cond (ltb (length (s .part)) 256) grows overruns))) (eq-eqb b CR e)
@@ -66,27 +82,76 @@ module _ (E : Shelf) (q : Bytes) (s : Session) (b : ℕ) where
       go leaving a = absurd (no-both false a refl)
       go over a = absurd (no-both false a refl)
 
+  goes-answer : (ln : Bytes) (is : List ℕ) (ss : List Sign) → WholeLine s b ln → s .phase ≡ awaitsAnswer is → readFs (length is) ln ≡ some ss
+      → step E s b ≡ moved (session (awaitsTurn false []) true (transfersText (E .table) (accepted ss is)) (answerMarks is ss (s .memory)))
+  goes-answer ln is ss w p r = phase-step E s b ln (awaitsAnswer is) w p refl ∙ rw (w .judged, r)
+
+  goes-ff : (ln : Bytes) → TurnSaid s b false [] ln → readTurnLine (s .memory .framed) ln ≡ saysFF
+      → step E s b ≡ moved (weSpeak E true true [] (turnMarks (s .memory)))
+  goes-ff ln w r = turn-step E s b false [] ln w ∙ rw r (speaks E s true [] true (proposed E (turnMarks (s .memory))) (turnMarks (s .memory)))
+
+  goes-block : (ln : Bytes) (ff : Bool) (p : Proposal) (ps : List Proposal) → TurnSaid s b ff (p ∷ ps) ln → readTurnLine (s .memory .framed) ln ≡ endsBlock
+      → step E s b ≡ moved (answerTo (p ∷ ps) (turnMarks (s .memory)))
+  goes-block ln ff p ps w r =
+      let ss = answersTo E (s .memory .inbox) (p ∷ ps) in
+      turn-step E s b ff (p ∷ ps) ln w ∙ rw r (answers E s true ss (accepted ss (p ∷ ps)) (turnMarks (s .memory)))
+
   module _ (S : SoFar E (s .phase) (s .memory) q) where
-    goes-transfer : (p : Proposal) (sc : Scan) (t : TransferByte s b p sc) (o : Scanned) → scanByte (roomFor E (s .memory)) sc b ≡ o → step E s b ≡ transferMoved E p (t .others) s o
+    goes-transfer : (p : Proposal) (sc : Scan) (t : TransferByte s b p sc) (o : Scanned) → scanByte (room E (s .memory .inbox)) sc b ≡ o
+        → step E s b ≡ transferMoved E p (t .others) s o
     goes-transfer p sc t o e = transfer-step E s b p sc t ∙ ap (transferMoved E p (t .others) s) e
 
     pub happens : (t : Session) → Event E q s b t → step E s b ≡ moved t
     happens t (lfGoes e) = goes-lf e
     happens t (lineGrows h a e l) = goes-line h a e l
     happens t (ignored h a e c) = goes-ignored h a e c
-    happens t (callerSid ln w p fs r f) = phase-step E s b ln (awaitsSid false) w p refl ∙ rw (w .judged, r, f)
-    happens t (calledSid ln w p fs r f) = phase-step E s b ln (awaitsSid true) w p refl ∙ rw (w .judged, r, f)
+    happens t (sidOfCaller ln w p fs r f) = phase-step E s b ln (awaitsSid false) w p refl ∙ rw (w .judged, r, f)
+    happens t (sidOfCalled ln w p fs r f) = phase-step E s b ln (awaitsSid true) w p refl ∙ rw (w .judged, r, f)
     happens t (textLine ln w p r) = phase-step E s b ln awaitsPrompt w p refl ∙ rw (w .judged, r)
     happens t (prompt ln w p r) =
         phase-step E s b ln awaitsPrompt w p refl ∙ rw (w .judged, r) (speaks E s true (withCr (fixedText ourSid)) false (proposed E (s .memory)) (s .memory))
     happens t (proposal ln ff ps w p r l) = turn-step E s b ff ps ln w ∙ rw (r, lt-ltb (length ps) 5 l)
-    happens t (ffTurn ln w r) = turn-step E s b false [] ln w ∙ rw r (speaks E s true [] true (proposed E (turnMarks (s .memory))) (turnMarks (s .memory)))
+    happens t (ffTurn ln w r m l) = goes-ff ln w r ∙ ap (λ (n : Memory). moved (weSpeak E true true [] n)) (sym (turn-only (s .memory) m l))
     happens t (fqTurn ln w r) = turn-step E s b true [] ln w ∙ rw r
-    happens t (blockEnd ln ff p ps w r) =
-        turn-step E s b ff (p ∷ ps) ln w
-        ∙ rw r (answers E s true (answersTo E (s .memory .inbox) (p ∷ ps)) (accepted (answersTo E (s .memory .inbox) (p ∷ ps)) (p ∷ ps)) (turnMarks (s .memory)))
-    happens t (fsLineComes ln is w p ss r) = phase-step E s b ln (awaitsAnswer is) w p refl ∙ rw (w .judged, r)
+    happens t (blockEnd ln ff p ps w r m l) = goes-block ln ff p ps w r ∙ ap (λ (n : Memory). moved (answerTo (p ∷ ps) n)) (sym (turn-only (s .memory) m l))
+    happens t (fsLineComes ln is w p ss r m l) =
+        goes-answer ln is ss w p r
+        ∙ ap (λ (l : List ℕ). moved (session (awaitsTurn false []) true (transfersText (E .table) l) (answerMarks is ss (s .memory)))) (accepted-is is ss)
+        ∙ ap (λ (n : Memory). moved (session (awaitsTurn false []) true (transfersText (E .table) (placesWith accept is ss)) n))
+        (sym (answer-only is ss (s .memory) m l))
     happens t (transferGrows p sc sc′ u e) = goes-transfer p sc u (goes sc′) (sym (scan-more E s b q p sc u S) ∙ e)
     happens t (transferWhole p sc u h x e l) =
-        goes-transfer p sc u (got h x) (sym (scan-more E s b q p sc u S) ∙ whole-got (roomFor E (s .memory)) (p .form) (q ++ (b ∷ [])) h x e l)
+        goes-transfer p sc u (got h x)
+        (sym (scan-more E s b q p sc u S) ∙ whole-got (room E (s .memory .inbox)) (p .form) (q ++ (b ∷ [])) h x e (fits-within E (s .memory .inbox) x l))
         ∙ next E s (isPlain (p .form)) (u .others) (keptIn (s .memory) (messageOf p (record { heading = h; body = x })))
+        ∙ ap (λ (c : Bool). moved (transfersOr E c [] (u .others) (withMessage (s .memory) (messageOf p (record { heading = h; body = x })))))
+        (plain-is (p .form))
+
+-- ---------------------------------------------------------------- what the partner's lines leave of the memory
+
+-- what waits and what is awaited is no part of it
+pub memory-kept : (E : Shelf) (cr : Bool) (o : Bytes) (ps : List Proposal) (m : Memory) → transfersOr E cr o ps m .memory ≡ m
+memory-kept E cr o [] m = refl
+memory-kept E cr o (p ∷ ps) m = refl
+
+module _ (E : Shelf) (s : Session) (b : ℕ) (ln : Bytes) where
+  -- ITS VALID FS LINE
+  pub fs-leaves : (is : List ℕ) (ss : List Sign) → WholeLine s b ln → s .phase ≡ awaitsAnswer is → readFs (length is) ln ≡ some ss
+      → AnswerLeaves is ss (s .memory) (step E s b .session .memory)
+  fs-leaves is ss w p r =
+      subst (AnswerLeaves is ss (s .memory)) (sym (ap (λ (o : Stepped). o .session .memory) (goes-answer E [] s b ln is ss w p r)))
+      (answer-marks is ss (s .memory))
+
+  -- ITS WHOLE TURN: FF
+  pub ff-leaves : TurnSaid s b false [] ln → readTurnLine (s .memory .framed) ln ≡ saysFF → TurnLeaves (s .memory) (step E s b .session .memory)
+  ff-leaves w r =
+      subst (TurnLeaves (s .memory)) (sym (ap (λ (o : Stepped). o .session .memory) (goes-ff E [] s b ln w r))) (turn-marks (s .memory))
+
+  -- ITS WHOLE TURN: proposals and F>
+  pub block-leaves : (ff : Bool) (p : Proposal) (ps : List Proposal) → TurnSaid s b ff (p ∷ ps) ln → readTurnLine (s .memory .framed) ln ≡ endsBlock
+      → TurnLeaves (s .memory) (step E s b .session .memory)
+  block-leaves ff p ps w r =
+      subst (TurnLeaves (s .memory))
+      (sym (ap (λ (o : Stepped). o .session .memory) (goes-block E [] s b ln ff p ps w r)
+      ∙ memory-kept E true _ (accepted (answersTo E (s .memory .inbox) (p ∷ ps)) (p ∷ ps)) (turnMarks (s .memory))))
+      (turn-marks (s .memory))

@@ -17,7 +17,8 @@ use Rattle.mail.specs.Mail.{Record, recordAt, proposalOf, turnText}
 use Rattle.session.specs.Choices.{Shelf, candidates, sizeAt, chosen}
 use Rattle.session.specs.Session.{Memory}
 use Rattle.session.proofs.Choices.{few}
-use Rattle.demand2.specs.OurTurn.{mayPropose, isIn, rising, sizes, OurBlock, TurnExact}
+use Rattle.demand2.specs.Marks.{isIn}
+use Rattle.demand2.specs.OurTurn.{mayPropose, rising, sizes, OurBlock, TurnExact}
 use Rattle.demand2.specs.Events.{proposed, turnSaid}
 use Rattle.demand2.proofs.Candidates.{in-append, rising-first, rising-rest, rising-front, rising-later, candidate-is, in-order}
 

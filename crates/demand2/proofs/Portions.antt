@@ -7,7 +7,7 @@ use native.Mathlib.Omega.{arith}
 use lib.Dec.{eqb}
 use lib.ListN.{length, take, drop, length-take, take-append-drop, length-append}
 use lib.Seq.{take-nil, take-add, drop-drop}
-use borrow.Author.Tests.{not-true, not-false}
+use borrow.Author.Tests.{eqb-true, not-true, not-false}
 use Rattle.grammar.specs.Bytes.{Bytes, null}
 use Rattle.grammar.specs.Refusals.{sessionEnded}
 use Rattle.grammar.proofs.Basics.{and2, or2}
@@ -15,7 +15,7 @@ use Rattle.session.specs.Choices.{Shelf}
 use Rattle.session.specs.Session.{Phase, leaving, Session, Stepped, step, ended, endedIn}
 use Rattle.session.specs.Calls.{Received, oneMore, stoppedAt, stops, receiveOn, receive, give, handedOut}
 use Rattle.demand2.specs.Refusals.{Live}
-use Rattle.demand2.specs.Portions.{livesOn, andThen, Counted, all, upTo, GivenTogether, GivenOut}
+use Rattle.demand2.specs.Portions.{ByteReceived, livesOn, andThen, Counted, all, upTo, GivenTogether, GivenOut}
 
 -- ---------------------------------------------------------------- receive
 
@@ -39,6 +39,21 @@ over-on o e = go (eqb (o .answer) 0) (ended (o .session)) e
     go true true e = refl
     go true false e = cc
     go false d e = refl
+
+-- a portion of one byte is that byte's step
+pub one : (E : Shelf) (s : Session) (b : ℕ) → receiveOn E s (b ∷ []) ≡ stoppedAt (step E s b)
+one E s b = go (stops (step E s b)) refl
+  where
+    go : (c : Bool) → stops (step E s b) ≡ c
+        → cond c (stoppedAt (step E s b)) (oneMore (record { answer = 0; count = 0; session = step E s b .session })) ≡ stoppedAt (step E s b)
+    go true e = refl
+    go false e =
+        let z = eqb-true (step E s b .answer) 0 (go-on (step E s b) e .0) in
+        ap (λ (n : ℕ). record { answer = n; count = 1; session = step E s b .session }) (sym z)
+
+-- RECEIVE ON ONE BYTE
+pub receive-byte : (E : Shelf) (s : Session) (b : ℕ) → Live s → ByteReceived E s b
+receive-byte E s b L = live-receive E s (b ∷ []) L ∙ one E s b
 
 -- the same for receiveOn, where the session lives
 abbrev pub on : Shelf → Received → Bytes → Received

@@ -20,9 +20,12 @@ use Rattle.grammar.proofs.Basics.{and2, no-both, and-false}
 use Rattle.grammar.proofs.Rest.{Wrong}
 use Rattle.grammar.proofs.Refusal.{exact as exact-byte, Verdict, exact-8, exact-10, isTen}
 use Rattle.session.specs.Choices.{Shelf}
-use Rattle.session.specs.Session.{Phase, awaitsSid, awaitsPrompt, leaving, over, awaitsTurn, awaitsAnswer, awaitsTransfer, Session, Stepped, roomFor, step, ended, endedIn}
+use Rattle.session.specs.Session.{Phase, awaitsSid, awaitsPrompt, leaving, over, awaitsTurn, awaitsAnswer, awaitsTransfer, Session, turnMarks, answerMarks, Stepped, step, ended, endedIn}
+use Rattle.demand2.specs.Room.{room}
 use Rattle.demand2.specs.Refusals.{isDropped, Heeded, awaitsLine, WholeLine, isAllowed, isMiscounted, TurnSaid, beginsFs, inTurn, forAnswer, SoFar, TransferByte, Refusal, no2, no3, no4, no5, no6, no7, no8, no9, no10, no11, numberOf, Situation, Exact, Live}
-use Rattle.demand2.specs.Events.{Event, lfGoes, lineGrows, ignored, callerSid, calledSid, textLine, prompt, proposal, ffTurn, fqTurn, blockEnd, fsLineComes, transferGrows, transferWhole}
+use Rattle.demand2.specs.Events.{Event, lfGoes, lineGrows, ignored, sidOfCaller, sidOfCalled, textLine, prompt, proposal, ffTurn, fqTurn, blockEnd, fsLineComes, transferGrows, transferWhole}
+use Rattle.demand2.proofs.Room.{at-full, within-fits}
+use Rattle.demand2.proofs.Marks.{answer-marks, turn-marks}
 use Rattle.demand2.proofs.Steps.{so-far, scan-more}
 use Rattle.demand2.proofs.Events.{happens}
 use Rattle.demand2.proofs.Situations.{refuses-with}
@@ -42,8 +45,8 @@ module _ (E : Shelf) (q : Bytes) (s : Session) (b : ℕ) (H : Heeded s b) where
   sid-found c e w = sid (readSid line) refl
     where
       heard : (c : Bool) → s .phase ≡ awaitsSid c → (fs : List ℕ) → readSid line ≡ some fs → (f : Bool) → hasFeature 5 fs ≡ f → Found E q s b
-      heard true e fs r true f = happened _ (calledSid line w e fs r f)
-      heard false e fs r true f = happened _ (callerSid line w e fs r f)
+      heard true e fs r true f = happened _ (sidOfCalled line w e fs r f)
+      heard false e fs r true f = happened _ (sidOfCaller line w e fs r f)
       heard c e fs r false f = found no4 (record { line = line; whole = w; caller = c; awaited = e; features = fs; valid = r; without = f })
 
       sid : (o : Option (List ℕ)) → readSid line ≡ o → Found E q s b
@@ -61,13 +64,13 @@ module _ (E : Shelf) (q : Bytes) (s : Session) (b : ℕ) (H : Heeded s b) where
   turn-happened : (t : TurnLine) (ff : Bool) (ps : List Proposal) → readTurnLine (s .memory .framed) line ≡ t → TurnSaid s b ff ps line → isAllowed ff ps t ≡ true
       → isMiscounted ps t ≡ false → Found E q s b
   turn-happened saysFF true [] r w x y = absurd (no-both false x refl)
-  turn-happened saysFF false [] r w x y = happened _ (ffTurn line w r)
+  turn-happened saysFF false [] r w x y = happened _ (ffTurn line w r (turnMarks (s .memory)) (turn-marks (s .memory)))
   turn-happened saysFF ff (p ∷ ps) r w x y = absurd (no-both (not ff && false) x (and-false (not ff) false refl))
   turn-happened saysFQ true [] r w x y = happened _ (fqTurn line w r)
   turn-happened saysFQ false [] r w x y = absurd (no-both false x refl)
   turn-happened saysFQ ff (p ∷ ps) r w x y = absurd (no-both (ff && false) x (and-false ff false refl))
   turn-happened endsBlock ff [] r w x y = absurd (no-both true refl y)
-  turn-happened endsBlock ff (p ∷ ps) r w x y = happened _ (blockEnd line ff p ps w r)
+  turn-happened endsBlock ff (p ∷ ps) r w x y = happened _ (blockEnd line ff p ps w r (turnMarks (s .memory)) (turn-marks (s .memory)))
   turn-happened notAllowed ff ps r w x y = absurd (no-both false x refl)
   turn-happened (proposes p) ff ps r w x y = happened _ (proposal line ff ps w p r (ltb-true (length ps) 5 (not-false (ltb (length ps) 5) y)))
 
@@ -76,7 +79,7 @@ module _ (E : Shelf) (q : Bytes) (s : Session) (b : ℕ) (H : Heeded s b) where
     where
       go : (c d : Bool) → isAllowed ff ps (readTurnLine (s .memory .framed) line) ≡ c → isMiscounted ps (readTurnLine (s .memory .framed) line) ≡ d → Found E q s b
       go false d x y = found no5 (inTurn ff ps line w x)
-      go true true x y = found no6 (record { answered = ff; proposals = ps; line = line; said = w; allowed = x; miscounted = y })
+      go true true x y = found no6 (record { ff = ff; proposals = ps; line = line; said = w; allowed = x; miscounted = y })
       go true false x y = turn-happened (readTurnLine (s .memory .framed) line) ff ps refl w x y
 
   answer-found : (is : List ℕ) → s .phase ≡ awaitsAnswer is → WholeLine s b line → Found E q s b
@@ -88,7 +91,7 @@ module _ (E : Shelf) (q : Bytes) (s : Session) (b : ℕ) (H : Heeded s b) where
 
       go : (o : Option (List Sign)) → readFs (length is) line ≡ o → Found E q s b
       go none r = wrong r (beginsFs line) refl
-      go (some ss) r = happened _ (fsLineComes line is w e ss r)
+      go (some ss) r = happened _ (fsLineComes line is w e ss r (answerMarks is ss (s .memory)) (answer-marks is ss (s .memory)))
 
   whole-found : (p : Phase) → s .phase ≡ p → awaitsLine p ≡ true → WholeLine s b line → Found E q s b
   whole-found (awaitsSid c) e a w = sid-found c e w
@@ -109,30 +112,25 @@ module _ (E : Shelf) (q : Bytes) (s : Session) (b : ℕ) (H : Heeded s b) where
       go true d false x y z = whole-found (s .phase) refl a (record { heeded = H; end = eqb-true b CR x; bytes = refl; judged = z })
 
   transfer-found : (p : Proposal) (sc : Scan) → TransferByte s b p sc → SoFar E (s .phase) (s .memory) q → Found E q s b
-  transfer-found p sc w S = go (scanByte (roomFor E (s .memory)) sc b) refl (exact-byte (roomFor E (s .memory)) (p .form) q sc T b)
+  transfer-found p sc w S = go (scanByte (room E (s .memory .inbox)) sc b) refl (exact-byte (room E (s .memory .inbox)) (p .form) q sc T b)
     where
-      T : scan (roomFor E (s .memory)) (p .form) q ≡ goes sc
+      T : scan (room E (s .memory .inbox)) (p .form) q ≡ goes sc
       T = so-far E s b q p sc w S
 
       wrong : (o : Option Parsed) → parse (p .form) (q ++ (b ∷ [])) ≡ o → Wrong o → Found E q s b
       wrong none x e = absurd e
       wrong (some t) x e = found no9 (record { proposal = p; reading = sc; within = w; transfer = t; whole = x; wrong = e })
 
-      go : (o : Scanned) → scanByte (roomFor E (s .memory)) sc b ≡ o → Verdict (roomFor E (s .memory)) (p .form) o (q ++ (b ∷ [])) → Found E q s b
+      go : (o : Scanned) → scanByte (room E (s .memory .inbox)) sc b ≡ o → Verdict (room E (s .memory .inbox)) (p .form) o (q ++ (b ∷ [])) → Found E q s b
       go (goes sc′) x k = happened _ (transferGrows p sc sc′ w (scan-more E s b q p sc w S ∙ x))
-      go (got h y) x k = happened _ (transferWhole p sc w h y (k .0) (k .1))
-      go malformed x k = found no8 (record { proposal = p; reading = sc; within = w; hopeless = exact-8 (roomFor E (s .memory)) (p .form) q sc T b .0 x })
+      go (got h y) x k = happened _ (transferWhole p sc w h y (k .0) (within-fits E (s .memory .inbox) y (k .1)))
+      go malformed x k = found no8 (record { proposal = p; reading = sc; within = w; hopeless = exact-8 (room E (s .memory .inbox)) (p .form) q sc T b .0 x })
       go wrongSum x k = wrong (parse (p .form) (q ++ (b ∷ []))) refl (k .0)
       go noRoom x k =
-          let t = and2 (isBodyByte sc b) (not (ltb (length (bodyOf sc)) (roomFor E (s .memory)))) (sym (exact-10 (roomFor E (s .memory)) sc b) ∙ ap isTen x) in
-          found no10
-          (record {
-            proposal = p;
-            reading = sc;
-            within = w;
-            body = t .0;
-            full = ltb-false (length (bodyOf sc)) (roomFor E (s .memory)) (not-true (ltb (length (bodyOf sc)) (roomFor E (s .memory))) (t .1));
-          })
+          let n = room E (s .memory .inbox) in
+          let t = and2 (isBodyByte sc b) (not (ltb (length (bodyOf sc)) n)) (sym (exact-10 n sc b) ∙ ap isTen x) in
+          let l = ltb-false (length (bodyOf sc)) n (not-true (ltb (length (bodyOf sc)) n) (t .1)) in
+          found no10 (record { proposal = p; reading = sc; within = w; body = t .0; full = at-full E (s .memory .inbox) (bodyOf sc) l })
 
 module _ (E : Shelf) (q : Bytes) (s : Session) (b : ℕ) (L : Live s) (S : SoFar E (s .phase) (s .memory) q) where
   -- an ended session is not live

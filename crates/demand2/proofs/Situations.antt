@@ -17,8 +17,10 @@ use Rattle.grammar.proofs.Basics.{both}
 use Rattle.grammar.proofs.Rest.{Wrong}
 use Rattle.grammar.proofs.Refusal.{exact-8, exact-9, exact-10, isTen}
 use Rattle.session.specs.Choices.{Shelf}
-use Rattle.session.specs.Session.{awaitsSid, awaitsAnswer, Session, turnJudged, refused, moved, settled, lineMoved, transferMoved, roomFor, freeStep, lfDropped, step}
+use Rattle.session.specs.Session.{awaitsSid, awaitsAnswer, Session, turnJudged, refused, moved, settled, lineMoved, transferMoved, freeStep, lfDropped, step}
+use Rattle.demand2.specs.Room.{room}
 use Rattle.demand2.specs.Refusals.{LineTooLong, NotSid, NoForwarding, isAllowed, isMiscounted, NoAnswer, beginsFs, LineNotAllowed, inTurn, forAnswer, WrongCount, WrongAnswer, SoFar, WrongTransfer, WrongChecksum, NoRoom, BytesWait, Refusal, no2, no3, no4, no5, no6, no7, no8, no9, no10, no11, numberOf, Situation}
+use Rattle.demand2.proofs.Room.{full-at}
 use Rattle.demand2.proofs.Steps.{line-step, phase-step, turn-step, transfer-step, so-far}
 
 -- the byte is refused with this number
@@ -70,7 +72,7 @@ module _ (E : Shelf) (s : Session) (b : ℕ) where
 
   wrong-count : WrongCount s b → Refuses E s b number.proposalCount
   wrong-count h =
-      turn-step E s b (h .answered) (h .proposals) (h .line) (h .said) ∙ miscounted (readTurnLine (s .memory .framed) (h .line)) (h .answered) (h .proposals) (h .miscounted)
+      turn-step E s b (h .ff) (h .proposals) (h .line) (h .said) ∙ miscounted (readTurnLine (s .memory .framed) (h .line)) (h .ff) (h .proposals) (h .miscounted)
 
   wrong-answer : WrongAnswer s b → Refuses E s b number.badAnswer
   wrong-answer h = answer-step (h .line) (h .answer) ∙ ap (refused s) (answer-number (h .line) (h .answer) true (h .begun))
@@ -85,23 +87,24 @@ module _ (E : Shelf) (s : Session) (b : ℕ) where
   module _ (q : Bytes) (S : SoFar E (s .phase) (s .memory) q) where
     wrong-transfer : WrongTransfer q s b → Refuses E s b number.badTransfer
     wrong-transfer h =
-        let e = exact-8 (roomFor E (s .memory)) (h .proposal .form) q (h .reading) (so-far E s b q (h .proposal) (h .reading) (h .within) S) b .1 (h .hopeless) in
+        let e = exact-8 (room E (s .memory .inbox)) (h .proposal .form) q (h .reading) (so-far E s b q (h .proposal) (h .reading) (h .within) S) b .1 (h .hopeless) in
         transfer-step E s b (h .proposal) (h .reading) (h .within) ∙ ap (transferMoved E (h .proposal) (h .within .others) s) e
 
     wrong-sum : WrongChecksum q s b → Refuses E s b number.badChecksum
     wrong-sum h =
         let w : Wrong (parse (h .proposal .form) (q ++ (b ∷ []))) = subst Wrong (sym (h .whole)) (h .wrong) in
-        let e = exact-9 (roomFor E (s .memory)) (h .proposal .form) q (h .reading) (so-far E s b q (h .proposal) (h .reading) (h .within) S) b .1 w in
+        let e = exact-9 (room E (s .memory .inbox)) (h .proposal .form) q (h .reading) (so-far E s b q (h .proposal) (h .reading) (h .within) S) b .1 w in
         transfer-step E s b (h .proposal) (h .reading) (h .within) ∙ ap (transferMoved E (h .proposal) (h .within .others) s) e
 
   no-room : NoRoom E s b → Refuses E s b number.storeFull
   no-room h =
-      let room = roomFor E (s .memory) in
+      let n = room E (s .memory .inbox) in
       let sc = h .reading in
-      let t : isTen (scanByte room sc b) ≡ true =
-      exact-10 room sc b
-      ∙ both (isBodyByte sc b) (not (ltb (length (bodyOf sc)) room)) (h .body) (ap not (le-ltb (length (bodyOf sc)) room (h .full))) in
-      transfer-step E s b (h .proposal) sc (h .within) ∙ ap (transferMoved E (h .proposal) (h .within .others) s) (ten (scanByte room sc b) t)
+      let t : isTen (scanByte n sc b) ≡ true =
+      exact-10 n sc b
+      ∙ both (isBodyByte sc b) (not (ltb (length (bodyOf sc)) n)) (h .body)
+      (ap not (le-ltb (length (bodyOf sc)) n (full-at E (s .memory .inbox) (bodyOf sc) (h .full)))) in
+      transfer-step E s b (h .proposal) sc (h .within) ∙ ap (transferMoved E (h .proposal) (h .within .others) s) (ten (scanByte n sc b) t)
     where
       ten : (o : Scanned) → isTen o ≡ true → o ≡ noRoom
       ten (goes sc) e = cc

@@ -12,8 +12,10 @@ use Rattle.grammar.specs.Turns.{Proposal, readTurnLine}
 use Rattle.grammar.specs.Scan.{Scan, Scanned, goes, scan, scanByte, scanFrom, onward}
 use Rattle.grammar.proofs.Portions.{scan-append}
 use Rattle.session.specs.Choices.{Shelf}
-use Rattle.session.specs.Session.{Phase, awaitsSid, awaitsPrompt, leaving, over, awaitsTurn, awaitsAnswer, awaitsTransfer, Session, turnJudged, lineJudged, moved, settled, lineMoved, transferMoved, roomFor, lineStep, phaseStep, freeStep, lfDropped, step}
+use Rattle.session.specs.Session.{Phase, awaitsSid, awaitsPrompt, leaving, over, awaitsTurn, awaitsAnswer, awaitsTransfer, Session, turnJudged, lineJudged, moved, settled, lineMoved, transferMoved, lineStep, phaseStep, freeStep, lfDropped, step}
+use Rattle.demand2.specs.Room.{room}
 use Rattle.demand2.specs.Refusals.{Heeded, awaitsLine, WholeLine, TurnSaid, SoFar, TransferByte}
+use Rattle.demand2.proofs.Room.{room-is}
 
 -- ---------------------------------------------------------------- the step of a byte, by what it is
 
@@ -48,8 +50,10 @@ module _ (E : Shelf) (s : Session) (b : ℕ) where
       whole-step ln w (ap awaitsLine e ∙ a) ∙ ap (λ (r : Phase). settled s true (lineJudged E r (s .memory) ln)) e
 
   pub transfer-step : (p : Proposal) (sc : Scan) (t : TransferByte s b p sc)
-      → step E s b ≡ transferMoved E p (t .others) s (scanByte (roomFor E (s .memory)) sc b)
-  transfer-step p sc t = heeded-step (t .heeded) ∙ ap (λ (r : Phase). phaseStep E r s b) (t .awaited)
+      → step E s b ≡ transferMoved E p (t .others) s (scanByte (room E (s .memory .inbox)) sc b)
+  transfer-step p sc t =
+      heeded-step (t .heeded) ∙ ap (λ (r : Phase). phaseStep E r s b) (t .awaited)
+      ∙ ap (λ (n : ℕ). transferMoved E p (t .others) s (scanByte n sc b)) (room-is E (s .memory))
 
   -- a line of a turn
   pub turn-step : (ff : Bool) (ps : List Proposal) (ln : Bytes) → TurnSaid s b ff ps ln
@@ -57,11 +61,11 @@ module _ (E : Shelf) (s : Session) (b : ℕ) where
   turn-step ff ps ln h = phase-step ln (awaitsTurn ff ps) (h .whole) (h .awaited) refl ∙ rw (h .whole .judged)
 
   -- the bytes so far of a transfer, with its phase known
-  pub so-far : (q : Bytes) (p : Proposal) (sc : Scan) (t : TransferByte s b p sc) → SoFar E (s .phase) (s .memory) q → scan (roomFor E (s .memory)) (p .form) q ≡ goes sc
+  pub so-far : (q : Bytes) (p : Proposal) (sc : Scan) (t : TransferByte s b p sc) → SoFar E (s .phase) (s .memory) q → scan (room E (s .memory .inbox)) (p .form) q ≡ goes sc
   so-far q p sc t h = subst (λ (r : Phase). SoFar E r (s .memory) q) (t .awaited) h
 
   -- the reading with one byte more
   pub scan-more : (q : Bytes) (p : Proposal) (sc : Scan) → TransferByte s b p sc → SoFar E (s .phase) (s .memory) q
-      → scan (roomFor E (s .memory)) (p .form) (q ++ (b ∷ [])) ≡ scanByte (roomFor E (s .memory)) sc b
+      → scan (room E (s .memory .inbox)) (p .form) (q ++ (b ∷ [])) ≡ scanByte (room E (s .memory .inbox)) sc b
   scan-more q p sc t h =
-      scan-append (roomFor E (s .memory)) (goes (scanFrom (p .form))) q (b ∷ []) ∙ ap (λ (o : Scanned). onward (roomFor E (s .memory)) o b) (so-far q p sc t h)
+      scan-append (room E (s .memory .inbox)) (goes (scanFrom (p .form))) q (b ∷ []) ∙ ap (λ (o : Scanned). onward (room E (s .memory .inbox)) o b) (so-far q p sc t h)

@@ -1,5 +1,6 @@
 -- DEMAND 2, WHAT A BYTE DOES where it is not refused: every case, with what is awaited, what is kept and what waits for give after it, in
--- 01's order. `happens` and `complete` of proofs/Events show that a byte that is answered 0 does one of these things, and no other.
+-- 01's order. `happens` of proofs/Events shows that each leaves the session that it names, `complete` of proofs/Refusals that a byte that is answered 0
+-- does one of these things and no other (`complete-reached` of proofs/Reached: in every session that is reached).
 use mathlib.Core.Path.{_≡_}
 use mathlib.Core.Bool.{Bool, true, false}
 use mathlib.Core.Option.{some}
@@ -8,20 +9,39 @@ use Prim.Native.Nat.{ℕ, _≤_, _<_}
 use lib.Dec.{eqb}
 use lib.ListN.{length}
 use Rattle.grammar.specs.Bytes.{Bytes, CR}
+use Rattle.grammar.specs.Fields.{Form, plain, message, file}
 use Rattle.grammar.specs.Lines.{lineLimit, trim, isComment, isPrompt}
 use Rattle.grammar.specs.Sid.{readSid, hasFeature, framed}
 use Rattle.grammar.specs.Turns.{Proposal, saysFF, saysFQ, endsBlock, proposes, readTurnLine, blockLimit, fixedText, ourSid, ourFF, ourFQ, withCr}
-use Rattle.grammar.specs.Answers.{Sign, readFs, fsLine}
+use Rattle.grammar.specs.Answers.{Sign, accept, readFs, fsLine}
 use Rattle.grammar.specs.Transfers.{parse}
 use Rattle.grammar.specs.Scan.{Scan, goes, scan, scanFrom}
-use Rattle.mail.specs.Mail.{messageOf, proposalOf, recordAt, turnText, transfersText, accepted}
+use Rattle.mail.specs.Mail.{Message, messageOf, proposalOf, recordAt, turnText, transfersText, accepted}
 use Rattle.session.specs.Choices.{Shelf, chosen, answersTo}
-use Rattle.session.specs.Session.{Phase, awaitsSid, awaitsPrompt, leaving, over, awaitsTurn, awaitsAnswer, awaitsTransfer, Memory, Session, turnMarks, answerMarks, inMode, keptIn, isPlain, roomFor}
+use Rattle.session.specs.Session.{Phase, awaitsSid, awaitsPrompt, leaving, over, awaitsTurn, awaitsAnswer, awaitsTransfer, Memory, Session}
+use Rattle.demand2.specs.Room.{Fits, room}
+use Rattle.demand2.specs.Marks.{placesWith, AnswerLeaves, TurnLeaves}
 use Rattle.demand2.specs.Refusals.{isDropped, Heeded, awaitsLine, WholeLine, TurnSaid, TransferByte}
 
 -- A session with no line begun. afterCr: an LF now is dropped; out: what waits for give
 abbrev pub session : Phase → Bool → Bytes → Memory → Session
 session p afterCr out m = record { phase = p; part = []; afterCr = afterCr; out = out; memory = m }
+
+-- "Partner has B: framed mode, at any level. Otherwise plain mode.": the mode is this, all else is as it was
+abbrev pub withMode : Bool → Memory → Memory
+withMode framed m =
+    record { framed = framed; states = m .states; sending = m .sending; inbox = m .inbox; deferred = m .deferred }
+
+-- "A message is kept at its last byte.": after those that are kept, all else is as it was
+abbrev pub withMessage : Memory → Message → Memory
+withMessage m x =
+    record { framed = m .framed; states = m .states; sending = m .sending; inbox = m .inbox ++ (x ∷ []); deferred = m .deferred }
+
+-- "One LF directly after .. the CR that closes a plain transfer, is dropped"; a framed one is closed by its checksum
+abbrev pub endsWithCr : Form → Bool
+endsWithCr plain = true
+endsWithCr message = false
+endsWithCr file = false
 
 -- ---------------------------------------------------------------- our turn
 
@@ -64,11 +84,11 @@ pub data Event (E : Shelf) (q : Bytes) (s : Session) (b : ℕ) : Session → Typ
   ignored : Heeded s b → awaitsLine (s .phase) ≡ true → b ≡ CR → isComment (trim (s .part)) ≡ true
       → Event E q s b (session (s .phase) true [] (s .memory))
   -- the SID: "Called: we .. await the caller's SID, then its first turn."; "Partner has B: framed mode"
-  callerSid : (line : Bytes) → WholeLine s b line → s .phase ≡ awaitsSid false → (fs : List ℕ) → readSid line ≡ some fs → hasFeature 5 fs ≡ true
-      → Event E q s b (session (awaitsTurn false []) true [] (inMode (framed fs) (s .memory)))
+  sidOfCaller : (line : Bytes) → WholeLine s b line → s .phase ≡ awaitsSid false → (fs : List ℕ) → readSid line ≡ some fs → hasFeature 5 fs ≡ true
+      → Event E q s b (session (awaitsTurn false []) true [] (withMode (framed fs) (s .memory)))
   -- "Caller: we await the SID, skip text lines until the prompt"
-  calledSid : (line : Bytes) → WholeLine s b line → s .phase ≡ awaitsSid true → (fs : List ℕ) → readSid line ≡ some fs → hasFeature 5 fs ≡ true
-      → Event E q s b (session awaitsPrompt true [] (inMode (framed fs) (s .memory)))
+  sidOfCalled : (line : Bytes) → WholeLine s b line → s .phase ≡ awaitsSid true → (fs : List ℕ) → readSid line ≡ some fs → hasFeature 5 fs ≡ true
+      → Event E q s b (session awaitsPrompt true [] (withMode (framed fs) (s .memory)))
   textLine : (line : Bytes) → WholeLine s b line → s .phase ≡ awaitsPrompt → isPrompt line ≡ false
       → Event E q s b (session awaitsPrompt true [] (s .memory))
   -- "then send SID and first turn"
@@ -78,22 +98,25 @@ pub data Event (E : Shelf) (q : Bytes) (s : Session) (b : ℕ) : Session → Typ
   proposal : (line : Bytes) (ff : Bool) (ps : List Proposal) → TurnSaid s b ff ps line → (p : Proposal) → readTurnLine (s .memory .framed) line ≡ proposes p
       → length ps < blockLimit → Event E q s b (session (awaitsTurn ff (ps ++ (p ∷ []))) true [] (s .memory))
   -- its FF: "State 1 is set at the CR that ends the partner's next whole valid turn.", then our turn
-  ffTurn : (line : Bytes) → TurnSaid s b false [] line → readTurnLine (s .memory .framed) line ≡ saysFF
-      → Event E q s b (weSpeak E true true [] (turnMarks (s .memory)))
+  ffTurn : (line : Bytes) → TurnSaid s b false [] line → readTurnLine (s .memory .framed) line ≡ saysFF → (after : Memory) → TurnLeaves (s .memory) after
+      → Event E q s b (weSpeak E true true [] after)
   -- "FQ received ends the session at its CR"
   fqTurn : (line : Bytes) → TurnSaid s b true [] line → readTurnLine (s .memory .framed) line ≡ saysFQ
       → Event E q s b (session over true [] (s .memory))
   -- its F>: the same marks, and our FS line waits
   blockEnd : (line : Bytes) (ff : Bool) (p : Proposal) (ps : List Proposal) → TurnSaid s b ff (p ∷ ps) line → readTurnLine (s .memory .framed) line ≡ endsBlock
-      → Event E q s b (transfersOr E true (withCr (fsLine (answersTo E (s .memory .inbox) (p ∷ ps)))) (accepted (answersTo E (s .memory .inbox) (p ∷ ps)) (p ∷ ps))
-      (turnMarks (s .memory)))
+      → (after : Memory) → TurnLeaves (s .memory) after
+      → Event E q s b
+      (transfersOr E true (withCr (fsLine (answersTo E (s .memory .inbox) (p ∷ ps)))) (accepted (answersTo E (s .memory .inbox) (p ∷ ps)) (p ∷ ps)) after)
   -- its FS line: "`-` sets state 2 .. Accepted records are sent in order.", then its turn
   fsLineComes : (line : Bytes) (is : List ℕ) → WholeLine s b line → s .phase ≡ awaitsAnswer is → (ss : List Sign) → readFs (length is) line ≡ some ss
-      → Event E q s b (session (awaitsTurn false []) true (transfersText (E .table) (accepted ss is)) (answerMarks is ss (s .memory)))
+      → (after : Memory) → AnswerLeaves is ss (s .memory) after
+      → Event E q s b (session (awaitsTurn false []) true (transfersText (E .table) (placesWith accept is ss)) after)
   -- a byte of a transfer
-  transferGrows : (p : Proposal) (reading onward : Scan) → (t : TransferByte s b p reading) → scan (roomFor E (s .memory)) (p .form) (q ++ (b ∷ [])) ≡ goes onward
-      → Event E q s b (record { phase = awaitsTransfer p (t .others) onward; part = s .part; afterCr = false; out = s .out; memory = s .memory })
+  transferGrows : (p : Proposal) (reading onward : Scan) → (t : TransferByte s b p reading)
+      → scan (room E (s .memory .inbox)) (p .form) (q ++ (b ∷ [])) ≡ goes onward → Event E q s b
+      (record { phase = awaitsTransfer p (t .others) onward; part = s .part; afterCr = false; out = s .out; memory = s .memory })
   -- its last byte: "A message is kept at its last byte."; an LF after it is dropped if it is plain
   transferWhole : (p : Proposal) (reading : Scan) → (t : TransferByte s b p reading) → (heading body : Bytes)
-      → parse (p .form) (q ++ (b ∷ [])) ≡ some (record { heading = heading; body = body; right = true }) → length body ≤ roomFor E (s .memory)
-      → Event E q s b (transfersOr E (isPlain (p .form)) [] (t .others) (keptIn (s .memory) (messageOf p (record { heading = heading; body = body }))))
+      → parse (p .form) (q ++ (b ∷ [])) ≡ some (record { heading = heading; body = body; right = true }) → Fits E (s .memory .inbox) body
+      → Event E q s b (transfersOr E (endsWithCr (p .form)) [] (t .others) (withMessage (s .memory) (messageOf p (record { heading = heading; body = body }))))

@@ -12,16 +12,13 @@ use Rattle.grammar.specs.Turns.{inMode, blockLimit, fixedText, ourFF, ourFQ, wi
 use Rattle.mail.specs.Mail.{Record, recordAt, proposalOf, turnText}
 use Rattle.session.specs.Choices.{Shelf, sizeAt}
 use Rattle.session.specs.Session.{Memory}
+use Rattle.demand2.specs.Marks.{isIn}
 use Rattle.demand2.specs.Events.{proposed, turnSaid}
 
 -- "waiting records .. form 0 in plain mode, 1 and 2 in framed mode, none deferred in this session": state 0, and no flag
 abbrev pub mayPropose : List Record → Bool → List ℕ → List ℕ → ℕ → Bool
 mayPropose T framed states flags i =
     ltb i (length T) && (inMode framed (recordAt T i .form) && (eqb (getD states i 0) 0 && eqb (getD flags i 0) 0))
-
-abbrev pub isIn : ℕ → List ℕ → Bool
-isIn i [] = false
-isIn i (x ∷ xs) = eqb i x || isIn i xs
 
 -- "in table order"
 abbrev pub rising : List ℕ → Bool

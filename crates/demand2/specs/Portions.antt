@@ -2,7 +2,7 @@
 -- are in proofs/Portions.
 use mathlib.Core.Path.{_≡_}
 use mathlib.Core.Bool.{Bool, true, cond, not, _&&_}
-use mathlib.Core.List.{_∷_, _++_}
+use mathlib.Core.List.{[], _∷_, _++_}
 use Prim.Native.Nat.{ℕ, suc, _+_, min}
 use lib.Dec.{eqb}
 use lib.ListN.{length}
@@ -12,6 +12,10 @@ use Rattle.session.specs.Session.{Session, step, ended}
 use Rattle.session.specs.Calls.{Received, stops, receive, give, handedOut}
 
 -- ---------------------------------------------------------------- receive
+
+-- A portion of one byte: what the byte's step gives, and it is counted. With `two-portions` this settles receive on every portion.
+abbrev pub ByteReceived : Shelf → Session → ℕ → Type 0
+ByteReceived E s b = receive E s (b ∷ []) ≡ record { answer = step E s b .answer; count = 1; session = step E s b .session }
 
 -- The session goes on after a receive: nothing was refused, and no FQ came.
 abbrev pub livesOn : Received → Bool

@@ -1,23 +1,59 @@
--- DEMAND 2, "memory as the last call left it": the sessions that open, receive and give lead to. Theorems: proofs/Reached, proofs/Transfers.
+-- DEMAND 2, "memory as the last call left it": the sessions that open, receive and give lead to, each with the bytes of the transfer under way that
+-- have come since it began. Theorems: proofs/Reached.
 use mathlib.Core.Path.{_≡_}
-use mathlib.Core.Bool.{Bool, true}
-use mathlib.Core.List.{List, []}
-use Prim.Native.Nat.{ℕ}
+use mathlib.Core.Bool.{Bool, true, cond, not, _&&_}
+use mathlib.Core.List.{List, [], _∷_, _++_}
+use Prim.Native.Nat.{ℕ, suc}
+use lib.Dec.{eqb}
+use lib.ListN.{length}
 use Rattle.grammar.specs.Bytes.{Bytes}
+use Rattle.grammar.specs.Answers.{Sign}
 use Rattle.session.specs.Choices.{Shelf}
-use Rattle.session.specs.Session.{Session, opened, ended}
+use Rattle.session.specs.Session.{Phase, awaitsSid, awaitsPrompt, leaving, over, awaitsTurn, awaitsAnswer, awaitsTransfer, Memory, Session, opened, ended}
 use Rattle.session.specs.Calls.{receive, give}
-use Rattle.demand2.specs.Refusals.{SoFar}
+use Rattle.demand2.specs.Refusals.{isDropped, SoFar}
+use Rattle.demand2.specs.Marks.{isIn, placesWith, AnswerLeaves}
+use Rattle.demand2.specs.OurTurn.{OurBlock}
 
--- After an open in a role (true: caller) that found these states, any receives and gives.
-pub data Reached (E : Shelf) : Session → Type 0 where
-  atOpen : (caller : Bool) (states : List ℕ) → Reached E (opened caller states)
-  received : {s : Session} → Reached E s → (bs : Bytes) → Reached E (receive E s bs .session)
-  given : {s : Session} → Reached E s → (room : ℕ) → Reached E (give s room)
+-- How many transfers are owed to us, the one under way with them.
+abbrev pub owed : Phase → ℕ
+owed (awaitsSid c) = 0
+owed awaitsPrompt = 0
+owed (awaitsTurn ff ps) = 0
+owed (awaitsAnswer is) = 0
+owed (awaitsTransfer p ps sc) = suc (length ps)
+owed leaving = 0
+owed over = 0
 
--- What holds of them all: there are bytes so far of the transfer under way; after the end nothing waits ("After a refusal nothing more is
--- sent"; "Give on an ended session writes nothing").
-pub record Sound (E : Shelf) (s : Session) : Type 0 where
-  pub bytes : Bytes
-  pub soFar : SoFar E (s .phase) (s .memory) bytes
+-- One is under way before and after a byte, and it is the same: as many are owed.
+abbrev pub sameTransfer : ℕ → ℕ → Bool
+sameTransfer before after = eqb before after && not (eqb after 0)
+
+-- The bytes so far after the byte b; q: those before it; s and t: the session before and after it. An LF that is dropped is none of them ("an LF that
+-- Lines drops is neither"); each other byte is one more, unless none is under way now or the next one begins.
+abbrev pub soFarWith : Session → Bytes → ℕ → Session → Bytes
+soFarWith s q b t = cond (isDropped s b) q (cond (sameTransfer (owed (s .phase)) (owed (t .phase))) (q ++ (b ∷ [])) [])
+
+-- After an open in a role (true: caller) that found these states, any receives and gives. A portion is its bytes one by one (`reached-portion`).
+pub data Reached (E : Shelf) : Session → Bytes → Type 0 where
+  atOpen : (caller : Bool) (states : List ℕ) → Reached E (opened caller states) []
+  received : {s : Session} {q : Bytes} → Reached E s q → (b : ℕ) → Reached E (receive E s (b ∷ []) .session) (soFarWith s q b (receive E s (b ∷ []) .session))
+  given : {s : Session} {q : Bytes} → Reached E s q → (room : ℕ) → Reached E (give s room) q
+
+-- What holds of them all.
+pub record Sound (E : Shelf) (s : Session) (q : Bytes) : Type 0 where
+  -- the reading of the transfer under way has come from these bytes, and where none is under way there are none
+  pub soFar : SoFar E (s .phase) (s .memory) q
+  pub between : owed (s .phase) ≡ 0 → q ≡ []
+  -- the records whose FS line is awaited are those of our block: places of the table in order, each waiting and not deferred
+  pub asked : (is : List ℕ) → s .phase ≡ awaitsAnswer is → OurBlock (E .table) (s .memory .framed) (s .memory .states) (s .memory .deferred) is
+  -- after the end nothing waits: "After a refusal nothing more is sent"; "Give on an ended session writes nothing"
   pub silent : ended s ≡ true → s .out ≡ []
+
+-- The partner's valid FS line in such a session: these signs answer our block of the records at `is`, and the memory after it is as Marks says, for all
+-- 64 flags; no record is given two signs.
+pub record AnswerExact (E : Shelf) (s : Session) (is : List ℕ) (ss : List Sign) (after : Memory) : Type 0 where
+  pub leaves : AnswerLeaves is ss (s .memory) after
+  pub block : OurBlock (E .table) (s .memory .framed) (s .memory .states) (s .memory .deferred) is
+  pub flags : length (s .memory .deferred) ≡ 64
+  pub once : (x y : Sign) (k : ℕ) → isIn k (placesWith x is ss) ≡ true → isIn k (placesWith y is ss) ≡ true → x ≡ y

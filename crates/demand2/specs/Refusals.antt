@@ -1,6 +1,14 @@
 -- DEMAND 2, REFUSALS: for each number of 01's table "The numbers given back", the situation in which it is given, as a fact about the session
--- just before the byte, and the byte. Nothing here goes by the session's steps: lines and transfers are judged whole, by the readers of the
--- grammar. The theorem is `exact` of proofs/Refusals.
+-- just before the byte, and the byte. Lines and transfers are judged whole, by the readers of the grammar, not by the session's steps; only 10 goes by
+-- the place where the reading of a transfer stands, see DECISIONS 20. Theorems: `exact` of proofs/Refusals, for every session that is reached
+-- `exact-reached` of proofs/Reached; `twelve` of proofs/Ended.
+--
+-- No.  situation        No.  situation          No.  situation
+--  1   crates/form,      5   LineNotAllowed      9   WrongChecksum
+--      crates/opening    6   WrongCount         10   NoRoom
+--  2   LineTooLong       7   WrongAnswer        11   BytesWait
+--  3   NotSid            8   WrongTransfer      12   Exact12, below
+--  4   NoForwarding
 use mathlib.Core.Path.{_≡_}
 use mathlib.Core.Bool.{Bool, true, false, not, _&&_}
 use mathlib.Core.Option.{none, some}
@@ -19,8 +27,9 @@ use Rattle.grammar.specs.Answers.{readFs}
 use Rattle.grammar.specs.Transfers.{Parsed, parse}
 use Rattle.grammar.specs.Scan.{Scan, goes, scan, bodyOf, isBodyByte}
 use Rattle.session.specs.Choices.{Shelf}
-use Rattle.session.specs.Session.{Phase, awaitsSid, awaitsPrompt, leaving, over, awaitsTurn, awaitsAnswer, awaitsTransfer, Memory, Session, step, roomFor, ended}
+use Rattle.session.specs.Session.{Phase, awaitsSid, awaitsPrompt, leaving, over, awaitsTurn, awaitsAnswer, awaitsTransfer, Memory, Session, step, ended}
 use Rattle.session.specs.Calls.{receive}
+use Rattle.demand2.specs.Room.{Full, room}
 
 -- ---------------------------------------------------------------- the order: "then 12, 11, 2, then the rule of the line or transfer"
 
@@ -79,14 +88,14 @@ pub record NoForwarding (s : Session) (b : ℕ) : Type 0 where
 
 -- ---------------------------------------------------------------- 5 to 7
 
--- What a line may say in the partner's turn. answered: our turn just now was FF; ps: its proposals so far. "A turn is `FF`, or one to five
+-- What a line may say in the partner's turn. ff: our turn just now was FF; ps: its proposals so far. "A turn is `FF`, or one to five
 -- proposals and `F>`."; "FQ is allowed only in answer to our FF. FF in answer to our FF gets 5."
 abbrev pub isAllowed : Bool → List Proposal → TurnLine → Bool
-isAllowed answered ps saysFF = not answered && null ps
-isAllowed answered ps saysFQ = answered && null ps
-isAllowed answered ps endsBlock = true
-isAllowed answered ps notAllowed = false
-isAllowed answered ps (proposes q) = true
+isAllowed ff ps saysFF = not ff && null ps
+isAllowed ff ps saysFQ = ff && null ps
+isAllowed ff ps endsBlock = true
+isAllowed ff ps notAllowed = false
+isAllowed ff ps (proposes q) = true
 
 -- "sixth proposal, or F> with none"
 abbrev pub isMiscounted : List Proposal → TurnLine → Bool
@@ -97,9 +106,9 @@ isMiscounted ps notAllowed = false
 isMiscounted ps (proposes q) = not (ltb (length ps) blockLimit)
 
 -- A line of the partner's turn, of which these proposals are there.
-pub record TurnSaid (s : Session) (b : ℕ) (answered : Bool) (ps : List Proposal) (line : Bytes) : Type 0 where
+pub record TurnSaid (s : Session) (b : ℕ) (ff : Bool) (ps : List Proposal) (line : Bytes) : Type 0 where
   pub whole : WholeLine s b line
-  pub awaited : s .phase ≡ awaitsTurn answered ps
+  pub awaited : s .phase ≡ awaitsTurn ff ps
 
 -- A line where the FS line on our n proposals is awaited, and it is none.
 pub record NoAnswer (s : Session) (b : ℕ) (line : Bytes) : Type 0 where
@@ -114,17 +123,17 @@ beginsFs line = isSome (after (text "FS") line)
 
 -- 5: "a turn line that isn't allowed here"
 pub data LineNotAllowed (s : Session) (b : ℕ) : Type 0 where
-  inTurn : (answered : Bool) (ps : List Proposal) (line : Bytes) → TurnSaid s b answered ps line
-      → isAllowed answered ps (readTurnLine (s .memory .framed) line) ≡ false → LineNotAllowed s b
+  inTurn : (ff : Bool) (ps : List Proposal) (line : Bytes) → TurnSaid s b ff ps line
+      → isAllowed ff ps (readTurnLine (s .memory .framed) line) ≡ false → LineNotAllowed s b
   forAnswer : (line : Bytes) → NoAnswer s b line → beginsFs line ≡ false → LineNotAllowed s b
 
 -- 6: "sixth proposal, or F> with none"; "A malformed or forbidden line gets 5 before 6 is thought of."
 pub record WrongCount (s : Session) (b : ℕ) : Type 0 where
-  pub answered : Bool
+  pub ff : Bool
   pub proposals : List Proposal
   pub line : Bytes
-  pub said : TurnSaid s b answered proposals line
-  pub allowed : isAllowed answered proposals (readTurnLine (s .memory .framed) line) ≡ true
+  pub said : TurnSaid s b ff proposals line
+  pub allowed : isAllowed ff proposals (readTurnLine (s .memory .framed) line) ≡ true
   pub miscounted : isMiscounted proposals (readTurnLine (s .memory .framed) line) ≡ true
 
 -- 7: "FS line wrong in form or count"
@@ -141,7 +150,7 @@ SoFar E (awaitsSid c) m q = Unit {0}
 SoFar E awaitsPrompt m q = Unit {0}
 SoFar E (awaitsTurn ff ps) m q = Unit {0}
 SoFar E (awaitsAnswer is) m q = Unit {0}
-SoFar E (awaitsTransfer p ps sc) m q = scan (roomFor E m) (p .form) q ≡ goes sc
+SoFar E (awaitsTransfer p ps sc) m q = scan (room E (m .inbox)) (p .form) q ≡ goes sc
 SoFar E leaving m q = Unit {0}
 SoFar E over m q = Unit {0}
 
@@ -173,7 +182,7 @@ pub record NoRoom (E : Shelf) (s : Session) (b : ℕ) : Type 0 where
   pub reading : Scan
   pub within : TransferByte s b proposal reading
   pub body : isBodyByte reading b ≡ true
-  pub full : roomFor E (s .memory) ≤ length (bodyOf reading)
+  pub full : Full E (s .memory .inbox) (bodyOf reading)
 
 -- ---------------------------------------------------------------- 11
 
@@ -199,7 +208,8 @@ numberOf no9 = number.badChecksum
 numberOf no10 = number.storeFull
 numberOf no11 = number.bytesWait
 
--- "Given when"
+-- "Given when". E: what the session was opened with; q: the bytes so far of the transfer under way (the `SoFar` of `s`, for a session that is reached
+-- those that came since it began); s: the session just before the byte; b: the byte
 abbrev pub Situation : Shelf → Bytes → Session → ℕ → Refusal → Type 0
 Situation E q s b no2 = LineTooLong s b
 Situation E q s b no3 = NotSid s b
@@ -222,13 +232,24 @@ pub record Exact (E : Shelf) (q : Bytes) (s : Session) (b : ℕ) : Type 0 where
   pub leaves : (n : Refusal) → Situation E q s b n
       → step E s b .session ≡ record { phase = over; part = []; afterCr = false; out = []; memory = s .memory }
 
--- A live session: 12 is never given in it, and on an ended one nothing else is (`twelve` of proofs/Refusals).
+-- ---------------------------------------------------------------- 12
+
+-- The session is over: "FQ received ends the session at its CR", a refusal ends it ("Besides ending the session"), and "Our FQ ends it when give has
+-- handed out its CR." (phase `leaving`: our FQ is said).
+pub data Over (s : Session) : Type 0 where
+  closed : s .phase ≡ over → Over s
+  fqGiven : s .phase ≡ leaving → s .out ≡ [] → Over s
+
+-- A live session: 12 is never given in it, and on one that is over nothing else is (`twelve` of proofs/Ended).
 abbrev pub Live : Session → Type 0
 Live s = ended s ≡ false
 
--- ---------------------------------------------------------------- 12
+-- Live is exactly what is not over.
+pub record LiveExact (s : Session) : Type 0 where
+  pub given : (Over s → ⊥) → Live s
+  pub only : Live s → Over s → ⊥
 
 -- 12: "receive on an ended session": "nothing consumed, nothing changed"
 pub record Exact12 (E : Shelf) (s : Session) (bs : Bytes) : Type 0 where
-  pub given : ended s ≡ true → receive E s bs ≡ record { answer = number.sessionEnded; count = 0; session = s }
-  pub only : receive E s bs .answer ≡ number.sessionEnded → ended s ≡ true
+  pub given : Over s → receive E s bs ≡ record { answer = number.sessionEnded; count = 0; session = s }
+  pub only : receive E s bs .answer ≡ number.sessionEnded → Over s

@@ -1,0 +1,168 @@
+-- MARKS ARE 01's: the session's marks are as AnswerLeaves and TurnLeaves say, and no other memory is. Idea: each of the session's three ways to mark
+-- sets one number at a list of places; lists of one length with the same entries are the same.
+use mathlib.Core.Path.{_≡_, refl, sym, ap, _∙_}
+use mathlib.Core.Bool.{Bool, true, false, cond, _||_}
+use mathlib.Core.List.{List, [], _∷_, _++_}
+use Prim.Native.Nat.{ℕ, _<_}
+use native.Mathlib.Omega.{arith}
+use lib.Dec.{eqb}
+use lib.ListN.{length, getD, set, length-set}
+use lib.Seq.{getD-set-same, getD-set-other, lt-length-set, ext-getD}
+use borrow.Author.Tests.{eqb-true, eqb-false, eq-eqb}
+use Rattle.grammar.specs.Answers.{Sign, accept, decline, defer, writeSign}
+use Rattle.grammar.proofs.Basics.{or-second, no-both}
+use Rattle.mail.specs.Mail.{Message, accepted, marked, declined}
+use Rattle.session.specs.Session.{Memory, turnMarks, deferring, answerMarks}
+use Rattle.demand2.specs.Marks.{isIn, isSign, placesWith, AnswerLeaves, TurnLeaves}
+use Rattle.demand2.specs.OurTurn.{rising}
+use Rattle.demand2.proofs.Candidates.{rising-first, rising-rest}
+
+-- ---------------------------------------------------------------- one number at a list of places
+
+abbrev setAll : List ℕ → ℕ → List ℕ → List ℕ
+setAll [] v l = l
+setAll (i ∷ is) v l = setAll is v (set l i v)
+
+set-length : (is : List ℕ) (v : ℕ) (l : List ℕ) → length (setAll is v l) ≡ length l
+set-length [] v l = refl
+set-length (i ∷ is) v l = set-length is v (set l i v) ∙ length-set l i v
+
+set-at : (is : List ℕ) (v : ℕ) (l : List ℕ) (k : ℕ) → k < length l → getD (setAll is v l) k 0 ≡ cond (isIn k is) v (getD l k 0)
+set-at [] v l k h = refl
+set-at (i ∷ is) v l k h = set-at is v (set l i v) k (lt-length-set l i v h) ∙ go (eqb k i) refl (isIn k is)
+  where
+    go : (c : Bool) → eqb k i ≡ c → (d : Bool) → cond d v (getD (set l i v) k 0) ≡ cond (c || d) v (getD l k 0)
+    go c e true = or c
+      where
+        or : (c : Bool) → v ≡ cond (c || true) v (getD l k 0)
+        or true = refl
+        or false = refl
+    go true e false = ap (λ (j : ℕ). getD (set l j v) k 0) (sym (eqb-true k i e)) ∙ getD-set-same l k v 0 h
+    go false e false = getD-set-other l i k v 0 (eqb-false k i e)
+
+-- ---------------------------------------------------------------- the session's marks
+
+marked-is : (is l : List ℕ) → marked is l ≡ setAll is 1 l
+marked-is [] l = refl
+marked-is (i ∷ is) l = marked-is is (set l i 1)
+
+declined-is : (is : List ℕ) (ss : List Sign) (l : List ℕ) → declined is ss l ≡ setAll (placesWith decline is ss) 2 l
+declined-is [] ss l = refl
+declined-is (i ∷ is) [] l = refl
+declined-is (i ∷ is) (accept ∷ ss) l = declined-is is ss l
+declined-is (i ∷ is) (decline ∷ ss) l = declined-is is ss (set l i 2)
+declined-is (i ∷ is) (defer ∷ ss) l = declined-is is ss l
+
+deferring-is : (is : List ℕ) (ss : List Sign) (l : List ℕ) → deferring is ss l ≡ setAll (placesWith defer is ss) 1 l
+deferring-is [] ss l = refl
+deferring-is (i ∷ is) [] l = refl
+deferring-is (i ∷ is) (accept ∷ ss) l = deferring-is is ss l
+deferring-is (i ∷ is) (decline ∷ ss) l = deferring-is is ss l
+deferring-is (i ∷ is) (defer ∷ ss) l = deferring-is is ss (set l i 1)
+
+pub accepted-is : (is : List ℕ) (ss : List Sign) → accepted ss is ≡ placesWith accept is ss
+accepted-is [] [] = refl
+accepted-is [] (s ∷ ss) = refl
+accepted-is (i ∷ is) [] = refl
+accepted-is (i ∷ is) (accept ∷ ss) = ap (λ (l : List ℕ). i ∷ l) (accepted-is is ss)
+accepted-is (i ∷ is) (decline ∷ ss) = accepted-is is ss
+accepted-is (i ∷ is) (defer ∷ ss) = accepted-is is ss
+
+-- THE SESSION'S MARKS at an FS line are these
+pub answer-marks : (is : List ℕ) (ss : List Sign) (m : Memory) → AnswerLeaves is ss m (answerMarks is ss m)
+answer-marks is ss m =
+    record {
+      state = λ k h. ap (λ (l : List ℕ). getD l k 0) (declined-is is ss (m .states)) ∙ set-at (placesWith decline is ss) 2 (m .states) k h;
+      records = ap length (declined-is is ss (m .states)) ∙ set-length (placesWith decline is ss) 2 (m .states);
+      flag = λ k h. ap (λ (l : List ℕ). getD l k 0) (deferring-is is ss (m .deferred)) ∙ set-at (placesWith defer is ss) 1 (m .deferred) k h;
+      flags = ap length (deferring-is is ss (m .deferred)) ∙ set-length (placesWith defer is ss) 1 (m .deferred);
+      sending = ap (λ (l : List ℕ). m .sending ++ l) (accepted-is is ss);
+      mode = refl;
+      inbox = refl;
+    }
+
+-- THE SESSION'S MARKS at the end of the partner's turn are these
+pub turn-marks : (m : Memory) → TurnLeaves m (turnMarks m)
+turn-marks m =
+    record {
+      state = λ k h. ap (λ (l : List ℕ). getD l k 0) (marked-is (m .sending) (m .states)) ∙ set-at (m .sending) 1 (m .states) k h;
+      records = ap length (marked-is (m .sending) (m .states)) ∙ set-length (m .sending) 1 (m .states);
+      sending = refl;
+      deferred = refl;
+      mode = refl;
+      inbox = refl;
+    }
+
+-- ---------------------------------------------------------------- and no others
+
+-- a memory by its five parts
+pub memory-is : (m n : Memory) → m .framed ≡ n .framed → m .states ≡ n .states → m .sending ≡ n .sending → m .inbox ≡ n .inbox
+    → m .deferred ≡ n .deferred → m ≡ n
+memory-is m n a b c d e =
+    ap (λ (x : Bool). record { framed = x; states = m .states; sending = m .sending; inbox = m .inbox; deferred = m .deferred }) a
+    ∙ ap (λ (x : List ℕ). record { framed = n .framed; states = x; sending = m .sending; inbox = m .inbox; deferred = m .deferred }) b
+    ∙ ap (λ (x : List ℕ). record { framed = n .framed; states = n .states; sending = x; inbox = m .inbox; deferred = m .deferred }) c
+    ∙ ap (λ (x : List Message). record { framed = n .framed; states = n .states; sending = n .sending; inbox = x; deferred = m .deferred }) d
+    ∙ ap (λ (x : List ℕ). record { framed = n .framed; states = n .states; sending = n .sending; inbox = n .inbox; deferred = x }) e
+
+-- two lists, each as long as l and with the entries f
+alike : (f : ℕ → ℕ) (l u v : List ℕ) → length u ≡ length l → length v ≡ length l → ((k : ℕ) → k < length l → getD u k 0 ≡ f k)
+    → ((k : ℕ) → k < length l → getD v k 0 ≡ f k) → u ≡ v
+alike f l u v p q g h = ext-getD 0 u v (p ∙ sym q) (λ k b. g k (omega arith) ∙ sym (h k (omega arith)))
+
+pub answer-only : (is : List ℕ) (ss : List Sign) (m n : Memory) → AnswerLeaves is ss m n → n ≡ answerMarks is ss m
+answer-only is ss m n a =
+    let z = answer-marks is ss m in
+    memory-is n (answerMarks is ss m) (a .mode)
+    (alike (λ (k : ℕ). cond (isIn k (placesWith decline is ss)) 2 (getD (m .states) k 0)) (m .states) (n .states) (declined is ss (m .states))
+    (a .records) (z .records) (a .state) (z .state))
+    (a .sending ∙ sym (z .sending)) (a .inbox)
+    (alike (λ (k : ℕ). cond (isIn k (placesWith defer is ss)) 1 (getD (m .deferred) k 0)) (m .deferred) (n .deferred) (deferring is ss (m .deferred))
+    (a .flags) (z .flags) (a .flag) (z .flag))
+
+pub turn-only : (m n : Memory) → TurnLeaves m n → n ≡ turnMarks m
+turn-only m n a =
+    let z = turn-marks m in
+    memory-is n (turnMarks m) (a .mode)
+    (alike (λ (k : ℕ). cond (isIn k (m .sending)) 1 (getD (m .states) k 0)) (m .states) (n .states) (marked (m .sending) (m .states))
+    (a .records) (z .records) (a .state) (z .state))
+    (a .sending) (a .inbox) (a .deferred)
+
+-- ---------------------------------------------------------------- one sign a record
+
+-- a record that was given a sign was proposed
+proposed-in : (x : Sign) (is : List ℕ) (ss : List Sign) (k : ℕ) → isIn k (placesWith x is ss) ≡ true → isIn k is ≡ true
+proposed-in x [] ss k e = e
+proposed-in x (i ∷ is) [] k e = absurd (no-both false e refl)
+proposed-in x (i ∷ is) (s ∷ ss) k e = go (isSign x s) (eqb k i) refl e (λ h. proposed-in x is ss k h)
+  where
+    go : (c d : Bool) → eqb k i ≡ d → isIn k (cond c (i ∷ placesWith x is ss) (placesWith x is ss)) ≡ true
+        → (isIn k (placesWith x is ss) ≡ true → isIn k is ≡ true) → d || isIn k is ≡ true
+    go c true q e ih = refl
+    go true false q e ih = ih (or-second (eqb k i) (isIn k (placesWith x is ss)) q e)
+    go false false q e ih = ih e
+
+-- "one sign a proposal": where the places rise, as those of our block do, no record is given two signs
+pub one-sign : (x y : Sign) (is : List ℕ) (ss : List Sign) (k : ℕ) → rising is ≡ true → isIn k (placesWith x is ss) ≡ true → isIn k (placesWith y is ss) ≡ true
+    → isSign x y ≡ true
+one-sign x y [] ss k r e f = absurd (no-both false e refl)
+one-sign x y (i ∷ is) [] k r e f = absurd (no-both false e refl)
+one-sign x y (i ∷ is) (s ∷ ss) k r e f = go (eqb k i) refl (λ h g. one-sign x y is ss k (rising-rest i is r) h g)
+  where
+    -- the first record is not among the others
+    here : (z : Sign) → k ≡ i → isIn k (placesWith z is ss) ≡ true → ⊥
+    here z q h = let l = rising-first i is r k (proposed-in z is ss k h) in omega arith
+
+    own : (z : Sign) → k ≡ i → (c : Bool) → isSign z s ≡ c → isIn k (cond c (i ∷ placesWith z is ss) (placesWith z is ss)) ≡ true → writeSign z ≡ writeSign s
+    own z q true p h = eqb-true (writeSign z) (writeSign s) p
+    own z q false p h = absurd (here z q h)
+
+    rest : (z : Sign) → eqb k i ≡ false → (c : Bool) → isIn k (cond c (i ∷ placesWith z is ss) (placesWith z is ss)) ≡ true → isIn k (placesWith z is ss) ≡ true
+    rest z q true h = or-second (eqb k i) (isIn k (placesWith z is ss)) q h
+    rest z q false h = h
+
+    go : (c : Bool) → eqb k i ≡ c → (isIn k (placesWith x is ss) ≡ true → isIn k (placesWith y is ss) ≡ true → isSign x y ≡ true) → isSign x y ≡ true
+    go true q ih =
+        let j = eqb-true k i q in
+        eq-eqb (writeSign x) (writeSign y) (own x j (isSign x s) refl e ∙ sym (own y j (isSign y s) refl f))
+    go false q ih = ih (rest x q (isSign x s) e) (rest y q (isSign y s) f)

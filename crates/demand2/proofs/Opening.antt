@@ -1,0 +1,51 @@
+-- AT OPEN: the session is as OpenExact says, and no other is. Idea: everything computes; 64 flags of 0 are one list.
+use mathlib.Core.Path.{_≡_, refl, sym, ap, _∙_}
+use mathlib.Core.Bool.{Bool, true, false}
+use mathlib.Core.List.{List, [], _∷_, _++_}
+use Prim.Native.Nat.{ℕ, _<_}
+use native.Mathlib.Omega.{arith}
+use lib.ListN.{length, getD, replicate, length-replicate, getD-replicate}
+use lib.Seq.{ext-getD}
+use Rattle.grammar.specs.Bytes.{Bytes}
+use Rattle.grammar.proofs.Basics.{no-both}
+use Rattle.session.specs.Session.{Phase, awaitsSid, Memory, Session, greeting, opened}
+use Rattle.demand2.specs.Opening.{OpenExact}
+use Rattle.demand2.proofs.Marks.{memory-is}
+
+-- OPEN
+pub open-exact : (caller : Bool) (states : List ℕ) → OpenExact caller states (opened caller states)
+open-exact caller states =
+    record {
+      awaits = refl;
+      called = λ e. ap greeting e;
+      calling = λ e. ap greeting e;
+      part = refl;
+      noCr = refl;
+      marks = refl;
+      sending = refl;
+      flag = λ k h. getD-replicate 64 k 0 0 h;
+      flags = length-replicate {A = ℕ} 64 0;
+      inbox = refl;
+      mode = refl;
+    }
+
+-- a session by its five parts
+session-is : (s t : Session) → s .phase ≡ t .phase → s .part ≡ t .part → s .afterCr ≡ t .afterCr → s .out ≡ t .out → s .memory ≡ t .memory → s ≡ t
+session-is s t a b c d e =
+    ap (λ (x : Phase). record { phase = x; part = s .part; afterCr = s .afterCr; out = s .out; memory = s .memory }) a
+    ∙ ap (λ (x : Bytes). record { phase = t .phase; part = x; afterCr = s .afterCr; out = s .out; memory = s .memory }) b
+    ∙ ap (λ (x : Bool). record { phase = t .phase; part = t .part; afterCr = x; out = s .out; memory = s .memory }) c
+    ∙ ap (λ (x : Bytes). record { phase = t .phase; part = t .part; afterCr = t .afterCr; out = x; memory = s .memory }) d
+    ∙ ap (λ (x : Memory). record { phase = t .phase; part = t .part; afterCr = t .afterCr; out = t .out; memory = x }) e
+
+-- AND NO OTHER SESSION is one that open leaves
+pub open-only : (caller : Bool) (states : List ℕ) (s : Session) → OpenExact caller states s → s ≡ opened caller states
+open-only caller states s h =
+    session-is s (opened caller states) (h .awaits) (h .part) (h .noCr) (waits caller (h .called) (h .calling))
+    (memory-is (s .memory) (opened caller states .memory) (h .mode) (h .marks) (h .sending) (h .inbox)
+    (ext-getD 0 (s .memory .deferred) (replicate 64 0) (h .flags ∙ sym (length-replicate {A = ℕ} 64 0))
+    (λ k l. h .flag k (omega (arith, h .flags)) ∙ sym (getD-replicate 64 k 0 0 (omega (arith, h .flags))))))
+  where
+    waits : (caller : Bool) → (caller ≡ false → s .out ≡ greeting false) → (caller ≡ true → s .out ≡ []) → s .out ≡ greeting caller
+    waits true f g = g refl
+    waits false f g = f refl

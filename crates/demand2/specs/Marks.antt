@@ -1,0 +1,47 @@
+-- DEMAND 2, MARKS: what the partner's FS line and its whole turn leave of the memory, record by record. Theorems: proofs/Marks.
+use mathlib.Core.Path.{_≡_}
+use mathlib.Core.Bool.{Bool, false, cond, _||_}
+use mathlib.Core.List.{List, [], _∷_, _++_}
+use Prim.Native.Nat.{ℕ, _<_}
+use lib.Dec.{eqb}
+use lib.ListN.{length, getD}
+use Rattle.grammar.specs.Answers.{Sign, accept, decline, defer, writeSign}
+use Rattle.session.specs.Session.{Memory}
+
+-- This place is among these.
+abbrev pub isIn : ℕ → List ℕ → Bool
+isIn i [] = false
+isIn i (x ∷ xs) = eqb i x || isIn i xs
+
+abbrev pub isSign : Sign → Sign → Bool
+isSign x y = eqb (writeSign x) (writeSign y)
+
+-- "one sign a proposal": the places of the records to which the line gave the sign x, in order; `is` are the places of the records that we
+-- proposed, and the signs answer them one by one
+abbrev pub placesWith : Sign → List ℕ → List Sign → List ℕ
+placesWith x [] ss = []
+placesWith x (i ∷ is) [] = []
+placesWith x (i ∷ is) (s ∷ ss) = cond (isSign x s) (i ∷ placesWith x is ss) (placesWith x is ss)
+
+-- The memory before and after the partner's valid FS line. state and flag: of the record at any place k
+pub record AnswerLeaves (is : List ℕ) (ss : List Sign) (before after : Memory) : Type 0 where
+  -- "`-` sets state 2 at the CR of a valid line.", and nothing else is set: "A deferred record stays 0."
+  pub state : (k : ℕ) → k < length (before .states) → getD (after .states) k 0 ≡ cond (isIn k (placesWith decline is ss)) 2 (getD (before .states) k 0)
+  pub records : length (after .states) ≡ length (before .states)
+  -- "`=` defer": deferred in this session (flag 1) is what was, and what this line defers
+  pub flag : (k : ℕ) → k < length (before .deferred) → getD (after .deferred) k 0 ≡ cond (isIn k (placesWith defer is ss)) 1 (getD (before .deferred) k 0)
+  pub flags : length (after .deferred) ≡ length (before .deferred)
+  -- "Accepted records are sent in order."
+  pub sending : after .sending ≡ before .sending ++ placesWith accept is ss
+  pub mode : after .framed ≡ before .framed
+  pub inbox : after .inbox ≡ before .inbox
+
+-- The memory before and after the partner's whole valid turn, FF or `F>`.
+pub record TurnLeaves (before after : Memory) : Type 0 where
+  -- "State 1 is set at the CR that ends the partner's next whole valid turn.": for each record that is being sent, and no other
+  pub state : (k : ℕ) → k < length (before .states) → getD (after .states) k 0 ≡ cond (isIn k (before .sending)) 1 (getD (before .states) k 0)
+  pub records : length (after .states) ≡ length (before .states)
+  pub sending : after .sending ≡ []
+  pub deferred : after .deferred ≡ before .deferred
+  pub mode : after .framed ≡ before .framed
+  pub inbox : after .inbox ≡ before .inbox

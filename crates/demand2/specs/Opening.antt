@@ -1,0 +1,28 @@
+-- DEMAND 2, AT OPEN: the session right after an accepted open, in 01's words. Theorems: proofs/Opening.
+use mathlib.Core.Path.{_≡_}
+use mathlib.Core.Bool.{Bool, true, false}
+use mathlib.Core.List.{List, [], _++_}
+use Prim.Native.Nat.{ℕ, _<_}
+use lib.ListN.{length, getD}
+use Rattle.grammar.specs.Ascii.{text}
+use Rattle.grammar.specs.Turns.{withCr}
+use Rattle.session.specs.Session.{awaitsSid, Session}
+
+-- caller: the role (true: 1, caller); states: those of the records, as open found them
+pub record OpenExact (caller : Bool) (states : List ℕ) (s : Session) : Type 0 where
+  -- "Called: we send it, CR, `>`, CR, and await the caller's SID"; "Caller: we await the SID"
+  pub awaits : s .phase ≡ awaitsSid caller
+  pub called : caller ≡ false → s .out ≡ withCr (text "[NOD-1-BFH$]") ++ withCr (text ">")
+  pub calling : caller ≡ true → s .out ≡ []
+  -- no line is begun, and no CR came after which an LF is dropped
+  pub part : s .part ≡ []
+  pub noCr : s .afterCr ≡ false
+  -- "each record's state, as open found it"; none is being sent, none was deferred
+  pub marks : s .memory .states ≡ states
+  pub sending : s .memory .sending ≡ []
+  pub flag : (k : ℕ) → k < 64 → getD (s .memory .deferred) k 0 ≡ 0
+  pub flags : length (s .memory .deferred) ≡ 64
+  -- "Its count stands in session memory, 0 once open accepts."
+  pub inbox : s .memory .inbox ≡ []
+  -- "Partner has B: framed mode, .. Otherwise plain mode.": nothing is known of it yet
+  pub mode : s .memory .framed ≡ false

@@ -1,0 +1,61 @@
+-- DEMAND 2, WHOLE LINES AND TRANSFERS: what receive makes of them, whatever was there before. Theorems: proofs/Units.
+use mathlib.Core.Path.{_≡_}
+use mathlib.Core.Bool.{Bool, true, not, _&&_}
+use mathlib.Core.Option.{some}
+use mathlib.Core.List.{List, [], _∷_, _++_}
+use Prim.Native.Nat.{ℕ, suc, _+_, _≤_}
+use lib.Dec.{eqb}
+use lib.ListN.{length}
+use Rattle.grammar.specs.Bytes.{Bytes, CR, LF, null, all}
+use Rattle.grammar.specs.Lines.{lineLimit, dropLf}
+use Rattle.grammar.specs.Turns.{Proposal}
+use Rattle.grammar.specs.Transfers.{parse}
+use Rattle.grammar.specs.Scan.{scanFrom}
+use Rattle.mail.specs.Mail.{messageOf}
+use Rattle.session.specs.Choices.{Shelf}
+use Rattle.session.specs.Session.{Phase, awaitsTransfer, Memory, Session, step}
+use Rattle.session.specs.Calls.{receive}
+use Rattle.demand2.specs.Room.{Fits}
+use Rattle.demand2.specs.Events.{session, withMessage, endsWithCr, transfersOr}
+
+-- A session where a line is awaited and these bytes of it have come; afterCr: an LF now is dropped
+abbrev pub lineBegun : Phase → Memory → Bool → Bytes → Session
+lineBegun p m afterCr w = record { phase = p; part = w; afterCr = afterCr; out = []; memory = m }
+
+-- "A line ends with CR.": none of these bytes is one
+abbrev pub hasNoCr : Bytes → Bool
+hasNoCr u = all (λ (b : ℕ). not (eqb b CR)) u
+
+-- Bytes of a line of at most 256 in all. None of them is refused (`taken`), and with its CR the line is judged as it stands then (`judged`; what the
+-- step of that CR is, Refusals and Events say). "One LF directly after the CR that ended a line .. is dropped" and is no byte of the line.
+pub record LineWhole (E : Shelf) (p : Phase) (m : Memory) : Type 0 where
+  pub taken : (afterCr : Bool) (w u : Bytes) → hasNoCr u ≡ true → length w + length (dropLf afterCr u) ≤ lineLimit
+      → receive E (lineBegun p m afterCr w) u
+      ≡ record { answer = 0; count = length u; session = lineBegun p m (afterCr && null u) (w ++ dropLf afterCr u) }
+  pub judged : (afterCr : Bool) (w u : Bytes) → hasNoCr u ≡ true → length w + length (dropLf afterCr u) ≤ lineLimit
+      → receive E (lineBegun p m afterCr w) (u ++ (CR ∷ []))
+      ≡ record {
+        answer = step E (lineBegun p m (afterCr && null u) (w ++ dropLf afterCr u)) CR .answer;
+        count = suc (length u);
+        session = step E (lineBegun p m (afterCr && null u) (w ++ dropLf afterCr u)) CR .session;
+      }
+
+-- Where the transfer of p is awaited, then those of ps, and none of its bytes has come.
+abbrev pub transferDue : Proposal → List Proposal → Memory → Bool → Session
+transferDue p ps m afterCr = session (awaitsTransfer p ps (scanFrom (p .form))) afterCr [] m
+
+-- "A message is kept at its last byte.": a transfer that is right and fits, also directly after the CR of `F>` or of the transfer before it, and
+-- also if an LF that is dropped comes between
+pub record TransferKept (E : Shelf) (p : Proposal) (ps : List Proposal) (m : Memory) (u heading body : Bytes) : Type 0 where
+  pub kept : (afterCr : Bool) → receive E (transferDue p ps m afterCr) u
+      ≡ record {
+        answer = 0;
+        count = length u;
+        session = transfersOr E (endsWithCr (p .form)) [] ps (withMessage m (messageOf p (record { heading = heading; body = body })));
+      }
+  pub afterLf : receive E (transferDue p ps m true) (LF ∷ u)
+      ≡ record {
+        answer = 0;
+        count = suc (length u);
+        session = transfersOr E (endsWithCr (p .form)) [] ps (withMessage m (messageOf p (record { heading = heading; body = body })));
+      }
