@@ -25,7 +25,7 @@ in-its-mode message = refl
 in-its-mode file = refl
 
 -- the heading that our transfer is written with
-heading-is : (f : Form) (r : Record) → headingFor f r ≡ headingBy f (r .title) (r .name)
+pub heading-is : (f : Form) (r : Record) → headingFor f r ≡ headingBy f (r .title) (r .name)
 heading-is plain r = refl
 heading-is message r = refl
 heading-is file r = refl

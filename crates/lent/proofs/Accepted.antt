@@ -1,6 +1,6 @@
 -- What an accepted open has found: sizes, and of every record that its fields obey their rules, that its BID is its own and that its texts
 -- are no longer than they may be. Idea: the first fault is 255 only where there is none, since a table has 64 records at most.
-use mathlib.Core.Path.{_≡_, refl, ap, _∙_, subst}
+use mathlib.Core.Path.{_≡_, refl, sym, ap, _∙_, subst}
 use mathlib.Core.Bool.{Bool, true, false, cond, not, _&&_}
 use mathlib.Core.List.{List, []}
 use Prim.Native.Nat.{ℕ, zero, suc, _+_, _≤_, _<_}
@@ -15,6 +15,9 @@ use Rattle.grammar.specs.Transfers.{partOf, sendable}
 use Rattle.grammar.proofs.Basics.{and2, both, or2, no-both, field-is}
 use Rattle.mail.specs.Mail.{Record, noRecord, recordAt, proposalOf, headingFor, transferOf}
 use Rattle.session.specs.Choices.{among}
+use Rattle.demand2.specs.ReadBack.{ReadsBack}
+use Rattle.demand2.proofs.ReadBack as read-back
+use Rattle.demand2.proofs.ReadBack.{reads-back}
 use Rattle.demand3.specs.Demand.{Good, allProposable, noneWith, distinctBids}
 use Rattle.layout.specs.Layout.{byteAt, le2At, le4At, fieldIn, entryAt, recordSize, recordOf}
 use Rattle.choice.specs.Decoded.{entriesFrom, entries, recordCount, recordsOf}
@@ -209,3 +212,14 @@ module _ (table titles names bodies : Bytes) where
           let h = ltb-false i (recordCount table) p in
           let n = entries-length (recordOf titles names bodies) recordSize table 0 (recordCount table) in
           rw (List·getD-eq-default T noRecord {n = i} (omega arith)) none-short
+
+  -- every record of it reads back
+  pub table-reads-back : tableFault table titles names bodies ≡ 255 → (i : ℕ) → i < recordCount table → ReadsBack (recordAt (recordsOf titles names bodies table) i)
+  unfolding recordsOf
+  table-reads-back e i h =
+      let c = entryAt recordSize table i in
+      let ok = record-ok (all-ok e) i h in
+      rw (entries-at (recordOf titles names bodies) recordSize table (recordCount table) i noRecord h)
+      (reads-back (recordOf titles names bodies c) (record-proposable c titles names bodies ok)
+      (ap (λ (w : Bytes). sendable (recordOf titles names bodies c .form) w (recordOf titles names bodies c .body)) (sym (read-back.heading-is (recordOf titles names bodies c .form) (recordOf titles names bodies c)))
+      ∙ record-sendable c titles names bodies ok))

@@ -38,7 +38,7 @@ pub mod FormSaved
 pub mod FormClosed
 pub mod FormAnswers
 -- Small: numbers that must fit their bytes. InForm: the form test. Held: memory as a call left it, and saving. Giving, Accepted,
--- Opening: the laws of give and open. Run: a list of calls. Laid: entries and bodies byte for byte. Demand3: the theorem. DeedStates, Deeds, Becomes, Once, Fates, InWords: the same in
+-- Opening: the laws of give and open. Run: a list of calls. Laid: entries and bodies byte for byte. Demand3: the theorem; Demand2: what demand 2 says, over lent memory. DeedStates, Deeds, Becomes, Once, Fates, InWords: the same in
 -- the mission's words.
 pub mod Small
 pub mod InForm
@@ -49,6 +49,7 @@ pub mod Opening
 pub mod Run
 pub mod Laid
 pub mod Demand3
+pub mod Demand2
 pub mod DeedStates
 pub mod Deeds
 pub mod Becomes

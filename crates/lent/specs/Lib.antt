@@ -5,5 +5,6 @@ pub mod Frame
 pub mod Link
 pub mod Calls
 pub mod Demand3
+pub mod Demand2
 pub mod Deeds
 pub mod InWords
