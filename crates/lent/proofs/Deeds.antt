@@ -10,12 +10,12 @@ use lib.ListN.{length}
 use Rattle.grammar.specs.Bytes.{Bytes, same}
 use Rattle.grammar.specs.Lines.{trim, isComment, isPrompt, lineLimit}
 use Rattle.grammar.specs.Sid.{readSid, hasFeature}
-use Rattle.grammar.specs.Turns.{Proposal, TurnLine, readTurnLine, fixedText, ourSid}
+use Rattle.grammar.specs.Turns.{Proposal, TurnLine, readTurnLine, fixedText, ourSid, ourPrompt}
 use Rattle.grammar.specs.Answers.{Sign, readFs}
 use Rattle.grammar.specs.Transfers.{Content, readTransfer}
 use Rattle.grammar.proofs.Basics.{by-cond}
 use Rattle.mail.specs.Mail.{Record, accepted, marked, declined}
-use Rattle.log.specs.Log.{Next, over, ourGreeting, ourFirstPrompt, ourSidLine, theirText, theirSid, theirTurn, ourTurn, theirAnswer, ourAnswer, theirTransfer, ourTransfer, Course, Book, Log, Said, unfinished, farewell, wrong, turn, said, ourSaid, ourAnswered, oursOwed, theirsOwed, ourLine, Effect, effect, theirSaid, theirAnswered, theirSidRead, theirTransferred, afterTheirTurn, applied, withAfterCr}
+use Rattle.log.specs.Log.{Next, over, ourGreeting, ourFirstPrompt, ourSidLine, theirText, theirSid, theirTurn, ourTurn, theirAnswer, ourAnswer, theirTransfer, ourTransfer, Course, Book, Log, Said, unfinished, farewell, wrong, turn, said, placesOf, ourProposed, ourSaid, ourAnswered, oursOwed, theirsOwed, ourLine, Effect, effect, theirSaid, theirAnswered, theirSidRead, theirTransferred, afterTheirTurn, applied, withAfterCr}
 use Rattle.lent.specs.Deeds.{Deed, answered, sent, turned, nothing, brought, turnDeed, answerDeed, transferDeed, deedOf}
 
 -- the records whose transfers we owe
@@ -108,12 +108,16 @@ module _ (T : List Record) (a : Bool) (st : List ℕ) (k : Book) where
   text-does n true false false = quiet n theirText refl
   text-does n false y z = quiet n over refl
 
+  our-proposed : (z : Option (List ℕ)) → owes (ourProposed z) ≡ []
+  our-proposed none = refl
+  our-proposed (some is) = refl
+
   our-said : (ff : Bool) (ls : List TurnLine) (z : Said) → owes (ourSaid T ff ls z) ≡ []
   our-said ff ls unfinished = refl
   our-said ff ls farewell = refl
   our-said ff ls wrong = refl
   our-said ff ls (turn []) = refl
-  our-said ff ls (turn (p ∷ ps)) = refl
+  our-said ff ls (turn (p ∷ ps)) = our-proposed (placesOf T (p ∷ ps))
 
   our-answered : (ps : List Proposal) (z : Option (List Sign)) → owes (ourAnswered ps z) ≡ []
   our-answered ps none = refl
@@ -125,7 +129,7 @@ module _ (T : List Record) (a : Bool) (st : List ℕ) (k : Book) where
   does : (n : Next) (u : Bytes) (b : ℕ) → Comes (deedOf n (k .framed) u b) n (applied T (before n) u b .course) (applied T (before n) u b .book)
   does over u b = quiet over over refl
   does ourGreeting u b = quiet ourGreeting (ourLine T (k .framed) ourGreeting u) (owes-nothing (same u (fixedText ourSid)) ourFirstPrompt over refl refl)
-  does ourFirstPrompt u b = quiet ourFirstPrompt (ourLine T (k .framed) ourFirstPrompt u) (owes-nothing (isPrompt u) (theirSid false) over refl refl)
+  does ourFirstPrompt u b = quiet ourFirstPrompt (ourLine T (k .framed) ourFirstPrompt u) (owes-nothing (same u (fixedText ourPrompt)) (theirSid false) over refl refl)
   does ourSidLine u b = quiet ourSidLine (ourLine T (k .framed) ourSidLine u) (owes-nothing (same u (fixedText ourSid)) (ourTurn false []) over refl refl)
   does theirText u b = text-does theirText (leb (length u) lineLimit) (isComment (trim u)) (isPrompt (trim u))
   does (theirSid c) u b = sid-does c (theirSid c) (leb (length u) lineLimit) (isComment (trim u)) (readSid (trim u))

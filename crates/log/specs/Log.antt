@@ -11,8 +11,8 @@ use Rattle.grammar.specs.Bytes.{Bytes, CR, LF, same, isSome}
 use Rattle.grammar.specs.Fields.{Form, plain, message, file}
 use Rattle.grammar.specs.Lines.{trim, isComment, isPrompt, lineLimit}
 use Rattle.grammar.specs.Sid.{readSid, hasFeature, framed}
-use Rattle.grammar.specs.Turns.{Proposal, TurnLine, saysFF, saysFQ, endsBlock, notAllowed, proposes, readTurnLine, fixedText, ourSid}
-use Rattle.grammar.specs.Answers.{Sign, readFs}
+use Rattle.grammar.specs.Turns.{Proposal, TurnLine, saysFF, saysFQ, endsBlock, notAllowed, proposes, readTurnLine, fixedText, ourSid, ourPrompt}
+use Rattle.grammar.specs.Answers.{Sign, consO, readFs}
 use Rattle.grammar.specs.Transfers.{Content, readTransfer}
 use Rattle.mail.specs.Mail.{Record, Message, messageOf, recordAt, transferOf, placeOf, accepted, marked, declined}
 
@@ -100,10 +100,19 @@ said ff ls = inOrder ff (saidOn [] ls)
 
 -- ---------------------------------------------------------------- the effect of a whole unit of ours
 
--- "ours are the records with those BIDs"
-abbrev pub placesOf : List Record → List Proposal → List ℕ
-placesOf T [] = []
-placesOf T (p ∷ ps) = placeOf T (p .bid) ∷ placesOf T ps
+-- The place of the record with this BID; none where no record has it.
+abbrev pub placeFound : List Record → Bytes → Option ℕ
+placeFound T b = cond (ltb (placeOf T b) (length T)) (some (placeOf T b)) none
+
+-- "ours are the records with those BIDs": the places of all of them, or none
+abbrev pub placesOf : List Record → List Proposal → Option (List ℕ)
+placesOf T [] = some []
+placesOf T (p ∷ ps) = consO (placeFound T (p .bid)) (placesOf T ps)
+
+-- Our turn with these proposals. One whose BID no record has isn't ours to make: "What the rules forbid isn't valid".
+abbrev pub ourProposed : Option (List ℕ) → Next
+ourProposed none = over
+ourProposed (some is) = theirAnswer is
 
 abbrev pub oursOwed : List ℕ → Next
 oursOwed [] = theirTurn false []
@@ -118,17 +127,17 @@ ourSaid T ff ls unfinished = ourTurn ff ls
 ourSaid T ff ls farewell = over
 ourSaid T ff ls wrong = over
 ourSaid T ff ls (turn []) = theirTurn true []
-ourSaid T ff ls (turn (p ∷ ps)) = theirAnswer (placesOf T (p ∷ ps))
+ourSaid T ff ls (turn (p ∷ ps)) = ourProposed (placesOf T (p ∷ ps))
 
 -- "FS line, at its CR: the other side owes the accepted transfers in order."
 abbrev pub ourAnswered : List Proposal → Option (List Sign) → Next
 ourAnswered ps none = over
 ourAnswered ps (some ss) = theirsOwed (accepted ss ps)
 
--- A line of ours. "Lines under SID and opening only choose the mode."
+-- A line of ours. "Lines under SID and opening only choose the mode."; "Called: we send it, CR, `>`, CR"
 abbrev pub ourLine : List Record → Bool → Next → Bytes → Next
 ourLine T md ourGreeting ln = cond (same ln (fixedText ourSid)) ourFirstPrompt over
-ourLine T md ourFirstPrompt ln = cond (isPrompt ln) (theirSid false) over
+ourLine T md ourFirstPrompt ln = cond (same ln (fixedText ourPrompt)) (theirSid false) over
 ourLine T md ourSidLine ln = cond (same ln (fixedText ourSid)) (ourTurn false []) over
 ourLine T md (ourTurn ff ls) ln = ourSaid T ff (ls ++ (readTurnLine md ln ∷ [])) (said ff (ls ++ (readTurnLine md ln ∷ [])))
 ourLine T md (ourAnswer ps) ln = ourAnswered ps (readFs (length ps) ln)
