@@ -21,6 +21,7 @@ use Rattle.lent.proofs.Table.{Whole}
 use Rattle.lent.proofs.Opening.{shelfOf, accepted}
 use Rattle.lent.proofs.Run.{callOf}
 use Rattle.lent.proofs.Demand3.{open-as, ran, states-logged, inbox-logged}
+use Rattle.lent.proofs.Deeds.{accepted-law}
 use Rattle.lent.proofs.Fates.{fates, messages}
 use Rattle.lent.proofs.Frame.{states-length, state-at}
 
@@ -31,6 +32,7 @@ in-words role M e cs =
           (subst (λ (y : ℕ). Fate i (done role M cs) (getD st i 0) y) (state-at (end .table) i whole-end (subst (λ (n : ℕ). i < n) count h)) (fate i h));
       others = ran role M e cs .held .spared .table;
       inbox = inbox-logged role M e cs ∙ kept;
+      accepted = accepted-law (shelf .table) (eqb role 1) st (traced role M cs);
     }
   where
     F : Fixed
