@@ -157,6 +157,7 @@ data Stand : Type 0 where
   ended : Stand
   answering bringing : List Proposal → Stand
 
+-- where nothing is owed, no transfers
 abbrev stand : Next → Stand
 stand over = ended
 stand (ourAnswer ps) = answering ps
@@ -177,11 +178,13 @@ Brings ended ds = messagesBrought ds ≡ []
 Brings (answering ps) ds = BroughtFor (messagesBrought ds) (acceptedFrom ps ds)
 Brings (bringing ps) ds = (last : List Proposal) → BroughtFor (messagesBrought ds) (ps ++ acceptedFrom last ds)
 
+-- with no deeds to come
 no-deeds : (s : Stand) → Brings s []
 no-deeds ended = refl
 no-deeds (answering ps) = tt
 no-deeds (bringing ps) = λ last. tt
 
+-- the log's word for it and the deeds' are one
 got-plus : (ss : List Sign) (ps : List Proposal) → accepted ss ps ≡ gotPlus ss ps
 got-plus [] [] = refl
 got-plus [] (p ∷ ps) = refl
@@ -199,6 +202,7 @@ module _ (T : List Record) (a : Bool) (st : List ℕ) (k : Book) (ds : List Deed
   abbrev Free : Next → Type 0
   Free n = Brings (stand n) ds → Brings (bringing []) ds
 
+  -- nor was anything owed
   stays : Brings (bringing []) ds → Brings (bringing []) ds
   stays h = h
 
@@ -209,7 +213,7 @@ module _ (T : List Record) (a : Bool) (st : List ℕ) (k : Book) (ds : List Deed
   ends : Free over
   ends h = λ last. none-brought (acceptedFrom last ds) h
 
-  -- of an effect
+  -- after a unit with this effect
   abbrev FreeTo : Effect → Type 0
   FreeTo e = Free (e .course .next)
 
@@ -233,6 +237,7 @@ module _ (T : List Record) (a : Bool) (st : List ℕ) (k : Book) (ds : List Deed
   said-free ff ls (turn []) = stays
   said-free ff ls (turn (p ∷ ps)) = proposed-free (placesOf T (p ∷ ps))
 
+  -- a line of the partner's turn, of its answer, our answer, and a transfer: x, y are the line's tests, z is what it says
   turn-brings : (ff : Bool) (ls ls′ : List TurnLine) (x y : Bool) (z : Said)
       → Brings (stand (cond x (cond y (effect k st (theirTurn ff ls)) (theirSaid ff ls′ k st z)) (effect k st over) .course .next)) ds
       → Brings (bringing []) (cond x (cond y nothing (turnDeed z)) nothing ∷ ds)
@@ -266,6 +271,7 @@ module _ (T : List Record) (a : Bool) (st : List ℕ) (k : Book) (ds : List Deed
     subst (λ (s : Stand). Brings s ds) (owed-stand ps) h last,
   )
 
+  -- any unit
   unit-brings : (n : Next) (u : Bytes) (b : ℕ)
       → Brings (stand (applied T (record { afterCr = a; course = record { next = n; sent = st }; book = k }) u b .course .next)) ds → Brings (stand n) (deedOf n (k .framed) u b ∷ ds)
   unit-brings over u b h = h
@@ -287,6 +293,7 @@ module _ (T : List Record) (a : Bool) (st : List ℕ) (k : Book) (ds : List Deed
   unit-brings (theirTransfer p ps) u b h = transfer-brings p ps (readTransfer (p .form) (u ++ (b ∷ []))) h
   unit-brings (ourTransfer i is) u b h = ours-free is h
 
+-- and all units to come
 units-bring : (T : List Record) (n : ℕ) (es : List Event) (l : Log) → Brings (stand (l .course .next)) (deedsFrom n T l es)
 units-bring T zero es l = no-deeds (stand (l .course .next))
 units-bring T (suc n) es l = go (cutUnit T (l .course .next) (l .afterCr) [] es) (λ rest m. units-bring T n rest m)
