@@ -1,7 +1,7 @@
 -- DEMAND 3, THE MISSION'S SENTENCES ONE BY ONE. Each is a part of `in-words`: for every accepted open and every list of calls after it.
 use mathlib.Core.Path.{_≡_, sym, subst}
 use mathlib.Core.Bool.{false}
-use mathlib.Core.List.{List}
+use mathlib.Core.List.{List, []}
 use Prim.Native.Nat.{ℕ, _<_}
 use lib.Dec.{eqb}
 use Rattle.mail.specs.Mail.{Message}
@@ -11,7 +11,7 @@ use Rattle.lent.specs.Represents.{messagesOf}
 use Rattle.lent.specs.Frame.{StatesOnly}
 use Rattle.lent.specs.Calls.{Memory, messageCount}
 use Rattle.lent.specs.Demand3.{openedBy, CallsOn, finally}
-use Rattle.lent.specs.Deeds.{wasForwarded, wasDeclined, messagesBrought, weAccepted, BroughtFor}
+use Rattle.lent.specs.Deeds.{wasForwarded, wasDeclined, messagesBrought, weAccepted, BroughtFor, AsAccepted}
 use Rattle.lent.specs.InWords.{done}
 use Rattle.lent.proofs.InWords.{in-words}
 
@@ -55,3 +55,7 @@ module _ (role : ℕ) (M : Memory) (open-accepted : openedBy role M .reply .answ
       BroughtFor (messagesOf (finally role M cs .inbox) (finally role M cs .store) (messageCount (finally role M cs))) (weAccepted (done role M cs))
   inbox-accepted =
       subst (λ (xs : List Message). BroughtFor xs (weAccepted (done role M cs))) (sym inbox-exactly) (in-words role M open-accepted cs .accepted)
+
+  -- and none of them is left out: after an FS line of ours nothing comes but the transfers it accepted, in order, until the last is in
+  pub accepted-owed : AsAccepted [] [] (done role M cs)
+  accepted-owed = in-words role M open-accepted cs .owed

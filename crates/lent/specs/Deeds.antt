@@ -202,3 +202,15 @@ abbrev pub BroughtFor : List Message → List Proposal → Type 0
 BroughtFor [] ps = Unit {0}
 BroughtFor (x ∷ xs) [] = ⊥
 BroughtFor (x ∷ xs) (p ∷ ps) = OfProposal p x × BroughtFor xs ps
+
+-- "FS line, at its CR: the other side owes the accepted transfers in order.": while one is owed nothing comes but it, and none comes that is not
+-- owed. last: "last proposals"; owed: those that our FS line accepted and that have not come yet.
+abbrev pub AsAccepted : List Proposal → List Proposal → List Deed → Type 0
+AsAccepted last owed [] = Unit {0}
+AsAccepted last [] (brought x ∷ ds) = ⊥
+AsAccepted last (p ∷ owed) (brought x ∷ ds) = OfProposal p x × AsAccepted last owed ds
+AsAccepted last owed (turned ps ∷ ds) = (owed ≡ []) × AsAccepted ps [] ds
+AsAccepted last owed (weAnswered ss ∷ ds) = (owed ≡ []) × AsAccepted last (gotPlus ss last) ds
+AsAccepted last owed (answered is ss ∷ ds) = (owed ≡ []) × AsAccepted last [] ds
+AsAccepted last owed (sent j ∷ ds) = (owed ≡ []) × AsAccepted last [] ds
+AsAccepted last owed (nothing ∷ ds) = (owed ≡ []) × AsAccepted last [] ds

@@ -6,7 +6,6 @@ use mathlib.Core.Path.{_≡_, refl, sym, ap, _∙_, subst}
 use mathlib.Core.Bool.{Bool, true, false, cond, not, _&&_}
 use mathlib.Core.List.{List, [], _∷_, _++_, map, append-assoc, append-nil, map-append}
 use Prim.Native.Nat.{ℕ, _≤_}
-use native.Mathlib.Omega.{arith}
 use lib.Dec.{eqb}
 use lib.ListN.{length}
 use borrow.Author.Tests.{le-leb}
@@ -14,10 +13,11 @@ use Rattle.grammar.specs.Bytes.{Bytes, CR, LF}
 use Rattle.grammar.specs.Lines.{trim, isComment, lineLimit}
 use Rattle.grammar.specs.Turns.{Proposal, TurnLine, readTurnLine, withCr}
 use Rattle.grammar.proofs.Basics.{Lacks}
-use Rattle.mail.specs.Mail.{Record, marked}
-use Rattle.log.specs.Log.{Event, took, theirTurn, Book, Log, unfinished, turn, said, Effect, withStates, afterTheirTurn, theirSaid, theirLine, log}
+use Rattle.mail.specs.Mail.{Record, turnText, marked}
+use Rattle.log.specs.Log.{Event, took, gave, theirTurn, ourTurn, Book, unfinished, turn, said, placesOf, ourProposed, Effect, withStates, afterTheirTurn, theirSaid, theirLine, log}
 use Rattle.log.specs.Fed.{Fed, fedByte, fedAll}
 use Rattle.log.proofs.Said.{said-before}
+use Rattle.log.proofs.Spoken.{AllFit, turn-spoken, gave-spoken}
 use Rattle.log.proofs.Units.{Agrees, fedOpened, logs-agree, fed-append, line-fed, owing}
 use Rattle.log.proofs.Ends.{Stays}
 
@@ -251,3 +251,12 @@ module _ (T : List Record) (a ff : Bool) (sent : List ℕ) (k : Book) (cs : List
       ∙ ap (λ (f : Fed). fedAll T f (map took (bytesCame cs ++ withCr ln))) e
       ∙ their-turn-fed)
       (logs-agree T caller states (es ++ map took (bytesCame cs ++ withCr ln)))
+
+-- A WHOLE TURN OF OURS, as we write it: "ours are the records with those BIDs"; where one has no record the log has ended
+pub our-turn-fed : (T : List Record) (a ff : Bool) (p : Proposal) (ps : List Proposal) (sent : List ℕ) (k : Book) → AllFit (k .framed) (p ∷ ps) → length (p ∷ ps) ≤ 5
+    → fedAll T (record { log = owing a (ourTurn ff []) sent k; raw = [] }) (map gave (turnText (p ∷ ps)))
+    ≡ record { log = owing a (ourProposed (placesOf T (p ∷ ps))) sent k; raw = [] }
+our-turn-fed T a ff p ps sent k f h =
+    gave-spoken T (turnText (p ∷ ps)) (record { log = owing a (ourTurn ff []) sent k; raw = [] })
+    (record { next = ourProposed (placesOf T (p ∷ ps)); sent = sent }, [])
+    (turn-spoken T (k .framed) ff p ps sent f h)
