@@ -2,11 +2,12 @@
 -- log finds the very places that we chose. Idea: BIDs are distinct, so the first record with one is the record.
 use mathlib.Core.Path.{_≡_, refl, ap}
 use mathlib.Core.Bool.{Bool, true, false, not}
+use mathlib.Core.Option.{some}
 use mathlib.Core.List.{List, [], _∷_, map}
 use Prim.Native.Nat.{ℕ, zero, suc, _≤_, _<_}
 use native.Mathlib.Nat.{le-of-suc-le-suc, not-suc-le-zero}
 use lib.ListN.{length}
-use borrow.Author.Tests.{not-true}
+use borrow.Author.Tests.{not-true, lt-ltb}
 use Rattle.grammar.specs.Bytes.{Bytes}
 use Rattle.grammar.specs.Fields.{sameBid}
 use Rattle.grammar.specs.Turns.{Proposal, proposable}
@@ -46,9 +47,9 @@ proposable-at (r ∷ T) (suc j) h k = proposable-at T j ((and2 (proposable (prop
 abbrev pub proposalsAt : List Record → List ℕ → List Proposal
 proposalsAt T is = map (λ (k : ℕ). proposalOf (recordAt T k)) is
 
-own : (md : Bool) (T : List Record) → distinctBids T ≡ true → (is : List ℕ) → Places md T is → placesOf T (proposalsAt T is) ≡ is
+own : (md : Bool) (T : List Record) → distinctBids T ≡ true → (is : List ℕ) → Places md T is → placesOf T (proposalsAt T is) ≡ some is
 own md T g [] h = refl
-own md T g (i ∷ is) h = rw (place-at T i g (h .0)) (ap (λ (js : List ℕ). i ∷ js) (own md T g is (h .2)))
+own md T g (i ∷ is) h = rw (place-at T i g (h .0)) (rw (lt-ltb i (length T) (h .0)) (rw (own md T g is (h .2))))
 
 fit : (md : Bool) (T : List Record) → allProposable T ≡ true → (is : List ℕ) → Places md T is → AllFit md (proposalsAt T is)
 fit md T g [] h = tt
@@ -61,7 +62,7 @@ ourChoice E m = chosen (E .table) (m .framed) (m .states) (m .deferred)
 
 pub record Sound (E : Shelf) : Type 0 where
   pub few : (m : Memory) → length (ourChoice E m) ≤ 5
-  pub own : (m : Memory) → placesOf (E .table) (proposalsAt (E .table) (ourChoice E m)) ≡ ourChoice E m
+  pub own : (m : Memory) → placesOf (E .table) (proposalsAt (E .table) (ourChoice E m)) ≡ some (ourChoice E m)
   pub fit : (m : Memory) → AllFit (m .framed) (proposalsAt (E .table) (ourChoice E m))
   pub full : (inbox : List Message) (ps : List Proposal) → length (answersTo E inbox ps) ≡ length ps
 

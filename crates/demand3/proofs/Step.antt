@@ -22,7 +22,7 @@ use Rattle.mail.specs.Mail.{Record, messageOf, turnText, transfersText, accepte
 use Rattle.session.specs.Choices.{Shelf, answersTo}
 use Rattle.session.specs.Session.{Phase, awaitsSid, awaitsPrompt, leaving, awaitsTurn, awaitsAnswer, awaitsTransfer, Memory, Session, Outcome, refuses, goesOn, speaking, turnMarks, answering, answered, turnJudged, answerMarks, answerJudged, afterSid, sidJudged, textJudged, lineJudged, refused, settled, lineMoved, keptIn, nextTransfer, transferMoved, roomFor, lineStep, phaseStep, freeStep, lfDropped, step, ended}
 use Rattle.session.specs.Session
-use Rattle.log.specs.Log.{took, Next, ourSidLine, theirText, theirAnswer, ourAnswer, theirTransfer, Course, Book, Log, isOurs, saidOn, inOrder, said, theirsOwed, placesOf, Effect, effect, theirSaid, theirAnswered, theirSidRead, theirLine, judgedLine}
+use Rattle.log.specs.Log.{took, Next, ourSidLine, theirText, ourAnswer, theirTransfer, Course, Book, Log, isOurs, saidOn, inOrder, said, theirsOwed, placesOf, ourProposed, Effect, effect, theirSaid, theirAnswered, theirSidRead, theirLine, judgedLine}
 use Rattle.log.specs.Log
 use Rattle.log.specs.Fed.{Fed, unitByte, outOfOrder, fedByte}
 use Rattle.log.proofs.Said.{said-after}
@@ -59,14 +59,14 @@ our-turn E S o ff m s a c e = go ff (ourChoice E m) (S .few m) (S .own m) (S .fi
         says E s a p m (o ++ x) c
         (spoken-append T (m .framed) (some (c, [])) o x ∙ ap (λ (y : Option (Course × Bytes)). spoken T (m .framed) y x) e ∙ k) h
 
-    go : (ff : Bool) (is : List ℕ) → length is ≤ 5 → placesOf T (proposalsAt T is) ≡ is → AllFit (m .framed) (proposalsAt T is)
+    go : (ff : Bool) (is : List ℕ) → length is ≤ 5 → placesOf T (proposalsAt T is) ≡ some is → AllFit (m .framed) (proposalsAt T is)
         → spoken T (m .framed) (some (c, [])) o ≡ at (Next.ourTurn ff []) (m .sending) → Inv E (settled s a (speaking E o ff is m) .session) (after a m c)
     go true [] few own fit e = then (Next.ourTurn true []) (withCr (fixedText ourFQ)) leaving e (fq-spoken T (m .framed) (m .sending)) tt
     go false [] few own fit e = then (Next.ourTurn false []) (withCr (fixedText ourFF)) (awaitsTurn true []) e (ff-spoken T (m .framed) (m .sending)) (no-line, omega arith)
     go ff (i ∷ is) few own fit e =
         then (Next.ourTurn ff []) (turnText (proposalsAt T (i ∷ is))) (awaitsAnswer (i ∷ is)) e
         (turn-spoken T (m .framed) ff _ (proposalsAt T is) (m .sending) fit (rw (length-map is) few)
-        ∙ ap (λ (js : List ℕ). at (theirAnswer js) (m .sending)) own)
+        ∙ ap (λ (js : Option (List ℕ)). at (ourProposed js) (m .sending)) own)
         no-line
 
 answer : (E : Shelf) → Sound E → (ps : List Proposal) (m : Memory) (s : Session) → 1 ≤ length ps → length ps ≤ 5

@@ -11,7 +11,7 @@ use Rattle.grammar.specs.Answers.{accept, decline}
 use Rattle.grammar.proofs.Basics.{or2, or-left, or-right, no-both, not-so}
 use Rattle.mail.specs.Mail.{Record, Message}
 use Rattle.log.specs.Log.{Event, Course, Book, Log, applied, Cut, notWhole, outOfTurn, unit, cutUnit, withAfterCr, afterCut, logUnits}
-use Rattle.lent.specs.Deeds.{Deed, answered, sent, turned, nothing, brought, deedOf, deedsCut, deedsFrom, gives, wasDeclined, thenTurned, thenSent, wasForwarded, Fate, messagesBrought}
+use Rattle.lent.specs.Deeds.{Deed, answered, sent, turned, weAnswered, nothing, brought, deedOf, deedsCut, deedsFrom, gives, wasDeclined, thenTurned, sentThenTurned, wasForwarded, Fate, messagesBrought}
 use Rattle.lent.proofs.DeedStates.{has, has-append, accepted-has, marked-length, declined-length, marked-other, marked-here, declined-other, declined-here}
 use Rattle.lent.proofs.Deeds.{owes, Does, unit-does}
 
@@ -60,10 +60,10 @@ module _ (i : ℕ) where
     pub last : (at k ≡ 0 → ⊥) → at e ≡ at k
     pub declines : i < length (k .states) → wasDeclined i ds ≡ true → at e ≡ 2
     pub turns : i < length (k .states) → has i (c .sent) ≡ true → thenTurned ds ≡ true → at e ≡ 1
-    pub sends : i < length (k .states) → thenSent i ds ≡ true → at e ≡ 1
+    pub sends : i < length (k .states) → sentThenTurned i ds ≡ true → at e ≡ 1
     pub forwards : i < length (k .states) → wasForwarded i ds ≡ true → at e ≡ 1
     pub rests : wasDeclined i ds ≡ false → wasForwarded i ds ≡ false → (has i (c .sent) ≡ true → thenTurned ds ≡ false)
-        → (has i (owes (c .next)) ≡ true → thenSent i ds ≡ false) → at e ≡ at k
+        → (has i (owes (c .next)) ≡ true → sentThenTurned i ds ≡ false) → at e ≡ at k
 
   never : {A : Type 0} → false ≡ true → A
   never e = absurd (no-both false e refl)
@@ -103,7 +103,10 @@ module _ (i : ℕ) where
     by-deed (brought x) q =
         let b = unmoved (q .0) (q .1) (q .2) in
         record { last = b .last; declines = b .declines; turns = b .turns; sends = b .sends; forwards = b .forwards; rests = b .rests }
-    by-deed turned q =
+    by-deed (weAnswered ss) q =
+        let b = unmoved (q .0) (q .1) (q .2) in
+        record { last = b .last; declines = b .declines; turns = b .turns; sends = b .sends; forwards = b .forwards; rests = b .rests }
+    by-deed (turned ps) q =
         let len : i < length (k .states) → i < length (k′ .states) = λ h. subst (λ (x : ℕ). i < x) (sym (ap length (q .0) ∙ marked-length (c .sent) (k .states))) h in
         record {
           last = last-before;
@@ -128,22 +131,22 @@ module _ (i : ℕ) where
           sends = λ h w. then-sent (eqb i j) refl (thenTurned ds) refl (len h) now w;
           forwards = λ h w. ih .forwards (len h) w;
           rests = λ w v x y.
-              ih .rests w v (λ z. sent-turned (has i (c .sent)) (eqb i j) refl refl x y (sym now ∙ z) (q .2)) (λ z. or2 (eqb i j && thenTurned ds) (thenSent i ds) (y (ap (has i) (q .2) ∙ or-right (eqb i j) (has i (owes (c′ .next))) z)) .1)
+              ih .rests w v (λ z. sent-turned (has i (c .sent)) (eqb i j) refl refl x y (sym now ∙ z) (q .2)) (λ z. or2 (eqb i j && thenTurned ds) (sentThenTurned i ds) (y (ap (has i) (q .2) ∙ or-right (eqb i j) (has i (owes (c′ .next))) z)) .1)
               ∙ ap (λ (st : List ℕ). getD st i 0) (q .0);
         }
       where
         then-sent : (a : Bool) → eqb i j ≡ a → (b : Bool) → thenTurned ds ≡ b → i < length (k′ .states) → has i (c′ .sent) ≡ has i (c .sent) || has i (j ∷ [])
-            → (a && b) || thenSent i ds ≡ true → at e ≡ 1
+            → (a && b) || sentThenTurned i ds ≡ true → at e ≡ 1
         then-sent true p true r h now w = ih .turns h (now ∙ or-right (has i (c .sent)) (has i (j ∷ [])) (or-left (eqb i j) false p)) r
         then-sent true p false r h now w = ih .sends h w
         then-sent false p b r h now w = ih .sends h w
 
         sent-turned : (a b : Bool) → has i (c .sent) ≡ a → eqb i j ≡ b → (has i (c .sent) ≡ true → thenTurned ds ≡ false)
-            → (has i (owes (c .next)) ≡ true → (eqb i j && thenTurned ds) || thenSent i ds ≡ false)
+            → (has i (owes (c .next)) ≡ true → (eqb i j && thenTurned ds) || sentThenTurned i ds ≡ false)
             → a || (b || false) ≡ true → owes (c .next) ≡ j ∷ owes (c′ .next) → thenTurned ds ≡ false
         sent-turned true b p r x y z o = x p
         sent-turned false true p r x y z o =
-            ap (λ (t : Bool). t && thenTurned ds) (sym r) ∙ or2 (eqb i j && thenTurned ds) (thenSent i ds) (y (ap (has i) o ∙ or-left (eqb i j) (has i (owes (c′ .next))) r)) .0
+            ap (λ (t : Bool). t && thenTurned ds) (sym r) ∙ or2 (eqb i j && thenTurned ds) (sentThenTurned i ds) (y (ap (has i) o ∙ or-left (eqb i j) (has i (owes (c′ .next))) r)) .0
         sent-turned false false p r x y z o = never z
     by-deed (answered is ss) q =
         let len : i < length (k .states) → i < length (k′ .states) = λ h. subst (λ (x : ℕ). i < x) (sym (ap length (q .0) ∙ declined-length is ss (k .states))) h in
@@ -152,12 +155,12 @@ module _ (i : ℕ) where
           declines = λ h w. now-declined (gives decline i is ss) refl h (len h) w;
           turns = λ h w v. ih .turns (len h) (ap (has i) (q .1) ∙ w) v;
           sends = λ h w. ih .sends (len h) w;
-          forwards = λ h w. now-accepted (gives accept i is ss) (thenSent i ds) refl (len h) w;
+          forwards = λ h w. now-accepted (gives accept i is ss) (sentThenTurned i ds) refl (len h) w;
           rests = λ w v x y.
               let a = or2 (gives decline i is ss) (wasDeclined i ds) w in
-              let b = or2 (gives accept i is ss && thenSent i ds) (wasForwarded i ds) v in
+              let b = or2 (gives accept i is ss && sentThenTurned i ds) (wasForwarded i ds) v in
               ih .rests (a .1) (b .1) (λ z. x (ap (has i) (sym (q .1)) ∙ z))
-              (λ z. ap (λ (t : Bool). t && thenSent i ds) (sym (sym (accepted-has i ss is) ∙ ap (has i) (sym (q .2)) ∙ z)) ∙ b .0)
+              (λ z. ap (λ (t : Bool). t && sentThenTurned i ds) (sym (sym (accepted-has i ss is) ∙ ap (has i) (sym (q .2)) ∙ z)) ∙ b .0)
               ∙ ap (λ (st : List ℕ). getD st i 0) (q .0) ∙ declined-other i is ss (k .states) (a .0);
         }
       where
@@ -167,7 +170,7 @@ module _ (i : ℕ) where
             ih .last (λ z. omega arith) ∙ f
         now-declined false g h l w = ih .declines l w
 
-        now-accepted : (a b : Bool) → thenSent i ds ≡ b → i < length (k′ .states) → (a && b) || wasForwarded i ds ≡ true → at e ≡ 1
+        now-accepted : (a b : Bool) → sentThenTurned i ds ≡ b → i < length (k′ .states) → (a && b) || wasForwarded i ds ≡ true → at e ≡ 1
         now-accepted true true g l w = ih .sends l g
         now-accepted true false g l w = ih .forwards l w
         now-accepted false b g l w = ih .forwards l w
@@ -219,7 +222,8 @@ kept-law T n es l k =
         → e .kept ≡ k .kept ++ messagesBrought (d ∷ ds)
     more (answered is ss) ds e c k c′ k′ q ih = ih ∙ ap (λ (ms : List Message). ms ++ messagesBrought ds) (q .3)
     more (sent j) ds e c k c′ k′ q ih = ih ∙ ap (λ (ms : List Message). ms ++ messagesBrought ds) (q .3)
-    more turned ds e c k c′ k′ q ih = ih ∙ ap (λ (ms : List Message). ms ++ messagesBrought ds) (q .3)
+    more (weAnswered ss) ds e c k c′ k′ q ih = ih ∙ ap (λ (ms : List Message). ms ++ messagesBrought ds) (q .3)
+    more (turned ps) ds e c k c′ k′ q ih = ih ∙ ap (λ (ms : List Message). ms ++ messagesBrought ds) (q .3)
     more nothing ds e c k c′ k′ q ih = ih ∙ ap (λ (ms : List Message). ms ++ messagesBrought ds) (q .3)
     more (brought x) ds e c k c′ k′ q ih =
         ih ∙ ap (λ (ms : List Message). ms ++ messagesBrought ds) (q .3) ∙ append-assoc (k .kept) (x ∷ []) (messagesBrought ds)

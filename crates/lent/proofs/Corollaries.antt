@@ -1,15 +1,17 @@
 -- DEMAND 3, THE MISSION'S SENTENCES ONE BY ONE. Each is a part of `in-words`: for every accepted open and every list of calls after it.
-use mathlib.Core.Path.{_≡_}
+use mathlib.Core.Path.{_≡_, sym, subst}
 use mathlib.Core.Bool.{false}
+use mathlib.Core.List.{List, []}
 use Prim.Native.Nat.{ℕ, _<_}
 use lib.Dec.{eqb}
+use Rattle.mail.specs.Mail.{Message}
 use Rattle.layout.specs.Layout.{stateOf}
 use Rattle.choice.specs.Decoded.{recordCount}
 use Rattle.lent.specs.Represents.{messagesOf}
 use Rattle.lent.specs.Frame.{StatesOnly}
 use Rattle.lent.specs.Calls.{Memory, messageCount}
 use Rattle.lent.specs.Demand3.{openedBy, CallsOn, finally}
-use Rattle.lent.specs.Deeds.{wasForwarded, wasDeclined, messagesBrought}
+use Rattle.lent.specs.Deeds.{wasForwarded, wasDeclined, messagesBrought, weAccepted, BroughtFor, AsAccepted}
 use Rattle.lent.specs.InWords.{done}
 use Rattle.lent.proofs.InWords.{in-words}
 
@@ -46,3 +48,14 @@ module _ (role : ℕ) (M : Memory) (open-accepted : openedBy role M .reply .answ
   -- "The inbox holds exactly the accepted messages received whole, in order, byte for byte."
   pub inbox-exactly : messagesOf (finally role M cs .inbox) (finally role M cs .store) (messageCount (finally role M cs)) ≡ messagesBrought (done role M cs)
   inbox-exactly = in-words role M open-accepted cs .inbox
+
+  -- "exactly the accepted messages received whole, in order": the first message of the inbox is of the first proposal to which our FS lines gave `+`,
+  -- the second of the second, and so on, form and fields alike
+  pub inbox-accepted :
+      BroughtFor (messagesOf (finally role M cs .inbox) (finally role M cs .store) (messageCount (finally role M cs))) (weAccepted (done role M cs))
+  inbox-accepted =
+      subst (λ (xs : List Message). BroughtFor xs (weAccepted (done role M cs))) (sym inbox-exactly) (in-words role M open-accepted cs .accepted)
+
+  -- and none of them is left out: after an FS line of ours nothing comes but the transfers it accepted, in order, until the last is in
+  pub accepted-owed : AsAccepted [] [] (done role M cs)
+  accepted-owed = in-words role M open-accepted cs .owed

@@ -1,7 +1,7 @@
 -- DEMAND 3 over lent memory in the mission's words. Idea: the states after the calls are the log's, the log's are what its deeds say (Fates),
 -- and the state of a record is its first byte.
 use mathlib.Core.Path.{_≡_, sym, ap, _∙_, subst}
-use mathlib.Core.List.{List, map}
+use mathlib.Core.List.{List, [], map}
 use Prim.Native.Nat.{ℕ, _/_, _<_, min}
 use lib.Dec.{eqb}
 use lib.ListN.{getD}
@@ -15,12 +15,13 @@ use Rattle.choice.specs.Decoded.{recordCount, statesOf}
 use Rattle.lent.specs.Represents.{Fixed}
 use Rattle.lent.specs.Calls.{Lent, fixedIn, lentIn}
 use Rattle.lent.specs.Demand3.{finally, traced, logged}
-use Rattle.lent.specs.Deeds.{deeds, Fate, messagesBrought}
+use Rattle.lent.specs.Deeds.{deeds, Fate, messagesBrought, AsAccepted}
 use Rattle.lent.specs.InWords.{done, ClaimInWords}
 use Rattle.lent.proofs.Table.{Whole}
 use Rattle.lent.proofs.Opening.{shelfOf, accepted}
 use Rattle.lent.proofs.Run.{callOf}
 use Rattle.lent.proofs.Demand3.{open-as, ran, states-logged, inbox-logged}
+use Rattle.lent.proofs.Deeds.{accepted-law, brought-law}
 use Rattle.lent.proofs.Fates.{fates, messages}
 use Rattle.lent.proofs.Frame.{states-length, state-at}
 
@@ -31,6 +32,8 @@ in-words role M e cs =
           (subst (λ (y : ℕ). Fate i (done role M cs) (getD st i 0) y) (state-at (end .table) i whole-end (subst (λ (n : ℕ). i < n) count h)) (fate i h));
       others = ran role M e cs .held .spared .table;
       inbox = inbox-logged role M e cs ∙ kept;
+      accepted = brought-law (done role M cs) [] [] in-turn;
+      owed = in-turn;
     }
   where
     F : Fixed
@@ -68,6 +71,9 @@ in-words role M e cs =
         subst (λ (x : List ℕ). Fate i (done role M cs) (getD st i 0) (getD x i 0)) (sym (states-logged role M e cs))
         (subst (λ (es : List Event). Fate i (deeds (shelf .table) (eqb role 1) st es) (getD st i 0) (getD (log (shelf .table) (eqb role 1) st es .book .states) i 0)) (sym events)
         (fates shelf good (eqb role 1) st (map callOf cs) i (subst (λ (n : ℕ). i < n) (sym (states-length (m .table))) h)))
+
+    in-turn : AsAccepted [] [] (done role M cs)
+    in-turn = accepted-law (shelf .table) (eqb role 1) st (traced role M cs)
 
     kept : logged role M cs .book .kept ≡ messagesBrought (done role M cs)
     kept =

@@ -18,28 +18,39 @@ use Rattle.log.specs.Log.{Event, Next, over, ourGreeting, ourFirstPrompt, ourSi
 -- ---------------------------------------------------------------- what a whole unit does
 
 -- answered: a valid FS line of the partner's, on our records at these places. sent: the link has taken the whole transfer of this record.
--- turned: a whole valid turn of the partner's. brought: an accepted message received whole. nothing: any other unit.
+-- turned: a whole valid turn of the partner's, with its proposals. weAnswered: our FS line. brought: a transfer received whole. nothing: any
+-- other unit.
 pub data Deed : Type 0 where
   answered : List ℕ → List Sign → Deed
   sent : ℕ → Deed
-  turned nothing : Deed
+  turned : List Proposal → Deed
+  weAnswered : List Sign → Deed
   brought : Message → Deed
+  nothing : Deed
 
+-- "Turn, at its last CR"
 abbrev pub turnDeed : Said → Deed
 turnDeed unfinished = nothing
 turnDeed farewell = nothing
 turnDeed wrong = nothing
-turnDeed (turn ps) = turned
+turnDeed (turn ps) = turned ps
 
+-- "FS line, at its CR": the partner's, on our records at the places is
 abbrev pub answerDeed : List ℕ → Option (List Sign) → Deed
 answerDeed is none = nothing
 answerDeed is (some ss) = answered is ss
 
+-- and ours
+abbrev pub ourAnswerDeed : Option (List Sign) → Deed
+ourAnswerDeed none = nothing
+ourAnswerDeed (some ss) = weAnswered ss
+
+-- "Partner's owed transfer, at its last byte"
 abbrev pub transferDeed : Proposal → Option Content → Deed
 transferDeed p none = nothing
 transferDeed p (some c) = brought (messageOf p c)
 
--- A line of the partner's that is no comment and not too long; d: what it does if it is none of these
+-- d where u is neither a comment nor too long, else nothing
 abbrev pub ifLine : Bytes → Deed → Deed
 ifLine u d = cond (leb (length u) lineLimit) (cond (isComment (trim u)) nothing d) nothing
 
@@ -56,7 +67,7 @@ deedOf ourSidLine md u b = nothing
 deedOf theirText md u b = nothing
 deedOf (theirSid c) md u b = nothing
 deedOf (ourTurn ff ls) md u b = nothing
-deedOf (ourAnswer ps) md u b = nothing
+deedOf (ourAnswer ps) md u b = ourAnswerDeed (readFs (length ps) u)
 
 -- Of the next whole unit cut off the trace, and of the rest.
 abbrev pub deedsCut : List Record → Log → (Log → List Event → List Deed) → Cut → List Deed
@@ -64,16 +75,18 @@ deedsCut T l on notWhole = []
 deedsCut T l on outOfTurn = []
 deedsCut T l on (unit u b a rest) = deedOf (l .course .next) (l .book .framed) u b ∷ on (applied T (withAfterCr l a) u b) rest
 
+-- Unit by unit, as the log does it.
 abbrev pub deedsFrom : ℕ → List Record → Log → List Event → List Deed
 deedsFrom zero T l es = []
 deedsFrom (suc n) T l es = deedsCut T l (λ m rest. deedsFrom n T m rest) (cutUnit T (l .course .next) (l .afterCr) [] es)
 
--- What the bytes consumed and given did, unit by unit, as the log cuts them.
+-- What the bytes consumed and gotPlus did, unit by unit, as the log cuts them.
 unfoldable pub deeds : List Record → Bool → List ℕ → List Event → List Deed
 deeds T caller states es = deedsFrom (length es) T (logOpened caller states) es
 
 -- ---------------------------------------------------------------- what becomes of a record
 
+-- the same of "`+` accept, `-` decline, `=` defer"
 abbrev pub sameSign : Sign → Sign → Bool
 sameSign accept accept = true
 sameSign accept decline = false
@@ -96,34 +109,38 @@ abbrev pub wasDeclined : ℕ → List Deed → Bool
 wasDeclined i [] = false
 wasDeclined i (answered is ss ∷ ds) = gives decline i is ss || wasDeclined i ds
 wasDeclined i (sent j ∷ ds) = wasDeclined i ds
-wasDeclined i (turned ∷ ds) = wasDeclined i ds
+wasDeclined i (turned ps ∷ ds) = wasDeclined i ds
+wasDeclined i (weAnswered ss ∷ ds) = wasDeclined i ds
 wasDeclined i (nothing ∷ ds) = wasDeclined i ds
 wasDeclined i (brought x ∷ ds) = wasDeclined i ds
 
 -- "and a whole valid turn of the partner came after that"
 abbrev pub thenTurned : List Deed → Bool
 thenTurned [] = false
-thenTurned (turned ∷ ds) = true
+thenTurned (turned ps ∷ ds) = true
+thenTurned (weAnswered ss ∷ ds) = thenTurned ds
 thenTurned (answered is ss ∷ ds) = thenTurned ds
 thenTurned (sent j ∷ ds) = thenTurned ds
 thenTurned (nothing ∷ ds) = thenTurned ds
 thenTurned (brought x ∷ ds) = thenTurned ds
 
 -- "the link had taken its whole transfer"
-abbrev pub thenSent : ℕ → List Deed → Bool
-thenSent i [] = false
-thenSent i (sent j ∷ ds) = (eqb i j && thenTurned ds) || thenSent i ds
-thenSent i (answered is ss ∷ ds) = thenSent i ds
-thenSent i (turned ∷ ds) = thenSent i ds
-thenSent i (nothing ∷ ds) = thenSent i ds
-thenSent i (brought x ∷ ds) = thenSent i ds
+abbrev pub sentThenTurned : ℕ → List Deed → Bool
+sentThenTurned i [] = false
+sentThenTurned i (sent j ∷ ds) = (eqb i j && thenTurned ds) || sentThenTurned i ds
+sentThenTurned i (answered is ss ∷ ds) = sentThenTurned i ds
+sentThenTurned i (turned ps ∷ ds) = sentThenTurned i ds
+sentThenTurned i (weAnswered ss ∷ ds) = sentThenTurned i ds
+sentThenTurned i (nothing ∷ ds) = sentThenTurned i ds
+sentThenTurned i (brought x ∷ ds) = sentThenTurned i ds
 
 -- "a valid FS line accepted it"
 abbrev pub wasForwarded : ℕ → List Deed → Bool
 wasForwarded i [] = false
-wasForwarded i (answered is ss ∷ ds) = (gives accept i is ss && thenSent i ds) || wasForwarded i ds
+wasForwarded i (answered is ss ∷ ds) = (gives accept i is ss && sentThenTurned i ds) || wasForwarded i ds
 wasForwarded i (sent j ∷ ds) = wasForwarded i ds
-wasForwarded i (turned ∷ ds) = wasForwarded i ds
+wasForwarded i (turned ps ∷ ds) = wasForwarded i ds
+wasForwarded i (weAnswered ss ∷ ds) = wasForwarded i ds
 wasForwarded i (nothing ∷ ds) = wasForwarded i ds
 wasForwarded i (brought x ∷ ds) = wasForwarded i ds
 
@@ -145,5 +162,55 @@ messagesBrought [] = []
 messagesBrought (brought x ∷ ds) = x ∷ messagesBrought ds
 messagesBrought (answered is ss ∷ ds) = messagesBrought ds
 messagesBrought (sent j ∷ ds) = messagesBrought ds
-messagesBrought (turned ∷ ds) = messagesBrought ds
+messagesBrought (turned ps ∷ ds) = messagesBrought ds
+messagesBrought (weAnswered ss ∷ ds) = messagesBrought ds
 messagesBrought (nothing ∷ ds) = messagesBrought ds
+
+-- ---------------------------------------------------------------- which messages they are
+
+-- "`+` accept": those of the proposals that got it in our FS line, in order
+abbrev pub gotPlus : List Sign → List Proposal → List Proposal
+gotPlus [] ps = []
+gotPlus (s ∷ ss) [] = []
+gotPlus (s ∷ ss) (p ∷ ps) = cond (sameSign s accept) (p ∷ gotPlus ss ps) (gotPlus ss ps)
+
+-- "accepted": the proposals that our FS lines accepted, in order; last: "last proposals", those of the partner's turn just now
+abbrev pub acceptedFrom : List Proposal → List Deed → List Proposal
+acceptedFrom last [] = []
+acceptedFrom last (turned ps ∷ ds) = acceptedFrom ps ds
+acceptedFrom last (weAnswered ss ∷ ds) = gotPlus ss last ++ acceptedFrom last ds
+acceptedFrom last (answered is ss ∷ ds) = acceptedFrom last ds
+acceptedFrom last (sent j ∷ ds) = acceptedFrom last ds
+acceptedFrom last (brought x ∷ ds) = acceptedFrom last ds
+acceptedFrom last (nothing ∷ ds) = acceptedFrom last ds
+
+-- at first there are no proposals
+abbrev pub weAccepted : List Deed → List Proposal
+weAccepted ds = acceptedFrom [] ds
+
+-- "kept, with its proposal's form and fields as read"
+pub record OfProposal (p : Proposal) (x : Message) : Type 0 where
+  pub form : x .form ≡ p .form
+  pub type : x .type ≡ p .type
+  pub from : x .from ≡ p .from
+  pub at : x .at ≡ p .at
+  pub to : x .to ≡ p .to
+  pub bid : x .bid ≡ p .bid
+
+-- The messages are of these proposals, one by one from the first; the proposals after them have no message yet.
+abbrev pub BroughtFor : List Message → List Proposal → Type 0
+BroughtFor [] ps = Unit {0}
+BroughtFor (x ∷ xs) [] = ⊥
+BroughtFor (x ∷ xs) (p ∷ ps) = OfProposal p x × BroughtFor xs ps
+
+-- "FS line, at its CR: the other side owes the accepted transfers in order.": while one is owed nothing comes but it, and none comes that is not
+-- owed. last: "last proposals"; owed: those that our FS line accepted and that have not come yet.
+abbrev pub AsAccepted : List Proposal → List Proposal → List Deed → Type 0
+AsAccepted last owed [] = Unit {0}
+AsAccepted last [] (brought x ∷ ds) = ⊥
+AsAccepted last (p ∷ owed) (brought x ∷ ds) = OfProposal p x × AsAccepted last owed ds
+AsAccepted last owed (turned ps ∷ ds) = (owed ≡ []) × AsAccepted ps [] ds
+AsAccepted last owed (weAnswered ss ∷ ds) = (owed ≡ []) × AsAccepted last (gotPlus ss last) ds
+AsAccepted last owed (answered is ss ∷ ds) = (owed ≡ []) × AsAccepted last [] ds
+AsAccepted last owed (sent j ∷ ds) = (owed ≡ []) × AsAccepted last [] ds
+AsAccepted last owed (nothing ∷ ds) = (owed ≡ []) × AsAccepted last [] ds

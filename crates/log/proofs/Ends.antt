@@ -1,20 +1,26 @@
 -- "What the rules forbid isn't valid: it changes nothing and ends the log.": of a line the log says so itself (`over`); here it is shown of a
 -- transfer, which has no end to be judged at. Once no whole transfer begins with the bytes so far, whatever bytes come after them change
--- nothing, for ever. Idea: no unit is cut off any more, so the log stays as it is, or stops at a byte of the other side.
+-- nothing, for ever. Idea: no unit is cut off any more, so the log stays as it is, or stops at a byte of the other side. And it is shown of a
+-- turn of ours that proposes what no record is: its BID has no place in the table.
 use mathlib.Core.Path.{_≡_, refl, sym, ap, _∙_}
 use mathlib.Core.Bool.{Bool, true, false, cond, _&&_}
-use mathlib.Core.Option.{none}
-use mathlib.Core.List.{List, [], _∷_, _++_, append-assoc, append-nil}
-use Prim.Native.Nat.{ℕ}
+use mathlib.Core.Option.{Option, none, some}
+use mathlib.Core.List.{List, [], _∷_, _++_, map, append-assoc, append-nil}
+use Prim.Native.Nat.{ℕ, suc}
+use native.Mathlib.Omega.{arith}
 use lib.Dec.{eqb}
-use Rattle.grammar.specs.Bytes.{Bytes, LF, same, isSome}
-use Rattle.grammar.specs.Turns.{Proposal}
+use lib.ListN.{length}
+use borrow.Author.Tests.{le-ltb}
+use Rattle.grammar.specs.Bytes.{Bytes, CR, LF, same, isSome}
+use Rattle.grammar.specs.Fields.{sameBid}
+use Rattle.grammar.specs.Turns.{Proposal, TurnLine, readTurnLine, withCr}
+use Rattle.grammar.specs.Answers.{consO}
 use Rattle.grammar.specs.Transfers.{readTransfer}
-use Rattle.grammar.proofs.Basics.{snoc-cons}
-use Rattle.mail.specs.Mail.{Record, recordAt, transferOf}
-use Rattle.log.specs.Log.{Event, took, gave, Course, Book, Log, isOurs, theirTransfer, ourTransfer, whole, withAfterCr}
+use Rattle.grammar.proofs.Basics.{Lacks, snoc-cons, and-false}
+use Rattle.mail.specs.Mail.{Record, recordAt, transferOf, placeOf}
+use Rattle.log.specs.Log.{Event, took, gave, over, ourTurn, Course, Book, Log, isOurs, turn, said, placeFound, placesOf, ourSaid, theirTransfer, ourTransfer, whole, withAfterCr}
 use Rattle.log.specs.Fed.{Fed, unitByte, outOfOrder, fedByte, fedAll}
-use Rattle.log.proofs.Units.{within, ended-stays, owing}
+use Rattle.log.proofs.Units.{within, ended-stays, line-fed, owing}
 
 -- the log k has the same records sent, states, mode and messages kept as l
 pub record Stays (k l : Log) : Type 0 where
@@ -75,3 +81,36 @@ pub our-transfer-ends : (T : List Record) (i : ℕ) (is sent : List ℕ) (k : Bo
 our-transfer-ends T i is sent k a u h es =
     hopeless-ends T es (owing a (ourTransfer i is) sent k) a u
     (λ r b. ap (λ (v : Bytes). same v (transferOf (recordAt T i))) (append-assoc u r (b ∷ [])) ∙ h (r ++ (b ∷ [])))
+
+-- ---------------------------------------------------------------- a proposal of ours that is of no record
+
+-- no record of the table has this BID
+abbrev pub NoRecord : Bytes → List Record → Type 0
+NoRecord b [] = Unit {0}
+NoRecord b (r ∷ T) = (sameBid (r .bid) b ≡ false) × NoRecord b T
+
+past-the-end : (b : Bytes) (T : List Record) → NoRecord b T → placeOf T b ≡ length T
+past-the-end b [] h = refl
+past-the-end b (r ∷ T) h = rw (h .0) (ap suc (past-the-end b T (h .1)))
+
+not-found : (b : Bytes) (T : List Record) → NoRecord b T → placeFound T b ≡ none
+not-found b T h = rw (past-the-end b T h) (rw (le-ltb (length T) (length T) (omega arith)))
+
+none-of-them : (T : List Record) (ps : List Proposal) (p : Proposal) (qs : List Proposal) → NoRecord (p .bid) T → placesOf T (ps ++ p ∷ qs) ≡ none
+none-of-them T [] p qs h = rw (not-found (p .bid) T h)
+none-of-them T (q ∷ ps) p qs h = rw (none-of-them T ps p qs h) (go (placeFound T (q .bid)))
+  where
+    go : (o : Option ℕ) → consO o none ≡ none
+    go none = refl
+    go (some i) = refl
+
+-- OUR TURN WITH A BID OF NO RECORD ENDS THE LOG, at the CR of its last line ln; ls are the lines before it
+pub no-record-ends : (T : List Record) (ff : Bool) (ls : List TurnLine) (ln : Bytes) (a : Bool) (sent : List ℕ) (k : Book) (ps : List Proposal) (p : Proposal) (qs : List Proposal)
+    → Lacks CR ln → said ff (ls ++ (readTurnLine (k .framed) ln ∷ [])) ≡ turn (ps ++ p ∷ qs) → NoRecord (p .bid) T
+    → fedAll T (record { log = owing a (ourTurn ff ls) sent k; raw = [] }) (map gave (withCr ln)) ≡ record { log = owing a over sent k; raw = [] }
+no-record-ends T ff ls ln a sent k ps p qs c e h =
+    line-fed T (owing a (ourTurn ff ls) sent k) ln (and-false a false refl) refl c ∙ rw e (rw (ends ps))
+  where
+    ends : (ps : List Proposal) → ourSaid T ff (ls ++ (readTurnLine (k .framed) ln ∷ [])) (turn (ps ++ p ∷ qs)) ≡ over
+    ends [] = rw (none-of-them T [] p qs h)
+    ends (q ∷ ps) = rw (none-of-them T (q ∷ ps) p qs h)

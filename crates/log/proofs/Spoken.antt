@@ -15,9 +15,9 @@ use Rattle.grammar.specs.Turns.{Proposal, endsBlock, proposes, inMode, proposab
 use Rattle.grammar.specs.Answers.{Sign, readFs, fsLine, fixedLine, ourProposal, OurLine}
 use Rattle.grammar.specs.Transfers.{writeTransfer}
 use Rattle.grammar.proofs.Basics.{Lacks, snoc-cons}
-use Rattle.grammar.proofs.OurLines.{proposal-read, fs-back, ff-read, fq-read, end-read, prompt-read, good-line}
+use Rattle.grammar.proofs.OurLines.{proposal-read, fs-back, ff-read, fq-read, end-read, good-line}
 use Rattle.mail.specs.Mail.{Record, recordAt, headingFor, transferOf, proposalLines, turnText, transfersText, accepted}
-use Rattle.log.specs.Log.{gave, Next, over, ourGreeting, ourFirstPrompt, ourSidLine, theirSid, theirTurn, ourTurn, theirAnswer, ourAnswer, ourTransfer, Course, isOurs, placesOf, oursOwed, theirsOwed, ourUnit, whole, said, applied, withAfterCr}
+use Rattle.log.specs.Log.{gave, Next, over, ourGreeting, ourFirstPrompt, ourSidLine, theirSid, theirTurn, ourTurn, ourAnswer, ourTransfer, Course, isOurs, placesOf, ourProposed, oursOwed, theirsOwed, ourUnit, whole, said, applied, withAfterCr}
 use Rattle.log.specs.Fed.{Fed, fedAll, outOfOrder}
 use Rattle.log.proofs.Said.{said-after}
 
@@ -110,7 +110,6 @@ greeting-spoken T md sent =
     ∙ ap (λ (o : Option (Course × Bytes)). spoken T md o (withCr (fixedText ourPrompt)))
     (line-spoken T md ourGreeting sent refl (λ u b. refl) (fixedText ourSid) [] (good-line (fixedLine ourSid) tt .whole))
     ∙ line-spoken T md ourFirstPrompt sent refl (λ u b. refl) (fixedText ourPrompt) [] (good-line (fixedLine ourPrompt) tt .whole)
-    ∙ rw prompt-read
 
 -- ---------------------------------------------------------------- a turn
 
@@ -134,14 +133,14 @@ proposal-spoken T md ff qs p sent f h =
     (rw (said-after ff qs (proposes p ∷ []) (omega arith)) (rw (lt-ltb (length qs) 5 h) (rw (map-snoc qs p))))
 
 end-spoken : (T : List Record) (md ff : Bool) (q : Proposal) (qs : List Proposal) (sent : List ℕ) → length (q ∷ qs) ≤ 5
-    → spoken T md (at (ourTurn ff (map proposes (q ∷ qs))) sent) (withCr (fixedText ourEnd)) ≡ at (theirAnswer (placesOf T (q ∷ qs))) sent
+    → spoken T md (at (ourTurn ff (map proposes (q ∷ qs))) sent) (withCr (fixedText ourEnd)) ≡ at (ourProposed (placesOf T (q ∷ qs))) sent
 end-spoken T md ff q qs sent h =
     line-spoken T md (ourTurn ff (map proposes (q ∷ qs))) sent refl (λ u b. refl) (fixedText ourEnd) [] (good-line (fixedLine ourEnd) tt .whole)
     ∙ rw (end-read md) (rw (said-after ff (q ∷ qs) (endsBlock ∷ []) h))
 
 -- the rest of a turn of ours, after q and qs
 rest-spoken : (T : List Record) (md ff : Bool) (ps : List Proposal) (q : Proposal) (qs : List Proposal) (sent : List ℕ) → AllFit md ps → length (q ∷ qs) + length ps ≤ 5
-    → spoken T md (at (ourTurn ff (map proposes (q ∷ qs))) sent) (proposalLines ps ++ withCr (fixedText ourEnd)) ≡ at (theirAnswer (placesOf T ((q ∷ qs) ++ ps))) sent
+    → spoken T md (at (ourTurn ff (map proposes (q ∷ qs))) sent) (proposalLines ps ++ withCr (fixedText ourEnd)) ≡ at (ourProposed (placesOf T ((q ∷ qs) ++ ps))) sent
 rest-spoken T md ff [] q qs sent f h = end-spoken T md ff q qs sent (omega arith) ∙ rw (append-nil qs)
 rest-spoken T md ff (p ∷ ps) q qs sent f h =
     rw (append-assoc (withCr (proposalLine p)) (proposalLines ps) (withCr (fixedText ourEnd)))
@@ -151,7 +150,7 @@ rest-spoken T md ff (p ∷ ps) q qs sent f h =
 
 -- a whole turn of ours
 pub turn-spoken : (T : List Record) (md ff : Bool) (p : Proposal) (ps : List Proposal) (sent : List ℕ) → AllFit md (p ∷ ps) → length (p ∷ ps) ≤ 5
-    → spoken T md (at (ourTurn ff []) sent) (turnText (p ∷ ps)) ≡ at (theirAnswer (placesOf T (p ∷ ps))) sent
+    → spoken T md (at (ourTurn ff []) sent) (turnText (p ∷ ps)) ≡ at (ourProposed (placesOf T (p ∷ ps))) sent
 unfolding turnText
 turn-spoken T md ff p ps sent f h =
     rw (append-assoc (withCr (proposalLine p)) (proposalLines ps) (withCr (fixedText ourEnd)))

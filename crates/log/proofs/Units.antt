@@ -3,7 +3,7 @@
 use mathlib.Core.Path.{_≡_, refl, sym, ap, _∙_, subst}
 use mathlib.Core.Bool.{Bool, true, false, cond, not, _&&_}
 use mathlib.Core.Option.{Option, none, some}
-use mathlib.Core.List.{List, [], _∷_, _++_, map, append-nil}
+use mathlib.Core.List.{List, [], _∷_, _++_, map, append-nil, map-append}
 use Prim.Native.Nat.{ℕ, zero, suc, _≤_}
 use native.Mathlib.Omega.{arith}
 use lib.Dec.{eqb}
@@ -164,15 +164,11 @@ grows T l (b ∷ v) u h k =
     ∙ grows T l v (u ++ (b ∷ [])) h (k .1)
     ∙ rw (snoc-cons u v b)
 
-map-append : (n : Next) (u v : Bytes) → bytesOf n (u ++ v) ≡ bytesOf n u ++ bytesOf n v
-map-append n [] v = refl
-map-append n (x ∷ u) v = rw (map-append n u v)
-
 -- A WHOLE UNIT HAS EXACTLY ITS EFFECT
 pub unit-fed : (T : List Record) (l : Log) (u : Bytes) (b : ℕ) → NoLf l → NotYet T (l .course .next) [] u → whole T (l .course .next) u b ≡ true
     → fedAll T (record { log = l; raw = [] }) (bytesOf (l .course .next) (u ++ (b ∷ []))) ≡ record { log = applied T l u b; raw = [] }
 unit-fed T l u b h k w =
-    ap (fedAll T (record { log = l; raw = [] })) (map-append (l .course .next) u (b ∷ []))
+    ap (fedAll T (record { log = l; raw = [] })) (map-append (λ (c : ℕ). cond (isOurs (l .course .next)) (gave c) (took c)) u (b ∷ []))
     ∙ fed-append T (bytesOf (l .course .next) u) (bytesOf (l .course .next) (b ∷ [])) (record { log = l; raw = [] })
     ∙ ap (λ (f : Fed). fedAll T f (bytesOf (l .course .next) (b ∷ []))) (grows T l u [] h k)
     ∙ unit-byte T l u b h

@@ -1,6 +1,9 @@
 -- 01, "The log": what the bytes consumed and given mean. It cuts the next whole unit, a line or a transfer, off the trace and applies
 -- that unit's effect; a turn is its lines, and has its effect at the last. It cites the grammar and what the shelf holds, nothing of the
 -- session.
+-- The log reads what we gave; demand 2 says what we give. So some rules on our own turns and answers are left to demand 2: that a record
+-- proposed was waiting, not deferred, of the mode's form, in table order and as the block's limits have it; that its fields are the record's
+-- (the log asks for its BID); that FF and FQ come only when no record remains; and which sign each proposal gets, by BIDs known and room.
 use mathlib.Core.Bool.{Bool, true, false, cond, _&&_}
 use mathlib.Core.Option.{Option, none, some}
 use mathlib.Core.List.{List, [], _∷_, _++_}
@@ -11,8 +14,8 @@ use Rattle.grammar.specs.Bytes.{Bytes, CR, LF, same, isSome}
 use Rattle.grammar.specs.Fields.{Form, plain, message, file}
 use Rattle.grammar.specs.Lines.{trim, isComment, isPrompt, lineLimit}
 use Rattle.grammar.specs.Sid.{readSid, hasFeature, framed}
-use Rattle.grammar.specs.Turns.{Proposal, TurnLine, saysFF, saysFQ, endsBlock, notAllowed, proposes, readTurnLine, fixedText, ourSid}
-use Rattle.grammar.specs.Answers.{Sign, readFs}
+use Rattle.grammar.specs.Turns.{Proposal, TurnLine, saysFF, saysFQ, endsBlock, notAllowed, proposes, readTurnLine, fixedText, ourSid, ourPrompt}
+use Rattle.grammar.specs.Answers.{Sign, consO, readFs}
 use Rattle.grammar.specs.Transfers.{Content, readTransfer}
 use Rattle.mail.specs.Mail.{Record, Message, messageOf, recordAt, transferOf, placeOf, accepted, marked, declined}
 
@@ -50,6 +53,7 @@ pub record Log : Type 0 where
   pub course : Course
   pub book : Book
 
+-- The unit that is next is ours.
 abbrev pub isOurs : Next → Bool
 isOurs over = false
 isOurs ourGreeting = true
@@ -95,40 +99,53 @@ inOrder ff farewell = cond ff farewell wrong
 inOrder ff (turn []) = cond ff wrong (turn [])
 inOrder ff (turn (p ∷ ps)) = turn (p ∷ ps)
 
+-- What the lines ls of a turn come to, after a turn that was (ff) FF.
 unfoldable pub said : Bool → List TurnLine → Said
 said ff ls = inOrder ff (saidOn [] ls)
 
 -- ---------------------------------------------------------------- the effect of a whole unit of ours
 
--- "ours are the records with those BIDs"
-abbrev pub placesOf : List Record → List Proposal → List ℕ
-placesOf T [] = []
-placesOf T (p ∷ ps) = placeOf T (p .bid) ∷ placesOf T ps
+-- The place of the record with this BID; none where no record has it.
+abbrev pub placeFound : List Record → Bytes → Option ℕ
+placeFound T b = cond (ltb (placeOf T b) (length T)) (some (placeOf T b)) none
 
+-- "ours are the records with those BIDs": the places of all of them, or none
+abbrev pub placesOf : List Record → List Proposal → Option (List ℕ)
+placesOf T [] = some []
+placesOf T (p ∷ ps) = consO (placeFound T (p .bid)) (placesOf T ps)
+
+-- Our turn with these proposals. One whose BID no record has isn't ours to make: "What the rules forbid isn't valid".
+abbrev pub ourProposed : Option (List ℕ) → Next
+ourProposed none = over
+ourProposed (some is) = theirAnswer is
+
+-- "transfers owed": ours, of the records at these places; after the last the right to propose is the partner's, "whoever sent the FS"
 abbrev pub oursOwed : List ℕ → Next
 oursOwed [] = theirTurn false []
 oursOwed (i ∷ is) = ourTransfer i is
 
+-- and the partner's, of these proposals
 abbrev pub theirsOwed : List Proposal → Next
 theirsOwed [] = ourTurn false []
 theirsOwed (p ∷ ps) = theirTransfer p ps
 
+-- "Turn, at its last CR", ours: FF is answered by a turn, proposals by an FS line; FQ ends the session
 abbrev pub ourSaid : List Record → Bool → List TurnLine → Said → Next
 ourSaid T ff ls unfinished = ourTurn ff ls
 ourSaid T ff ls farewell = over
 ourSaid T ff ls wrong = over
 ourSaid T ff ls (turn []) = theirTurn true []
-ourSaid T ff ls (turn (p ∷ ps)) = theirAnswer (placesOf T (p ∷ ps))
+ourSaid T ff ls (turn (p ∷ ps)) = ourProposed (placesOf T (p ∷ ps))
 
 -- "FS line, at its CR: the other side owes the accepted transfers in order."
 abbrev pub ourAnswered : List Proposal → Option (List Sign) → Next
 ourAnswered ps none = over
 ourAnswered ps (some ss) = theirsOwed (accepted ss ps)
 
--- A line of ours. "Lines under SID and opening only choose the mode."
+-- A line of ours. "Lines under SID and opening only choose the mode."; "Called: we send it, CR, `>`, CR"
 abbrev pub ourLine : List Record → Bool → Next → Bytes → Next
 ourLine T md ourGreeting ln = cond (same ln (fixedText ourSid)) ourFirstPrompt over
-ourLine T md ourFirstPrompt ln = cond (isPrompt ln) (theirSid false) over
+ourLine T md ourFirstPrompt ln = cond (same ln (fixedText ourPrompt)) (theirSid false) over
 ourLine T md ourSidLine ln = cond (same ln (fixedText ourSid)) (ourTurn false []) over
 ourLine T md (ourTurn ff ls) ln = ourSaid T ff (ls ++ (readTurnLine md ln ∷ [])) (said ff (ls ++ (readTurnLine md ln ∷ [])))
 ourLine T md (ourAnswer ps) ln = ourAnswered ps (readFs (length ps) ln)
@@ -157,22 +174,26 @@ ourUnit T md (theirTransfer p ps) sent u = record { next = over; sent = sent }
 
 -- ---------------------------------------------------------------- the effect of a whole unit of the partner's
 
--- What a unit makes of the book and the course; a line and a plain transfer end with a CR.
+-- What a unit makes of the book and the course.
 pub record Effect : Type 0 where
   pub book : Book
   pub course : Course
 
+-- With this book, records sent and unit next.
 abbrev pub effect : Book → List ℕ → Next → Effect
 effect k sent n = record { book = k; course = record { next = n; sent = sent } }
 
+-- The book with these states.
 abbrev pub withStates : Book → List ℕ → Book
 withStates k st = record { framed = k .framed; states = st; kept = k .kept }
 
+-- The partner's FF is answered by our turn, its proposals by our FS line.
 abbrev pub afterTheirTurn : List Proposal → Next
 afterTheirTurn [] = ourTurn true []
 afterTheirTurn (p ∷ ps) = ourAnswer (p ∷ ps)
 
--- "Turn, at its last CR: its proposals replace the last .. The partner's makes every sent record 1."
+-- "Turn, at its last CR: its proposals replace the last .. The partner's makes every sent record 1." The records sent are then forgotten; 01
+-- does not say so, and it comes to the same: a state set to 1 stays 1, as we propose only waiting records.
 abbrev pub theirSaid : Bool → List TurnLine → Book → List ℕ → Said → Effect
 theirSaid ff ls k sent unfinished = effect k sent (theirTurn ff ls)
 theirSaid ff ls k sent farewell = effect k sent over
@@ -184,10 +205,12 @@ abbrev pub theirAnswered : List ℕ → Book → List ℕ → Option (List Sign)
 theirAnswered is k sent none = effect k sent over
 theirAnswered is k sent (some ss) = effect (withStates k (declined is ss (k .states))) sent (oursOwed (accepted ss is))
 
+-- "Caller: we await the SID, skip text lines until the prompt"; called, "then its first turn"
 abbrev pub afterTheirSid : Bool → Next
 afterTheirSid true = theirText
 afterTheirSid false = theirTurn false []
 
+-- "Partner has B: framed mode, at any level. Otherwise plain mode."; a SID without F (letter 5) is refused with 4
 abbrev pub theirSidRead : Bool → Book → List ℕ → Option (List ℕ) → Effect
 theirSidRead c k sent none = effect k sent over
 theirSidRead c k sent (some fs) =
@@ -195,6 +218,7 @@ theirSidRead c k sent (some fs) =
     (effect (record { framed = framed fs; states = k .states; kept = k .kept }) sent (afterTheirSid c))
     (effect k sent over)
 
+-- A line of the partner's: "A line that begins with `;` is ignored wherever a line is awaited"
 abbrev pub theirLine : Next → Book → List ℕ → Bytes → Effect
 theirLine (theirSid c) k sent ln = cond (isComment ln) (effect k sent (theirSid c)) (theirSidRead c k sent (readSid ln))
 theirLine theirText k sent ln = cond (isComment ln) (effect k sent theirText) (cond (isPrompt ln) (effect k sent ourSidLine) (effect k sent theirText))
@@ -239,12 +263,14 @@ whole T (ourTurn ff ls) u b = eqb b CR
 whole T (theirAnswer is) u b = eqb b CR
 whole T (ourAnswer ps) u b = eqb b CR
 
+-- "Each has a form (0 plain text, ..)"
 abbrev pub isPlain : Form → Bool
 isPlain plain = true
 isPlain message = false
 isPlain file = false
 
--- "One LF directly after the CR that ended a line, or after the CR that closes a plain transfer, is dropped"
+-- "One LF directly after the CR that ended a line, or after the CR that closes a plain transfer, is dropped": a line and a plain transfer
+-- end with a CR
 abbrev pub endsWithCr : Next → Bool
 endsWithCr (theirTransfer p ps) = isPlain (p .form)
 endsWithCr over = true
@@ -259,6 +285,7 @@ endsWithCr (theirAnswer is) = true
 endsWithCr (ourAnswer ps) = true
 endsWithCr (ourTransfer i is) = true
 
+-- The partner's whole unit u b of what is next: a transfer, "else lines".
 abbrev pub theirUnit : Next → Book → List ℕ → Bytes → ℕ → Effect
 theirUnit (theirTransfer p ps) k sent u b = theirTransferred p ps k sent (readTransfer (p .form) (u ++ (b ∷ [])))
 theirUnit over k sent u b = effect k sent over
@@ -290,8 +317,9 @@ stopped l = record { afterCr = l .afterCr; course = record { next = over; sent =
 
 -- ---------------------------------------------------------------- the log
 
--- The next whole unit cut off the trace: its bytes but the last, its last byte, whether an LF is then dropped where it is ours, and the
--- trace after it; or none is whole yet; or a byte of the other side came first, which the rules forbid.
+-- What cutting off the next whole unit gives. unit: its bytes but the last, its last byte, the flag afterCr as it stands just before that
+-- byte, and the trace after the unit; notWhole: no unit is whole yet; outOfTurn: a byte of the other side came first, which the rules forbid.
+-- The flag is handed on since a unit of ours leaves it alone: the partner's LF may come after bytes of ours.
 pub data Cut : Type 0 where
   notWhole outOfTurn : Cut
   unit : Bytes → ℕ → Bool → List Event → Cut
@@ -308,6 +336,7 @@ cutUnit T n afterCr u (gave b ∷ es) =
     (cond (whole T n u b) (unit u b afterCr es) (cutUnit T n afterCr (u ++ (b ∷ [])) es))
     outOfTurn
 
+-- The log with this flag.
 abbrev pub withAfterCr : Log → Bool → Log
 withAfterCr l a = record { afterCr = a; course = l .course; book = l .book }
 
@@ -331,5 +360,6 @@ logOpened caller states =
       book = record { framed = false; states = states; kept = [] };
     }
 
+-- THE LOG of a trace, from open on.
 unfoldable pub log : List Record → Bool → List ℕ → List Event → Log
 log T caller states es = logUnits (length es) T (logOpened caller states) es
