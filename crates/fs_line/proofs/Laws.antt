@@ -1,6 +1,7 @@
 -- Places by their signs, flags at places, and the FS line by what its reader answers.
-use mathlib.Core.Path.{_≡_, refl, sym, ap, _∙_}
-use mathlib.Core.Bool.{false, cond}
+use mathlib.Core.Path.{_≡_, refl, sym, ap, _∙_, subst}
+use mathlib.Core.Bool.{Bool, true, false, cond}
+use mathlib.Core.Option.{Option, none, some}
 use mathlib.Core.List.{List, [], _∷_, _++_, append-nil}
 use Prim.Native.Nat.{ℕ, _+_, _<_, _≤_}
 use native.Mathlib.Omega.{arith}
@@ -8,8 +9,9 @@ use native.Mathlib.Numerals.{add-one}
 use lib.Dec.{eqb}
 use lib.ListN.{length, getD, set, drop, length-set}
 use lib.Seq.{drop-cons, append-snoc}
-use borrow.Author.Tests.{eq-eqb, ne-eqb}
+use borrow.Author.Tests.{eq-eqb, ne-eqb, eqb-true, eqb-false}
 use Rattle.grammar.specs.Bytes.{Bytes}
+use Rattle.grammar.specs.Answers.{Sign, accept, decline, defer, signOf}
 use Rattle.answer.specs.Answers.{answerNumber, answerSigns}
 use Rattle.transfer_step.specs.declared.Reader.{Reader}
 use Rattle.state.specs.State.{held, fiveOf, noFive}
@@ -21,6 +23,8 @@ use Rattle.choice.specs.Promises.{Filled}
 use Rattle.choice.proofs.Laws.{five-held, five-filled, five-more, five-count}
 use Rattle.judge.specs.declared.Judged.{Judged}
 use Rattle.judge.specs.Judge.{judged, refusal, toTurn, sends, picked, flagged, transfersAfter, answerTaken, answerLine}
+use Rattle.fs_line.specs.declared.Answered.{Answered}
+use Rattle.fs_line.specs.Signs.{withPlace, placed, answeredBy}
 use Rattle.judge.proofs.Laws.{held-cons, held-end}
 
 -- flags, place by place
@@ -66,16 +70,65 @@ module _ (c : ℕ) (f : Five) (ss : List ℕ) (g : Five) (i n : ℕ) (e : n ≡ 
           said = p .said ∙ rw (held-cons f i n e h, signs-cons, ne-eqb _ _ k);
         }
 
-    pub pick-take : g .count < 5 → getD ss i 0 ≡ c → Picking c f ss (record { count = g .count + 1; items = set (g .items) (g .count) (getD (f .items) i 0) }) (i + 1)
+    pub pick-take : g .count < 5 → getD ss i 0 ≡ c → Picking c f ss (withPlace g (getD (f .items) i 0)) (i + 1)
     pick-take b k =
         let x : ℕ = getD (f .items) i 0 in
-        let g' : Five = record { count = g .count + 1; items = set (g .items) (g .count) (getD (f .items) i 0) } in
+        let g' : Five = withPlace g x in
         let q : g' ≡ fiveOf (held g ++ (x ∷ [])) = five-more g x (p .filled) b in
         record {
           filled = five-filled g' (held g ++ (x ∷ [])) q;
           few = let a = p .few in omega arith;
           said = p .said ∙ rw (held-cons f i n e h, signs-cons, eq-eqb _ _ k, five-held g' (held g ++ (x ∷ [])) q, append-snoc (held g) x (picked c (drop (i + 1) (held f)) (drop (i + 1) ss)));
         }
+
+-- ---------------------------------------------------------------- each place by its sign
+
+-- what a byte says decides
+pub by-sign : (a : Answered) (b x : ℕ) {o : Option Sign} {r : Answered} → o ≡ signOf b → r ≡ placed a o x → r ≡ answeredBy a b x
+unfolding answeredBy
+by-sign a b x e f = f ∙ ap (λ (o : Option Sign). placed a o x) e
+
+-- the places with each of the three signs
+abbrev pub Sorted : Five → List ℕ → Answered → ℕ → Type 0
+Sorted f ss a i = Picking 43 f ss (a .accepted) i × Picking 45 f ss (a .declined) i × Picking 61 f ss (a .deferred) i
+
+module _ (f : Five) (ss : List ℕ) (a : Answered) (i n : ℕ) (e : n ≡ length (held f)) (p : Sorted f ss a i) where
+  pub sort-end : n ≤ i
+      → (a .accepted ≡ fiveOf (picked 43 (held f) ss)) × (a .declined ≡ fiveOf (picked 45 (held f) ss)) × (a .deferred ≡ fiveOf (picked 61 (held f) ss))
+  sort-end h =
+      (pick-end 43 f ss (a .accepted) i n e (p .0) h, pick-end 45 f ss (a .declined) i n e (p .1) h, pick-end 61 f ss (a .deferred) i n e (p .2) h)
+
+  module _ (h : i < n) (l : i < length ss) (m : n ≤ 5) where
+    pub sort-room : (a .accepted .count < 5) × (a .declined .count < 5) × (a .deferred .count < 5)
+    sort-room = (omega (arith, p .0 .few), omega (arith, p .1 .few), omega (arith, p .2 .few))
+
+    pub sort-more : (b : Answered) → b ≡ answeredBy a (getD ss i 0) (getD (f .items) i 0) → Sorted f ss b (i + 1)
+    unfolding answeredBy
+    sort-more b q = subst (λ (o : Answered). Sorted f ss o (i + 1)) (sym q) (go (eqb s 43) (eqb s 45) (eqb s 61) refl refl refl)
+      where
+        s : ℕ
+        s = getD ss i 0
+
+        skip : (c : ℕ) (g : Five) → Picking c f ss g i → (s ≡ c → ⊥) → Picking c f ss g (i + 1)
+        skip c g o k = pick-skip c f ss g i n e o h l k
+
+        take : (c : ℕ) (g : Five) → Picking c f ss g i → g .count < 5 → s ≡ c → Picking c f ss (withPlace g (getD (f .items) i 0)) (i + 1)
+        take c g o b k = pick-take c f ss g i n e o h l b k
+
+        go : (u v w : Bool) → eqb s 43 ≡ u → eqb s 45 ≡ v → eqb s 61 ≡ w
+            → Sorted f ss (placed a (cond u (some accept) (cond v (some decline) (cond w (some defer) none))) (getD (f .items) i 0)) (i + 1)
+        go true v w x y z =
+            let k = eqb-true s 43 x in
+            (take 43 _ (p .0) (sort-room .0) k, skip 45 _ (p .1) (λ o. omega arith), skip 61 _ (p .2) (λ o. omega arith))
+        go false true w x y z =
+            let k = eqb-true s 45 y in
+            (skip 43 _ (p .0) (eqb-false s 43 x), take 45 _ (p .1) (sort-room .1) k, skip 61 _ (p .2) (λ o. omega arith))
+        go false false true x y z =
+            (skip 43 _ (p .0) (eqb-false s 43 x), skip 45 _ (p .1) (eqb-false s 45 y), take 61 _ (p .2) (sort-room .2) (eqb-true s 61 z))
+        go false false false x y z =
+            (skip 43 _ (p .0) (eqb-false s 43 x), skip 45 _ (p .1) (eqb-false s 45 y), skip 61 _ (p .2) (eqb-false s 61 z))
+
+-- ---------------------------------------------------------------- the FS line
 
 module _ (w : Await) (y : Say) (k : Keep) (rd : Reader) where
   -- the FS line

@@ -1,4 +1,6 @@
 // The FS line on our proposals: what is sent, what is declined, what is deferred.
+use answer::Sign;
+use answer::sign_of;
 use judge::Judged;
 use judge::Marks;
 use judge::count_of;
@@ -11,28 +13,77 @@ use state::Keep;
 use state::Say;
 use transfer_step::Reader;
 ghost use mathlib.Core.Path.{_≡_};
+ghost use Prim.Native.Nat.{_<_};
 ghost use lib.ListN.{set};
 ghost use Rattle.state.specs.State.{held, fiveOf};
+ghost use Rattle.fs_line.specs.Signs.{withPlace, answeredBy};
 ghost use Rattle.judge.specs.Judge.{picked, flagged, transfersAfter, answerTaken, answerLine};
 
-// The places whose sign this is, in order.
-fn with_sign(ours: Five, signs: [u8; 5], sign: u8) -> Five
-    ensures { λ r. ⌜ r ≡ fiveOf (picked sign (held ours) signs) ⌝ }
+// The places of our records by the partner's answers to them, in order.
+struct Answered {
+    accepted: Five,
+    declined: Five,
+    deferred: Five,
+}
+
+// One place more; there are fewer than five.
+fn with_place(f: Five, place: u8) -> Five
+    requires { ⌜ f .count < 5 ⌝ }
+    ensures { λ r. ⌜ r ≡ withPlace f place ⌝ }
+{
+    let mut g = f;
+    let k = f.count as usize;
+    g.items[k] = place;
+    g.count += 1;
+    g
+}
+
+// A place more where its sign belongs: `+` accept, `-` decline, `=` defer; no other byte is a sign.
+fn answered_by(a: Answered, sign: u8, place: u8) -> Answered
+    requires { ⌜ (a .accepted .count < 5) × (a .declined .count < 5) × (a .deferred .count < 5) ⌝ }
+    ensures { λ r. ⌜ r ≡ answeredBy a sign place ⌝ }
+{
+    let accepted = a.accepted;
+    let declined = a.declined;
+    let deferred = a.deferred;
+    let said = sign_of(sign);
+    match said {
+        Sign::Accept => Answered {
+            accepted: with_place(accepted, place),
+            declined: declined,
+            deferred: deferred,
+        },
+        Sign::Decline => Answered {
+            accepted: accepted,
+            declined: with_place(declined, place),
+            deferred: deferred,
+        },
+        Sign::Defer => Answered {
+            accepted: accepted,
+            declined: declined,
+            deferred: with_place(deferred, place),
+        },
+        Sign::Other => a,
+    }
+}
+
+// All places by their signs.
+fn by_signs(ours: Five, signs: [u8; 5]) -> Answered
+    ensures { λ r. ⌜ (r .accepted ≡ fiveOf (picked 43 (held ours) signs)) × (r .declined ≡ fiveOf (picked 45 (held ours) signs)) × (r .deferred ≡ fiveOf (picked 61 (held ours) signs)) ⌝ }
 {
     let n = count_of(ours);
-    let mut f = none();
+    let mut a = Answered {
+        accepted: none(),
+        declined: none(),
+        deferred: none(),
+    };
     let mut i = 0usize;
     while i < n {
-        if signs[i] != sign {
-            i += 1;
-            continue;
-        }
-        let k = f.count as usize;
-        f.items[k] = ours.items[i];
-        f.count += 1;
+        let b = answered_by(a, signs[i], ours.items[i]);
+        a = b;
         i += 1;
     }
-    f
+    a
 }
 
 // The flags with a 1 at a place.
@@ -80,9 +131,10 @@ fn answer_taken(signs: [u8; 5], awaited: Await, say: Say, keep: Keep, reader: Re
     ensures { λ r. ⌜ r ≡ answerTaken signs awaited say keep reader ⌝ }
 {
     let ours = awaited.ours;
-    let declined = with_sign(ours, signs, b'-');
-    let sending = with_sign(ours, signs, b'+');
-    let waits = with_sign(ours, signs, b'=');
+    let a = by_signs(ours, signs);
+    let sending = a.accepted;
+    let declined = a.declined;
+    let waits = a.deferred;
     let flags = keep.deferred;
     let deferred = deferring(flags, waits);
     let mut k = keep;

@@ -5,8 +5,8 @@ use field::Span;
 use field::is_at;
 use field::is_bid;
 use field::is_call;
-use field::next_field;
 use field::read_size;
+use field_reader::field_by_reader;
 ghost use mathlib.Core.Path.{_≡_};
 ghost use mathlib.Core.List.{map};
 ghost use Prim.Native.Nat.{_≤_};
@@ -114,7 +114,7 @@ fn seven_words(line: &[u8]) -> Split
     let mut place = 0;
     let mut i = 0;
     while i < 7 {
-        let s = next_field(line, place);
+        let s = field_by_reader(line, place);
         if s.end <= s.start {
             return Split::NotSeven;
         }
@@ -122,7 +122,7 @@ fn seven_words(line: &[u8]) -> Split
         place = s.end;
         i += 1;
     }
-    let more = next_field(line, place);
+    let more = field_by_reader(line, place);
     if more.start < more.end {
         return Split::NotSeven;
     }

@@ -10,7 +10,7 @@ use Rattle.grammar.specs.Bytes.{Bytes}
 use Rattle.grammar.specs.Fields.{plain, message, formNumber, isCall, isAt, isBid, isHeading, isSize, isBody}
 use Rattle.grammar.specs.Lines.{LineByte, dropped, ends, grows, overruns}
 use Rattle.grammar.specs.Sid.{noFeatures}
-use Rattle.grammar.specs.Turns.{Proposal, TurnLine, saysFF, saysFQ, endsBlock, notAllowed, proposes}
+use Rattle.grammar.specs.Turns.{Proposal, TurnLine, saysFF, saysFQ, endsBlock, notAllowed, proposes, turnLineNumber}
 use Rattle.byte.specs.declared.Class.{Class}
 use Rattle.field.specs.declared.Span.{Span}
 use Rattle.field.specs.Places.{part}
@@ -60,13 +60,13 @@ abbrev pub sidLevels : Option (List ℕ) → List ℕ
 sidLevels none = noFeatures
 sidLevels (some fs) = fs
 
--- What a line says in a turn: 0 FF, 1 FQ, 2 F>, 3 a proposal, 5 nothing that is allowed.
+-- What a line says in a turn: 0 FF, 1 FQ, 2 F>, 3 a proposal; 01's number of a line that is not allowed.
 abbrev pub turnLineCode : TurnLine → ℕ
 turnLineCode saysFF = 0
 turnLineCode saysFQ = 1
 turnLineCode endsBlock = 2
 turnLineCode (proposes p) = 3
-turnLineCode notAllowed = 5
+turnLineCode notAllowed = turnLineNumber notAllowed
 
 -- The eleven numbers of a proposal: form, type, start and end of from, at, to and BID, and size.
 abbrev pub eleven : ℕ → ℕ → Span → Span → Span → Span → ℕ → List ℕ

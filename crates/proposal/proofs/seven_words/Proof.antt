@@ -15,11 +15,11 @@ abbrev μ-loop : tie.MeasureT-loop
 loop-holds : tie.Need-loop-holds Inv-loop μ-loop
 loop-holds c = read-start _ _ refl
 
-next-field-requires : tie.Need-next-field-requires Inv-loop μ-loop
-next-field-requires c κs = search needs
+field-by-reader-requires : tie.Need-field-by-reader-requires Inv-loop μ-loop
+field-by-reader-requires c κs = search needs
 
 returns : tie.Need-returns Inv-loop μ-loop
-returns c = read-few _ _ _ _ (c .before .before .before .before .loop .inv) _ (c .before .before .next-field .ensures .0) (c .before .before .before .loop-test .taken) (c .if1 .taken)
+returns c = read-few _ _ _ _ (c .before .before .before .before .loop .inv) _ (c .before .before .field-by-reader .ensures .1) (c .before .before .before .loop-test .taken) (c .if1 .taken)
 
 mul-w : tie.Need-mul-w Inv-loop μ-loop
 mul-w c = search needs
@@ -34,13 +34,13 @@ loop-less : tie.Need-loop-less Inv-loop μ-loop
 loop-less c = search needs
 
 loop-again : tie.Need-loop-again Inv-loop μ-loop
-loop-again c = read-more _ _ _ _ (c .before .before .before .before .loop .inv) _ (c .before .before .next-field .ensures .0) (c .before .before .before .loop-test .taken) (c .if1 .left) (c .before .before .next-field .ensures .2)
+loop-again c = read-more _ _ _ _ (c .before .before .before .before .loop .inv) _ (c .before .before .field-by-reader .ensures .1) (c .before .before .before .loop-test .taken) (c .if1 .left) (c .before .before .field-by-reader .ensures .3)
 
-next-field-requires-2 : tie.Need-next-field-requires-2 Inv-loop μ-loop
-next-field-requires-2 c κs = search needs
+field-by-reader-requires-2 : tie.Need-field-by-reader-requires-2 Inv-loop μ-loop
+field-by-reader-requires-2 c κs = search needs
 
 returns-2 : tie.Need-returns-2 Inv-loop μ-loop
-returns-2 c = read-many _ _ _ _ (c .before .before .before .before .loop .inv) _ (c .before .before .next-field2 .ensures .0) (c .if2 .taken) (c .before .before .before .loop-test .left)
+returns-2 c = read-many _ _ _ _ (c .before .before .before .before .loop .inv) _ (c .before .before .field-by-reader2 .ensures .1) (c .if2 .taken) (c .before .before .before .loop-test .left)
 
 array-copy-out-letters : tie.Need-array-copy-out-letters Inv-loop μ-loop
 array-copy-out-letters c = search needs
@@ -64,7 +64,7 @@ array-copy-out-size : tie.Need-array-copy-out-size Inv-loop μ-loop
 array-copy-out-size c = search needs
 
 returns-3 : tie.Need-returns-3 Inv-loop μ-loop
-returns-3 c = read-seven _ _ _ _ (c .before .before .before .before .before .before .before .before .before .before .before .loop .inv) _ (c .before .before .before .before .before .before .before .before .before .next-field2 .ensures .0) (c .before .before .before .before .before .before .before .if2 .left) (c .before .before .before .before .before .before .before .before .before .before .loop-test .left)
+returns-3 c = read-seven _ _ _ _ (c .before .before .before .before .before .before .before .before .before .before .before .loop .inv) _ (c .before .before .before .before .before .before .before .before .before .field-by-reader2 .ensures .1) (c .before .before .before .before .before .before .before .if2 .left) (c .before .before .before .before .before .before .before .before .before .before .loop-test .left)
 
 pub seven-words-spec : {M : Type 1} → statement M
 seven-words-spec =
@@ -73,14 +73,14 @@ seven-words-spec =
     Inv-loop
     μ-loop
     loop-holds
-    next-field-requires
+    field-by-reader-requires
     returns
     mul-w
     array-set-from-w
     add-i
     loop-less
     loop-again
-    next-field-requires-2
+    field-by-reader-requires-2
     returns-2
     array-copy-out-letters
     array-copy-out-kind
