@@ -20,7 +20,7 @@ use Rattle.mail.specs.Mail.{messageOf, transfersText, accepted}
 use Rattle.session.specs.Choices.{Shelf, answersTo}
 use Rattle.session.specs.Session.{Phase, awaitsSid, awaitsPrompt, leaving, over, awaitsTurn, awaitsAnswer, awaitsTransfer, Memory, Session, goesOn, speaking, turnMarks, answering, answerMarks, lineJudged, Stepped, moved, settled, lineMoved, isPlain, keptIn, nextTransfer, transferMoved, freeStep, lfDropped, step}
 use Rattle.demand2.specs.Room.{room}
-use Rattle.demand2.specs.Marks.{placesWith, AnswerLeaves, TurnLeaves}
+use Rattle.demand2.specs.Marks.{withSign, AnswerLeaves, TurnLeaves}
 use Rattle.demand2.specs.Refusals.{isDropped, Heeded, awaitsLine, WholeLine, TurnSaid, SoFar, TransferByte}
 use Rattle.demand2.specs.Events.{session, withMessage, endsWithCr, proposed, turnSaid, turnAwaits, weSpeak, transfersOr, Event, lfGoes, lineGrows, ignored, sidOfCaller, sidOfCalled, textLine, prompt, proposal, ffTurn, fqTurn, blockEnd, fsLineComes, transferGrows, transferWhole}
 use Rattle.demand2.proofs.Room.{fits-within}
@@ -117,7 +117,7 @@ module _ (E : Shelf) (q : Bytes) (s : Session) (b : ℕ) where
     happens t (fsLineComes ln is w p ss r m l) =
         goes-answer ln is ss w p r
         ∙ ap (λ (l : List ℕ). moved (session (awaitsTurn false []) true (transfersText (E .table) l) (answerMarks is ss (s .memory)))) (accepted-is is ss)
-        ∙ ap (λ (n : Memory). moved (session (awaitsTurn false []) true (transfersText (E .table) (placesWith accept is ss)) n))
+        ∙ ap (λ (n : Memory). moved (session (awaitsTurn false []) true (transfersText (E .table) (withSign accept is ss)) n))
         (sym (answer-only is ss (s .memory) m l))
     happens t (transferGrows p sc sc′ u e) = goes-transfer p sc u (goes sc′) (sym (scan-more E s b q p sc u S) ∙ e)
     happens t (transferWhole p sc u h x e l) =

@@ -18,6 +18,7 @@ use Rattle.mail.specs.Mail.{Message, accepted}
 use Rattle.session.specs.Choices.{Shelf, among, recordBids, messageBids, proposalBids, bodyBytes, announced, haveBid, noRoomFor, signFor, withAccepted, answersAfter, answersTo}
 use Rattle.session.proofs.Choices.{one-sign-each}
 use Rattle.demand2.specs.OurAnswers.{Among, HaveBid, inTable, isKnown, inInbox, inBlock, NoRoomFor, tooLong, noStore, noPlace, SignExact, AnswersExact}
+use Rattle.demand2.proofs.Marks.{accepted-is}
 
 -- ---------------------------------------------------------------- the tests say what 01 says
 
@@ -148,9 +149,10 @@ answers-exact E inbox ps =
     record {
       each = one-sign-each E inbox ps;
       sign = λ before p after e.
-          subst (SignExact E inbox (accepted (answersTo E inbox before) before) p)
+          subst (λ (l : List Proposal). SignExact E inbox l p (getD (answersTo E inbox ps) (length before) defer)) (accepted-is before (answersTo E inbox before))
+          (subst (SignExact E inbox (accepted (answersTo E inbox before) before) p)
           (sym (ap (λ (l : List Proposal). getD (answersTo E inbox l) (length before) defer) e
           ∙ ap (λ (l : List Sign). getD l (length before) defer) (split E inbox [] before p after)
           ∙ getD-at (answersTo E inbox before) _ _ defer (length before) (one-sign-each E inbox before)))
-          (sign-exact E inbox (accepted (answersTo E inbox before) before) p);
+          (sign-exact E inbox (accepted (answersTo E inbox before) before) p));
     }

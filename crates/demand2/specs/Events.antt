@@ -20,7 +20,7 @@ use Rattle.mail.specs.Mail.{Message, messageOf, proposalOf, recordAt, turnText,
 use Rattle.session.specs.Choices.{Shelf, chosen, answersTo}
 use Rattle.session.specs.Session.{Phase, awaitsSid, awaitsPrompt, leaving, over, awaitsTurn, awaitsAnswer, awaitsTransfer, Memory, Session}
 use Rattle.demand2.specs.Room.{Fits, room}
-use Rattle.demand2.specs.Marks.{placesWith, AnswerLeaves, TurnLeaves}
+use Rattle.demand2.specs.Marks.{withSign, AnswerLeaves, TurnLeaves}
 use Rattle.demand2.specs.Refusals.{isDropped, Heeded, awaitsLine, WholeLine, TurnSaid, TransferByte}
 
 -- A session with no line begun. afterCr: an LF now is dropped; out: what waits for give
@@ -111,7 +111,7 @@ pub data Event (E : Shelf) (q : Bytes) (s : Session) (b : ℕ) : Session → Typ
   -- its FS line: "`-` sets state 2 .. Accepted records are sent in order.", then its turn
   fsLineComes : (line : Bytes) (is : List ℕ) → WholeLine s b line → s .phase ≡ awaitsAnswer is → (ss : List Sign) → readFs (length is) line ≡ some ss
       → (after : Memory) → AnswerLeaves is ss (s .memory) after
-      → Event E q s b (session (awaitsTurn false []) true (transfersText (E .table) (placesWith accept is ss)) after)
+      → Event E q s b (session (awaitsTurn false []) true (transfersText (E .table) (withSign accept is ss)) after)
   -- a byte of a transfer
   transferGrows : (p : Proposal) (reading onward : Scan) → (t : TransferByte s b p reading)
       → scan (room E (s .memory .inbox)) (p .form) (q ++ (b ∷ [])) ≡ goes onward → Event E q s b

@@ -6,8 +6,9 @@ use lib.ListN.{length, getD}
 use Rattle.grammar.specs.Bytes.{Bytes}
 use Rattle.grammar.specs.Turns.{Proposal}
 use Rattle.grammar.specs.Answers.{Sign, accept, decline, defer}
-use Rattle.mail.specs.Mail.{Message, accepted}
+use Rattle.mail.specs.Mail.{Message}
 use Rattle.session.specs.Choices.{Shelf, recordBids, messageBids, proposalBids, bodyBytes, announced, answersTo}
+use Rattle.demand2.specs.Marks.{withSign}
 
 -- The BID stands in the list, byte for byte.
 pub record Among (b : Bytes) (bids : List Bytes) : Type 0 where
@@ -41,4 +42,4 @@ pub record SignExact (E : Shelf) (inbox : List Message) (earlier : List Proposal
 pub record AnswersExact (E : Shelf) (inbox : List Message) (ps : List Proposal) : Type 0 where
   pub each : length (answersTo E inbox ps) ≡ length ps
   pub sign : (before : List Proposal) (p : Proposal) (after : List Proposal) → ps ≡ before ++ p ∷ after
-      → SignExact E inbox (accepted (answersTo E inbox before) before) p (getD (answersTo E inbox ps) (length before) defer)
+      → SignExact E inbox (withSign accept before (answersTo E inbox before)) p (getD (answersTo E inbox ps) (length before) defer)
