@@ -11,12 +11,11 @@ use Rattle.grammar.specs.Lines.{lineLimit, dropLf}
 use Rattle.grammar.specs.Turns.{Proposal}
 use Rattle.grammar.specs.Transfers.{parse}
 use Rattle.grammar.specs.Scan.{scanFrom}
-use Rattle.mail.specs.Mail.{messageOf}
 use Rattle.session.specs.Choices.{Shelf}
 use Rattle.session.specs.Session.{Phase, awaitsTransfer, Memory, Session, step}
 use Rattle.session.specs.Calls.{receive}
 use Rattle.demand2.specs.Room.{Fits}
-use Rattle.demand2.specs.Events.{session, withMessage, endsWithCr, transfersOr}
+use Rattle.demand2.specs.Events.{session, messageFrom, withMessage, endsWithCr, transfersOr}
 
 -- A session where a line is awaited and these bytes of it have come; afterCr: an LF now is dropped
 abbrev pub lineBegun : Phase → Memory → Bool → Bytes → Session
@@ -51,11 +50,11 @@ pub record TransferKept (E : Shelf) (p : Proposal) (ps : List Proposal) (m : Mem
       ≡ record {
         answer = 0;
         count = length u;
-        session = transfersOr E (endsWithCr (p .form)) [] ps (withMessage m (messageOf p (record { heading = heading; body = body })));
+        session = transfersOr E (endsWithCr (p .form)) [] ps (withMessage m (messageFrom p heading body));
       }
   pub afterLf : receive E (transferDue p ps m true) (LF ∷ u)
       ≡ record {
         answer = 0;
         count = suc (length u);
-        session = transfersOr E (endsWithCr (p .form)) [] ps (withMessage m (messageOf p (record { heading = heading; body = body })));
+        session = transfersOr E (endsWithCr (p .form)) [] ps (withMessage m (messageFrom p heading body));
       }
