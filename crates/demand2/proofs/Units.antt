@@ -262,11 +262,11 @@ module _ (E : Shelf) (p : Proposal) (ps : List Proposal) (m : Memory) where
           ∙ kept-after h x (b ∷ u) [] (scanFrom (p .form)) (from (room E (m .inbox)) (p .form)) e l
 
   -- A VALID TRANSFER that fits is kept at its last byte
-  pub transfer-kept : (u h x : Bytes) → parse (p .form) u ≡ right h x → Fits E (m .inbox) x → TransferKept E p ps m u h x
-  transfer-kept u h x e l =
+  pub transfer-kept : TransferKept E p ps m
+  transfer-kept =
       record {
-        kept = λ cr. live-receive E (transferDue p ps m cr) u refl ∙ kept-first cr u h x e (fits-within E (m .inbox) x l);
-        afterLf =
+        kept = λ cr u h x e l. live-receive E (transferDue p ps m cr) u refl ∙ kept-first cr u h x e (fits-within E (m .inbox) x l);
+        afterLf = λ u h x e l.
             live-receive E (transferDue p ps m true) (LF ∷ u) refl ∙ more E (transferDue p ps m true) (transferDue p ps m false) LF u refl refl
             ∙ ap oneMore (kept-first false u h x e (fits-within E (m .inbox) x l));
       }
