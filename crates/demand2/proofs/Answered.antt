@@ -10,13 +10,12 @@ use borrow.Author.Tests.{eqb-true}
 use Rattle.grammar.specs.Bytes.{Bytes}
 use Rattle.grammar.specs.Turns.{withCr}
 use Rattle.grammar.specs.Answers.{Sign, accept, decline, defer, writeSign, readFs, fsLine}
-use Rattle.mail.specs.Mail.{messageOf, accepted}
 use Rattle.session.specs.Choices.{Shelf, answersTo}
 use Rattle.session.specs.Session.{awaitsAnswer, Memory, Session, Stepped, step, ended}
 use Rattle.session.specs.Calls.{Received, receive, give}
 use Rattle.demand2.specs.Refusals.{WholeLine, SoFar, Live}
-use Rattle.demand2.specs.Marks.{AnswerLeaves}
-use Rattle.demand2.specs.Events.{withMessage, endsWithCr, Event, lfGoes, lineGrows, ignored, sidOfCaller, sidOfCalled, textLine, prompt, proposal, ffTurn, fqTurn, blockEnd, fsLineComes, transferGrows, transferWhole}
+use Rattle.demand2.specs.Marks.{withSign, AnswerLeaves}
+use Rattle.demand2.specs.Events.{messageFrom, withMessage, endsWithCr, Event, lfGoes, lineGrows, ignored, sidOfCaller, sidOfCalled, textLine, prompt, proposal, ffTurn, fqTurn, blockEnd, fsLineComes, transferGrows, transferWhole}
 use Rattle.demand2.specs.Reached.{Reached, atOpen, received, given, AnswerExact}
 use Rattle.demand2.proofs.Situations.{refuses-with}
 use Rattle.demand2.proofs.Refusals.{Found, happened, found, byte-found}
@@ -42,11 +41,11 @@ event-flags E q s b t (ffTurn ln w r m l) = ap length (l .deferred)
 event-flags E q s b t (fqTurn ln w r) = refl
 event-flags E q s b t (blockEnd ln ff p ps w r m l) =
     let ss = answersTo E (s .memory .inbox) (p ∷ ps) in
-    ap flags (memory-kept E true (withCr (fsLine ss)) (accepted ss (p ∷ ps)) m) ∙ ap length (l .deferred)
+    ap flags (memory-kept E true (withCr (fsLine ss)) (withSign accept (p ∷ ps) ss) m) ∙ ap length (l .deferred)
 event-flags E q s b t (fsLineComes ln is w p ss r m l) = l .flags
 event-flags E q s b t (transferGrows p sc sc′ u e) = refl
 event-flags E q s b t (transferWhole p sc u h x e l) =
-    ap flags (memory-kept E (endsWithCr (p .form)) [] (u .others) (withMessage (s .memory) (messageOf p (record { heading = h; body = x }))))
+    ap flags (memory-kept E (endsWithCr (p .form)) [] (u .others) (withMessage (s .memory) (messageFrom p h x)))
 
 step-flags : (E : Shelf) (q : Bytes) (s : Session) (b : ℕ) → Live s → SoFar E (s .phase) (s .memory) q → flags (step E s b .session .memory) ≡ flags (s .memory)
 step-flags E q s b L S = go (byte-found E q s b L S)

@@ -3,7 +3,7 @@
 use mathlib.Core.Path.{_≡_, refl, sym, ap, _∙_, subst}
 use mathlib.Core.Bool.{Bool, true, false, cond}
 use mathlib.Core.Option.{some}
-use mathlib.Core.List.{List, [], _∷_, _++_}
+use mathlib.Core.List.{List, [], _∷_, _++_, map, append-assoc}
 use Prim.Native.Nat.{ℕ, _<_}
 use lib.Dec.{eqb, ltb}
 use lib.ListN.{length}
@@ -11,29 +11,44 @@ use borrow.Author.Tests.{eq-eqb, lt-ltb}
 use Rattle.grammar.specs.Bytes.{Bytes, CR}
 use Rattle.grammar.specs.Fields.{Form, plain, message, file}
 use Rattle.grammar.specs.Lines.{ends, grows, overruns, trim, isComment}
-use Rattle.grammar.specs.Turns.{Proposal, saysFF, endsBlock, readTurnLine, fixedText, ourSid, withCr}
+use Rattle.grammar.specs.Turns.{Proposal, saysFF, endsBlock, readTurnLine, proposalLine, fixedText, ourSid, ourEnd, withCr}
 use Rattle.grammar.specs.Answers.{Sign, accept, readFs, fsLine}
 use Rattle.grammar.specs.Scan.{Scan, Scanned, goes, got, scanByte}
 use Rattle.grammar.proofs.Basics.{no-both}
 use Rattle.grammar.proofs.Refusal.{whole-got}
-use Rattle.mail.specs.Mail.{messageOf, transfersText, accepted}
+use Rattle.mail.specs.Mail.{Record, messageOf, proposalOf, transferOf, recordAt, proposalLines, turnText, transfersText, accepted}
 use Rattle.session.specs.Choices.{Shelf, answersTo}
 use Rattle.session.specs.Session.{Phase, awaitsSid, awaitsPrompt, leaving, over, awaitsTurn, awaitsAnswer, awaitsTransfer, Memory, Session, goesOn, speaking, turnMarks, answering, answerMarks, lineJudged, Stepped, moved, settled, lineMoved, isPlain, keptIn, nextTransfer, transferMoved, freeStep, lfDropped, step}
 use Rattle.demand2.specs.Room.{room}
-use Rattle.demand2.specs.Marks.{placesWith, AnswerLeaves, TurnLeaves}
+use Rattle.demand2.specs.Marks.{withSign, AnswerLeaves, TurnLeaves}
 use Rattle.demand2.specs.Refusals.{isDropped, Heeded, awaitsLine, WholeLine, TurnSaid, SoFar, TransferByte}
-use Rattle.demand2.specs.Events.{session, withMessage, endsWithCr, proposed, turnSaid, turnAwaits, weSpeak, transfersOr, Event, lfGoes, lineGrows, ignored, sidOfCaller, sidOfCalled, textLine, prompt, proposal, ffTurn, fqTurn, blockEnd, fsLineComes, transferGrows, transferWhole}
+use Rattle.demand2.specs.Events.{session, messageFrom, withMessage, endsWithCr, proposed, blockText, transfersSaid, turnSaid, turnAwaits, weSpeak, transfersOr, Event, lfGoes, lineGrows, ignored, sidOfCaller, sidOfCalled, textLine, prompt, proposal, ffTurn, fqTurn, blockEnd, fsLineComes, transferGrows, transferWhole}
 use Rattle.demand2.proofs.Room.{fits-within}
 use Rattle.demand2.proofs.Marks.{accepted-is, answer-marks, turn-marks, answer-only, turn-only}
 use Rattle.demand2.proofs.Steps.{line-step, phase-step, transfer-step, turn-step, scan-more}
 
 -- ---------------------------------------------------------------- our turn
 
+-- what we write is what Mail writes
+block-is : (T : List Record) (is : List ℕ) → turnText (map (λ (k : ℕ). proposalOf (recordAt T k)) is) ≡ blockText T is
+unfolding turnText
+block-is T [] = refl
+block-is T (i ∷ is) =
+    let p = proposalOf (recordAt T i) in
+    append-assoc (withCr (proposalLine p)) (proposalLines (map (λ (k : ℕ). proposalOf (recordAt T k)) is)) (withCr (fixedText ourEnd))
+    ∙ ap (λ (l : Bytes). withCr (proposalLine p) ++ l) (block-is T is)
+
+transfers-are : (T : List Record) (is : List ℕ) → transfersText T is ≡ transfersSaid T is
+unfolding transfersText
+transfers-are T [] = refl
+transfers-are T (i ∷ is) = ap (λ (l : Bytes). transferOf (recordAt T i) ++ l) (transfers-are T is)
+
 speaks : (E : Shelf) (s : Session) (cr : Bool) (o : Bytes) (ff : Bool) (is : List ℕ) (m : Memory)
     → settled s cr (speaking E o ff is m) ≡ moved (session (turnAwaits ff is) cr (o ++ turnSaid E ff is) m)
 speaks E s cr o true [] m = refl
 speaks E s cr o false [] m = refl
-speaks E s cr o ff (i ∷ is) m = refl
+speaks E s cr o ff (i ∷ is) m =
+    ap (λ (l : Bytes). moved (session (awaitsAnswer (i ∷ is)) cr (o ++ l) m)) (block-is (E .table) (i ∷ is))
 
 answers : (E : Shelf) (s : Session) (cr : Bool) (ss : List Sign) (ps : List Proposal) (m : Memory)
     → settled s cr (answering E ss ps m) ≡ moved (transfersOr E cr (withCr (fsLine ss)) ps m)
@@ -54,7 +69,7 @@ next E s cr (p ∷ ps) m = refl
 module _ (E : Shelf) (q : Bytes) (s : Session) (b : ℕ) where
   -- our FS line waits, and the accepted transfers are awaited or it is our turn
   abbrev answerTo : List Proposal → Memory → Session
-  answerTo ps m = transfersOr E true (withCr (fsLine (answersTo E (s .memory .inbox) ps))) (accepted (answersTo E (s .memory .inbox) ps) ps) m
+  answerTo ps m = transfersOr E true (withCr (fsLine (answersTo E (s .memory .inbox) ps))) (withSign accept ps (answersTo E (s .memory .inbox) ps)) m
 
   goes-lf : isDropped s b ≡ true → step E s b ≡ moved (lfDropped s)
   goes-lf e = ap (λ (c : Bool). cond c (moved (lfDropped s)) (freeStep E (s .out) s b)) e
@@ -95,6 +110,7 @@ module _ (E : Shelf) (q : Bytes) (s : Session) (b : ℕ) where
   goes-block ln ff p ps w r =
       let ss = answersTo E (s .memory .inbox) (p ∷ ps) in
       turn-step E s b ff (p ∷ ps) ln w ∙ rw r (answers E s true ss (accepted ss (p ∷ ps)) (turnMarks (s .memory)))
+      ∙ ap (λ (l : List Proposal). moved (transfersOr E true (withCr (fsLine ss)) l (turnMarks (s .memory)))) (accepted-is (p ∷ ps) ss)
 
   module _ (S : SoFar E (s .phase) (s .memory) q) where
     goes-transfer : (p : Proposal) (sc : Scan) (t : TransferByte s b p sc) (o : Scanned) → scanByte (room E (s .memory .inbox)) sc b ≡ o
@@ -117,14 +133,15 @@ module _ (E : Shelf) (q : Bytes) (s : Session) (b : ℕ) where
     happens t (fsLineComes ln is w p ss r m l) =
         goes-answer ln is ss w p r
         ∙ ap (λ (l : List ℕ). moved (session (awaitsTurn false []) true (transfersText (E .table) l) (answerMarks is ss (s .memory)))) (accepted-is is ss)
-        ∙ ap (λ (n : Memory). moved (session (awaitsTurn false []) true (transfersText (E .table) (placesWith accept is ss)) n))
+        ∙ ap (λ (l : Bytes). moved (session (awaitsTurn false []) true l (answerMarks is ss (s .memory)))) (transfers-are (E .table) (withSign accept is ss))
+        ∙ ap (λ (n : Memory). moved (session (awaitsTurn false []) true (transfersSaid (E .table) (withSign accept is ss)) n))
         (sym (answer-only is ss (s .memory) m l))
     happens t (transferGrows p sc sc′ u e) = goes-transfer p sc u (goes sc′) (sym (scan-more E s b q p sc u S) ∙ e)
     happens t (transferWhole p sc u h x e l) =
         goes-transfer p sc u (got h x)
         (sym (scan-more E s b q p sc u S) ∙ whole-got (room E (s .memory .inbox)) (p .form) (q ++ (b ∷ [])) h x e (fits-within E (s .memory .inbox) x l))
         ∙ next E s (isPlain (p .form)) (u .others) (keptIn (s .memory) (messageOf p (record { heading = h; body = x })))
-        ∙ ap (λ (c : Bool). moved (transfersOr E c [] (u .others) (withMessage (s .memory) (messageOf p (record { heading = h; body = x })))))
+        ∙ ap (λ (c : Bool). moved (transfersOr E c [] (u .others) (withMessage (s .memory) (messageFrom p h x))))
         (plain-is (p .form))
 
 -- ---------------------------------------------------------------- what the partner's lines leave of the memory
@@ -153,5 +170,5 @@ module _ (E : Shelf) (s : Session) (b : ℕ) (ln : Bytes) where
   block-leaves ff p ps w r =
       subst (TurnLeaves (s .memory))
       (sym (ap (λ (o : Stepped). o .session .memory) (goes-block E [] s b ln ff p ps w r)
-      ∙ memory-kept E true _ (accepted (answersTo E (s .memory .inbox) (p ∷ ps)) (p ∷ ps)) (turnMarks (s .memory))))
+      ∙ memory-kept E true _ (withSign accept (p ∷ ps) (answersTo E (s .memory .inbox) (p ∷ ps))) (turnMarks (s .memory))))
       (turn-marks (s .memory))

@@ -13,7 +13,7 @@ use Rattle.grammar.specs.Answers.{Sign, accept, decline, defer, writeSign}
 use Rattle.grammar.proofs.Basics.{or-second, no-both}
 use Rattle.mail.specs.Mail.{Message, accepted, marked, declined}
 use Rattle.session.specs.Session.{Memory, turnMarks, deferring, answerMarks}
-use Rattle.demand2.specs.Marks.{isIn, isSign, placesWith, AnswerLeaves, TurnLeaves}
+use Rattle.demand2.specs.Marks.{isIn, isSign, withSign, AnswerLeaves, TurnLeaves}
 use Rattle.demand2.specs.OurTurn.{rising}
 use Rattle.demand2.proofs.Candidates.{rising-first, rising-rest}
 
@@ -46,25 +46,25 @@ marked-is : (is l : List ℕ) → marked is l ≡ setAll is 1 l
 marked-is [] l = refl
 marked-is (i ∷ is) l = marked-is is (set l i 1)
 
-declined-is : (is : List ℕ) (ss : List Sign) (l : List ℕ) → declined is ss l ≡ setAll (placesWith decline is ss) 2 l
+declined-is : (is : List ℕ) (ss : List Sign) (l : List ℕ) → declined is ss l ≡ setAll (withSign decline is ss) 2 l
 declined-is [] ss l = refl
 declined-is (i ∷ is) [] l = refl
 declined-is (i ∷ is) (accept ∷ ss) l = declined-is is ss l
 declined-is (i ∷ is) (decline ∷ ss) l = declined-is is ss (set l i 2)
 declined-is (i ∷ is) (defer ∷ ss) l = declined-is is ss l
 
-deferring-is : (is : List ℕ) (ss : List Sign) (l : List ℕ) → deferring is ss l ≡ setAll (placesWith defer is ss) 1 l
+deferring-is : (is : List ℕ) (ss : List Sign) (l : List ℕ) → deferring is ss l ≡ setAll (withSign defer is ss) 1 l
 deferring-is [] ss l = refl
 deferring-is (i ∷ is) [] l = refl
 deferring-is (i ∷ is) (accept ∷ ss) l = deferring-is is ss l
 deferring-is (i ∷ is) (decline ∷ ss) l = deferring-is is ss l
 deferring-is (i ∷ is) (defer ∷ ss) l = deferring-is is ss (set l i 1)
 
-pub accepted-is : (is : List ℕ) (ss : List Sign) → accepted ss is ≡ placesWith accept is ss
+pub accepted-is : {A : Type 0} (is : List A) (ss : List Sign) → accepted ss is ≡ withSign accept is ss
 accepted-is [] [] = refl
 accepted-is [] (s ∷ ss) = refl
 accepted-is (i ∷ is) [] = refl
-accepted-is (i ∷ is) (accept ∷ ss) = ap (λ (l : List ℕ). i ∷ l) (accepted-is is ss)
+accepted-is {A} (i ∷ is) (accept ∷ ss) = ap (λ (l : List A). i ∷ l) (accepted-is is ss)
 accepted-is (i ∷ is) (decline ∷ ss) = accepted-is is ss
 accepted-is (i ∷ is) (defer ∷ ss) = accepted-is is ss
 
@@ -72,10 +72,10 @@ accepted-is (i ∷ is) (defer ∷ ss) = accepted-is is ss
 pub answer-marks : (is : List ℕ) (ss : List Sign) (m : Memory) → AnswerLeaves is ss m (answerMarks is ss m)
 answer-marks is ss m =
     record {
-      state = λ k h. ap (λ (l : List ℕ). getD l k 0) (declined-is is ss (m .states)) ∙ set-at (placesWith decline is ss) 2 (m .states) k h;
-      records = ap length (declined-is is ss (m .states)) ∙ set-length (placesWith decline is ss) 2 (m .states);
-      flag = λ k h. ap (λ (l : List ℕ). getD l k 0) (deferring-is is ss (m .deferred)) ∙ set-at (placesWith defer is ss) 1 (m .deferred) k h;
-      flags = ap length (deferring-is is ss (m .deferred)) ∙ set-length (placesWith defer is ss) 1 (m .deferred);
+      state = λ k h. ap (λ (l : List ℕ). getD l k 0) (declined-is is ss (m .states)) ∙ set-at (withSign decline is ss) 2 (m .states) k h;
+      records = ap length (declined-is is ss (m .states)) ∙ set-length (withSign decline is ss) 2 (m .states);
+      flag = λ k h. ap (λ (l : List ℕ). getD l k 0) (deferring-is is ss (m .deferred)) ∙ set-at (withSign defer is ss) 1 (m .deferred) k h;
+      flags = ap length (deferring-is is ss (m .deferred)) ∙ set-length (withSign defer is ss) 1 (m .deferred);
       sending = ap (λ (l : List ℕ). m .sending ++ l) (accepted-is is ss);
       mode = refl;
       inbox = refl;
@@ -114,10 +114,10 @@ pub answer-only : (is : List ℕ) (ss : List Sign) (m n : Memory) → AnswerLeav
 answer-only is ss m n a =
     let z = answer-marks is ss m in
     memory-is n (answerMarks is ss m) (a .mode)
-    (alike (λ (k : ℕ). cond (isIn k (placesWith decline is ss)) 2 (getD (m .states) k 0)) (m .states) (n .states) (declined is ss (m .states))
+    (alike (λ (k : ℕ). cond (isIn k (withSign decline is ss)) 2 (getD (m .states) k 0)) (m .states) (n .states) (declined is ss (m .states))
     (a .records) (z .records) (a .state) (z .state))
     (a .sending ∙ sym (z .sending)) (a .inbox)
-    (alike (λ (k : ℕ). cond (isIn k (placesWith defer is ss)) 1 (getD (m .deferred) k 0)) (m .deferred) (n .deferred) (deferring is ss (m .deferred))
+    (alike (λ (k : ℕ). cond (isIn k (withSign defer is ss)) 1 (getD (m .deferred) k 0)) (m .deferred) (n .deferred) (deferring is ss (m .deferred))
     (a .flags) (z .flags) (a .flag) (z .flag))
 
 pub turn-only : (m n : Memory) → TurnLeaves m n → n ≡ turnMarks m
@@ -131,37 +131,37 @@ turn-only m n a =
 -- ---------------------------------------------------------------- one sign a record
 
 -- a record that was given a sign was proposed
-proposed-in : (x : Sign) (is : List ℕ) (ss : List Sign) (k : ℕ) → isIn k (placesWith x is ss) ≡ true → isIn k is ≡ true
+proposed-in : (x : Sign) (is : List ℕ) (ss : List Sign) (k : ℕ) → isIn k (withSign x is ss) ≡ true → isIn k is ≡ true
 proposed-in x [] ss k e = e
 proposed-in x (i ∷ is) [] k e = absurd (no-both false e refl)
 proposed-in x (i ∷ is) (s ∷ ss) k e = go (isSign x s) (eqb k i) refl e (λ h. proposed-in x is ss k h)
   where
-    go : (c d : Bool) → eqb k i ≡ d → isIn k (cond c (i ∷ placesWith x is ss) (placesWith x is ss)) ≡ true
-        → (isIn k (placesWith x is ss) ≡ true → isIn k is ≡ true) → d || isIn k is ≡ true
+    go : (c d : Bool) → eqb k i ≡ d → isIn k (cond c (i ∷ withSign x is ss) (withSign x is ss)) ≡ true
+        → (isIn k (withSign x is ss) ≡ true → isIn k is ≡ true) → d || isIn k is ≡ true
     go c true q e ih = refl
-    go true false q e ih = ih (or-second (eqb k i) (isIn k (placesWith x is ss)) q e)
+    go true false q e ih = ih (or-second (eqb k i) (isIn k (withSign x is ss)) q e)
     go false false q e ih = ih e
 
 -- "one sign a proposal": where the places rise, as those of our block do, no record is given two signs
-pub one-sign : (x y : Sign) (is : List ℕ) (ss : List Sign) (k : ℕ) → rising is ≡ true → isIn k (placesWith x is ss) ≡ true → isIn k (placesWith y is ss) ≡ true
+pub one-sign : (x y : Sign) (is : List ℕ) (ss : List Sign) (k : ℕ) → rising is ≡ true → isIn k (withSign x is ss) ≡ true → isIn k (withSign y is ss) ≡ true
     → isSign x y ≡ true
 one-sign x y [] ss k r e f = absurd (no-both false e refl)
 one-sign x y (i ∷ is) [] k r e f = absurd (no-both false e refl)
 one-sign x y (i ∷ is) (s ∷ ss) k r e f = go (eqb k i) refl (λ h g. one-sign x y is ss k (rising-rest i is r) h g)
   where
     -- the first record is not among the others
-    here : (z : Sign) → k ≡ i → isIn k (placesWith z is ss) ≡ true → ⊥
+    here : (z : Sign) → k ≡ i → isIn k (withSign z is ss) ≡ true → ⊥
     here z q h = let l = rising-first i is r k (proposed-in z is ss k h) in omega arith
 
-    own : (z : Sign) → k ≡ i → (c : Bool) → isSign z s ≡ c → isIn k (cond c (i ∷ placesWith z is ss) (placesWith z is ss)) ≡ true → writeSign z ≡ writeSign s
+    own : (z : Sign) → k ≡ i → (c : Bool) → isSign z s ≡ c → isIn k (cond c (i ∷ withSign z is ss) (withSign z is ss)) ≡ true → writeSign z ≡ writeSign s
     own z q true p h = eqb-true (writeSign z) (writeSign s) p
     own z q false p h = absurd (here z q h)
 
-    rest : (z : Sign) → eqb k i ≡ false → (c : Bool) → isIn k (cond c (i ∷ placesWith z is ss) (placesWith z is ss)) ≡ true → isIn k (placesWith z is ss) ≡ true
-    rest z q true h = or-second (eqb k i) (isIn k (placesWith z is ss)) q h
+    rest : (z : Sign) → eqb k i ≡ false → (c : Bool) → isIn k (cond c (i ∷ withSign z is ss) (withSign z is ss)) ≡ true → isIn k (withSign z is ss) ≡ true
+    rest z q true h = or-second (eqb k i) (isIn k (withSign z is ss)) q h
     rest z q false h = h
 
-    go : (c : Bool) → eqb k i ≡ c → (isIn k (placesWith x is ss) ≡ true → isIn k (placesWith y is ss) ≡ true → isSign x y ≡ true) → isSign x y ≡ true
+    go : (c : Bool) → eqb k i ≡ c → (isIn k (withSign x is ss) ≡ true → isIn k (withSign y is ss) ≡ true → isSign x y ≡ true) → isSign x y ≡ true
     go true q ih =
         let j = eqb-true k i q in
         eq-eqb (writeSign x) (writeSign y) (own x j (isSign x s) refl e ∙ sym (own y j (isSign y s) refl f))

@@ -1,14 +1,13 @@
 -- AT OPEN: the session is as OpenExact says, and no other is. Idea: everything computes; 64 flags of 0 are one list.
 use mathlib.Core.Path.{_≡_, refl, sym, ap, _∙_}
 use mathlib.Core.Bool.{Bool, true, false}
-use mathlib.Core.List.{List, [], _∷_, _++_}
-use Prim.Native.Nat.{ℕ, _<_}
+use mathlib.Core.List.{List, []}
+use Prim.Native.Nat.{ℕ}
 use native.Mathlib.Omega.{arith}
-use lib.ListN.{length, getD, replicate, length-replicate, getD-replicate}
+use lib.ListN.{replicate, length-replicate, getD-replicate}
 use lib.Seq.{ext-getD}
 use Rattle.grammar.specs.Bytes.{Bytes}
-use Rattle.grammar.proofs.Basics.{no-both}
-use Rattle.session.specs.Session.{Phase, awaitsSid, Memory, Session, greeting, opened}
+use Rattle.session.specs.Session.{Phase, Memory, Session, greeting, opened}
 use Rattle.demand2.specs.Opening.{OpenExact}
 use Rattle.demand2.proofs.Marks.{memory-is}
 

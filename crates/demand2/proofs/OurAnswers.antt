@@ -2,7 +2,7 @@
 -- accepted ones of these; the tests of each sign say what 01 says.
 use mathlib.Core.Path.{_≡_, refl, sym, ap, _∙_, subst}
 use mathlib.Core.Bool.{Bool, true, false, cond, not, _||_}
-use mathlib.Core.List.{List, [], _∷_, _++_, append-assoc, append-nil}
+use mathlib.Core.List.{List, [], _∷_, _++_, map, append-assoc, append-nil}
 use Prim.Native.Nat.{ℕ, zero, suc, _+_, _-_, _<_}
 use native.Mathlib.Omega.{arith}
 use lib.Dec.{eqb, ltb}
@@ -14,10 +14,11 @@ use Rattle.grammar.specs.Fields.{sameBid}
 use Rattle.grammar.specs.Turns.{Proposal}
 use Rattle.grammar.specs.Answers.{Sign, accept, decline, defer}
 use Rattle.grammar.proofs.Basics.{and2, or-left, or-right, no-both, same-itself}
-use Rattle.mail.specs.Mail.{Message, accepted}
+use Rattle.mail.specs.Mail.{Record, Message, accepted}
 use Rattle.session.specs.Choices.{Shelf, among, recordBids, messageBids, proposalBids, bodyBytes, announced, haveBid, noRoomFor, signFor, withAccepted, answersAfter, answersTo}
 use Rattle.session.proofs.Choices.{one-sign-each}
 use Rattle.demand2.specs.OurAnswers.{Among, HaveBid, inTable, isKnown, inInbox, inBlock, NoRoomFor, tooLong, noStore, noPlace, SignExact, AnswersExact}
+use Rattle.demand2.proofs.Marks.{accepted-is}
 
 -- ---------------------------------------------------------------- the tests say what 01 says
 
@@ -46,24 +47,55 @@ among-out b [] i l e = absurd (omega arith)
 among-out b (x ∷ xs) zero l e = or-left (same x b) (among b xs) (rw e (same-itself b))
 among-out b (x ∷ xs) (suc i) l e = or-right (same x b) (among b xs) (among-out b xs i (omega arith) e)
 
+-- the BIDs of a list, as the session goes along them
+record-bids : (T : List Record) → recordBids T ≡ map (λ (r : Record). r .bid) T
+record-bids [] = refl
+record-bids (r ∷ T) = ap (λ (l : List Bytes). r .bid ∷ l) (record-bids T)
+
+message-bids : (xs : List Message) → messageBids xs ≡ map (λ (x : Message). x .bid) xs
+message-bids [] = refl
+message-bids (x ∷ xs) = ap (λ (l : List Bytes). x .bid ∷ l) (message-bids xs)
+
+proposal-bids : (ps : List Proposal) → proposalBids ps ≡ map (λ (p : Proposal). p .bid) ps
+proposal-bids [] = refl
+proposal-bids (p ∷ ps) = ap (λ (l : List Bytes). p .bid ∷ l) (proposal-bids ps)
+
 module _ (E : Shelf) (inbox : List Message) (acc : List Proposal) where
+  abbrev ours : List Bytes
+  ours = map (λ (r : Record). r .bid) (E .table)
+
+  abbrev kept : List Bytes
+  kept = map (λ (x : Message). x .bid) inbox
+
+  abbrev before : List Bytes
+  before = map (λ (p : Proposal). p .bid) acc
+
+  have-is : (b : Bytes) → haveBid E inbox acc b ≡ among b ours || (among b (E .known) || (among b kept || among b before))
+  have-is b =
+      ap (λ (l : List Bytes). among b l || (among b (E .known) || (among b (messageBids inbox) || among b (proposalBids acc)))) (record-bids (E .table))
+      ∙ ap (λ (l : List Bytes). among b ours || (among b (E .known) || (among b l || among b (proposalBids acc)))) (message-bids inbox)
+      ∙ ap (λ (l : List Bytes). among b ours || (among b (E .known) || (among b kept || among b l))) (proposal-bids acc)
+
   have-in : (b : Bytes) → haveBid E inbox acc b ≡ true → HaveBid E inbox acc b
-  have-in b e = go (among b (recordBids (E .table))) (among b (E .known)) (among b (messageBids inbox)) refl refl refl e
+  have-in b e = go (among b ours) (among b (E .known)) (among b kept) refl refl refl (sym (have-is b) ∙ e)
     where
-      go : (x y z : Bool) → among b (recordBids (E .table)) ≡ x → among b (E .known) ≡ y → among b (messageBids inbox) ≡ z
-          → x || (y || (z || among b (proposalBids acc))) ≡ true → HaveBid E inbox acc b
-      go true y z p q r e = inTable (among-in b (recordBids (E .table)) p)
+      go : (x y z : Bool) → among b ours ≡ x → among b (E .known) ≡ y → among b kept ≡ z → x || (y || (z || among b before)) ≡ true → HaveBid E inbox acc b
+      go true y z p q r e = inTable (among-in b ours p)
       go false true z p q r e = isKnown (among-in b (E .known) q)
-      go false false true p q r e = inInbox (among-in b (messageBids inbox) r)
-      go false false false p q r e = inBlock (among-in b (proposalBids acc) e)
+      go false false true p q r e = inInbox (among-in b kept r)
+      go false false false p q r e = inBlock (among-in b before e)
 
   have-out : (b : Bytes) → HaveBid E inbox acc b → haveBid E inbox acc b ≡ true
-  have-out b (inTable h) = or-left (among b (recordBids (E .table))) _ (among-out b (recordBids (E .table)) (h .at) (h .within) (h .same))
-  have-out b (isKnown h) = or-right (among b (recordBids (E .table))) _ (or-left (among b (E .known)) _ (among-out b (E .known) (h .at) (h .within) (h .same)))
-  have-out b (inInbox h) =
-      or-right (among b (recordBids (E .table))) _ (or-right (among b (E .known)) _ (or-left (among b (messageBids inbox)) _ (among-out b (messageBids inbox) (h .at) (h .within) (h .same))))
-  have-out b (inBlock h) =
-      or-right (among b (recordBids (E .table))) _ (or-right (among b (E .known)) _ (or-right (among b (messageBids inbox)) _ (among-out b (proposalBids acc) (h .at) (h .within) (h .same))))
+  have-out b h = have-is b ∙ go h
+    where
+      out : (xs : List Bytes) → Among b xs → among b xs ≡ true
+      out xs h = among-out b xs (h .at) (h .within) (h .same)
+
+      go : HaveBid E inbox acc b → among b ours || (among b (E .known) || (among b kept || among b before)) ≡ true
+      go (inTable h) = or-left (among b ours) _ (out ours h)
+      go (isKnown h) = or-right (among b ours) _ (or-left (among b (E .known)) _ (out (E .known) h))
+      go (inInbox h) = or-right (among b ours) _ (or-right (among b (E .known)) _ (or-left (among b kept) _ (out kept h)))
+      go (inBlock h) = or-right (among b ours) _ (or-right (among b (E .known)) _ (or-right (among b kept) _ (out before h)))
 
   room-in : (n : ℕ) → noRoomFor E inbox acc n ≡ true → NoRoomFor E inbox acc n
   room-in n e = go (ltb 65535 n) (ltb (E .bytes - bodyBytes inbox - announced acc) n) refl refl e
@@ -148,9 +180,10 @@ answers-exact E inbox ps =
     record {
       each = one-sign-each E inbox ps;
       sign = λ before p after e.
-          subst (SignExact E inbox (accepted (answersTo E inbox before) before) p)
+          subst (λ (l : List Proposal). SignExact E inbox l p (getD (answersTo E inbox ps) (length before) defer)) (accepted-is before (answersTo E inbox before))
+          (subst (SignExact E inbox (accepted (answersTo E inbox before) before) p)
           (sym (ap (λ (l : List Proposal). getD (answersTo E inbox l) (length before) defer) e
           ∙ ap (λ (l : List Sign). getD l (length before) defer) (split E inbox [] before p after)
           ∙ getD-at (answersTo E inbox before) _ _ defer (length before) (one-sign-each E inbox before)))
-          (sign-exact E inbox (accepted (answersTo E inbox before) before) p);
+          (sign-exact E inbox (accepted (answersTo E inbox before) before) p));
     }

@@ -3,7 +3,7 @@
 use mathlib.Core.Path.{_≡_, refl, sym, ap, _∙_, subst}
 use mathlib.Core.Bool.{Bool, true, false, cond, _&&_, _||_}
 use mathlib.Core.Logic.{_⊎_, inl, inr}
-use mathlib.Core.List.{List, [], _∷_, _++_, map}
+use mathlib.Core.List.{List, [], _∷_, _++_}
 use Prim.Native.Nat.{ℕ, suc, _+_, _≤_, _<_}
 use native.Mathlib.Omega.{arith}
 use lib.Dec.{eqb, ltb, leb}
@@ -11,15 +11,15 @@ use lib.ListN.{length, getD}
 use borrow.Author.Tests.{eqb-true, eq-eqb, ne-eqb, ltb-true, ltb-false, lt-ltb, leb-true, le-leb}
 use Rattle.grammar.specs.Bytes.{Bytes}
 use Rattle.grammar.specs.Fields.{Form, plain, message, file}
-use Rattle.grammar.specs.Turns.{Proposal, ourBlock, formLetter, proposalLine, fixedText, ourFF, ourFQ, withCr}
+use Rattle.grammar.specs.Turns.{ourBlock, formLetter, proposalLine, fixedText, ourFF, ourFQ, withCr}
 use Rattle.grammar.proofs.Basics.{and2, both, or-left, or-right, or-second, no-both, not-so}
-use Rattle.mail.specs.Mail.{Record, recordAt, proposalOf, turnText}
+use Rattle.mail.specs.Mail.{Record, recordAt}
 use Rattle.session.specs.Choices.{Shelf, candidates, sizeAt, chosen}
 use Rattle.session.specs.Session.{Memory}
 use Rattle.session.proofs.Choices.{few}
 use Rattle.demand2.specs.Marks.{isIn}
 use Rattle.demand2.specs.OurTurn.{mayPropose, rising, sizes, OurBlock, TurnExact}
-use Rattle.demand2.specs.Events.{proposed, turnSaid}
+use Rattle.demand2.specs.Events.{proposed, blockText, turnSaid}
 use Rattle.demand2.proofs.Candidates.{in-append, rising-first, rising-rest, rising-front, rising-later, candidate-is, in-order}
 
 -- ---------------------------------------------------------------- a beginning of them
@@ -232,9 +232,9 @@ block-only T md states flags is h =
 second : Bytes → ℕ
 second o = getD o 1 0
 
-block-second : (p : Proposal) (ps : List Proposal) → (second (turnText (p ∷ ps)) ≡ 65) ⊎ (second (turnText (p ∷ ps)) ≡ 66)
-unfolding second turnText proposalLine
-block-second p ps = go (p .form)
+block-second : (T : List Record) (i : ℕ) (is : List ℕ) → (second (blockText T (i ∷ is)) ≡ 65) ⊎ (second (blockText T (i ∷ is)) ≡ 66)
+unfolding second proposalLine
+block-second T i is = go (recordAt T i .form)
   where
     go : (f : Form) → (formLetter f ≡ 65) ⊎ (formLetter f ≡ 66)
     go plain = inr refl
@@ -266,13 +266,13 @@ turn-exact E ff m =
     empty [] n = refl
     empty (i ∷ is) n = absurd (n i (or-left (eqb i i) (isIn i is) (eq-eqb i i refl)))
 
-    block-said : (ff : Bool) (i : ℕ) (is : List ℕ) → turnSaid E ff (i ∷ is) ≡ turnText (map (λ (k : ℕ). proposalOf (recordAt (E .table) k)) (i ∷ is))
+    block-said : (ff : Bool) (i : ℕ) (is : List ℕ) → turnSaid E ff (i ∷ is) ≡ blockText (E .table) (i ∷ is)
     block-said ff i is = refl
 
-    other : (i : ℕ) (is : List ℕ) (n : ℕ) → second (turnText (map (λ (k : ℕ). proposalOf (recordAt (E .table) k)) (i ∷ is))) ≡ n → (n ≡ 65 → ⊥) → (n ≡ 66 → ⊥) → ⊥
-    other i is n e a b = go (block-second (proposalOf (recordAt (E .table) i)) (map (λ (k : ℕ). proposalOf (recordAt (E .table) k)) is))
+    other : (i : ℕ) (is : List ℕ) (n : ℕ) → second (blockText (E .table) (i ∷ is)) ≡ n → (n ≡ 65 → ⊥) → (n ≡ 66 → ⊥) → ⊥
+    other i is n e a b = go (block-second (E .table) i is)
       where
-        go : (second (turnText (map (λ (k : ℕ). proposalOf (recordAt (E .table) k)) (i ∷ is))) ≡ 65) ⊎ (second (turnText (map (λ (k : ℕ). proposalOf (recordAt (E .table) k)) (i ∷ is))) ≡ 66) → ⊥
+        go : (second (blockText (E .table) (i ∷ is)) ≡ 65) ⊎ (second (blockText (E .table) (i ∷ is)) ≡ 66) → ⊥
         go (inl k) = a (sym e ∙ k)
         go (inr k) = b (sym e ∙ k)
 

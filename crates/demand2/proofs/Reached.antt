@@ -23,10 +23,10 @@ use Rattle.mail.specs.Mail.{messageOf, accepted}
 use Rattle.session.specs.Choices.{Shelf, answersTo}
 use Rattle.session.specs.Session.{Phase, awaitsSid, awaitsPrompt, leaving, over, awaitsTurn, awaitsAnswer, awaitsTransfer, Memory, Session, Outcome, refuses, goesOn}
 use Rattle.session.specs.Session.{speaking, ourTurn, turnMarks, answering, turnJudged, answerMarks, answerJudged, inMode, afterSid, sidJudged, textJudged, lineJudged, refused, moved}
-use Rattle.session.specs.Session.{Stepped, settled, lineMoved, isPlain, keptIn, nextTransfer, transferMoved, phaseStep, freeStep, lfDropped, step, ended, endedIn, opened}
+use Rattle.session.specs.Session.{settled, lineMoved, isPlain, keptIn, nextTransfer, transferMoved, phaseStep, freeStep, lfDropped, step, ended, endedIn, opened}
 use Rattle.session.specs.Calls.{Received, receive, give}
 use Rattle.demand2.specs.Room.{room}
-use Rattle.demand2.specs.Refusals.{isDropped, awaitsLine, SoFar, Exact, Live}
+use Rattle.demand2.specs.Refusals.{isDropped, SoFar, Exact, Live}
 use Rattle.demand2.specs.Events.{Event, proposed}
 use Rattle.demand2.specs.OurTurn.{OurBlock}
 use Rattle.demand2.specs.Portions.{livesOn}

@@ -1,7 +1,7 @@
 -- ROOM FOR A BODY: the number `room`, the facts `Full` and `Fits`, and the room that the session reads with are the same thing. Idea: numbers.
-use mathlib.Core.Path.{_≡_, refl}
+use mathlib.Core.Path.{_≡_, refl, ap}
 use mathlib.Core.Bool.{Bool, true, false}
-use mathlib.Core.List.{List, _∷_, _++_}
+use mathlib.Core.List.{List, [], _∷_, _++_}
 use Prim.Native.Nat.{ℕ, _+_, _-_, _≤_, min}
 use native.Mathlib.Omega.{arith}
 use lib.Dec.{leb}
@@ -11,11 +11,15 @@ use Rattle.grammar.specs.Bytes.{Bytes}
 use Rattle.mail.specs.Mail.{Message}
 use Rattle.session.specs.Choices.{Shelf, bodyBytes}
 use Rattle.session.specs.Session.{Memory, roomFor}
-use Rattle.demand2.specs.Room.{Full, longest, storeUsed, Fits, room}
+use Rattle.demand2.specs.Room.{keptBytes, Full, longest, storeUsed, Fits, room}
+
+pub kept-is : (inbox : List Message) → bodyBytes inbox ≡ keptBytes inbox
+kept-is [] = refl
+kept-is (x ∷ xs) = ap (λ (n : ℕ). length (x .body) + n) (kept-is xs)
 
 -- THE SESSION'S ROOM is 01's
 pub room-is : (E : Shelf) (m : Memory) → roomFor E m ≡ room E (m .inbox)
-room-is E m = refl
+room-is E m = ap (λ (n : ℕ). min 65535 (E .bytes - n)) (kept-is (m .inbox))
 
 module _ (E : Shelf) (inbox : List Message) (body : Bytes) where
   pub full-at : Full E inbox body → room E inbox ≤ length body

@@ -26,7 +26,7 @@ use Rattle.session.specs.Session.{Outcome, refuses, goesOn, Stepped, moved, set
 use Rattle.session.specs.Calls.{Received, oneMore, stoppedAt, stops, receiveOn, receive}
 use Rattle.demand2.specs.Room.{Fits, room}
 use Rattle.demand2.specs.Refusals.{awaitsLine}
-use Rattle.demand2.specs.Events.{session, withMessage, endsWithCr, transfersOr}
+use Rattle.demand2.specs.Events.{session, messageFrom, withMessage, endsWithCr, transfersOr}
 use Rattle.demand2.specs.Portions.{andThen}
 use Rattle.demand2.specs.Units.{lineBegun, hasNoCr, LineWhole, transferDue, TransferKept}
 use Rattle.demand2.proofs.Room.{fits-within}
@@ -177,7 +177,7 @@ module _ (E : Shelf) (p : Proposal) (ps : List Proposal) (m : Memory) where
 
   -- the message is kept, and the next transfer or our turn follows
   abbrev keptThen : Bytes → Bytes → Session
-  keptThen h x = transfersOr E (endsWithCr (p .form)) [] ps (withMessage m (messageOf p (record { heading = h; body = x })))
+  keptThen h x = transfersOr E (endsWithCr (p .form)) [] ps (withMessage m (messageFrom p h x))
 
   gone : {A : Type 0} (h x : Bytes) (o : Option Parsed) → o ≡ none → o ≡ right h x → A
   gone h x o e f = let z : none ≡ right h x = sym e ∙ f in let y : _≡_ {A = ℕ} 0 1 = cc in absurd (omega arith)
@@ -191,7 +191,7 @@ module _ (E : Shelf) (p : Proposal) (ps : List Proposal) (m : Memory) where
       one E (reading sc) b
       ∙ ap stoppedAt
       (ap (transferMoved E p ps (reading sc)) g ∙ next E (reading sc) (isPlain (p .form)) ps (keptIn m (messageOf p (record { heading = t; body = y }))))
-      ∙ ap (λ (c : Bool). stoppedAt (moved (transfersOr E c [] ps (withMessage m (messageOf p (record { heading = t; body = y })))))) (plain-is (p .form))
+      ∙ ap (λ (c : Bool). stoppedAt (moved (transfersOr E c [] ps (withMessage m (messageFrom p t y))))) (plain-is (p .form))
       ∙ ap (λ (o : Option Parsed). record { answer = 0; count = 1; session = keptThen (headingIn o) (bodyIn o) }) z
   last h x q sc b e malformed g k = gone h x (parse (p .form) (q ++ (b ∷ []))) (ap (parse (p .form)) (sym (append-nil (q ++ (b ∷ [])))) ∙ k []) e
   last h x q sc b e wrongSum g k = let z : true ≡ false = subst Wrong e (k .0) in let y : _≡_ {A = ℕ} 0 1 = cc in absurd (omega arith)
@@ -262,11 +262,11 @@ module _ (E : Shelf) (p : Proposal) (ps : List Proposal) (m : Memory) where
           ∙ kept-after h x (b ∷ u) [] (scanFrom (p .form)) (from (room E (m .inbox)) (p .form)) e l
 
   -- A VALID TRANSFER that fits is kept at its last byte
-  pub transfer-kept : (u h x : Bytes) → parse (p .form) u ≡ right h x → Fits E (m .inbox) x → TransferKept E p ps m u h x
-  transfer-kept u h x e l =
+  pub transfer-kept : TransferKept E p ps m
+  transfer-kept =
       record {
-        kept = λ cr. live-receive E (transferDue p ps m cr) u refl ∙ kept-first cr u h x e (fits-within E (m .inbox) x l);
-        afterLf =
+        kept = λ cr u h x e l. live-receive E (transferDue p ps m cr) u refl ∙ kept-first cr u h x e (fits-within E (m .inbox) x l);
+        afterLf = λ u h x e l.
             live-receive E (transferDue p ps m true) (LF ∷ u) refl ∙ more E (transferDue p ps m true) (transferDue p ps m false) LF u refl refl
             ∙ ap oneMore (kept-first false u h x e (fits-within E (m .inbox) x l));
       }

@@ -4,23 +4,24 @@
 use mathlib.Core.Path.{_≡_}
 use mathlib.Core.Bool.{Bool, true, false}
 use mathlib.Core.Option.{some}
-use mathlib.Core.List.{List, [], _∷_, _++_, map}
-use Prim.Native.Nat.{ℕ, _≤_, _<_}
+use mathlib.Core.List.{List, [], _∷_, _++_}
+use Prim.Native.Nat.{ℕ, _<_}
 use lib.Dec.{eqb}
 use lib.ListN.{length}
 use Rattle.grammar.specs.Bytes.{Bytes, CR}
+use Rattle.grammar.specs.Ascii.{text}
 use Rattle.grammar.specs.Fields.{Form, plain, message, file}
 use Rattle.grammar.specs.Lines.{lineLimit, trim, isComment, isPrompt}
 use Rattle.grammar.specs.Sid.{readSid, hasFeature, framed}
-use Rattle.grammar.specs.Turns.{Proposal, saysFF, saysFQ, endsBlock, proposes, readTurnLine, blockLimit, fixedText, ourSid, ourFF, ourFQ, withCr}
+use Rattle.grammar.specs.Turns.{Proposal, saysFF, saysFQ, endsBlock, proposes, readTurnLine, blockLimit, proposalLine, fixedText, ourSid, ourFF, ourFQ, withCr}
 use Rattle.grammar.specs.Answers.{Sign, accept, readFs, fsLine}
 use Rattle.grammar.specs.Transfers.{parse}
 use Rattle.grammar.specs.Scan.{Scan, goes, scan, scanFrom}
-use Rattle.mail.specs.Mail.{Message, messageOf, proposalOf, recordAt, turnText, transfersText, accepted}
+use Rattle.mail.specs.Mail.{Record, Message, proposalOf, transferOf, recordAt}
 use Rattle.session.specs.Choices.{Shelf, chosen, answersTo}
 use Rattle.session.specs.Session.{Phase, awaitsSid, awaitsPrompt, leaving, over, awaitsTurn, awaitsAnswer, awaitsTransfer, Memory, Session}
 use Rattle.demand2.specs.Room.{Fits, room}
-use Rattle.demand2.specs.Marks.{placesWith, AnswerLeaves, TurnLeaves}
+use Rattle.demand2.specs.Marks.{withSign, AnswerLeaves, TurnLeaves}
 use Rattle.demand2.specs.Refusals.{isDropped, Heeded, awaitsLine, WholeLine, TurnSaid, TransferByte}
 
 -- A session with no line begun. afterCr: an LF now is dropped; out: what waits for give
@@ -31,6 +32,11 @@ session p afterCr out m = record { phase = p; part = []; afterCr = afterCr; out 
 abbrev pub withMode : Bool → Memory → Memory
 withMode framed m =
     record { framed = framed; states = m .states; sending = m .sending; inbox = m .inbox; deferred = m .deferred }
+
+-- "kept, with its proposal's form and fields as read, and its own heading and body"
+abbrev pub messageFrom : Proposal → Bytes → Bytes → Message
+messageFrom p heading body =
+    record { form = p .form; type = p .type; from = p .from; at = p .at; to = p .to; bid = p .bid; heading = heading; body = body }
 
 -- "A message is kept at its last byte.": after those that are kept, all else is as it was
 abbrev pub withMessage : Memory → Message → Memory
@@ -49,11 +55,21 @@ endsWithCr file = false
 abbrev pub proposed : Shelf → Memory → List ℕ
 proposed E m = chosen (E .table) (m .framed) (m .states) (m .deferred)
 
+-- "one to five proposals and `F>`", of the records at these places (specs/ReadBack says what each line reads as)
+abbrev pub blockText : List Record → List ℕ → Bytes
+blockText T [] = withCr (text "F>")
+blockText T (i ∷ is) = withCr (proposalLine (proposalOf (recordAt T i))) ++ blockText T is
+
+-- "Accepted records are sent in order.": the transfers of the records at these places (specs/ReadBack says what each reads as)
+abbrev pub transfersSaid : List Record → List ℕ → Bytes
+transfersSaid T [] = []
+transfersSaid T (i ∷ is) = transferOf (recordAt T i) ++ transfersSaid T is
+
 -- "A turn is `FF`, or one to five proposals and `F>`. .. If none remains: FF, or FQ if the partner's turn just now was FF."
 abbrev pub turnSaid : Shelf → Bool → List ℕ → Bytes
 turnSaid E true [] = withCr (fixedText ourFQ)
 turnSaid E false [] = withCr (fixedText ourFF)
-turnSaid E ff (i ∷ is) = turnText (map (λ (k : ℕ). proposalOf (recordAt (E .table) k)) (i ∷ is))
+turnSaid E ff (i ∷ is) = blockText (E .table) (i ∷ is)
 
 -- After FQ nothing more, after FF the partner's turn, after proposals its FS line is awaited.
 abbrev pub turnAwaits : Bool → List ℕ → Phase
@@ -107,11 +123,11 @@ pub data Event (E : Shelf) (q : Bytes) (s : Session) (b : ℕ) : Session → Typ
   blockEnd : (line : Bytes) (ff : Bool) (p : Proposal) (ps : List Proposal) → TurnSaid s b ff (p ∷ ps) line → readTurnLine (s .memory .framed) line ≡ endsBlock
       → (after : Memory) → TurnLeaves (s .memory) after
       → Event E q s b
-      (transfersOr E true (withCr (fsLine (answersTo E (s .memory .inbox) (p ∷ ps)))) (accepted (answersTo E (s .memory .inbox) (p ∷ ps)) (p ∷ ps)) after)
+      (transfersOr E true (withCr (fsLine (answersTo E (s .memory .inbox) (p ∷ ps)))) (withSign accept (p ∷ ps) (answersTo E (s .memory .inbox) (p ∷ ps))) after)
   -- its FS line: "`-` sets state 2 .. Accepted records are sent in order.", then its turn
   fsLineComes : (line : Bytes) (is : List ℕ) → WholeLine s b line → s .phase ≡ awaitsAnswer is → (ss : List Sign) → readFs (length is) line ≡ some ss
       → (after : Memory) → AnswerLeaves is ss (s .memory) after
-      → Event E q s b (session (awaitsTurn false []) true (transfersText (E .table) (placesWith accept is ss)) after)
+      → Event E q s b (session (awaitsTurn false []) true (transfersSaid (E .table) (withSign accept is ss)) after)
   -- a byte of a transfer
   transferGrows : (p : Proposal) (reading onward : Scan) → (t : TransferByte s b p reading)
       → scan (room E (s .memory .inbox)) (p .form) (q ++ (b ∷ [])) ≡ goes onward → Event E q s b
@@ -119,4 +135,4 @@ pub data Event (E : Shelf) (q : Bytes) (s : Session) (b : ℕ) : Session → Typ
   -- its last byte: "A message is kept at its last byte."; an LF after it is dropped if it is plain
   transferWhole : (p : Proposal) (reading : Scan) → (t : TransferByte s b p reading) → (heading body : Bytes)
       → parse (p .form) (q ++ (b ∷ [])) ≡ some (record { heading = heading; body = body; right = true }) → Fits E (s .memory .inbox) body
-      → Event E q s b (transfersOr E (endsWithCr (p .form)) [] (t .others) (withMessage (s .memory) (messageOf p (record { heading = heading; body = body }))))
+      → Event E q s b (transfersOr E (endsWithCr (p .form)) [] (t .others) (withMessage (s .memory) (messageFrom p heading body)))

@@ -16,23 +16,23 @@ isIn i (x ∷ xs) = eqb i x || isIn i xs
 abbrev pub isSign : Sign → Sign → Bool
 isSign x y = eqb (writeSign x) (writeSign y)
 
--- "one sign a proposal": the places of the records to which the line gave the sign x, in order; `is` are the places of the records that we
--- proposed, and the signs answer them one by one
-abbrev pub placesWith : Sign → List ℕ → List Sign → List ℕ
-placesWith x [] ss = []
-placesWith x (i ∷ is) [] = []
-placesWith x (i ∷ is) (s ∷ ss) = cond (isSign x s) (i ∷ placesWith x is ss) (placesWith x is ss)
+-- "one sign a proposal": those of the proposals that were given the sign x, in order; the signs answer them one by one. Ours stand for the places of
+-- their records.
+abbrev pub withSign {ℓ} : {A : Type ℓ} → Sign → List A → List Sign → List A
+withSign x [] ss = []
+withSign x (i ∷ is) [] = []
+withSign x (i ∷ is) (s ∷ ss) = cond (isSign x s) (i ∷ withSign x is ss) (withSign x is ss)
 
 -- The memory before and after the partner's valid FS line. state and flag: of the record at any place k
 pub record AnswerLeaves (is : List ℕ) (ss : List Sign) (before after : Memory) : Type 0 where
   -- "`-` sets state 2 at the CR of a valid line.", and nothing else is set: "A deferred record stays 0."
-  pub state : (k : ℕ) → k < length (before .states) → getD (after .states) k 0 ≡ cond (isIn k (placesWith decline is ss)) 2 (getD (before .states) k 0)
+  pub state : (k : ℕ) → k < length (before .states) → getD (after .states) k 0 ≡ cond (isIn k (withSign decline is ss)) 2 (getD (before .states) k 0)
   pub records : length (after .states) ≡ length (before .states)
   -- "`=` defer": deferred in this session (flag 1) is what was, and what this line defers
-  pub flag : (k : ℕ) → k < length (before .deferred) → getD (after .deferred) k 0 ≡ cond (isIn k (placesWith defer is ss)) 1 (getD (before .deferred) k 0)
+  pub flag : (k : ℕ) → k < length (before .deferred) → getD (after .deferred) k 0 ≡ cond (isIn k (withSign defer is ss)) 1 (getD (before .deferred) k 0)
   pub flags : length (after .deferred) ≡ length (before .deferred)
   -- "Accepted records are sent in order."
-  pub sending : after .sending ≡ before .sending ++ placesWith accept is ss
+  pub sending : after .sending ≡ before .sending ++ withSign accept is ss
   pub mode : after .framed ≡ before .framed
   pub inbox : after .inbox ≡ before .inbox
 

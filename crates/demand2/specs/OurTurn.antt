@@ -3,17 +3,17 @@
 -- in." The theorems `block-exact`, `block-only` and `turn-exact` are in proofs/OurTurn.
 use mathlib.Core.Path.{_≡_}
 use mathlib.Core.Bool.{Bool, true, false, _&&_, _||_}
-use mathlib.Core.List.{List, [], _∷_, _++_, map}
+use mathlib.Core.List.{List, [], _∷_, _++_}
 use Prim.Native.Nat.{ℕ, _+_, _≤_, _<_}
 use lib.Dec.{eqb, ltb, leb}
 use lib.ListN.{length, getD}
 use Rattle.grammar.specs.Bytes.{all}
 use Rattle.grammar.specs.Turns.{inMode, blockLimit, fixedText, ourFF, ourFQ, withCr}
-use Rattle.mail.specs.Mail.{Record, recordAt, proposalOf, turnText}
+use Rattle.mail.specs.Mail.{Record, recordAt}
 use Rattle.session.specs.Choices.{Shelf, sizeAt}
 use Rattle.session.specs.Session.{Memory}
 use Rattle.demand2.specs.Marks.{isIn}
-use Rattle.demand2.specs.Events.{proposed, turnSaid}
+use Rattle.demand2.specs.Events.{proposed, blockText, turnSaid}
 
 -- "waiting records .. form 0 in plain mode, 1 and 2 in framed mode, none deferred in this session": state 0, and no flag
 abbrev pub mayPropose : List Record → Bool → List ℕ → List ℕ → ℕ → Bool
@@ -55,4 +55,4 @@ pub record TurnExact (E : Shelf) (ff : Bool) (m : Memory) : Type 0 where
   pub onlyFq : turnSaid E ff (proposed E m) ≡ withCr (fixedText ourFQ) → (proposed E m ≡ []) × (ff ≡ true)
   -- else the proposals of the block and `F>`
   pub says : (i : ℕ) (is : List ℕ) → proposed E m ≡ i ∷ is
-      → turnSaid E ff (proposed E m) ≡ turnText (map (λ (k : ℕ). proposalOf (recordAt (E .table) k)) (i ∷ is))
+      → turnSaid E ff (proposed E m) ≡ blockText (E .table) (i ∷ is)

@@ -12,7 +12,7 @@ use Rattle.session.specs.Choices.{Shelf}
 use Rattle.session.specs.Session.{Phase, awaitsSid, awaitsPrompt, leaving, over, awaitsTurn, awaitsAnswer, awaitsTransfer, Memory, Session, opened, ended}
 use Rattle.session.specs.Calls.{receive, give}
 use Rattle.demand2.specs.Refusals.{isDropped, SoFar}
-use Rattle.demand2.specs.Marks.{isIn, placesWith, AnswerLeaves}
+use Rattle.demand2.specs.Marks.{isIn, withSign, AnswerLeaves}
 use Rattle.demand2.specs.OurTurn.{OurBlock}
 
 -- How many transfers are owed to us, the one under way with them.
@@ -56,4 +56,4 @@ pub record AnswerExact (E : Shelf) (s : Session) (is : List ℕ) (ss : List Sign
   pub leaves : AnswerLeaves is ss (s .memory) after
   pub block : OurBlock (E .table) (s .memory .framed) (s .memory .states) (s .memory .deferred) is
   pub flags : length (s .memory .deferred) ≡ 64
-  pub once : (x y : Sign) (k : ℕ) → isIn k (placesWith x is ss) ≡ true → isIn k (placesWith y is ss) ≡ true → x ≡ y
+  pub once : (x y : Sign) (k : ℕ) → isIn k (withSign x is ss) ≡ true → isIn k (withSign y is ss) ≡ true → x ≡ y

@@ -11,12 +11,11 @@ use Rattle.grammar.specs.Lines.{lineLimit, dropLf}
 use Rattle.grammar.specs.Turns.{Proposal}
 use Rattle.grammar.specs.Transfers.{parse}
 use Rattle.grammar.specs.Scan.{scanFrom}
-use Rattle.mail.specs.Mail.{messageOf}
 use Rattle.session.specs.Choices.{Shelf}
 use Rattle.session.specs.Session.{Phase, awaitsTransfer, Memory, Session, step}
-use Rattle.session.specs.Calls.{receive}
+use Rattle.session.specs.Calls.{Received, receive}
 use Rattle.demand2.specs.Room.{Fits}
-use Rattle.demand2.specs.Events.{session, withMessage, endsWithCr, transfersOr}
+use Rattle.demand2.specs.Events.{session, messageFrom, withMessage, endsWithCr, transfersOr}
 
 -- A session where a line is awaited and these bytes of it have come; afterCr: an LF now is dropped
 abbrev pub lineBegun : Phase → Memory → Bool → Bytes → Session
@@ -44,18 +43,15 @@ pub record LineWhole (E : Shelf) (p : Phase) (m : Memory) : Type 0 where
 abbrev pub transferDue : Proposal → List Proposal → Memory → Bool → Session
 transferDue p ps m afterCr = session (awaitsTransfer p ps (scanFrom (p .form))) afterCr [] m
 
+-- The message is kept, n bytes were consumed, and the next transfer or our turn follows.
+abbrev pub keptWith : Shelf → Proposal → List Proposal → Memory → ℕ → Bytes → Bytes → Received
+keptWith E p ps m n heading body =
+    record { answer = 0; count = n; session = transfersOr E (endsWithCr (p .form)) [] ps (withMessage m (messageFrom p heading body)) }
+
 -- "A message is kept at its last byte.": a transfer that is right and fits, also directly after the CR of `F>` or of the transfer before it, and
 -- also if an LF that is dropped comes between
-pub record TransferKept (E : Shelf) (p : Proposal) (ps : List Proposal) (m : Memory) (u heading body : Bytes) : Type 0 where
-  pub kept : (afterCr : Bool) → receive E (transferDue p ps m afterCr) u
-      ≡ record {
-        answer = 0;
-        count = length u;
-        session = transfersOr E (endsWithCr (p .form)) [] ps (withMessage m (messageOf p (record { heading = heading; body = body })));
-      }
-  pub afterLf : receive E (transferDue p ps m true) (LF ∷ u)
-      ≡ record {
-        answer = 0;
-        count = suc (length u);
-        session = transfersOr E (endsWithCr (p .form)) [] ps (withMessage m (messageOf p (record { heading = heading; body = body })));
-      }
+pub record TransferKept (E : Shelf) (p : Proposal) (ps : List Proposal) (m : Memory) : Type 0 where
+  pub kept : (afterCr : Bool) (u heading body : Bytes) → parse (p .form) u ≡ some (record { heading = heading; body = body; right = true })
+      → Fits E (m .inbox) body → receive E (transferDue p ps m afterCr) u ≡ keptWith E p ps m (length u) heading body
+  pub afterLf : (u heading body : Bytes) → parse (p .form) u ≡ some (record { heading = heading; body = body; right = true })
+      → Fits E (m .inbox) body → receive E (transferDue p ps m true) (LF ∷ u) ≡ keptWith E p ps m (suc (length u)) heading body
