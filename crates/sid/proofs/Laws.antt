@@ -13,6 +13,7 @@ use borrow.Author.Tests.{eq-eqb, ne-eqb, lt-ltb, le-ltb, ltb-true, ltb-false, no
 use Rattle.grammar.specs.Bytes.{Bytes, null, all, splitAt}
 use Rattle.grammar.specs.Fields.{upper, digit}
 use Rattle.grammar.specs.Sid.{isLetter, letterPlace, noFeatures, hasFeature, withFeature, sidEnd, readLevels, readFeatures, splitLast, dataRead, authorRead, sidRead, readSid}
+use Rattle.grammar.specs.Turns.{ourSid, fixedText}
 use Rattle.grammar.proofs.Basics.{to-end}
 use Rattle.byte.specs.declared.Class.{Class}
 use Rattle.byte.specs.Classes.{classOf}
@@ -21,6 +22,12 @@ use Rattle.field.proofs.Laws.{split-upto}
 use Rattle.sid.specs.Meaning.{lastBy}
 
 -- ---------------------------------------------------------------- the features
+
+-- B, F, H and `$` added to none are what our SID says
+pub ours-said : {a b c d e : List ℕ} → a ≡ noFeatures → b ≡ withFeature 1 0 a → c ≡ withFeature 5 0 b → d ≡ withFeature 7 0 c → e ≡ withFeature 26 0 d
+    → some e ≡ readSid (fixedText ourSid)
+unfolding readSid
+ours-said p q r s t = rw (t, s, r, q, p)
 
 -- a place from 27 on has no feature and takes none
 module _ (i : ℕ) (fs : Bytes) (n : length fs ≡ 27) (h : 27 ≤ i) where

@@ -11,6 +11,7 @@ ghost use Prim.Native.Nat.{_≤_, _<_};
 ghost use lib.ListN.{length};
 ghost use Rattle.grammar.specs.Bytes.{null, all, splitAt};
 ghost use Rattle.grammar.specs.Sid.{isLetter, letterPlace, noFeatures, hasFeature, withFeature, sidEnd, readLevels, readFeatures, splitLast, dataRead, authorRead, readSid, framed};
+ghost use Rattle.grammar.specs.Turns.{ourSid, fixedText};
 ghost use Rattle.byte.specs.Classes.{classOf};
 ghost use Rattle.sid.specs.Meaning.{sidOf, lastBy};
 
@@ -33,6 +34,17 @@ impl FeatureSet {
         ensures { λ r. ⌜ r .levels ≡ noFeatures ⌝ }
     {
         Self { levels: [0u8; 27] }
+    }
+
+    // Ours, each at level 0: those that our SID says.
+    pub fn ours() -> Self
+        ensures { λ r. ⌜ some (r .levels) ≡ readSid (fixedText ourSid) ⌝ }
+    {
+        let none = FeatureSet::none();
+        let b = none.with(FeatureSet::B, 0);
+        let bf = b.with(FeatureSet::F, 0);
+        let bfh = bf.with(FeatureSet::H, 0);
+        bfh.with(FeatureSet::DOLLAR, 0)
     }
 
     // The set with the feature at this level; a level over 9 or a place over 26 adds nothing.
