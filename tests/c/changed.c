@@ -17,6 +17,8 @@
 static uint64_t seed = 0x46524E474D4F4C45u;
 static unsigned long session_number, call_number;
 static unsigned long calls, answers[13];
+/* Calls of receive without bytes. */
+static unsigned long empties;
 
 static void must(int right, const char *what)
 {
@@ -153,7 +155,7 @@ static void only_changed(const struct fringemole_memory *m, const struct before 
 
 /* Nobody has written since a call that didn't answer 1. */
 static int intact;
-/* A call ended the session, and nobody has written since. */
+/* A call ended the session or found it ended, and nobody has written since. */
 static int over;
 
 static void check_reply(struct fringemole_reply reply, size_t most)
@@ -181,11 +183,12 @@ static void give(struct fringemole_memory *m, size_t room, size_t place)
     reply = fringemole_give_in(m, buffer, room, place);
     check_reply(reply, most);
     must(reply.answer <= 1, "give refused");
-    must(!over || reply.count == 0, "bytes given after a refusal");
+    must(!over || reply.count == 0, "bytes given on an ended session");
     for (i = 0; i < room; i++) {
         must(buffer[i] == 0xA5 || (place <= i && i < place + reply.count), "give wrote outside its count");
     }
-    only_changed(m, &copy, reply.answer == 1 || most == 0 ? 0 : SESSION_ONLY);
+    /* "Give on an ended session writes nothing": not into session memory either. */
+    only_changed(m, &copy, reply.answer == 1 || most == 0 || over ? 0 : SESSION_ONLY);
     intact = reply.answer != 1;
     free(buffer);
     forget(&copy);
@@ -205,12 +208,12 @@ static int receive(struct fringemole_memory *m, const uint8_t *bytes, size_t n)
     check_reply(reply, n);
     must(!over || reply.answer == 12, "no 12 on an ended session");
     must(reply.answer < 2 || reply.answer == 12 || reply.count > 0, "a refusal without its byte");
+    /* 12: "nothing consumed, nothing changed". "Receiving no bytes on a live session answers 0 and changes nothing." */
     only_changed(m, &copy, reply.answer == 1 || reply.answer == 12 || n == 0 ? 0 : BY_RECEIVE);
     intact = reply.answer != 1;
-    /* Everything is consumed but where the session ends on the way. 12 ends nothing: on memory that somebody wrote bytes may still wait. */
-    if (reply.answer != 12) {
-        over = reply.answer > 1 || (reply.answer == 0 && reply.count < n);
-    }
+    /* "Receive consumes every byte lent to it, unless it answers 1 or 12 or the session ends on the way". */
+    over = reply.answer > 1 || (reply.answer == 0 && reply.count < n);
+    empties += n == 0;
     free(portion);
     forget(&copy);
     return reply.answer == 0 && !over;
@@ -264,6 +267,9 @@ static void step(struct fringemole_memory *m)
         size_t place = below(4);
         give(m, once_in(8) ? below(8) : 5000 + place, place);
     }
+    if (once_in(3)) {
+        receive(m, NULL, 0);
+    }
     say_next(m->session);
     for (done = 0; goes_on && done < said_len; done += portion) {
         goes_on = receive(m, said + done, said_len - done < portion ? said_len - done : portion);
@@ -308,7 +314,8 @@ int main(int argc, char **argv)
         stream = seed + session_number * 0xD1342543DE82EF95u;
         play();
     }
-    printf("c: changed memory: seed 0x%llx, %lu sessions, %lu calls; answers", (unsigned long long)seed, sessions, calls);
+    printf("c: changed memory: seed 0x%llx, %lu sessions, %lu calls, %lu of them receive without bytes; answers",
+        (unsigned long long)seed, sessions, calls, empties);
     for (i = 0; i <= 12; i++) {
         printf(" %lu: %lu%s", i, answers[i], i < 12 ? "," : "\n");
     }

@@ -225,7 +225,7 @@ impl<'a> Driver<'a> {
     pub fn end(&mut self) -> Checked {
         self.pair.demand_3()?;
         let over = self.second().is_some_and(|second| second.session.is_over());
-        self.tally.ended(&self.pair, over && !self.refused);
+        self.tally.ended(&self.pair, self.refused);
         self.refused = false;
         if over && self.random.once_in(2) {
             self.receive(b"", None)?;

@@ -12,6 +12,7 @@ impl Session {
     pub(super) fn answer(&mut self, memory: &Memory, block: Vec<Offer>) {
         let signs = self.signs(memory, &block);
         self.say(&fs::write(&signs));
+        self.signs.extend(&signs);
         let accepted = block.into_iter().zip(signs).filter(|(_, sign)| *sign == Sign::Accept);
         let owed: std::collections::VecDeque<Offer> = accepted.map(|(offer, _)| offer).collect();
         if owed.is_empty() {

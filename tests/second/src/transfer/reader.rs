@@ -62,6 +62,11 @@ impl Reader {
         }
     }
 
+    /// True from the transfer's first byte on.
+    pub fn has_begun(&self) -> bool {
+        !matches!(self.stage, Stage::Start | Stage::Title) || !self.heading.is_empty()
+    }
+
     /// The title or name so far.
     pub fn heading(&self) -> &[u8] {
         &self.heading
