@@ -48,6 +48,11 @@ impl Pair {
         self.second.as_ref()
     }
 
+    /// The buffers, as open is lent them.
+    pub fn lent(&self) -> session::Lent<'_> {
+        self.lent.second()
+    }
+
     pub fn calls(&self) -> usize {
         self.history.count()
     }

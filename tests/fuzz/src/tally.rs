@@ -2,16 +2,20 @@
 //! a run of the gate's length must have seen.
 
 use crate::pair::{Pair, Second};
+use crate::tables;
+use second::field::BODY_LIMIT;
 use second::fs::Sign;
 use second::log::Side;
-use second::memory::State;
-use second::session::{Inside, Phase, Reply, Role};
+use second::memory::{State, MESSAGE_LIMIT};
+use second::session::{Inside, Lent, Phase, Reply, Role};
 use second::sid::Mode;
 use std::fmt::{self, Display};
 
 /// From so many sessions on, whatever [`Tally::never_met`] lists must have come.
 pub const ENOUGH: u64 = 20_000;
 
+const LONGEST: [&str; 4] = ["65,534 kept", "65,535 kept", "65,534 forwarded", "65,535 forwarded"];
+const KINDS: [&str; 4] = ["called plain", "called framed", "caller plain", "caller framed"];
 const PHASES: [&str; 7] = ["SID", "prompt", "turn", "FS line", "transfers", "our FQ", "nothing"];
 const TURNS: [&str; 6] = ["0", "1 to 2", "3 to 5", "6 to 10", "11 to 20", "over 20"];
 
@@ -24,11 +28,15 @@ pub struct Tally {
     gives: [u64; 2],
     /// Opens refused for a record, and for role, sizes or known BIDs.
     places: [u64; 2],
+    /// Opens with more than one fault, by [`tables::rivals`].
+    rivals: [u64; 2],
     consumed: usize,
     given: usize,
     kept: usize,
-    /// In one session.
-    most_kept: usize,
+    /// Sessions that filled an inbox of 64 places.
+    full: u64,
+    /// Bodies of 65,534 and 65,535 bytes: kept, forwarded.
+    longest: [u64; 4],
     /// Our records: forwarded, declined, deferred.
     records: [u64; 3],
     /// Our signs: `+`, `-`, `=`.
@@ -51,6 +59,13 @@ impl Tally {
         self.opens[usize::from(reply.answer)] += 1;
         if reply.answer == 1 {
             self.places[usize::from(reply.place == 255)] += 1;
+        }
+    }
+
+    /// Counts what open had to choose between.
+    pub fn rivals(&mut self, lent: &Lent<'_>) {
+        for (times, came) in self.rivals.iter_mut().zip(tables::rivals(lent)) {
+            *times += u64::from(came);
         }
     }
 
@@ -77,7 +92,7 @@ impl Tally {
         self.consumed += second.trace().bytes(Side::Partner).len();
         self.given += ours.len();
         self.kept += session.kept();
-        self.most_kept = self.most_kept.max(session.kept());
+        self.full += u64::from(session.kept() == MESSAGE_LIMIT);
         self.phases[phase(session.phase())] += 1;
         self.turns[bucket(session.turns())] += 1;
         for sign in session.signs_given() {
@@ -108,9 +123,20 @@ impl Tally {
         for (record, before) in second.memory.table.iter().zip(second.opened()) {
             let changed = record.state != before.state;
             self.records[0] += u64::from(changed && record.state == State::Forwarded);
+            self.count_body(2, record.body.length, changed && record.state == State::Forwarded);
             self.records[1] += u64::from(changed && record.state == State::Declined);
         }
         self.records[2] += second.session.deferred() as u64;
+        for message in second.memory.inbox[..second.session.kept()].iter().flatten() {
+            self.count_body(0, message.body.length, true);
+        }
+    }
+
+    /// Counts a body about as long as one can be.
+    fn count_body(&mut self, from: usize, length: usize, counts: bool) {
+        if counts && length + 1 >= BODY_LIMIT {
+            self.longest[from + length + 1 - BODY_LIMIT] += 1;
+        }
     }
 
     /// All that is counted by kind: a name, and each kind with its number.
@@ -120,7 +146,9 @@ impl Tally {
             ("receive answered", numbered(&self.receives)),
             ("give answered", numbered(&self.gives)),
             ("open refused for", named(&["a record", "what comes before"], &self.places)),
+            ("open found", named(&["known before record", "first of two records"], &self.rivals)),
             ("our records", named(&["forwarded", "declined", "deferred"], &self.records)),
+            ("the longest bodies", named(&LONGEST, &self.longest)),
             ("our signs", named(&["+", "-", "="], &self.signs)),
             ("ended by FQ", named(&["ours", "the partner's"], &self.quits)),
             ("with a turn", named(&KINDS, &self.kinds)),
@@ -132,10 +160,7 @@ impl Tally {
 
     /// What a long enough run must have met and this one has not.
     pub fn never_met(&self) -> Vec<String> {
-        let kept = vec![
-            ("any".into(), self.kept as u64),
-            ("64 in a session".into(), u64::from(self.most_kept == 64)),
-        ];
+        let kept = named(&["any", "64 in a session"], &[self.kept as u64, self.full]);
         let groups = self.groups().into_iter().chain([("messages kept", kept)]);
         let missing = groups.flat_map(|(group, kinds)| {
             let none = kinds.into_iter().filter(|(_, times)| *times == 0);
@@ -144,8 +169,6 @@ impl Tally {
         missing.collect()
     }
 }
-
-const KINDS: [&str; 4] = ["called plain", "called framed", "caller plain", "caller framed"];
 
 /// Where in the list an item is.
 fn place<T: PartialEq>(all: &[T], item: &T) -> usize {
@@ -178,11 +201,11 @@ fn named(names: &[&str], times: &[u64]) -> Vec<(String, u64)> {
 
 impl Display for Tally {
     fn fmt(&self, f: &mut fmt::Formatter<'_>) -> fmt::Result {
-        let Tally { sessions, consumed, given, kept, most_kept, .. } = self;
+        let Tally { sessions, consumed, given, kept, full, .. } = self;
         let calls: u64 = self.opens.iter().chain(&self.receives).chain(&self.gives).sum();
         writeln!(f, "  {sessions} sessions, {calls} calls")?;
         writeln!(f, "  {consumed} bytes received, {given} bytes given")?;
-        writeln!(f, "  {kept} messages kept, up to {most_kept} in a session")?;
+        writeln!(f, "  {kept} messages kept; 64 of them in {full} sessions")?;
         for (group, kinds) in self.groups() {
             let kinds: Vec<String> = kinds.iter().map(|(name, n)| format!("{name}: {n}")).collect();
             writeln!(f, "  {group} {}", kinds.join(", "))?;
