@@ -1,4 +1,4 @@
-//! The second kind of run: somebody else writes into session memory, table and
+//! The third kind of run: somebody else writes into session memory, table and
 //! inbox between calls. Every call must still answer, and do no harm.
 
 use crate::form;

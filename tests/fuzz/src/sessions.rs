@@ -1,4 +1,4 @@
-//! The first kind of run: random sessions with a partner that mostly speaks the
+//! The second kind of run: random sessions with a partner that mostly speaks the
 //! protocol, in random portions, on both implementations.
 
 use crate::lent::Resize;
