@@ -62,7 +62,7 @@ impl Pair {
         (self.lent, self.history)
     }
 
-    /// Opens. "A refused open changes no lent byte", so reading 39: a live
+    /// Opens. "A refused open changes no lent byte", so DECISIONS 52: a live
     /// session goes on.
     pub fn open(&mut self, role: u8) -> Checked<Reply> {
         self.history.begin(Call::Open { role });
@@ -91,7 +91,7 @@ impl Pair {
         self.history.begin(Call::Receive { bytes: bytes.to_vec(), resize });
         let reply = library::receive(self.lent.lend(resize), bytes);
         let expected = match &mut self.second {
-            // Reading 38: "Memory that open never accepted: 1."
+            // DECISIONS 32: "Memory that open never accepted: 1"
             None => Reply::BAD_BUFFERS,
             Some(second) => second.call(resize, |session, memory| session.receive(memory, bytes)),
         };

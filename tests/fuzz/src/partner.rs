@@ -308,7 +308,7 @@ impl Partner {
             }
         } else {
             out.extend(inputs::framed(random, &heading, &body));
-            // Reading 6: here an LF is an ordinary byte.
+            // DECISIONS 5: here an LF is an ordinary byte.
             if self.slips(random, 100) {
                 out.push(b'\n');
             }

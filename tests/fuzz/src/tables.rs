@@ -146,7 +146,7 @@ fn heading_span(random: &mut Random, store: &mut Vec<u8>, needed: bool) -> Span 
     if needed {
         return append(store, &heading(random));
     }
-    // Reading 43: an empty one lies within its store too.
+    // DECISIONS 55: an empty one lies within its store too.
     Span { start: random.below(store.len() + 1), length: 0 }
 }
 

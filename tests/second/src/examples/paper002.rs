@@ -61,7 +61,7 @@ fn five_letters() -> Vec<Letter> {
     ]
 }
 
-/// The long session from the called end. Reading 48: whose line it is follows
+/// The long session from the called end. DECISIONS 60: whose line it is follows
 /// from the italics.
 fn long_session_called() -> Example {
     let back = vec![
@@ -102,7 +102,7 @@ fn long_session_called() -> Example {
     .inbox(&taken)
 }
 
-/// The long session from the calling end. Reading 48: 002 splits the fourth and
+/// The long session from the calling end. DECISIONS 60: 002 splits the fourth and
 /// the fifth message over two turns, 01 puts both in one block.
 fn long_session_caller() -> Example {
     let message = "Title message\rText message ......\r\x1A\r";
