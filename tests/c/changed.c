@@ -9,7 +9,6 @@
 
 #include <unistd.h>
 
-#define HEADING_ROOM 80
 #define BODY_ROOM 600
 /* A session takes far fewer seconds, on however busy a machine. */
 #define PATIENCE 60
@@ -55,13 +54,13 @@ static void fill_table(struct fringemole_memory *m)
 
     m->table_len = records * FRINGEMOLE_RECORD_SIZE;
     m->table = lend(m->table_len);
-    m->titles = text(m->titles_len = HEADING_ROOM);
-    m->names = text(m->names_len = HEADING_ROOM);
+    m->titles = text(m->titles_len = FRINGEMOLE_MAX_HEADING);
+    m->names = text(m->names_len = FRINGEMOLE_MAX_HEADING);
     m->bodies = text(m->bodies_len = BODY_ROOM);
     for (i = 0; i < records; i++) {
         uint8_t *record = m->table + i * FRINGEMOLE_RECORD_SIZE;
         uint8_t form = once_in(4) ? (uint8_t)below(3) : mode;
-        size_t heading = 1 + below(HEADING_ROOM), body = below(BODY_ROOM + 1);
+        size_t heading = 1 + below(FRINGEMOLE_MAX_HEADING), body = below(BODY_ROOM + 1);
         put_record(record, form, "", heading, body);
         put_bid(record, FRINGEMOLE_RECORD_BID, "%u_OURS", i);
     }
@@ -164,7 +163,7 @@ static void check_reply(struct fringemole_reply reply, size_t most)
     call_number++;
     must(reply.answer <= 12, "no such answer");
     answers[reply.answer]++;
-    must(reply.place == (reply.answer == 1 ? 255 : 0), "a wrong place");
+    must(reply.place == (reply.answer == FRINGEMOLE_BAD_MEMORY ? FRINGEMOLE_NO_RECORD : 0), "a wrong place");
     must(reply.count <= most, "more bytes than there are");
     must(reply.answer != 1 || !intact, "1 on memory as the last call left it");
     must((reply.answer != 1 && reply.answer != 12) || reply.count == 0, "a count with 1 or 12");
