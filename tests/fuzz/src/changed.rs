@@ -125,7 +125,7 @@ impl Alone<'_> {
                 (at, large.to_le_bytes()[..2].to_vec())
             }
             1 => (form::BODY_BYTES, large.to_le_bytes()[..4].to_vec()),
-            2 => (self.random.pick(&[100, form::USED]), large.to_le_bytes().to_vec()),
+            2 => (self.random.pick(&[form::GIVEN, form::USED]), large.to_le_bytes().to_vec()),
             3 => (self.random.within(116, 179), vec![small]),
             4 => (self.random.within(516, 875), vec![byte(self.random)]),
             5 => (form::AWAITED, vec![small]),
