@@ -15,7 +15,7 @@
 
 static uint64_t seed = 0x46524E474D4F4C45u;
 static unsigned long session_number, call_number;
-static unsigned long calls, answers[13];
+static unsigned long calls, answers[FRINGEMOLE_ENDED + 1];
 /* Calls of receive without bytes. */
 static unsigned long empties;
 
@@ -161,12 +161,12 @@ static void check_reply(struct fringemole_reply reply, size_t most)
 {
     calls++;
     call_number++;
-    must(reply.answer <= 12, "no such answer");
+    must(reply.answer <= FRINGEMOLE_ENDED, "no such answer");
     answers[reply.answer]++;
     must(reply.place == (reply.answer == FRINGEMOLE_BAD_MEMORY ? FRINGEMOLE_NO_RECORD : 0), "a wrong place");
     must(reply.count <= most, "more bytes than there are");
-    must(reply.answer != 1 || !intact, "1 on memory as the last call left it");
-    must((reply.answer != 1 && reply.answer != 12) || reply.count == 0, "a count with 1 or 12");
+    must(reply.answer != FRINGEMOLE_BAD_MEMORY || !intact, "1 on memory as the last call left it");
+    must((reply.answer != FRINGEMOLE_BAD_MEMORY && reply.answer != FRINGEMOLE_ENDED) || reply.count == 0, "a count with 1 or 12");
 }
 
 static void give(struct fringemole_memory *m, size_t room, size_t place)
@@ -181,14 +181,14 @@ static void give(struct fringemole_memory *m, size_t room, size_t place)
     }
     reply = fringemole_give_in(m, buffer, room, place);
     check_reply(reply, most);
-    must(reply.answer <= 1, "give refused");
+    must(reply.answer <= FRINGEMOLE_BAD_MEMORY, "give refused");
     must(!over || reply.count == 0, "bytes given on an ended session");
     for (i = 0; i < room; i++) {
         must(buffer[i] == 0xA5 || (place <= i && i < place + reply.count), "give wrote outside its count");
     }
     /* "Give on an ended session writes nothing": not into session memory either. */
-    only_changed(m, &copy, reply.answer == 1 || most == 0 || over ? 0 : SESSION_ONLY);
-    intact = reply.answer != 1;
+    only_changed(m, &copy, reply.answer == FRINGEMOLE_BAD_MEMORY || most == 0 || over ? 0 : SESSION_ONLY);
+    intact = reply.answer != FRINGEMOLE_BAD_MEMORY;
     free(buffer);
     forget(&copy);
 }
@@ -205,17 +205,17 @@ static int receive(struct fringemole_memory *m, const uint8_t *bytes, size_t n)
     }
     reply = fringemole_receive_in(m, portion, n);
     check_reply(reply, n);
-    must(!over || reply.answer == 12, "no 12 on an ended session");
-    must(reply.answer < 2 || reply.answer == 12 || reply.count > 0, "a refusal without its byte");
+    must(!over || reply.answer == FRINGEMOLE_ENDED, "no 12 on an ended session");
+    must(reply.answer <= FRINGEMOLE_BAD_MEMORY || reply.answer == FRINGEMOLE_ENDED || reply.count > 0, "a refusal without its byte");
     /* 12: "nothing consumed, nothing changed". "Receiving no bytes on a live session answers 0 and changes nothing." */
-    only_changed(m, &copy, reply.answer == 1 || reply.answer == 12 || n == 0 ? 0 : BY_RECEIVE);
-    intact = reply.answer != 1;
+    only_changed(m, &copy, reply.answer == FRINGEMOLE_BAD_MEMORY || reply.answer == FRINGEMOLE_ENDED || n == 0 ? 0 : BY_RECEIVE);
+    intact = reply.answer != FRINGEMOLE_BAD_MEMORY;
     /* "Receive consumes every byte lent to it, unless it answers 1 or 12 or the session ends on the way". */
-    over = reply.answer > 1 || (reply.answer == 0 && reply.count < n);
+    over = reply.answer > FRINGEMOLE_BAD_MEMORY || (reply.answer == FRINGEMOLE_OK && reply.count < n);
     empties += n == 0;
     free(portion);
     forget(&copy);
-    return reply.answer == 0 && !over;
+    return reply.answer == FRINGEMOLE_OK && !over;
 }
 
 /* ---- what somebody writes */
@@ -284,7 +284,7 @@ static void play(void)
     struct fringemole_reply reply = fringemole_open_in(&m, (uint8_t)below(2));
     size_t quiet = below(12), changed = 5 + below(20);
 
-    must(reply.answer == 0 && reply.place == 0 && reply.count == 0, "open refused good memory");
+    must(reply.answer == FRINGEMOLE_OK && reply.place == 0 && reply.count == 0, "open refused good memory");
     intact = 1;
     over = 0;
     fresh = 0;
@@ -315,10 +315,10 @@ int main(int argc, char **argv)
     }
     printf("c: changed memory: seed 0x%llx, %lu sessions, %lu calls, %lu of them receive without bytes; answers",
         (unsigned long long)seed, sessions, calls, empties);
-    for (i = 0; i <= 12; i++) {
-        printf(" %lu: %lu%s", i, answers[i], i < 12 ? "," : "\n");
+    for (i = 0; i <= FRINGEMOLE_ENDED; i++) {
+        printf(" %lu: %lu%s", i, answers[i], i < FRINGEMOLE_ENDED ? "," : "\n");
     }
-    for (i = 0; sessions >= 1000 && i <= 12; i++) {
+    for (i = 0; sessions >= 1000 && i <= FRINGEMOLE_ENDED; i++) {
         if (answers[i] == 0) {
             puts("c: changed memory: a number never came");
             return 1;

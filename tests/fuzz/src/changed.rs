@@ -54,6 +54,8 @@ struct Alone<'a> {
     random: &'a mut Random,
     seen: &'a mut Changed,
     memory: Memory,
+    /// As the last call left it that did not answer 1.
+    good: Memory,
     history: History,
     /// The last call did not answer 1 and nobody has written since.
     intact: bool,
@@ -77,8 +79,9 @@ pub fn run(random: &mut Random, tally: &mut Tally, seen: &mut Changed) -> Checke
     }
     seen.sessions += 1;
     let (memory, history) = driver.into_pair().into_lent();
+    let good = memory.clone();
     let mut alone =
-        Alone { random, seen, memory, history, intact: true, over: false, empty: false };
+        Alone { random, seen, memory, good, history, intact: true, over: false, empty: false };
     for _ in 0..alone.random.within(5, 30) {
         alone.step()?;
     }
@@ -87,6 +90,7 @@ pub fn run(random: &mut Random, tally: &mut Tally, seen: &mut Changed) -> Checke
 
 impl Alone<'_> {
     fn step(&mut self) -> Checked {
+        self.mend();
         if !self.random.once_in(3) {
             for _ in 0..self.random.pick(&[1, 1, 1, 2, 5]) {
                 self.write();
@@ -95,6 +99,17 @@ impl Alone<'_> {
         match self.random.once_in(2) {
             true => self.receive(),
             false => self.give(),
+        }
+    }
+
+    /// Takes back what made a call answer 1, mostly, so that others get further.
+    fn mend(&mut self) {
+        if self.intact {
+            self.good = self.memory.clone();
+        } else if !self.random.once_in(4) {
+            self.memory = self.good.clone();
+            self.history.begin(Call::Mend);
+            self.intact = true;
         }
     }
 
@@ -119,18 +134,26 @@ impl Alone<'_> {
     fn session_field(&mut self) -> (usize, Vec<u8>) {
         let small = self.random.pick(&[0, 0, 1, 2, 3, 4, 5, 6, 7, 63, 64, 80, 81, 88, 255]);
         let large = self.random.pick(&[0, 1, 255, 256, 257, 65_535, 65_536, usize::MAX]);
-        match self.random.below(8) {
+        match self.random.below(11) {
             0 => {
-                let at = self.random.pick(&[form::LINE_BYTES, 94]);
+                let at = self.random.pick(&[form::LINE_BYTES, form::BLOCK_LEFT]);
                 (at, large.to_le_bytes()[..2].to_vec())
             }
             1 => (form::BODY_BYTES, large.to_le_bytes()[..4].to_vec()),
             2 => (self.random.pick(&[form::GIVEN, form::USED]), large.to_le_bytes().to_vec()),
-            3 => (self.random.within(116, 179), vec![small]),
-            4 => (self.random.within(516, 875), vec![byte(self.random)]),
+            3 => (self.random.within(form::DEFERRED, form::DEFERRED + 63), vec![small]),
+            4 => (self.random.within(form::BLOCK, 875), vec![byte(self.random)]),
             5 => (form::AWAITED, vec![small]),
+            6 => (form::SIGNS + self.random.within(1, 5), vec![self.random.pick(b"+++-=")]),
+            7 => (form::GIVEN, self.near(form::waiting(&self.memory).len()).to_vec()),
+            8 => (form::BODY_BYTES, self.near(form::room(&self.memory))[..4].to_vec()),
             _ => (self.random.within(form::AWAITED, 91), vec![small]),
         }
+    }
+
+    /// A number just below a limit, at it, or just above.
+    fn near(&mut self, limit: usize) -> [u8; 8] {
+        (limit + self.random.below(3)).saturating_sub(1).to_le_bytes()
     }
 
     /// Bytes of the kind that the library awaits, as its memory says.

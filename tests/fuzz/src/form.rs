@@ -23,9 +23,12 @@ pub const SENDING: usize = 75;
 pub const SIGNS: usize = 81;
 pub const HEADING_BYTES: usize = 89;
 pub const LINE_BYTES: usize = 92;
+pub const BLOCK_LEFT: usize = 94;
 pub const BODY_BYTES: usize = 96;
 pub const GIVEN: usize = 100;
 pub const USED: usize = 108;
+pub const DEFERRED: usize = 116;
+pub const BLOCK: usize = 516;
 
 /// What is awaited.
 pub const TURN: u8 = 3;
@@ -99,11 +102,16 @@ fn transfer_fits(memory: &Memory) -> bool {
     let session = memory.part(SESSION);
     let (signs, under_way) = (five(session, SIGNS), usize::from(session[UNDER_WAY]));
     let places = memory.part(INBOX).len() / MESSAGE_BYTES;
-    let free = memory.part(STORE).len() as u64 - number(session, USED, 8);
     signs.len() == usize::from(session[PROPOSALS])
         && signs.get(under_way) == Some(&b'+')
         && usize::from(session[SESSION_KEPT]) + pluses(&signs[under_way..]) <= places
-        && number(session, BODY_BYTES, 4) <= free.min(BODY_LIMIT as u64)
+        && number(session, BODY_BYTES, 4) <= room(memory) as u64
+}
+
+/// How long the body under way may be.
+pub fn room(memory: &Memory) -> usize {
+    let used = number(memory.part(SESSION), USED, 8) as usize;
+    memory.part(STORE).len().saturating_sub(used).min(BODY_LIMIT)
 }
 
 fn pluses(signs: &[u8]) -> usize {
@@ -124,7 +132,7 @@ fn five(session: &[u8], at: usize) -> &[u8] {
 
 /// All that waits, given bytes included: "what waits first" and "what waits
 /// then".
-fn waiting(memory: &Memory) -> Vec<u8> {
+pub fn waiting(memory: &Memory) -> Vec<u8> {
     let session = memory.part(SESSION);
     let first = match session[FIRST] {
         0 => Vec::new(),
