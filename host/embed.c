@@ -4,7 +4,7 @@
 #include <stdio.h>
 #include <string.h>
 
-static uint8_t session[FRINGEMOLE_SESSION_SIZE], table[FRINGEMOLE_RECORD_SIZE], inbox[8 * FRINGEMOLE_ENTRY_SIZE], store[8 * 65535];
+static uint8_t session[FRINGEMOLE_SESSION_SIZE], table[FRINGEMOLE_RECORD_SIZE], inbox[8 * FRINGEMOLE_ENTRY_SIZE], store[8 * FRINGEMOLE_MAX_BODY];
 static const uint8_t titles[] = "Hello", bodies[] = "73 from the shelf.\r";
 
 static void put(uint8_t *field, const char *text)
@@ -35,7 +35,7 @@ int main(void)
     int i;
 
     fill_table();
-    reply = fringemole_open_in(&m, 0);
+    reply = fringemole_open_in(&m, FRINGEMOLE_CALLED);
     while (reply.answer == FRINGEMOLE_OK) {
         int byte;
         while ((reply = fringemole_give_in(&m, out, sizeof out, 0)).count > 0)

@@ -47,7 +47,7 @@ static enum exit_code run_session(const struct port *port, const struct options 
     link.left_until_drop = options->drop_after;
     progress_start(&link.progress, options->progress, !options->transcript || strcmp(options->transcript, "-"));
     if (transcript_open(&link.transcript, options->transcript)) {
-        code = run_on(&link, options, options->caller ? CALLER : options->called ? CALLED : role);
+        code = run_on(&link, options, options->caller ? FRINGEMOLE_CALLER : options->called ? FRINGEMOLE_CALLED : role);
         transcript_close(&link.transcript);
     } else {
         port_drop(&link.port);
@@ -70,7 +70,7 @@ static enum exit_code call(const struct options *options)
 
     if (!base_is_there(options))
         return BAD_BASE;
-    return tcp_call(&port, options->arguments[0]) ? run_session(&port, options, CALLER) : BAD_PORT;
+    return tcp_call(&port, options->arguments[0]) ? run_session(&port, options, FRINGEMOLE_CALLER) : BAD_PORT;
 }
 
 static enum exit_code listen_for(const struct options *options)
@@ -83,7 +83,7 @@ static enum exit_code listen_for(const struct options *options)
         return BAD_BASE;
     listener = tcp_listen(options->arguments[0]);
     while (listener >= 0 && tcp_accept(&port, listener)) {
-        code = run_session(&port, options, CALLED);
+        code = run_session(&port, options, FRINGEMOLE_CALLED);
         if (options->once)
             break;
         code = BAD_PORT;
@@ -97,7 +97,7 @@ static enum exit_code serial(const struct options *options)
 {
     struct port port;
 
-    return serial_open(&port, options->arguments[0], options->arguments[1]) ? run_session(&port, options, CALLED) : BAD_PORT;
+    return serial_open(&port, options->arguments[0], options->arguments[1]) ? run_session(&port, options, FRINGEMOLE_CALLED) : BAD_PORT;
 }
 
 static enum exit_code standard(const struct options *options)
@@ -105,7 +105,7 @@ static enum exit_code standard(const struct options *options)
     struct port port;
 
     stdio_open(&port);
-    return run_session(&port, options, CALLED);
+    return run_session(&port, options, FRINGEMOLE_CALLED);
 }
 
 /* ---- commands */

@@ -3,13 +3,12 @@
 #define MESSAGE_H
 
 #include "bytes.h"
+#include "fringemole.h"
 
 /* The library's states, and one of the host's own: a held message is never lent. */
-enum state { WAITING, FORWARDED, DECLINED, HELD };
+enum state { WAITING = FRINGEMOLE_WAITING, FORWARDED = FRINGEMOLE_FORWARDED, DECLINED = FRINGEMOLE_DECLINED, HELD };
 
-enum form { PLAIN_TEXT, PACKED_MESSAGE, PACKED_FILE };
-
-#define BODY_LIMIT 65535
+enum form { PLAIN_TEXT = FRINGEMOLE_PLAIN_TEXT, PACKED_MESSAGE = FRINGEMOLE_PACKED_MESSAGE, PACKED_FILE = FRINGEMOLE_PACKED_FILE };
 
 struct message {
     long long number; /* its row in the base, in order of arrival */

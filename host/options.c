@@ -1,11 +1,12 @@
 #include "options.h"
 #include "bytes.h"
+#include "fringemole.h"
 #include "say.h"
 
 #include <stdio.h>
 #include <string.h>
 
-#define ROOM (64L * 65535L) /* each message that a session can keep, at its longest */
+#define ROOM ((long)FRINGEMOLE_MAX_MESSAGES * FRINGEMOLE_MAX_BODY) /* each message that a session can keep, at its longest */
 
 static const char help[] =
     "Usage: fringemole BASE COMMAND [OPTION]..\n"

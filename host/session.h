@@ -6,8 +6,6 @@
 #include "link.h"
 #include "say.h"
 
-enum { CALLED, CALLER };
-
 /* Runs it to its end and hangs up. Gives DONE if it ended by FQ. */
 enum exit_code session_run(struct base *base, struct link *link, uint8_t role, size_t room);
 

@@ -40,7 +40,7 @@ static struct part get_field(const uint8_t *at)
 /* A part of a store: where it starts and its length. */
 static void put_part(uint8_t *at, size_t bytes, struct bytes *store, struct part part)
 {
-    size_t most = bytes == 1 ? 255 : BODY_LIMIT;
+    size_t most = bytes == 1 ? 255 : FRINGEMOLE_MAX_BODY;
 
     put_number(at, 4, store->n);
     put_number(at + 4, bytes, part.n > most ? most : part.n);
@@ -85,16 +85,16 @@ bool shelf_add(struct shelf *shelf, const struct message *message)
     size_t place = shelf_records(shelf);
     uint8_t *record;
 
-    if (place == FRINGEMOLE_MAX_RECORDS || message->body.n > BODY_LIMIT)
+    if (place == FRINGEMOLE_MAX_RECORDS || message->body.n > FRINGEMOLE_MAX_BODY)
         return false;
     record = bytes_zeros(&shelf->table, FRINGEMOLE_RECORD_SIZE);
     record[FRINGEMOLE_RECORD_STATE] = message->state;
     record[FRINGEMOLE_RECORD_FORM] = message->form;
     record[FRINGEMOLE_RECORD_TYPE] = message->type;
-    put_field(record + FRINGEMOLE_RECORD_FROM, 6, message->from);
-    put_field(record + FRINGEMOLE_RECORD_AT, 38, message->at);
-    put_field(record + FRINGEMOLE_RECORD_TO, 6, message->to);
-    put_field(record + FRINGEMOLE_RECORD_BID, 12, message->bid);
+    put_field(record + FRINGEMOLE_RECORD_FROM, FRINGEMOLE_MAX_CALL, message->from);
+    put_field(record + FRINGEMOLE_RECORD_AT, FRINGEMOLE_MAX_AT, message->at);
+    put_field(record + FRINGEMOLE_RECORD_TO, FRINGEMOLE_MAX_CALL, message->to);
+    put_field(record + FRINGEMOLE_RECORD_BID, FRINGEMOLE_MAX_BID, message->bid);
     put_number(record + FRINGEMOLE_RECORD_SIZE_FIELD, 4, message->size);
     put_part(record + FRINGEMOLE_RECORD_TITLE, 1, &shelf->titles, message->title);
     put_part(record + FRINGEMOLE_RECORD_NAME, 1, &shelf->names, message->name);
@@ -108,15 +108,15 @@ bool shelf_know(struct shelf *shelf, struct part bid)
 {
     if (shelf->known.n == FRINGEMOLE_MAX_KNOWN * FRINGEMOLE_KNOWN_SIZE)
         return false;
-    put_field(bytes_zeros(&shelf->known, FRINGEMOLE_KNOWN_SIZE) + FRINGEMOLE_KNOWN_BID, 12, bid);
+    put_field(bytes_zeros(&shelf->known, FRINGEMOLE_KNOWN_SIZE) + FRINGEMOLE_KNOWN_BID, FRINGEMOLE_MAX_BID, bid);
     return true;
 }
 
 static bool take_message(void *shelf, const struct message *message)
 {
     if (!shelf_add(shelf, message))
-        say("message %lld of the base: its body is over %d bytes", message->number, BODY_LIMIT);
-    return message->body.n <= BODY_LIMIT;
+        say("message %lld of the base: its body is over %d bytes", message->number, FRINGEMOLE_MAX_BODY);
+    return message->body.n <= FRINGEMOLE_MAX_BODY;
 }
 
 static bool take_bid(void *shelf, struct part bid)

@@ -4,7 +4,16 @@
  * that a call may write may be lent twice. Every call answers, ends, and refuses by number, whatever bytes stand in any buffer.
  *
  * Which buffers a call may write:  open: session.  receive: session, table (states only), inbox, store.  give: session, and its own buffer.
- * An empty buffer may be NULL with length 0. Numbers in memory are little end first; entries are bytes without padding. */
+ * An empty buffer may be NULL with length 0. Numbers in memory are little end first; entries are bytes without padding.
+ *
+ * A host's loop, once open has answered FRINGEMOLE_OK:
+ *  1. give, and send what it wrote, until it gives 0 bytes. Give all before you receive: a byte received while bytes wait is refused with
+ *     FRINGEMOLE_BYTES_WAIT and ends the session.
+ *  2. receive(NULL, 0): FRINGEMOLE_ENDED says that the session has ended. An end by FQ, the partner's or ours, is no refusal: the call
+ *     that ends it answers FRINGEMOLE_OK.
+ *  3. read bytes from the link and receive them, in whatever portions. Any answer but FRINGEMOLE_OK: hang up.
+ *  4. save what has changed, states in the table and messages kept in the inbox, before you give more.
+ * If the link drops, save and stop; what stands in table and inbox is right at every moment. */
 #ifndef FRINGEMOLE_H
 #define FRINGEMOLE_H
 
@@ -16,7 +25,7 @@ extern "C" {
 #endif
 
 /* ---- sizes in bytes, and limits */
-#define FRINGEMOLE_SESSION_SIZE 876  /* session memory, exactly */
+#define FRINGEMOLE_SESSION_SIZE 876  /* session memory, exactly; no need to clear it before open */
 #define FRINGEMOLE_RECORD_SIZE 89    /* a record of the table; 0 to 64 of them */
 #define FRINGEMOLE_KNOWN_SIZE 13     /* a known BID; 0 to 1,024 of them */
 #define FRINGEMOLE_ENTRY_SIZE 155    /* a message of the inbox; 0 to 64 places */
@@ -24,10 +33,38 @@ extern "C" {
 #define FRINGEMOLE_MAX_KNOWN 1024
 #define FRINGEMOLE_MAX_MESSAGES 64
 
-/* ---- a record of the table: offsets. A field is its length, then its bytes. */
-#define FRINGEMOLE_RECORD_STATE 0        /* 0 waiting, 1 forwarded, 2 declined */
-#define FRINGEMOLE_RECORD_FORM 1         /* 0 plain text, 1 packed message, 2 packed file */
-#define FRINGEMOLE_RECORD_TYPE 2         /* 'P' or 'B' */
+/* ---- fields: the most bytes of each, and which bytes. A field in an entry is one byte for its length, then its bytes; what stands after
+ * them up to the field's end doesn't matter. Each has at least 1 byte, but for a body and the title or name that the form doesn't need. */
+#define FRINGEMOLE_MAX_CALL 6        /* from and to: 0x21-0x7E without '@' and '.' */
+#define FRINGEMOLE_MAX_AT 38         /* parts of 1 to 6 such bytes joined by '.', and at most .. */
+#define FRINGEMOLE_MAX_AT_TAIL 31    /* .. so many bytes after the first '.' */
+#define FRINGEMOLE_MAX_BID 12        /* 0x21-0xFF; no two records of a table have one BID; known BIDs may repeat */
+#define FRINGEMOLE_MAX_HEADING 80    /* title or file name: 0x20-0xFF */
+#define FRINGEMOLE_MAX_BODY 65535    /* any bytes; that of a plain text (form 0) without 0x1A */
+#define FRINGEMOLE_MAX_SIZE 999999   /* announced size; it need not be the body's length */
+
+enum { /* state of a record */
+    FRINGEMOLE_WAITING = 0,
+    FRINGEMOLE_FORWARDED = 1,
+    FRINGEMOLE_DECLINED = 2
+};
+
+enum { /* form of a record or a message */
+    FRINGEMOLE_PLAIN_TEXT = 0,      /* needs a title */
+    FRINGEMOLE_PACKED_MESSAGE = 1,  /* needs a title */
+    FRINGEMOLE_PACKED_FILE = 2      /* needs a file name */
+};
+
+enum { /* our role */
+    FRINGEMOLE_CALLED = 0,
+    FRINGEMOLE_CALLER = 1
+};
+
+/* ---- a record of the table: offsets. Title, name and body are a start and a length in their stores; also an empty one starts within its
+ * store or at its end (start 0 will do). The title or name that the form doesn't need is empty, or as the needed one must be. */
+#define FRINGEMOLE_RECORD_STATE 0        /* FRINGEMOLE_WAITING, _FORWARDED or _DECLINED; only waiting ones are proposed */
+#define FRINGEMOLE_RECORD_FORM 1         /* FRINGEMOLE_PLAIN_TEXT, _PACKED_MESSAGE or _PACKED_FILE */
+#define FRINGEMOLE_RECORD_TYPE 2         /* 'P' or 'B', a capital */
 #define FRINGEMOLE_RECORD_FROM 3         /* length 1 to 6; bytes from 4 on */
 #define FRINGEMOLE_RECORD_AT 10          /* length 1 to 38; bytes from 11 on */
 #define FRINGEMOLE_RECORD_TO 49          /* length 1 to 6; bytes from 50 on */
@@ -43,7 +80,7 @@ extern "C" {
 /* ---- a known BID: its length (1 to 12), then its bytes */
 #define FRINGEMOLE_KNOWN_BID 0
 
-/* ---- a message of the inbox: offsets */
+/* ---- a message of the inbox: offsets. Places past the count are not touched. */
 #define FRINGEMOLE_ENTRY_FORM 0
 #define FRINGEMOLE_ENTRY_TYPE 1          /* a capital, 'P' or 'B' */
 #define FRINGEMOLE_ENTRY_FROM 2          /* length; bytes from 3 on */
@@ -55,12 +92,13 @@ extern "C" {
 #define FRINGEMOLE_ENTRY_BODY_LEN 153    /* 2 bytes */
 
 /* ---- in session memory a host may read: */
-#define FRINGEMOLE_SESSION_KEPT 66       /* how many messages of the inbox are kept, 1 byte */
+#define FRINGEMOLE_SESSION_KEPT 66       /* how many messages of the inbox are kept, 1 byte; 0 after an accepted open */
 
 /* ---- the numbers given back */
 enum {
     FRINGEMOLE_OK = 0,              /* no refusal: the session goes on, or ended by FQ */
-    FRINGEMOLE_BAD_MEMORY = 1,      /* open: bad table or buffers, place = first bad record or 255; receive, give: memory is not as left, nothing changed */
+    FRINGEMOLE_BAD_MEMORY = 1,      /* open: bad table or buffers, place = first bad record, from 0, or FRINGEMOLE_NO_RECORD;
+                                     * receive, give: memory is not as the last call left it; nothing changed */
     FRINGEMOLE_LINE_TOO_LONG = 2,   /* a 257th byte of a line came before CR */
     FRINGEMOLE_NOT_SID = 3,         /* the first line isn't a valid SID */
     FRINGEMOLE_NO_FORWARDING = 4,   /* the partner's SID has no F */
@@ -74,6 +112,9 @@ enum {
     FRINGEMOLE_ENDED = 12           /* receive on an ended session; nothing changed */
 };
 
+/* The place with FRINGEMOLE_BAD_MEMORY where it is no record's: role, sizes or known BIDs; from receive and give, always. */
+#define FRINGEMOLE_NO_RECORD 255
+
 /* answer: one of the numbers; place: 0, but with answer 1; count: bytes consumed by receive (a refused one included), or given. */
 struct fringemole_reply {
     uint8_t answer;
@@ -81,7 +122,8 @@ struct fringemole_reply {
     size_t count;
 };
 
-/* role: 0 called, 1 caller. A refused open changes no lent byte; an accepted one writes session memory only. */
+/* role: FRINGEMOLE_CALLED or FRINGEMOLE_CALLER. A refused open changes no lent byte; an accepted one writes session memory only. It checks
+ * role, sizes and known BIDs first, then the records in order; of two with one BID the later is bad. */
 struct fringemole_reply fringemole_open(uint8_t role,
     uint8_t *session, size_t session_len,
     const uint8_t *table, size_t table_len,
@@ -92,7 +134,8 @@ struct fringemole_reply fringemole_open(uint8_t role,
     const uint8_t *inbox, size_t inbox_len,
     const uint8_t *store, size_t store_len);
 
-/* Bytes from the link. After any answer but 0 and 1 the session is over. */
+/* Bytes from the link. After any answer but 0 and 1 the session is over; after 0 it is if bytes are left over (FQ came), or if the next
+ * receive(NULL, 0) says FRINGEMOLE_ENDED. No bytes on a live session: 0, and nothing changes. */
 struct fringemole_reply fringemole_receive(
     uint8_t *session, size_t session_len,
     uint8_t *table, size_t table_len,
@@ -104,7 +147,8 @@ struct fringemole_reply fringemole_receive(
     uint8_t *store, size_t store_len,
     const uint8_t *bytes, size_t bytes_len);
 
-/* Bytes that the link will now take: as many as fit into buf from place on; they count as taken when give returns. */
+/* Bytes that the link will now take: as many as fit into buf from place on; they count as taken when give returns. 0 bytes: nothing waits,
+ * or there is no room. */
 struct fringemole_reply fringemole_give(
     uint8_t *session, size_t session_len,
     const uint8_t *table, size_t table_len,

@@ -6,8 +6,9 @@ use second::host::Buffers;
 use second::memory::Memory;
 use second::session::{self, Reply, Session};
 
-/// The called station.
+/// Our roles.
 const CALLED: u8 = 0;
+const CALLER: u8 = 1;
 
 pub trait End {
     /// What rewinds the session. Table, inbox and store stay as they are: up to
@@ -46,6 +47,17 @@ pub struct Library {
 }
 
 impl Library {
+    /// The calling station; [`End::open`] is the called one.
+    pub fn call(host: Buffers) -> Library {
+        Library::in_role(CALLER, host)
+    }
+
+    fn in_role(role: u8, host: Buffers) -> Library {
+        let mut end = Library { buffers: host };
+        assert_eq!(library::open(role, end.lend()), Reply::ok(0));
+        end
+    }
+
     fn lend(&mut self) -> library::Lent<'_> {
         let Buffers { session, table, titles, names, bodies, known, inbox, store } =
             &mut self.buffers;
@@ -58,9 +70,7 @@ impl End for Library {
     type Mark = Vec<u8>;
 
     fn open(host: Buffers) -> Library {
-        let mut end = Library { buffers: host };
-        assert_eq!(library::open(CALLED, end.lend()), Reply::ok(0));
-        end
+        Library::in_role(CALLED, host)
     }
 
     fn receive(&mut self, bytes: &[u8]) -> Reply {

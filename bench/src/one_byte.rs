@@ -1,19 +1,17 @@
 //! The cost of the form test: a call that deals with one byte, with nothing in
-//! table, known BIDs and inbox and with as much as there may be.
+//! table, known BIDs and inbox and with as much as there may be. Apart from that,
+//! the one byte at which a block is answered.
+
+mod states;
 
 use crate::end::{End, Library};
-use crate::timing;
-use crate::{body, transfer, Mode};
-use second::host::{Buffers, Letter};
+use crate::{timing, Mode};
 use second::memory::{KNOWN_LIMIT, MESSAGE_LIMIT, RECORD_LIMIT};
 use second::session::Reply;
 use std::time::{Duration, Instant};
 
 /// So many calls are timed together.
 const BATCH: u32 = 200;
-const SID: &[u8] = b"[TST-1-BF$]\r";
-/// A body of the partner.
-const LITTLE: &[u8] = b"a body";
 
 /// What is called, with one byte or room for one.
 #[derive(Clone, Copy)]
@@ -26,27 +24,106 @@ enum Call {
 pub struct Row {
     pub name: &'static str,
     call: Call,
+    reply: Reply,
     empty: fn() -> Library,
     full: fn() -> Library,
 }
 
+impl Row {
+    fn new(name: &'static str, call: Call, empty: fn() -> Library, full: fn() -> Library) -> Row {
+        Row { name, call, reply: Reply::ok(1), empty, full }
+    }
+
+    fn answers(self, answer: u8, place: u8) -> Row {
+        Row { reply: Reply { answer, place, count: 0 }, ..self }
+    }
+}
+
 pub fn rows() -> Vec<Row> {
-    let row = |name, call, empty, full| Row { name, call, empty, full };
+    [form_test(), answering()].into_iter().flatten().collect()
+}
+
+fn form_test() -> Vec<Row> {
+    [lines(), transfers(), refused(), waiting(), gives()].into_iter().flatten().collect()
+}
+
+fn lines() -> Vec<Row> {
+    use states::*;
+    let letter = Call::Receive(b'F');
+    vec![
+        Row::new("receive, the SID awaited", Call::Receive(b'['), sid_empty, sid_full),
+        Row::new("receive, the prompt awaited", letter, prompt_empty, prompt_full),
+        Row::new("receive, a turn awaited", letter, line_empty, line_full),
+        Row::new("receive, FS awaited", letter, fs_empty, fs_full),
+    ]
+}
+
+fn transfers() -> Vec<Row> {
+    use states::*;
+    let (data, last) = (Call::Receive(b'a'), Call::Receive(last_byte()));
+    vec![
+        Row::new(
+            "receive, a framed transfer under way",
+            data,
+            || data_empty(Mode::Framed),
+            || data_full(Mode::Framed),
+        ),
+        Row::new(
+            "receive, a plain transfer under way",
+            data,
+            || data_empty(Mode::Plain),
+            || data_full(Mode::Plain),
+        ),
+        Row::new("receive, the byte that keeps a message", last, keeping_empty, keeping_full),
+    ]
+}
+
+fn refused() -> Vec<Row> {
+    use states::*;
+    let letter = Call::Receive(b'F');
+    vec![
+        Row::new("receive, ended: answer 12", letter, over_empty, over_full).answers(12, 0),
+        Row::new("receive, form test fails: answer 1", letter, failing_empty, failing_full)
+            .answers(1, 255),
+    ]
+}
+
+/// While bytes wait: the LF after the partner's CR.
+fn waiting() -> Vec<Row> {
+    use states::*;
     let lf = Call::Receive(b'\n');
     vec![
-        row("receive, a line under way", Call::Receive(b'F'), line_empty, line_full),
-        row("receive, a transfer under way", Call::Receive(b'a'), data_empty, data_full),
-        row("receive, FS line and block wait", lf, fq_waits, block_waits),
-        row("receive, five transfers wait", lf, fq_waits, || transfers_wait(LeftOf::All)),
-        row("receive, half of the fifth waits", lf, fq_waits, || transfers_wait(LeftOf::Half)),
-        row("receive, the last checksum waits", lf, fq_waits, || transfers_wait(LeftOf::Checksum)),
-        row("give, FS line and block wait", Call::Give, fq_waits, block_waits),
-        row("give, five transfers wait", Call::Give, fq_waits, || transfers_wait(LeftOf::All)),
-        row("give, half of the fifth waits", Call::Give, fq_waits, || transfers_wait(LeftOf::Half)),
-        row("give, the last checksum waits", Call::Give, fq_waits, || {
+        Row::new("receive, FS line and block wait", lf, fq_waits, block_waits),
+        Row::new("receive, five transfers wait", lf, fq_waits, || transfers_wait(LeftOf::All)),
+        Row::new("receive, half of the fifth waits", lf, fq_waits, || transfers_wait(LeftOf::Half)),
+        Row::new("receive, the last checksum waits", lf, fq_waits, || {
             transfers_wait(LeftOf::Checksum)
         }),
     ]
+}
+
+fn gives() -> Vec<Row> {
+    use states::*;
+    let give = Call::Give;
+    vec![
+        Row::new("give, FS line and block wait", give, fq_waits, block_waits),
+        Row::new("give, five transfers wait", give, fq_waits, || transfers_wait(LeftOf::All)),
+        Row::new("give, half of the fifth waits", give, fq_waits, || transfers_wait(LeftOf::Half)),
+        Row::new("give, the last checksum waits", give, fq_waits, || {
+            transfers_wait(LeftOf::Checksum)
+        }),
+    ]
+}
+
+/// Five BIDs against all that there may be, and our turn.
+fn answering() -> Vec<Row> {
+    let cr = Call::Receive(b'\r');
+    vec![Row::new(
+        "receive, CR of F> after five proposals",
+        cr,
+        states::five_empty,
+        states::five_full,
+    )]
 }
 
 /// A session in a state, and what a call changes of session memory there.
@@ -57,10 +134,10 @@ struct Player {
 }
 
 impl Player {
-    fn new(end: Library, call: Call) -> Player {
-        let mut player = Player { end, call, changes: Vec::new() };
+    fn new(end: Library, row: &Row) -> Player {
+        let mut player = Player { end, call: row.call, changes: Vec::new() };
         let before = player.end.mark();
-        assert_eq!(player.call(), Reply::ok(1));
+        assert_eq!(player.call(), row.reply, "{}", row.name);
         let after = player.end.mark();
         let changed = (0..before.len()).filter(|&at| before[at] != after[at]);
         player.changes = changed.map(|at| (at, before[at])).collect();
@@ -88,131 +165,6 @@ impl Player {
     }
 }
 
-/// The called station after the partner's SID.
-fn opened(host: Buffers) -> Library {
-    let mut end = Library::open(host);
-    end.say();
-    end.hear(SID);
-    end
-}
-
-fn line_empty() -> Library {
-    opened(Buffers::new(0, 0))
-}
-
-fn fq_waits() -> Library {
-    let mut end = line_empty();
-    end.hear(b"FF\r");
-    end
-}
-
-fn data_empty() -> Library {
-    let mut end = opened(Buffers::new(1, LITTLE.len()));
-    begin_last(&mut end);
-    end
-}
-
-/// A proposal without CR, its fields as long as they may be.
-fn proposal(who: char, number: usize, size: usize) -> Vec<u8> {
-    let at = "FC1GHV.FFPC.FRA.EU.WORLD.EARTH.SUN.GAL";
-    format!("FA B {who}6FBB0 {at} {who}LLALL {number:05}_{who}6FBB0 {size}").into_bytes()
-}
-
-/// As many records, known BIDs and places as there may be, the records with the
-/// longest title and body. Announced sizes make blocks of five and two of two
-/// records, so that after 13 turns of ours five are left.
-fn full_host() -> Buffers {
-    let mut host = Buffers::new(MESSAGE_LIMIT, MESSAGE_LIMIT * LITTLE.len());
-    let (title, body) = (vec![b't'; 80], body());
-    for place in 0..RECORD_LIMIT {
-        let size = if place == 56 || place == 58 { 999_999 } else { 1 };
-        host.add(&Letter::new(Mode::Framed, &proposal('O', place, size), &title, &body));
-    }
-    for place in 0..KNOWN_LIMIT {
-        host.know(format!("{place:05}_KNOWN0").as_bytes());
-    }
-    host
-}
-
-/// The partner proposes these messages, and we answer with so many signs.
-fn block(end: &mut Library, numbers: std::ops::Range<usize>, answer: &[u8]) {
-    for number in numbers {
-        end.hear(&proposal('T', number, LITTLE.len()));
-        end.hear(b"\r");
-    }
-    end.hear(b"F>\r");
-    assert!(end.say().starts_with(answer));
-}
-
-/// We propose; the partner defers it all.
-fn deferred(end: &mut Library) {
-    let said = end.say();
-    let records = said.iter().filter(|&&byte| byte == b'\r').count() - 1;
-    end.hear(b"FS ");
-    end.hear(&b"====="[..records]);
-    end.hear(b"\r");
-}
-
-/// The last message of the inbox is proposed, and its body begun.
-fn begin_last(end: &mut Library) {
-    block(end, 63..64, b"FS +\r");
-    let text = transfer(Mode::Framed, &[b't'; 80], LITTLE);
-    end.hear(&text[..text.len() - 4]);
-}
-
-/// Messages kept up to a count, and the partner's turn awaited.
-fn kept(count: usize) -> Library {
-    let mut end = opened(full_host());
-    let text = transfer(Mode::Framed, &[b't'; 80], LITTLE);
-    for first in (0..count).step_by(5) {
-        let numbers = first..count.min(first + 5);
-        let text = text.repeat(numbers.len());
-        block(&mut end, numbers, b"FS +");
-        end.hear(&text);
-        deferred(&mut end);
-    }
-    end
-}
-
-fn line_full() -> Library {
-    kept(MESSAGE_LIMIT)
-}
-
-fn data_full() -> Library {
-    let mut end = kept(MESSAGE_LIMIT - 1);
-    begin_last(&mut end);
-    end
-}
-
-/// No place is free for what the partner proposes: our FS line and block wait.
-fn block_waits() -> Library {
-    let mut end = kept(MESSAGE_LIMIT);
-    end.hear(&proposal('T', 64, 1));
-    end.hear(b"\rF>\r");
-    end
-}
-
-/// What is left of our five transfers to be given.
-enum LeftOf {
-    All,
-    Half,
-    Checksum,
-}
-
-fn transfers_wait(left: LeftOf) -> Library {
-    let mut end = block_waits();
-    assert_eq!(end.say().iter().filter(|&&byte| byte == b'\r').count(), 7);
-    end.hear(b"FS +++++\r");
-    let one = transfer(Mode::Framed, &[b't'; 80], &body()).len();
-    let given = match left {
-        LeftOf::All => 0,
-        LeftOf::Half => 5 * one - one / 2,
-        LeftOf::Checksum => 5 * one - 1,
-    };
-    assert_eq!(end.give(&mut vec![0; given]), Reply::ok(given));
-    end
-}
-
 /// Plays a row so many times, for a tool that counts what is done.
 pub fn play(row: &Row, side: &str, times: usize) -> bool {
     let end = match side {
@@ -220,22 +172,26 @@ pub fn play(row: &Row, side: &str, times: usize) -> bool {
         "full" => (row.full)(),
         _ => return false,
     };
-    Player::new(end, row.call).play(times as u32);
+    Player::new(end, row).play(times as u32);
     true
 }
 
 pub fn run() {
     println!("A call with one byte, in nanoseconds: empty, and with {RECORD_LIMIT} records,");
-    println!(
-        "{KNOWN_LIMIT} known BIDs and an inbox of {MESSAGE_LIMIT} places, all or all but one kept."
-    );
-    println!("{:<38} {:>9} {:>9} {:>9}", "", "empty", "full", "ratio");
-    for row in rows() {
-        let mut empty = Player::new((row.empty)(), row.call);
-        let mut full = Player::new((row.full)(), row.call);
+    println!("{KNOWN_LIMIT} known BIDs and an inbox of {MESSAGE_LIMIT} places, as many kept as can be there.");
+    print(&form_test());
+    println!("\nThe same, at the byte where a block is answered: the work of answering.");
+    print(&answering());
+}
+
+fn print(rows: &[Row]) {
+    println!("{:<40} {:>9} {:>9} {:>9}", "", "empty", "full", "ratio");
+    for row in rows {
+        let mut empty = Player::new((row.empty)(), row);
+        let mut full = Player::new((row.full)(), row);
         let best = timing::in_turns([&mut || empty.play(BATCH), &mut || full.play(BATCH)]);
         let [empty, full] = best.map(|time| time / f64::from(BATCH) * 1e9);
         let ratio = full / empty;
-        println!("{:<38} {empty:>9.0} {full:>9.0} {ratio:>9.2}", row.name);
+        println!("{:<40} {empty:>9.0} {full:>9.0} {ratio:>9.2}", row.name);
     }
 }

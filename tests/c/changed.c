@@ -9,14 +9,15 @@
 
 #include <unistd.h>
 
-#define HEADING_ROOM 80
 #define BODY_ROOM 600
 /* A session takes far fewer seconds, on however busy a machine. */
 #define PATIENCE 60
 
 static uint64_t seed = 0x46524E474D4F4C45u;
 static unsigned long session_number, call_number;
-static unsigned long calls, answers[13];
+static unsigned long calls, answers[FRINGEMOLE_ENDED + 1];
+/* Calls of receive without bytes. */
+static unsigned long empties;
 
 static void must(int right, const char *what)
 {
@@ -53,13 +54,13 @@ static void fill_table(struct fringemole_memory *m)
 
     m->table_len = records * FRINGEMOLE_RECORD_SIZE;
     m->table = lend(m->table_len);
-    m->titles = text(m->titles_len = HEADING_ROOM);
-    m->names = text(m->names_len = HEADING_ROOM);
+    m->titles = text(m->titles_len = FRINGEMOLE_MAX_HEADING);
+    m->names = text(m->names_len = FRINGEMOLE_MAX_HEADING);
     m->bodies = text(m->bodies_len = BODY_ROOM);
     for (i = 0; i < records; i++) {
         uint8_t *record = m->table + i * FRINGEMOLE_RECORD_SIZE;
         uint8_t form = once_in(4) ? (uint8_t)below(3) : mode;
-        size_t heading = 1 + below(HEADING_ROOM), body = below(BODY_ROOM + 1);
+        size_t heading = 1 + below(FRINGEMOLE_MAX_HEADING), body = below(BODY_ROOM + 1);
         put_record(record, form, "", heading, body);
         put_bid(record, FRINGEMOLE_RECORD_BID, "%u_OURS", i);
     }
@@ -153,19 +154,19 @@ static void only_changed(const struct fringemole_memory *m, const struct before 
 
 /* Nobody has written since a call that didn't answer 1. */
 static int intact;
-/* A call ended the session, and nobody has written since. */
+/* A call ended the session or found it ended, and nobody has written since. */
 static int over;
 
 static void check_reply(struct fringemole_reply reply, size_t most)
 {
     calls++;
     call_number++;
-    must(reply.answer <= 12, "no such answer");
+    must(reply.answer <= FRINGEMOLE_ENDED, "no such answer");
     answers[reply.answer]++;
-    must(reply.place == (reply.answer == 1 ? 255 : 0), "a wrong place");
+    must(reply.place == (reply.answer == FRINGEMOLE_BAD_MEMORY ? FRINGEMOLE_NO_RECORD : 0), "a wrong place");
     must(reply.count <= most, "more bytes than there are");
-    must(reply.answer != 1 || !intact, "1 on memory as the last call left it");
-    must((reply.answer != 1 && reply.answer != 12) || reply.count == 0, "a count with 1 or 12");
+    must(reply.answer != FRINGEMOLE_BAD_MEMORY || !intact, "1 on memory as the last call left it");
+    must((reply.answer != FRINGEMOLE_BAD_MEMORY && reply.answer != FRINGEMOLE_ENDED) || reply.count == 0, "a count with 1 or 12");
 }
 
 static void give(struct fringemole_memory *m, size_t room, size_t place)
@@ -180,13 +181,14 @@ static void give(struct fringemole_memory *m, size_t room, size_t place)
     }
     reply = fringemole_give_in(m, buffer, room, place);
     check_reply(reply, most);
-    must(reply.answer <= 1, "give refused");
-    must(!over || reply.count == 0, "bytes given after a refusal");
+    must(reply.answer <= FRINGEMOLE_BAD_MEMORY, "give refused");
+    must(!over || reply.count == 0, "bytes given on an ended session");
     for (i = 0; i < room; i++) {
         must(buffer[i] == 0xA5 || (place <= i && i < place + reply.count), "give wrote outside its count");
     }
-    only_changed(m, &copy, reply.answer == 1 || most == 0 ? 0 : SESSION_ONLY);
-    intact = reply.answer != 1;
+    /* "Give on an ended session writes nothing": not into session memory either. */
+    only_changed(m, &copy, reply.answer == FRINGEMOLE_BAD_MEMORY || most == 0 || over ? 0 : SESSION_ONLY);
+    intact = reply.answer != FRINGEMOLE_BAD_MEMORY;
     free(buffer);
     forget(&copy);
 }
@@ -203,17 +205,17 @@ static int receive(struct fringemole_memory *m, const uint8_t *bytes, size_t n)
     }
     reply = fringemole_receive_in(m, portion, n);
     check_reply(reply, n);
-    must(!over || reply.answer == 12, "no 12 on an ended session");
-    must(reply.answer < 2 || reply.answer == 12 || reply.count > 0, "a refusal without its byte");
-    only_changed(m, &copy, reply.answer == 1 || reply.answer == 12 || n == 0 ? 0 : BY_RECEIVE);
-    intact = reply.answer != 1;
-    /* Everything is consumed but where the session ends on the way. 12 ends nothing: on memory that somebody wrote bytes may still wait. */
-    if (reply.answer != 12) {
-        over = reply.answer > 1 || (reply.answer == 0 && reply.count < n);
-    }
+    must(!over || reply.answer == FRINGEMOLE_ENDED, "no 12 on an ended session");
+    must(reply.answer <= FRINGEMOLE_BAD_MEMORY || reply.answer == FRINGEMOLE_ENDED || reply.count > 0, "a refusal without its byte");
+    /* 12: "nothing consumed, nothing changed". "Receiving no bytes on a live session answers 0 and changes nothing." */
+    only_changed(m, &copy, reply.answer == FRINGEMOLE_BAD_MEMORY || reply.answer == FRINGEMOLE_ENDED || n == 0 ? 0 : BY_RECEIVE);
+    intact = reply.answer != FRINGEMOLE_BAD_MEMORY;
+    /* "Receive consumes every byte lent to it, unless it answers 1 or 12 or the session ends on the way". */
+    over = reply.answer > FRINGEMOLE_BAD_MEMORY || (reply.answer == FRINGEMOLE_OK && reply.count < n);
+    empties += n == 0;
     free(portion);
     forget(&copy);
-    return reply.answer == 0 && !over;
+    return reply.answer == FRINGEMOLE_OK && !over;
 }
 
 /* ---- what somebody writes */
@@ -264,6 +266,9 @@ static void step(struct fringemole_memory *m)
         size_t place = below(4);
         give(m, once_in(8) ? below(8) : 5000 + place, place);
     }
+    if (once_in(3)) {
+        receive(m, NULL, 0);
+    }
     say_next(m->session);
     for (done = 0; goes_on && done < said_len; done += portion) {
         goes_on = receive(m, said + done, said_len - done < portion ? said_len - done : portion);
@@ -279,7 +284,7 @@ static void play(void)
     struct fringemole_reply reply = fringemole_open_in(&m, (uint8_t)below(2));
     size_t quiet = below(12), changed = 5 + below(20);
 
-    must(reply.answer == 0 && reply.place == 0 && reply.count == 0, "open refused good memory");
+    must(reply.answer == FRINGEMOLE_OK && reply.place == 0 && reply.count == 0, "open refused good memory");
     intact = 1;
     over = 0;
     fresh = 0;
@@ -308,11 +313,12 @@ int main(int argc, char **argv)
         stream = seed + session_number * 0xD1342543DE82EF95u;
         play();
     }
-    printf("c: changed memory: seed 0x%llx, %lu sessions, %lu calls; answers", (unsigned long long)seed, sessions, calls);
-    for (i = 0; i <= 12; i++) {
-        printf(" %lu: %lu%s", i, answers[i], i < 12 ? "," : "\n");
+    printf("c: changed memory: seed 0x%llx, %lu sessions, %lu calls, %lu of them receive without bytes; answers",
+        (unsigned long long)seed, sessions, calls, empties);
+    for (i = 0; i <= FRINGEMOLE_ENDED; i++) {
+        printf(" %lu: %lu%s", i, answers[i], i < FRINGEMOLE_ENDED ? "," : "\n");
     }
-    for (i = 0; sessions >= 1000 && i <= 12; i++) {
+    for (i = 0; sessions >= 1000 && i <= FRINGEMOLE_ENDED; i++) {
         if (answers[i] == 0) {
             puts("c: changed memory: a number never came");
             return 1;

@@ -73,7 +73,7 @@ static inline void put_record(uint8_t *record, uint8_t form, const char *bid, si
     put_field(record, FRINGEMOLE_RECORD_TO, "FC1MVP");
     put_field(record, FRINGEMOLE_RECORD_BID, bid);
     put_number(record, FRINGEMOLE_RECORD_SIZE_FIELD, 4, body);
-    put_number(record, form == 2 ? FRINGEMOLE_RECORD_NAME_LEN : FRINGEMOLE_RECORD_TITLE_LEN, 1, heading);
+    put_number(record, form == FRINGEMOLE_PACKED_FILE ? FRINGEMOLE_RECORD_NAME_LEN : FRINGEMOLE_RECORD_TITLE_LEN, 1, heading);
     put_number(record, FRINGEMOLE_RECORD_BODY_LEN, 2, body);
 }
 

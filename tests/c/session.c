@@ -2,8 +2,6 @@
  * framed messages, with us called and calling. One line a step; exit status 1 at the first difference. */
 #include "lent.h"
 
-#define CALLED 0
-#define CALLER 1
 #define PLACES 2
 #define ROOM 8
 #define TAKEN "1_THEM"
@@ -156,7 +154,7 @@ static void whole_session(void)
     struct fringemole_memory m = memory_with(0, 0);
 
     puts("# 01's whole session");
-    opens(&m, CALLED, FRINGEMOLE_OK, 0);
+    opens(&m, FRINGEMOLE_CALLED, FRINGEMOLE_OK, 0);
     SAYS(&m, "[NOD-1-BFH$]\r>\r");
     HEARS(&m, "");
     HEARS(&m, "[TST-1-F$]\rFF\r");
@@ -171,14 +169,14 @@ static void plain_exchange(void)
     struct fringemole_memory m = memory_with(PLACES, ROOM);
 
     puts("# plain messages, called");
-    one_record(&m, 0);
+    one_record(&m, FRINGEMOLE_PLAIN_TEXT);
     put_known(&m, "9_KNOWN");
-    opens(&m, CALLED, FRINGEMOLE_OK, 0);
+    opens(&m, FRINGEMOLE_CALLED, FRINGEMOLE_OK, 0);
     SAYS(&m, "[NOD-1-BFH$]\r>\r");
     HEARS(&m, "[TST-1-F$]\r\nFB B FC1GHV F6FBB.FRA ALL 1_THEM 2\r\nfb p A B C 9_KNOWN 2\rF>\r");
     SAYS(&m, "FS +-\r");
     HEARS(&m, "\nHI\rAB\x1A \r\n");
-    stands("one plain message kept", one_message(&m, 0));
+    stands("one plain message kept", one_message(&m, FRINGEMOLE_PLAIN_TEXT));
     SAYS(&m, "FB P F6FBB FC1GHV FC1MVP 1_F6FBB 2\rF>\r");
     HEARS(&m, "; hello\rFS +\r");
     SAYS(&m, "HI\rAB\x1A\r");
@@ -196,8 +194,8 @@ static void framed_exchange(void)
     struct fringemole_memory m = memory_with(PLACES, ROOM);
 
     puts("# framed messages, calling");
-    one_record(&m, 1);
-    opens(&m, CALLER, FRINGEMOLE_OK, 0);
+    one_record(&m, FRINGEMOLE_PACKED_MESSAGE);
+    opens(&m, FRINGEMOLE_CALLER, FRINGEMOLE_OK, 0);
     SAYS(&m, "");
     HEARS(&m, "[TST-1-B1F$]\rwelcome\r>\r");
     SAYS(&m, "[NOD-1-BFH$]\rFA P F6FBB FC1GHV FC1MVP 1_F6FBB 2\rF>\r");
@@ -207,7 +205,7 @@ static void framed_exchange(void)
     stands("forwarded", m.table[FRINGEMOLE_RECORD_STATE] == 1);
     SAYS(&m, "FS +=\r");
     HEARS(&m, "\x01\x05HI\x00\x30\x00\x02\x02" "AB\x04\x7D");
-    stands("one packed message kept", one_message(&m, 1));
+    stands("one packed message kept", one_message(&m, FRINGEMOLE_PACKED_MESSAGE));
     SAYS(&m, "FF\r");
     hears(&m, BYTES("FQ\r\n"), FRINGEMOLE_OK, 3);
     take_back(&m);
@@ -220,14 +218,14 @@ static void refusals(void)
     uint8_t buffer[2] = { 0xA5, 0xA5 };
 
     puts("# refusals");
-    one_record(&m, 0);
-    opens(&m, 2, FRINGEMOLE_BAD_MEMORY, 255);
+    one_record(&m, FRINGEMOLE_PLAIN_TEXT);
+    opens(&m, 2, FRINGEMOLE_BAD_MEMORY, FRINGEMOLE_NO_RECORD);
     m.table[FRINGEMOLE_RECORD_TYPE] = 'T';
-    opens(&m, CALLED, FRINGEMOLE_BAD_MEMORY, 0);
+    opens(&m, FRINGEMOLE_CALLED, FRINGEMOLE_BAD_MEMORY, 0);
     m.table[FRINGEMOLE_RECORD_TYPE] = 'B';
-    opens(&m, CALLED, FRINGEMOLE_OK, 0);
+    opens(&m, FRINGEMOLE_CALLED, FRINGEMOLE_OK, 0);
     m.store_len -= 1;
-    stands("another size", is(fringemole_give_in(&m, buffer, 2, 0), FRINGEMOLE_BAD_MEMORY, 255, 0));
+    stands("another size", is(fringemole_give_in(&m, buffer, 2, 0), FRINGEMOLE_BAD_MEMORY, FRINGEMOLE_NO_RECORD, 0));
     m.store_len += 1;
     stands("a place beyond the end", is(fringemole_give_in(&m, buffer, 2, 3), FRINGEMOLE_OK, 0, 0));
     stands("nothing written", buffer[0] == 0xA5 && buffer[1] == 0xA5);

@@ -159,23 +159,23 @@ static void tear_down(void)
 /* Each side proposes; of ours three are accepted and sent, the partner's two are kept; then the partner is refused. */
 static void exchange(uint8_t as, uint8_t form, size_t portion)
 {
-    const char *transfer = form == 0 ? "HI\rAB\x1A\r" : "\x01\x05HI\x00\x30\x00\x02\x02" "AB\x04\x7D";
-    size_t i, length = form == 0 ? 7 : 13;
+    const char *transfer = form == FRINGEMOLE_PLAIN_TEXT ? "HI\rAB\x1A\r" : "\x01\x05HI\x00\x30\x00\x02\x02" "AB\x04\x7D";
+    size_t i, length = form == FRINGEMOLE_PLAIN_TEXT ? 7 : 13;
 
     set_up(form);
     role = as;
     measure(&opens, open_here);
     must(reply.answer == FRINGEMOLE_OK, "open refused");
-    says(portion, as == 0 ? "[NOD-1-BFH$]\r>\r" : "");
-    hears(form == 0 ? "[TST-1-AFHM1$]\r" : "[TST-1-B1FHM$]\r", 15, portion, FRINGEMOLE_OK);
-    if (as == 0) {
+    says(portion, as == FRINGEMOLE_CALLED ? "[NOD-1-BFH$]\r>\r" : "");
+    hears(form == FRINGEMOLE_PLAIN_TEXT ? "[TST-1-AFHM1$]\r" : "[TST-1-B1FHM$]\r", 15, portion, FRINGEMOLE_OK);
+    if (as == FRINGEMOLE_CALLED) {
         HEARS("; hello\rFF\r");
     } else {
         HEARS("welcome\r>\r");
     }
-    says(portion, as == 0 ? "F" : "[NOD-1-BFH$]\rF");
+    says(portion, as == FRINGEMOLE_CALLED ? "F" : "[NOD-1-BFH$]\rF");
     HEARS("FS +++-=\r\n");
-    says(portion, form == 0 ? "t" : "\x01\x53t");
+    says(portion, form == FRINGEMOLE_PLAIN_TEXT ? "t" : "\x01\x53t");
     HEARS("FB P F6FBB0 FC1GHV.FFPC.FRA.EU ALLALL 1_T 2\rFB B F6FBB FC1GHV ALL 2_T 2\rF>\r");
     says(portion, "FS ++\r");
     for (i = 0; i < 2; i++) {

@@ -79,8 +79,8 @@ def main():
     selected = chosen(options)
     if options.skip:
         for name, _, _ in selected:
-            print(f"interop: {name}: SKIPPED")
-        print(f"interop: SKIPPED: {options.skip}")
+            print(f"interop: {name}: skipped")
+        print(f"interop: skipped: {options.skip}")
         return 0
     start = time.monotonic()
     with tempfile.TemporaryDirectory(prefix="interop.") as folder:

@@ -84,7 +84,7 @@ fn hear(pair: &mut Pair, bytes: &[u8], portion: usize) -> Checked<u8> {
         pair.demand_3()?;
         match reply.answer {
             0 => {}
-            // Reading 8: what follows FQ, an LF included, is not read.
+            // DECISIONS 40: what follows FQ, an LF included, is not read.
             12 => return Ok(0),
             refused => return Ok(refused),
         }

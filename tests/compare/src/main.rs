@@ -19,10 +19,10 @@ mod turns;
 mod writers;
 
 use compare::random::Random;
+use inputs::seed;
 use report::{Checked, Tally};
 use run::Run;
 use std::process::ExitCode;
-use std::time::{SystemTime, UNIX_EPOCH};
 
 const USAGE: &str = "compare [--seed N] [--count N] | --examples
   --seed N     repeat the run of this seed (as printed at its start)
@@ -75,25 +75,12 @@ struct Options {
     examples: bool,
 }
 
-/// A number in decimal, or in hex after 0x.
-fn number(word: &str) -> Option<u64> {
-    match word.strip_prefix("0x") {
-        Some(hex) => u64::from_str_radix(hex, 16).ok(),
-        None => word.parse().ok(),
-    }
-}
-
-fn clock_seed() -> u64 {
-    let since = SystemTime::now().duration_since(UNIX_EPOCH);
-    since.map_or(1, |time| time.as_nanos() as u64)
-}
-
 fn options(mut words: impl Iterator<Item = String>) -> Option<Options> {
-    let mut options = Options { seed: clock_seed(), count: 100_000, examples: false };
+    let mut options = Options { seed: seed::by_the_clock(), count: 100_000, examples: false };
     while let Some(word) = words.next() {
         match word.as_str() {
-            "--seed" => options.seed = number(&words.next()?)?,
-            "--count" => options.count = number(&words.next()?)?,
+            "--seed" => options.seed = seed::number(&words.next()?)?,
+            "--count" => options.count = seed::number(&words.next()?)?,
             "--examples" => options.examples = true,
             _ => return None,
         }

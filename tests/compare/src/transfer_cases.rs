@@ -136,7 +136,7 @@ fn bodies(run: &mut Run, length: usize) -> Checked {
     Ok(())
 }
 
-/// Reading 31: after 65,535 bytes, and in a full store, an 02 and its n are
+/// DECISIONS 20: after 65,535 bytes, and in a full store, an 02 and its n are
 /// taken and the data byte is refused.
 fn full_store(run: &mut Run) -> Checked {
     for length in [0, 1, 256, BODY_LIMIT] {

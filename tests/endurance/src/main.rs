@@ -11,8 +11,9 @@ mod station;
 
 use fuzz::report::Checked;
 use inputs::random::Random;
+use inputs::seed;
 use std::process::ExitCode;
-use std::time::{Instant, SystemTime, UNIX_EPOCH};
+use std::time::Instant;
 
 const USAGE: &str = "endurance hour|random|nodes [--count N] [--seed N]
   hour    an hour of 9,600 bit/s traffic between two of our nodes (N: bytes)
@@ -26,25 +27,16 @@ struct Options {
 }
 
 fn options(mut words: impl Iterator<Item = String>) -> Option<Options> {
-    let since = SystemTime::now().duration_since(UNIX_EPOCH);
-    let seed = since.map_or(1, |time| time.as_nanos() as u64);
+    let seed = seed::by_the_clock();
     let mut options = Options { what: words.next()?, count: None, seed };
     while let Some(word) = words.next() {
         match word.as_str() {
             "--count" => options.count = Some(words.next()?.parse().ok()?),
-            "--seed" => options.seed = number(&words.next()?)?,
+            "--seed" => options.seed = seed::number(&words.next()?)?,
             _ => return None,
         }
     }
     matches!(options.what.as_str(), "hour" | "random" | "nodes").then_some(options)
-}
-
-/// A number in decimal, or in hex after 0x.
-fn number(word: &str) -> Option<u64> {
-    match word.strip_prefix("0x") {
-        Some(hex) => u64::from_str_radix(hex, 16).ok(),
-        None => word.parse().ok(),
-    }
 }
 
 /// What was done, or what went wrong.

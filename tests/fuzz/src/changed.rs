@@ -1,7 +1,7 @@
-//! The second kind of run: somebody else writes into session memory, table and
+//! The third kind of run: somebody else writes into session memory, table and
 //! inbox between calls. Every call must still answer, and do no harm.
 
-use crate::form::{self, Verdict};
+use crate::form;
 use crate::guarded::Guarded;
 use crate::lent::{Memory, INBOX, SESSION, STORE, TABLE};
 use crate::library;
@@ -12,17 +12,41 @@ use inputs::random::Random;
 use inputs::{byte, damaged, fs_line, line, proposal_fields, short_turn_line, sid, spaced};
 use second::layout::RECORD_BYTES;
 use second::session::Reply;
+use std::fmt::{self, Display};
 
 /// What these runs have seen.
 #[derive(Debug, Default)]
 pub struct Changed {
     pub sessions: u64,
     pub calls: u64,
-    /// Calls that answered 1.
-    pub ones: u64,
-    /// Calls whose memory the page decides to fail, and to pass.
-    pub failing: u64,
-    pub passing: u64,
+    /// Calls that answered 1, by the item of the form test that says so.
+    pub ones: [u64; 6],
+    /// Calls of receive without bytes on memory that passes it.
+    pub empty: u64,
+}
+
+impl Changed {
+    /// What a long enough run must have met and this one has not.
+    pub fn never_met(&self) -> Vec<String> {
+        let item = |(place, _): (usize, &u64)| format!("form test: item {}", place + 1);
+        let items = self.ones.iter().enumerate().filter(|(_, times)| **times == 0).map(item);
+        let empty = (self.empty == 0).then(|| "changed memory: receive without bytes".to_owned());
+        items.chain(empty).collect()
+    }
+}
+
+impl Display for Changed {
+    fn fmt(&self, f: &mut fmt::Formatter<'_>) -> fmt::Result {
+        let Changed {
+            sessions,
+            calls,
+            ones: [mark, sizes, counts, messages, awaited, waits],
+            empty,
+        } = self;
+        writeln!(f, "  {sessions} sessions, {calls} calls, {empty} of them receive without bytes")?;
+        write!(f, "  answered 1 by item 1: {mark}, 2: {sizes}, 3: {counts}, 4: {messages}, ")?;
+        writeln!(f, "5: {awaited}, 6: {waits}")
+    }
 }
 
 /// The library alone, on memory that changes under it.
@@ -30,6 +54,8 @@ struct Alone<'a> {
     random: &'a mut Random,
     seen: &'a mut Changed,
     memory: Memory,
+    /// As the last call left it that did not answer 1.
+    good: Memory,
     history: History,
     /// The last call did not answer 1 and nobody has written since.
     intact: bool,
@@ -53,8 +79,9 @@ pub fn run(random: &mut Random, tally: &mut Tally, seen: &mut Changed) -> Checke
     }
     seen.sessions += 1;
     let (memory, history) = driver.into_pair().into_lent();
+    let good = memory.clone();
     let mut alone =
-        Alone { random, seen, memory, history, intact: true, over: false, empty: false };
+        Alone { random, seen, memory, good, history, intact: true, over: false, empty: false };
     for _ in 0..alone.random.within(5, 30) {
         alone.step()?;
     }
@@ -63,6 +90,7 @@ pub fn run(random: &mut Random, tally: &mut Tally, seen: &mut Changed) -> Checke
 
 impl Alone<'_> {
     fn step(&mut self) -> Checked {
+        self.mend();
         if !self.random.once_in(3) {
             for _ in 0..self.random.pick(&[1, 1, 1, 2, 5]) {
                 self.write();
@@ -71,6 +99,17 @@ impl Alone<'_> {
         match self.random.once_in(2) {
             true => self.receive(),
             false => self.give(),
+        }
+    }
+
+    /// Takes back what made a call answer 1, mostly, so that others get further.
+    fn mend(&mut self) {
+        if self.intact {
+            self.good = self.memory.clone();
+        } else if !self.random.once_in(4) {
+            self.memory = self.good.clone();
+            self.history.begin(Call::Mend);
+            self.intact = true;
         }
     }
 
@@ -95,25 +134,33 @@ impl Alone<'_> {
     fn session_field(&mut self) -> (usize, Vec<u8>) {
         let small = self.random.pick(&[0, 0, 1, 2, 3, 4, 5, 6, 7, 63, 64, 80, 81, 88, 255]);
         let large = self.random.pick(&[0, 1, 255, 256, 257, 65_535, 65_536, usize::MAX]);
-        match self.random.below(8) {
+        match self.random.below(11) {
             0 => {
-                let at = self.random.pick(&[form::LINE_BYTES, 94]);
+                let at = self.random.pick(&[form::LINE_BYTES, form::BLOCK_LEFT]);
                 (at, large.to_le_bytes()[..2].to_vec())
             }
             1 => (form::BODY_BYTES, large.to_le_bytes()[..4].to_vec()),
-            2 => (self.random.pick(&[100, form::USED]), large.to_le_bytes().to_vec()),
-            3 => (self.random.within(116, 179), vec![small]),
-            4 => (self.random.within(516, 875), vec![byte(self.random)]),
+            2 => (self.random.pick(&[form::GIVEN, form::USED]), large.to_le_bytes().to_vec()),
+            3 => (self.random.within(form::DEFERRED, form::DEFERRED + 63), vec![small]),
+            4 => (self.random.within(form::BLOCK, 875), vec![byte(self.random)]),
             5 => (form::AWAITED, vec![small]),
+            6 => (form::SIGNS + self.random.within(1, 5), vec![self.random.pick(b"+++-=")]),
+            7 => (form::GIVEN, self.near(form::waiting(&self.memory).len()).to_vec()),
+            8 => (form::BODY_BYTES, self.near(form::room(&self.memory))[..4].to_vec()),
             _ => (self.random.within(form::AWAITED, 91), vec![small]),
         }
+    }
+
+    /// A number just below a limit, at it, or just above.
+    fn near(&mut self, limit: usize) -> [u8; 8] {
+        (limit + self.random.below(3)).saturating_sub(1).to_le_bytes()
     }
 
     /// Bytes of the kind that the library awaits, as its memory says.
     fn bytes(&mut self) -> Vec<u8> {
         let session = self.memory.part(SESSION);
         let (awaited, proposed) = (session[form::AWAITED], session[form::PROPOSED]);
-        let framed = session[62] != 0;
+        let framed = session[form::FRAMED] == 1;
         let random = &mut *self.random;
         let mut bytes = match awaited {
             0 | 1 => sid(random),
@@ -129,9 +176,10 @@ impl Alone<'_> {
             _ => line(random),
         };
         bytes.push(b'\r');
-        match random.below(4) {
+        match random.below(6) {
             0 => damaged(random, bytes),
-            1 => bytes[..random.below(bytes.len() + 1)].to_vec(),
+            1 => Vec::new(),
+            2 => bytes[..random.below(bytes.len() + 1)].to_vec(),
             _ => bytes,
         }
     }
@@ -139,17 +187,22 @@ impl Alone<'_> {
     fn receive(&mut self) -> Checked {
         let bytes = self.bytes();
         self.history.begin(Call::Receive { bytes: bytes.clone(), resize: None });
-        let (before, verdict) = (self.memory.clone(), form::verdict(&self.memory));
+        let (before, failed) = (self.memory.clone(), form::failed(&self.memory));
         let reply = library::receive(self.memory.lend(None), &bytes);
         let may_change = [SESSION, TABLE, INBOX, STORE];
-        self.check(reply, verdict, &before, &may_change, bytes.len())?;
+        self.check(reply, failed, &before, &may_change, bytes.len())?;
         if self.intact && self.over && reply.answer != 12 {
             return self.differs("an ended session did not answer 12");
         }
         if reply.answer == 12 && reply.count != 0 {
             return self.differs("12 with a count");
         }
-        if matches!(reply.answer, 1 | 12) {
+        if bytes.is_empty() && !matches!(reply.answer, 0 | 1 | 12) {
+            return self.differs("no bytes were refused");
+        }
+        // "Receiving no bytes on a live session answers 0 and changes nothing."
+        self.seen.empty += u64::from(bytes.is_empty() && reply.answer != 1);
+        if matches!(reply.answer, 1 | 12) || bytes.is_empty() {
             self.unchanged(&before)?;
         }
         self.intact = reply.answer != 1;
@@ -164,15 +217,16 @@ impl Alone<'_> {
     fn give(&mut self) -> Checked {
         let (room, place) = (self.random.below(300), self.random.below(20));
         self.history.begin(Call::Give { room, place, resize: None });
-        let (before, verdict) = (self.memory.clone(), form::verdict(&self.memory));
+        let (before, failed) = (self.memory.clone(), form::failed(&self.memory));
         let mut buffer = Guarded::new(self.random, &vec![0xA5; room]);
         let mut expected = buffer.clone();
         let reply = library::give(self.memory.lend(None), buffer.part_mut(), place);
-        self.check(reply, verdict, &before, &[SESSION], room.saturating_sub(place))?;
+        self.check(reply, failed, &before, &[SESSION], room.saturating_sub(place))?;
         if reply.answer > 1 {
             return self.differs("give answered more than 1");
         }
-        if reply.answer == 1 {
+        // "Give on an ended session writes nothing"; nothing given, nothing changed.
+        if reply.answer == 1 || reply.count == 0 {
             self.unchanged(&before)?;
         }
         if self.intact && self.empty && reply.count > 0 {
@@ -194,21 +248,21 @@ impl Alone<'_> {
     fn check(
         &mut self,
         reply: Reply,
-        verdict: Verdict,
+        failed: Option<usize>,
         before: &Memory,
         may_change: &[usize],
         most: usize,
     ) -> Checked {
         self.history.end(reply);
         self.seen.calls += 1;
-        self.seen.ones += u64::from(reply.answer == 1);
-        self.seen.failing += u64::from(verdict == Verdict::Fails);
-        self.seen.passing += u64::from(verdict == Verdict::Passes);
-        self.check_reply(reply, verdict, most)?;
+        self.check_reply(reply, failed, most)?;
+        if let Some(item) = failed {
+            self.seen.ones[item - 1] += 1;
+        }
         self.check_memory(reply, before, may_change)
     }
 
-    fn check_reply(&self, reply: Reply, verdict: Verdict, most: usize) -> Checked {
+    fn check_reply(&self, reply: Reply, failed: Option<usize>, most: usize) -> Checked {
         let one = reply.answer == 1;
         let (place, most) = if one { (255, 0) } else { (0, most) };
         if reply.answer > 12 || reply.place != place || reply.count > most {
@@ -217,8 +271,10 @@ impl Alone<'_> {
         if one && self.intact {
             return self.differs("1 on memory as the last call left it");
         }
-        if one != (verdict == Verdict::Fails) && verdict != Verdict::Undecided {
-            return self.differs(&format!("the form test {verdict:?}"));
+        // "answer 1 [...] exactly if a lent size isn't the one open kept in session
+        // memory or the lent memory fails a form test"
+        if one != failed.is_some() {
+            return self.differs(&format!("the form test fails at {failed:?}"));
         }
         Ok(())
     }
@@ -238,7 +294,7 @@ impl Alone<'_> {
         }
         // "What an accepted open leaves passes it, and so does what a receive or
         // give leaves that doesn't answer 1, on whatever memory".
-        if reply.answer != 1 && form::verdict(&self.memory) == Verdict::Fails {
+        if reply.answer != 1 && form::failed(&self.memory).is_some() {
             return self.differs("the call left memory that fails the form test");
         }
         Ok(())

@@ -1,10 +1,14 @@
-//! The third kind of run: every session of the papers, the link dropped after
-//! every byte of either side, in portions of every size below.
+//! The first kind of run: every session of the papers, the link dropped after
+//! every byte of either side, in portions of every size below. The library is
+//! held to the second implementation and to what the paper says itself.
 
 use crate::pair::Pair;
 use crate::report::Checked;
 use inputs::random::Random;
-use second::examples::{self, Example, Said};
+use second::examples::{self, Example, Said, Taken};
+use second::layout::RECORD_BYTES;
+use second::log::{Kept, Side};
+use second::session::Reply;
 
 const PORTIONS: [usize; 5] = [1, 2, 3, 7, 64];
 
@@ -31,6 +35,7 @@ pub fn run(random: &mut Random) -> Checked<Cuts> {
 fn play(random: &mut Random, example: &Example, portion: usize, cuts: &mut Cuts) -> Checked {
     let mut pair = Pair::new(random, &example.buffers());
     pair.open(example.role())?;
+    let mut answer = 0;
     for said in &example.script {
         let mut rest: &[u8] = match said {
             Said::Us(bytes) | Said::Partner(bytes) => bytes,
@@ -43,20 +48,53 @@ fn play(random: &mut Random, example: &Example, portion: usize, cuts: &mut Cuts)
                 drop_link(&mut cut)?;
                 cuts.cuts += 1;
             }
-            go_on(random, &mut pair, said, part)?;
+            pair.must(answer == 0, "refused before the script ends")?;
+            let reply = go_on(random, &mut pair, said, part)?;
+            pair.must(reply.count == part.len(), "not the bytes of the script")?;
+            answer = reply.answer;
             pair.demand_3()?;
             rest = after;
         }
     }
+    pair.must(answer == example.answer, "not the answer of the script")?;
+    check_end(random, &mut pair, example)?;
     drop_link(&mut pair)?;
     cuts.cuts += 1;
     Ok(())
 }
 
-fn go_on(random: &mut Random, pair: &mut Pair, said: &Said, part: &[u8]) -> Checked {
+fn go_on(random: &mut Random, pair: &mut Pair, said: &Said, part: &[u8]) -> Checked<Reply> {
     match said {
-        Said::Us(_) => pair.give(random, (part.len(), 0), None).map(drop),
-        Said::Partner(_) => pair.receive(part, None).map(drop),
+        Said::Us(_) => pair.give(random, (part.len(), 0), None),
+        Said::Partner(_) => pair.receive(part, None),
+    }
+}
+
+/// What must stand at the end by the script alone: our bytes, states, inbox, and
+/// that the session is over.
+fn check_end(random: &mut Random, pair: &mut Pair, example: &Example) -> Checked {
+    let ours: Vec<u8> = example.script.iter().filter_map(ours).flatten().copied().collect();
+    let given = pair.second().map(|second| second.trace().bytes(Side::Us));
+    pair.must(given == Some(&ours), "not our bytes of the script")?;
+    let states: Vec<u8> = example.states.iter().map(|state| *state as u8).collect();
+    let table = pair.lent().table.chunks(RECORD_BYTES);
+    pair.must(table.map(|record| record[0]).eq(states), "not the states of the script")?;
+    let kept = pair.library_kept().unwrap_or_default();
+    let same = |kept: &Kept, taken: &Taken| {
+        (&*kept.envelope.bid, &*kept.heading, &*kept.body) == (taken.0, taken.1, taken.2)
+    };
+    let all = kept.len() == example.inbox.len();
+    let all = all && kept.iter().zip(&example.inbox).all(|(kept, taken)| same(kept, taken));
+    pair.must(all, "not the inbox of the script")?;
+    let more = pair.give(random, (1, 0), None)?.count + pair.receive(b"", None)?.count;
+    let over = pair.receive(b"\n", None)?.answer == 12;
+    pair.must(more == 0 && over, "the session is not over")
+}
+
+fn ours(said: &Said) -> Option<&[u8]> {
+    match said {
+        Said::Us(bytes) => Some(bytes),
+        Said::Partner(_) => None,
     }
 }
 

@@ -9,10 +9,13 @@ use second::session::Lent;
 /// Places of the buffers in `Memory`, in the order of the C interface.
 pub const SESSION: usize = 0;
 pub const TABLE: usize = 1;
+pub const TITLES: usize = 2;
+pub const NAMES: usize = 3;
+pub const BODIES: usize = 4;
 pub const INBOX: usize = 6;
 pub const STORE: usize = 7;
 
-const NAMES: [&str; 8] = [
+const SAID: [&str; 8] = [
     "session memory",
     "table",
     "title store",
@@ -93,7 +96,7 @@ impl Memory {
         };
         Some(format!(
             "{} ({} bytes), byte {at} on: library \"{}\", expected \"{}\"",
-            NAMES[place],
+            SAID[place],
             self.part(place).len(),
             near(self),
             near(expected)

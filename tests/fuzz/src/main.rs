@@ -6,11 +6,12 @@
 
 use fuzz::changed::{self, Changed};
 use fuzz::report::Checked;
-use fuzz::tally::Tally;
+use fuzz::tally::{Tally, ENOUGH};
 use fuzz::{cuts, sessions, watch};
 use inputs::random::Random;
+use inputs::seed;
 use std::process::ExitCode;
-use std::time::{Duration, Instant, SystemTime, UNIX_EPOCH};
+use std::time::{Duration, Instant};
 
 const USAGE: &str = "fuzz [--seed N] [--sessions N] [--from N] [--minutes N] [--verbose]
   --seed N      repeat the run of this seed (as printed at its start)
@@ -30,28 +31,15 @@ struct Options {
     verbose: bool,
 }
 
-/// A number in decimal, or in hex after 0x.
-fn number(word: &str) -> Option<u64> {
-    match word.strip_prefix("0x") {
-        Some(hex) => u64::from_str_radix(hex, 16).ok(),
-        None => word.parse().ok(),
-    }
-}
-
-fn clock_seed() -> u64 {
-    let since = SystemTime::now().duration_since(UNIX_EPOCH);
-    since.map_or(1, |time| time.as_nanos() as u64)
-}
-
 fn options(mut words: impl Iterator<Item = String>) -> Option<Options> {
-    let (seed, from, sessions) = (clock_seed(), 0, 20_000);
+    let (seed, from, sessions) = (seed::by_the_clock(), 0, 20_000);
     let mut options = Options { seed, from, sessions, minutes: None, verbose: false };
     while let Some(word) = words.next() {
         match word.as_str() {
-            "--seed" => options.seed = number(&words.next()?)?,
-            "--sessions" => options.sessions = number(&words.next()?)?,
-            "--from" => options.from = number(&words.next()?)?,
-            "--minutes" => options.minutes = Some(number(&words.next()?)?),
+            "--seed" => options.seed = seed::number(&words.next()?)?,
+            "--sessions" => options.sessions = seed::number(&words.next()?)?,
+            "--from" => options.from = seed::number(&words.next()?)?,
+            "--minutes" => options.minutes = Some(seed::number(&words.next()?)?),
             "--verbose" => options.verbose = true,
             _ => return None,
         }
@@ -87,21 +75,30 @@ fn random_sessions(options: &Options, tally: &mut Tally, changed: &mut Changed) 
     }
 }
 
-fn run(options: &Options) -> Checked {
+/// How a run ended, when no difference was found.
+enum Reach {
+    Far,
+    /// Long enough, but these never came.
+    Short(Vec<String>),
+}
+
+fn run(options: &Options) -> Checked<Reach> {
     let cuts = cuts::run(&mut Random::named(options.seed, "cuts"))?;
     println!("every cut: {} sessions of the papers, {} cuts", cuts.sessions, cuts.cuts);
     let (mut tally, mut changed) = (Tally::default(), Changed::default());
     let (session, checked) = random_sessions(options, &mut tally, &mut changed);
-    if checked.is_err() {
+    if let Err(difference) = checked {
         println!("session {session}: repeat with --from {session} --sessions 1");
-        return checked;
+        return Err(difference);
     }
-    print!("random sessions:\n{tally}");
-    let Changed { sessions, calls, ones, failing, passing } = changed;
-    println!("changed memory:\n  {sessions} sessions, {calls} calls, {ones} answered 1");
-    println!("  by the form test {failing} must and {passing} must not");
-    println!("fuzz: {} sessions, 0 differences", cuts.sessions as u64 + tally.sessions + sessions);
-    Ok(())
+    print!("random sessions:\n{tally}changed memory:\n{changed}");
+    let sessions = cuts.sessions as u64 + tally.sessions + changed.sessions;
+    println!("fuzz: {sessions} sessions, 0 differences");
+    let never_met = [tally.never_met(), changed.never_met()].concat();
+    Ok(match tally.sessions >= ENOUGH && !never_met.is_empty() {
+        true => Reach::Short(never_met),
+        false => Reach::Far,
+    })
 }
 
 fn main() -> ExitCode {
@@ -112,7 +109,11 @@ fn main() -> ExitCode {
     println!("seed {:#x}", options.seed);
     watch::start();
     match run(&options) {
-        Ok(()) => ExitCode::SUCCESS,
+        Ok(Reach::Far) => ExitCode::SUCCESS,
+        Ok(Reach::Short(never_met)) => {
+            println!("fuzz: FAILED, never met: {}", never_met.join("; "));
+            ExitCode::FAILURE
+        }
         Err(difference) => {
             println!("{difference}");
             println!("repeat with --seed {:#x}", options.seed);

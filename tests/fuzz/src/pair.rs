@@ -48,6 +48,11 @@ impl Pair {
         self.second.as_ref()
     }
 
+    /// The buffers, as open is lent them.
+    pub fn lent(&self) -> session::Lent<'_> {
+        self.lent.second()
+    }
+
     pub fn calls(&self) -> usize {
         self.history.count()
     }
@@ -57,7 +62,7 @@ impl Pair {
         (self.lent, self.history)
     }
 
-    /// Opens. "A refused open changes no lent byte", so reading 39: a live
+    /// Opens. "A refused open changes no lent byte", so DECISIONS 52: a live
     /// session goes on.
     pub fn open(&mut self, role: u8) -> Checked<Reply> {
         self.history.begin(Call::Open { role });
@@ -86,7 +91,7 @@ impl Pair {
         self.history.begin(Call::Receive { bytes: bytes.to_vec(), resize });
         let reply = library::receive(self.lent.lend(resize), bytes);
         let expected = match &mut self.second {
-            // Reading 38: "Memory that open never accepted: 1."
+            // DECISIONS 32: "Memory that open never accepted: 1"
             None => Reply::BAD_BUFFERS,
             Some(second) => second.call(resize, |session, memory| session.receive(memory, bytes)),
         };
@@ -120,7 +125,9 @@ impl Pair {
                 second.call(resize, |session, memory| session.give(memory, part, place))
             }
         };
-        self.compare(reply, expected, expected.answer == 1)?;
+        // Answer 1 changes nothing; "a place beyond the end writes nothing and
+        // reports 0"; "Give on an ended session writes nothing".
+        self.compare(reply, expected, expected.answer == 1 || expected.count == 0)?;
         if let Some(at) = buffer.first_difference(&expected_buffer) {
             let (library, second) = (buffer.part(), expected_buffer.part());
             let said = |bytes: &[u8]| crate::report::escaped(bytes);
@@ -203,11 +210,19 @@ impl Pair {
     }
 
     /// The library's messages up to its count, read from its bytes.
-    fn library_kept(&self) -> Option<Vec<Kept>> {
+    pub fn library_kept(&self) -> Option<Vec<Kept>> {
         let count = usize::from(self.lent.part(SESSION)[SESSION_KEPT]);
         let store = self.lent.part(STORE);
         let entries = self.lent.part(INBOX).chunks(MESSAGE_BYTES).take(count);
         entries.map(|entry| kept(&read_message(entry)?, store)).collect()
+    }
+
+    /// What must be so of the library, whatever the second implementation says.
+    pub fn must(&self, right: bool, what: &str) -> Checked {
+        match right {
+            true => Ok(()),
+            false => self.differs(what.into()),
+        }
     }
 
     fn differs<T>(&self, what: String) -> Checked<T> {

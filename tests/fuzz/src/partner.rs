@@ -21,8 +21,11 @@ pub struct Partner {
     lf: Option<usize>,
     /// `;` lines and spaces at a line's end come once in so many lines.
     chatter: usize,
-    /// Turns that it still wants to take.
+    /// Makes no slip of its own.
+    calm: bool,
+    /// Turns that it still wants to take, and how rarely one of them is FF.
     turns: usize,
+    ff: usize,
     /// Which signs it likes to give.
     signs: &'static [u8],
     /// Sends the longest bodies.
@@ -35,11 +38,15 @@ impl Partner {
     /// A partner for this host: mostly one to whom its records can be sent.
     pub fn new(random: &mut Random, host: &Buffers) -> Partner {
         let packed = host.table.get(1).map(|&form| form != Form::Plain as u8);
+        let (turns, ff) =
+            random.pick(&[(1, 4), (2, 4), (3, 4), (5, 4), (8, 4), (12, 40), (60, 400)]);
         Partner {
+            calm: random.once_in(4),
+            turns,
+            ff,
             framed: packed.filter(|_| !random.once_in(4)).unwrap_or(random.once_in(2)),
             lf: random.pick(&[None, None, Some(1), Some(3)]),
             chatter: random.pick(&[4, 20, 20, 1_000]),
-            turns: random.pick(&[1, 2, 3, 5, 8, 40]),
             signs: random.pick(&[&b"+"[..], b"+-=", b"++-=", b"+++-", b"-", b"="]),
             long: host.store.len() > 65_000 && random.once_in(2),
             fresh: 0,
@@ -50,6 +57,15 @@ impl Partner {
     pub fn another(&self, random: &mut Random) -> Partner {
         let Partner { framed, fresh, long, .. } = *self;
         Partner { framed, fresh, long, ..Partner::new(random, &Buffers::default()) }
+    }
+
+    pub fn is_calm(&self) -> bool {
+        self.calm
+    }
+
+    /// True once in so many, for a partner that makes slips.
+    fn slips(&self, random: &mut Random, times: usize) -> bool {
+        !self.calm && random.once_in(times)
     }
 
     /// The next unit, at times with the one that may follow it at once.
@@ -110,7 +126,7 @@ impl Partner {
     fn sid(&self, random: &mut Random) -> Vec<u8> {
         let mut letters = b"ACDEGHIJKLMNOPQRSTUVWXYZ".to_vec();
         let mut features = Vec::new();
-        if !random.once_in(60) {
+        if !self.slips(random, 60) {
             features.push(b'F');
         }
         if self.framed {
@@ -119,7 +135,7 @@ impl Partner {
         for _ in 0..random.within(0, 4) {
             features.push(letters.swap_remove(random.below(letters.len())));
         }
-        if random.once_in(60) {
+        if self.slips(random, 60) {
             features.push(b'F');
         }
         let mut sid = random.pick(&[&b"[TST-1-"[..], b"[A-", b"[BayCom-1.40P-", b"[A---"]).to_vec();
@@ -155,19 +171,19 @@ impl Partner {
     fn turn(&mut self, random: &mut Random, out: &mut Vec<u8>, session: &Session, memory: &Memory) {
         let tired = self.turns == 0;
         self.turns = self.turns.saturating_sub(1);
-        if tired || random.once_in(4) {
+        if tired || random.once_in(self.ff) {
             // FQ after our FF and FF elsewhere, but for a slip now and then.
-            let quit = session.our_turn_was_ff() != random.once_in(50);
+            let quit = session.our_turn_was_ff() != self.slips(random, 50);
             let letter = if quit { b'Q' } else { b'F' };
             let text = [either_case(random, b'F'), either_case(random, letter)];
             return self.line(random, out, &text);
         }
-        let count = if random.once_in(40) { 6 } else { random.within(1, 5) };
+        let count = if self.slips(random, 40) { 6 } else { random.within(1, 5) };
         let mut bids = Vec::new();
         for place in 1..=count {
             let mut text = self.proposal(random, session, memory, &mut bids);
             // 5 goes before 6: a sixth proposal that is none.
-            if random.once_in(if place == 6 { 2 } else { 200 }) {
+            if self.slips(random, if place == 6 { 2 } else { 200 }) {
                 text.truncate(random.below(text.len()));
             }
             self.line(random, out, &text);
@@ -239,6 +255,8 @@ impl Partner {
         let free = memory.store.len() - session.used();
         let size = match random.below(16) {
             _ if self.long && random.once_in(2) => random.pick(&[65_534, 65_535, 65_536]),
+            // Sizes that leave room for many more.
+            _ if self.calm && random.once_in(2) => random.below(100),
             0 => random.pick(&[65_534, 65_535, 65_536, 999_999, 999_999_999]),
             1 => free + random.below(3),
             2 => free.saturating_sub(random.below(3)),
@@ -269,6 +287,7 @@ impl Partner {
         let announced = offer.size as usize;
         let free = memory.store.len() - session.used();
         let length = match random.below(16) {
+            _ if self.calm => announced,
             _ if self.long && random.once_in(4) => random.within(65_534, 65_537),
             0 => free + random.below(3),
             1 => announced + 1,
@@ -289,8 +308,8 @@ impl Partner {
             }
         } else {
             out.extend(inputs::framed(random, &heading, &body));
-            // Reading 6: here an LF is an ordinary byte.
-            if random.once_in(100) {
+            // DECISIONS 5: here an LF is an ordinary byte.
+            if self.slips(random, 100) {
                 out.push(b'\n');
             }
         }

@@ -25,6 +25,8 @@ pub enum Call {
         place: usize,
         resize: Option<Resize>,
     },
+    /// Not a call: all memory is again as the last call left it that didn't answer 1.
+    Mend,
     /// Not a call: bytes of a buffer were changed from outside.
     Change {
         buffer: usize,
@@ -48,6 +50,7 @@ impl Display for Call {
             Call::Give { room, place, resize } => {
                 write!(f, "give into {room} bytes from {place}{}", other_size(resize))
             }
+            Call::Mend => write!(f, "memory mended"),
             Call::Change { buffer, place, bytes } => {
                 write!(f, "change buffer {buffer} at {place} to {bytes:02x?}")
             }

@@ -1,4 +1,4 @@
-//! The first kind of run: random sessions with a partner that mostly speaks the
+//! The second kind of run: random sessions with a partner that mostly speaks the
 //! protocol, in random portions, on both implementations.
 
 use crate::lent::Resize;
@@ -9,7 +9,7 @@ use crate::tables;
 use crate::tally::Tally;
 use crate::wrong;
 use inputs::random::Random;
-use second::session::Reply;
+use second::session::{Phase, Reply};
 
 /// How many bytes go in one call.
 #[derive(Clone, Copy, Debug)]
@@ -24,6 +24,8 @@ enum Pace {
 const SLOW_CALLS: usize = 250;
 /// And after so many it is dropped.
 const CALLS: usize = 1_200;
+/// "Once in so many" for what doesn't come at all.
+const NEVER: usize = usize::MAX;
 
 /// One session in the making.
 pub struct Driver<'a> {
@@ -38,6 +40,10 @@ pub struct Driver<'a> {
     every_call: bool,
     /// One unit in so many is wrong.
     damage: usize,
+    /// One byte in so many comes early, while bytes of ours wait.
+    early: usize,
+    /// So many bytes of either side the link still carries, then it drops.
+    left: usize,
     /// The last receive refused.
     refused: bool,
 }
@@ -70,9 +76,24 @@ impl<'a> Driver<'a> {
         let partner = Partner::new(random, &host);
         let pace = random.pick(&[Pace::One, Pace::Few, Pace::Some, Pace::Some, Pace::All]);
         let every_call = random.once_in(32);
-        let damage = random.pick(&[20, 60, 60, 100_000]);
-        let queue = Vec::new();
-        Driver { random, tally, pair, partner, pace, queue, every_call, damage, refused: false }
+        let (damage, early) = match partner.is_calm() {
+            true => (NEVER, NEVER),
+            false => (random.pick(&[20, 60, 60]), 60),
+        };
+        let (queue, left, refused) = (Vec::new(), usize::MAX, false);
+        Driver {
+            random,
+            tally,
+            pair,
+            partner,
+            pace,
+            queue,
+            every_call,
+            damage,
+            early,
+            left,
+            refused,
+        }
     }
 
     /// How far a session goes before its memory changes.
@@ -92,8 +113,20 @@ impl<'a> Driver<'a> {
         };
         let reply = self.pair.open(role)?;
         self.tally.opened(reply);
+        self.tally.rivals(&self.pair.lent());
         self.tally.sessions += 1;
+        self.left = self.length();
         Ok(reply.answer == 0)
+    }
+
+    /// How many bytes the link carries before it drops, inside whatever is under
+    /// way then; it holds in two sessions of three.
+    fn length(&mut self) -> usize {
+        let most = self.random.pick(&[40, 300, 3_000, 20_000]);
+        match self.random.once_in(3) {
+            true => self.random.below(most),
+            false => usize::MAX,
+        }
     }
 
     fn second(&self) -> Option<&Second> {
@@ -108,18 +141,16 @@ impl<'a> Driver<'a> {
         let Some(second) = self.second() else {
             return Ok(false);
         };
-        if second.session.is_over() || self.pair.calls() > CALLS {
+        if second.session.is_over() || self.pair.calls() > CALLS || self.left == 0 {
             return Ok(false);
         }
         let waiting = second.session.waiting() > 0;
         let lf = self.queue.first() == Some(&b'\n');
-        let early = self.random.once_in(60);
+        let early = self.random.once_in(self.early);
         if waiting && !early && !(lf && self.random.once_in(2)) {
             self.give()?;
         } else if !self.queue.is_empty() {
             self.deliver()?;
-        } else if self.random.once_in(200) {
-            return Ok(false);
         } else {
             self.say();
         }
@@ -154,7 +185,7 @@ impl<'a> Driver<'a> {
 
     /// The link brings a portion of what the partner said.
     fn deliver(&mut self) -> Checked {
-        let count = self.portion().min(self.queue.len());
+        let count = self.portion().min(self.queue.len()).min(self.left);
         let portion: Vec<u8> = self.queue.drain(..count).collect();
         self.receive(&portion, None)
     }
@@ -162,14 +193,21 @@ impl<'a> Driver<'a> {
     fn receive(&mut self, bytes: &[u8], resize: Option<Resize>) -> Checked {
         let reply = self.pair.receive(bytes, resize)?;
         self.tally.received(reply);
+        self.left = self.left.saturating_sub(reply.count);
         self.refused |= reply.answer > 1;
         Ok(())
     }
 
     /// The link takes a portion of what waits, from any place of a buffer.
     fn give(&mut self) -> Checked {
-        let waiting = self.second().map_or(0, |second| second.session.waiting());
-        let count = self.portion().min(waiting + self.random.below(20));
+        let session = self.second().map(|second| &second.session);
+        let waiting = session.map_or(0, |session| session.waiting());
+        let quits = session.is_some_and(|session| matches!(session.phase(), Phase::Quit));
+        if quits && self.random.once_in(50) {
+            // "Our FQ ends it when give has handed out its CR."
+            self.left = self.random.below(3);
+        }
+        let count = self.portion().min(waiting + self.random.below(20)).min(self.left);
         let place = if self.random.once_in(2) { 0 } else { self.random.below(20) };
         self.give_into(count + place, place, None)
     }
@@ -177,6 +215,7 @@ impl<'a> Driver<'a> {
     fn give_into(&mut self, room: usize, place: usize, resize: Option<Resize>) -> Checked {
         let reply = self.pair.give(self.random, (room, place), resize)?;
         self.tally.gave(reply);
+        self.left = self.left.saturating_sub(reply.count);
         Ok(())
     }
 
@@ -225,7 +264,7 @@ impl<'a> Driver<'a> {
     pub fn end(&mut self) -> Checked {
         self.pair.demand_3()?;
         let over = self.second().is_some_and(|second| second.session.is_over());
-        self.tally.ended(&self.pair, over && !self.refused);
+        self.tally.ended(&self.pair, self.refused);
         self.refused = false;
         if over && self.random.once_in(2) {
             self.receive(b"", None)?;

@@ -8,23 +8,24 @@ use second::host::{append, Buffers};
 use second::layout::{self, KNOWN_BYTES, MESSAGE_BYTES, RECORD_BYTES, SESSION_BYTES};
 use second::memory::{Envelope, Record, Span, State, KNOWN_LIMIT, MESSAGE_LIMIT, RECORD_LIMIT};
 use second::record::{Form, Kind};
+use second::session::{self, Lent};
 
-/// Buffers of a host; one in eight has a fault somewhere.
+/// Buffers of a host; one in eight has a fault somewhere, or two or three.
 pub fn buffers(random: &mut Random) -> Buffers {
-    let mut host = Buffers {
-        session: filled(random, SESSION_BYTES),
-        store: store(random),
-        ..Buffers::default()
-    };
     let places = match random.below(8) {
         0 => 0,
         1 => random.within(1, 3),
         2 => MESSAGE_LIMIT,
         _ => random.within(4, 20),
     };
+    let mut host = Buffers {
+        session: filled(random, SESSION_BYTES),
+        store: store(random, places),
+        ..Buffers::default()
+    };
     host.inbox = filled(random, places * MESSAGE_BYTES);
     let forms = random.pick(&[&[Form::Plain][..], &[Form::Message, Form::File], &ALL]);
-    let long = random.once_in(100);
+    let long = random.once_in(50);
     for number in 0..record_count(random) {
         let record = record(random, &mut host, forms, number, long);
         let mut entry = layout::write_record(&record);
@@ -33,9 +34,30 @@ pub fn buffers(random: &mut Random) -> Buffers {
     }
     know(random, &mut host);
     if random.once_in(8) {
-        spoil(random, &mut host);
+        // More than one: role, sizes and known BIDs are found before records, and
+        // of two bad records the first.
+        for _ in 0..random.within(1, 3) {
+            spoil(random, &mut host);
+        }
     }
     host
+}
+
+/// Which of several faults open has to find first: bad known BIDs before a bad
+/// record, the first of two bad records.
+pub fn rivals(lent: &Lent<'_>) -> [bool; 2] {
+    let place = |lent: &Lent<'_>| session::open(0, lent).err().map(|reply| reply.place);
+    match place(lent) {
+        Some(255) => {
+            let without = place(&Lent { known: &[], ..*lent });
+            [without.is_some_and(|place| place < 255), false]
+        }
+        Some(first) => {
+            let rest = &lent.table[RECORD_BYTES * (usize::from(first) + 1)..];
+            [false, place(&Lent { table: rest, ..*lent }).is_some()]
+        }
+        None => [false, false],
+    }
 }
 
 const ALL: [Form; 3] = [Form::Plain, Form::Message, Form::File];
@@ -49,9 +71,10 @@ fn filled(random: &mut Random, length: usize) -> Vec<u8> {
 }
 
 /// The inbox store: room for a few messages, at times none, at times for the
-/// longest body.
-fn store(random: &mut Random) -> Vec<u8> {
+/// longest body or for a message in every place.
+fn store(random: &mut Random, places: usize) -> Vec<u8> {
     let length = match random.below(64) {
+        32.. if places == MESSAGE_LIMIT => random.within(10_000, 30_000),
         0 => 0,
         1 => random.within(65_530, 65_545),
         2 => random.within(100_000, 140_000),
@@ -123,13 +146,13 @@ fn heading_span(random: &mut Random, store: &mut Vec<u8>, needed: bool) -> Span 
     if needed {
         return append(store, &heading(random));
     }
-    // Reading 43: an empty one lies within its store too.
+    // DECISIONS 55: an empty one lies within its store too.
     Span { start: random.below(store.len() + 1), length: 0 }
 }
 
 fn body(random: &mut Random, plain: bool, long: bool) -> Vec<u8> {
     let length = match random.below(16) {
-        0 if long => random.within(65_000, BODY_LIMIT),
+        0..=3 if long => random.pick(&[BODY_LIMIT - 1, BODY_LIMIT]),
         0 => 0,
         1 => random.within(254, 258),
         2 => random.within(510, 514),
@@ -186,14 +209,14 @@ fn know(random: &mut Random, host: &mut Buffers) {
 
 /// One fault: a size, a known BID, or a record or what it points to.
 fn spoil(random: &mut Random, host: &mut Buffers) {
-    match random.below(16) {
+    match random.below(20) {
         0 => resize(random, &mut host.session),
         1 => resize(random, &mut host.table),
         2 => resize(random, &mut host.known),
         3 => resize(random, &mut host.inbox),
         4 => host.inbox = filled(random, (MESSAGE_LIMIT + 1) * MESSAGE_BYTES),
         5 => (0..=KNOWN_LIMIT).for_each(|_| host.know(b"1")),
-        6 if !host.known.is_empty() => {
+        6 if host.known.len() >= KNOWN_BYTES => {
             let entry = random.below(host.known.len() / KNOWN_BYTES) * KNOWN_BYTES;
             host.known[entry + random.below(3)] = byte(random);
         }
@@ -201,12 +224,13 @@ fn spoil(random: &mut Random, host: &mut Buffers) {
         8 => cut(random, &mut host.titles),
         9 => cut(random, &mut host.names),
         10 => cut(random, &mut host.bodies),
+        11 if random.once_in(2) => change(random, &mut host.names),
         11 => change(random, &mut host.titles),
         12 if !host.bodies.is_empty() => {
             let place = random.below(host.bodies.len());
             host.bodies[place] = BODY_END;
         }
-        _ if !host.table.is_empty() => spoil_record(random, host),
+        _ if host.table.len() >= RECORD_BYTES => spoil_record(random, host),
         _ => {}
     }
 }

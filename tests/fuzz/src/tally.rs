@@ -1,10 +1,23 @@
-//! What the runs have seen, so that a reader knows how far they reach.
+//! What the runs have seen, so that a reader knows how far they reach; and what
+//! a run of the gate's length must have seen.
 
-use crate::pair::Pair;
+use crate::pair::{Pair, Second};
+use crate::tables;
+use second::field::BODY_LIMIT;
+use second::fs::Sign;
 use second::log::Side;
-use second::memory::State;
-use second::session::Reply;
+use second::memory::{State, MESSAGE_LIMIT};
+use second::session::{Inside, Lent, Phase, Reply, Role};
+use second::sid::Mode;
 use std::fmt::{self, Display};
+
+/// From so many sessions on, whatever [`Tally::never_met`] lists must have come.
+pub const ENOUGH: u64 = 20_000;
+
+const LONGEST: [&str; 4] = ["65,534 kept", "65,535 kept", "65,534 forwarded", "65,535 forwarded"];
+const KINDS: [&str; 4] = ["called plain", "called framed", "caller plain", "caller framed"];
+const PHASES: [&str; 7] = ["SID", "prompt", "turn", "FS line", "transfers", "our FQ", "nothing"];
+const TURNS: [&str; 6] = ["0", "1 to 2", "3 to 5", "6 to 10", "11 to 20", "over 20"];
 
 #[derive(Debug, Default)]
 pub struct Tally {
@@ -13,20 +26,47 @@ pub struct Tally {
     opens: [u64; 2],
     receives: [u64; 13],
     gives: [u64; 2],
+    /// Opens refused for a record, and for role, sizes or known BIDs.
+    places: [u64; 2],
+    /// Opens with more than one fault, by [`tables::rivals`].
+    rivals: [u64; 2],
     consumed: usize,
     given: usize,
     kept: usize,
-    /// In one session.
-    most_kept: usize,
-    forwarded: usize,
-    declined: usize,
-    /// Sessions that ended without refusal.
-    quit: u64,
+    /// Sessions that filled an inbox of 64 places.
+    full: u64,
+    /// Bodies of 65,534 and 65,535 bytes: kept, forwarded.
+    longest: [u64; 4],
+    /// Our records: forwarded, declined, deferred.
+    records: [u64; 3],
+    /// Our signs: `+`, `-`, `=`.
+    signs: [u64; 3],
+    /// Sessions that ended by FQ: ours, the partner's.
+    quits: [u64; 2],
+    /// Sessions with a whole turn: called plain, called framed, caller plain,
+    /// caller framed.
+    kinds: [u64; 4],
+    /// What was awaited at the end, by `PHASES`.
+    phases: [u64; 7],
+    /// Whole turns of a session, by `TURNS`.
+    turns: [u64; 6],
+    /// What a dropped link cut in two: nothing, a line, a transfer, our words.
+    cuts: [u64; 4],
 }
 
 impl Tally {
     pub fn opened(&mut self, reply: Reply) {
         self.opens[usize::from(reply.answer)] += 1;
+        if reply.answer == 1 {
+            self.places[usize::from(reply.place == 255)] += 1;
+        }
+    }
+
+    /// Counts what open had to choose between.
+    pub fn rivals(&mut self, lent: &Lent<'_>) {
+        for (times, came) in self.rivals.iter_mut().zip(tables::rivals(lent)) {
+            *times += u64::from(came);
+        }
     }
 
     pub fn received(&mut self, reply: Reply) {
@@ -43,41 +83,133 @@ impl Tally {
     }
 
     /// Counts what a session came to.
-    pub fn ended(&mut self, pair: &Pair, quit: bool) {
+    pub fn ended(&mut self, pair: &Pair, refused: bool) {
         let Some(second) = pair.second() else {
             return;
         };
+        let session = &second.session;
+        let ours = second.trace().bytes(Side::Us);
         self.consumed += second.trace().bytes(Side::Partner).len();
-        self.given += second.trace().bytes(Side::Us).len();
-        self.kept += second.session.kept();
-        self.most_kept = self.most_kept.max(second.session.kept());
-        self.quit += u64::from(quit);
-        for (record, before) in second.memory.table.iter().zip(second.opened()) {
-            let changed = record.state != before.state;
-            self.forwarded += usize::from(changed && record.state == State::Forwarded);
-            self.declined += usize::from(changed && record.state == State::Declined);
+        self.given += ours.len();
+        self.kept += session.kept();
+        self.full += u64::from(session.kept() == MESSAGE_LIMIT);
+        self.phases[phase(session.phase())] += 1;
+        self.turns[bucket(session.turns())] += 1;
+        for sign in session.signs_given() {
+            self.signs[place(&[Sign::Accept, Sign::Decline, Sign::Defer], sign)] += 1;
+        }
+        if session.is_over() && !refused {
+            // Before the partner's FQ our last line was FF.
+            self.quits[usize::from(!ours.ends_with(b"FQ\r"))] += 1;
+        }
+        if !session.is_over() {
+            let all = [Inside::Nothing, Inside::Line, Inside::Transfer, Inside::OurWords];
+            self.cuts[place(&all, &session.inside())] += 1;
+        }
+        self.count_kind(second);
+        self.count_records(second);
+    }
+
+    /// By role and mode, once the partner's SID has chosen that.
+    fn count_kind(&mut self, second: &Second) {
+        let (role, mode) = (second.session.role(), second.session.mode());
+        if second.session.turns() > 0 {
+            let caller = usize::from(role == Role::Caller);
+            self.kinds[2 * caller + usize::from(mode == Mode::Framed)] += 1;
         }
     }
+
+    fn count_records(&mut self, second: &Second) {
+        for (record, before) in second.memory.table.iter().zip(second.opened()) {
+            let changed = record.state != before.state;
+            self.records[0] += u64::from(changed && record.state == State::Forwarded);
+            self.count_body(2, record.body.length, changed && record.state == State::Forwarded);
+            self.records[1] += u64::from(changed && record.state == State::Declined);
+        }
+        self.records[2] += second.session.deferred() as u64;
+        for message in second.memory.inbox[..second.session.kept()].iter().flatten() {
+            self.count_body(0, message.body.length, true);
+        }
+    }
+
+    /// Counts a body about as long as one can be.
+    fn count_body(&mut self, from: usize, length: usize, counts: bool) {
+        if counts && length + 1 >= BODY_LIMIT {
+            self.longest[from + length + 1 - BODY_LIMIT] += 1;
+        }
+    }
+
+    /// All that is counted by kind: a name, and each kind with its number.
+    fn groups(&self) -> Vec<(&'static str, Vec<(String, u64)>)> {
+        vec![
+            ("open answered", numbered(&self.opens)),
+            ("receive answered", numbered(&self.receives)),
+            ("give answered", numbered(&self.gives)),
+            ("open refused for", named(&["a record", "what comes before"], &self.places)),
+            ("open found", named(&["known before record", "first of two records"], &self.rivals)),
+            ("our records", named(&["forwarded", "declined", "deferred"], &self.records)),
+            ("the longest bodies", named(&LONGEST, &self.longest)),
+            ("our signs", named(&["+", "-", "="], &self.signs)),
+            ("ended by FQ", named(&["ours", "the partner's"], &self.quits)),
+            ("with a turn", named(&KINDS, &self.kinds)),
+            ("awaited at the end", named(&PHASES, &self.phases)),
+            ("turns in a session", named(&TURNS, &self.turns)),
+            ("dropped inside", named(&["nothing", "a line", "a transfer", "ours"], &self.cuts)),
+        ]
+    }
+
+    /// What a long enough run must have met and this one has not.
+    pub fn never_met(&self) -> Vec<String> {
+        let kept = named(&["any", "64 in a session"], &[self.kept as u64, self.full]);
+        let groups = self.groups().into_iter().chain([("messages kept", kept)]);
+        let missing = groups.flat_map(|(group, kinds)| {
+            let none = kinds.into_iter().filter(|(_, times)| *times == 0);
+            none.map(move |(kind, _)| format!("{group}: {kind}"))
+        });
+        missing.collect()
+    }
+}
+
+/// Where in the list an item is.
+fn place<T: PartialEq>(all: &[T], item: &T) -> usize {
+    all.iter().position(|other| other == item).expect("one of the list")
+}
+
+fn phase(phase: &Phase) -> usize {
+    match phase {
+        Phase::Sid => 0,
+        Phase::Prompt => 1,
+        Phase::Turn { .. } => 2,
+        Phase::Answer { .. } => 3,
+        Phase::Transfers { .. } => 4,
+        Phase::Quit => 5,
+        Phase::Over => 6,
+    }
+}
+
+fn bucket(turns: usize) -> usize {
+    [0, 2, 5, 10, 20].iter().filter(|&&most| turns > most).count()
+}
+
+fn numbered(times: &[u64]) -> Vec<(String, u64)> {
+    times.iter().enumerate().map(|(number, times)| (number.to_string(), *times)).collect()
+}
+
+fn named(names: &[&str], times: &[u64]) -> Vec<(String, u64)> {
+    names.iter().map(|name| name.to_string()).zip(times.iter().copied()).collect()
 }
 
 impl Display for Tally {
     fn fmt(&self, f: &mut fmt::Formatter<'_>) -> fmt::Result {
-        let Tally { sessions, consumed, given, quit, .. } = self;
-        let Tally { kept, most_kept, forwarded, declined, .. } = self;
-        let answers = self.opens.iter().chain(&self.receives).chain(&self.gives);
-        let calls: u64 = answers.sum();
-        writeln!(f, "  {sessions} sessions ({quit} ended by FQ), {calls} calls")?;
+        let Tally { sessions, consumed, given, kept, full, .. } = self;
+        let calls: u64 = self.opens.iter().chain(&self.receives).chain(&self.gives).sum();
+        writeln!(f, "  {sessions} sessions, {calls} calls")?;
         writeln!(f, "  {consumed} bytes received, {given} bytes given")?;
-        writeln!(f, "  {kept} messages kept, up to {most_kept} in a session")?;
-        writeln!(f, "  {forwarded} records forwarded, {declined} declined")?;
-        writeln!(f, "  open:    {}", row(&self.opens))?;
-        writeln!(f, "  receive: {}", row(&self.receives))?;
-        writeln!(f, "  give:    {}", row(&self.gives))
+        writeln!(f, "  {kept} messages kept; 64 of them in {full} sessions")?;
+        for (group, kinds) in self.groups() {
+            let kinds: Vec<String> = kinds.iter().map(|(name, n)| format!("{name}: {n}")).collect();
+            writeln!(f, "  {group} {}", kinds.join(", "))?;
+        }
+        Ok(())
     }
-}
-
-/// `answer:times` for each answer.
-fn row(answers: &[u64]) -> String {
-    let each = answers.iter().enumerate().map(|(answer, times)| format!("{answer}:{times}"));
-    each.collect::<Vec<_>>().join(" ")
 }

@@ -4,6 +4,7 @@
 #![forbid(unsafe_code)]
 
 pub mod random;
+pub mod seed;
 
 use random::Random;
 use second::field;

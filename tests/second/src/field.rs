@@ -74,12 +74,12 @@ pub fn is_plain_body(bytes: &[u8]) -> bool {
     is_packed_body(bytes) && !bytes.contains(&BODY_END)
 }
 
-/// "A body has at most 65,535 bytes". Reading 44: a packed one may hold 0x1A.
+/// "A body has at most 65,535 bytes". DECISIONS 56: a packed one may hold 0x1A.
 pub fn is_packed_body(bytes: &[u8]) -> bool {
     bytes.len() <= BODY_LIMIT
 }
 
-/// "size (1 to 9 digits)". Reading 20: zeros in front are taken.
+/// "size (1 to 9 digits)". DECISIONS 15: zeros in front are taken.
 /// Nine digits stay below 2^32, so nothing overflows.
 pub fn decimal(bytes: &[u8]) -> Option<u32> {
     if !is_run(bytes, SIZE_DIGITS, |byte| byte.is_ascii_digit()) {

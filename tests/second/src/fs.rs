@@ -34,7 +34,7 @@ impl Sign {
 /// Reads a trimmed line where FS is awaited for so many proposals.
 ///
 /// "Where FS is awaited, a wrong line that begins with FS gets 7 and any other
-/// 5". Reading 24: in either case, and whatever follows the two letters.
+/// 5". DECISIONS 16: in either case, and whatever follows the two letters.
 pub fn read(line: &[u8], proposals: usize) -> Result<Vec<Sign>, Refusal> {
     match line {
         [b'F' | b'f', b'S' | b's', rest @ ..] => {

@@ -138,7 +138,7 @@ fn form(number: usize) -> Option<Form> {
     }
 }
 
-/// Reading 42: in memory, types are the capitals P and B.
+/// DECISIONS 54: in memory, types are the capitals P and B.
 fn kind(number: usize) -> Option<Kind> {
     let byte = u8::try_from(number).ok()?;
     Kind::read(byte).filter(|kind| kind.byte() == byte)

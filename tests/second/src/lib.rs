@@ -1,7 +1,9 @@
 //! The FBB forwarding protocol as condensed in document 01, a second time.
 //!
-//! Written from document 01 (`01-scope.md`) and nothing else, so that it can
-//! be compared with the proved library: it shares no line and no plan with it.
+//! Written from document 01 (`01-scope.md`), from our readings of it
+//! (docs/DECISIONS.md) and from the layouts of docs/MEMORY.md, never from the
+//! proved library, so that the two can be compared: they share no line and no
+//! plan.
 //!
 //! - Words: readers and writers only. They know no session, touch no link and
 //!   keep nothing between calls, but for the two that go in portions.
@@ -11,7 +13,7 @@
 //! - [`examples`]: the papers' own sessions.
 //!
 //! A sentence of 01 stands in quotes above the item that renders it;
-//! "reading N" is an entry of the project's list of readings of 01.
+//! "DECISIONS N" is an entry of docs/DECISIONS.md.
 
 #![forbid(unsafe_code)]
 

@@ -4,7 +4,7 @@ use crate::refusal::Refusal;
 
 pub const CR: u8 = 0x0D;
 pub const LF: u8 = 0x0A;
-/// A line holds 256 bytes at most; reading 10: spaces at the end included.
+/// A line holds 256 bytes at most; DECISIONS 8: spaces at the end included.
 pub const LINE_LIMIT: usize = 256;
 
 /// What one received byte does where a line is awaited.
@@ -33,7 +33,7 @@ pub fn step(after_cr: bool, length: usize, byte: u8) -> Result<Step, Refusal> {
     }
 }
 
-/// "Spaces at the end are removed before a line is judged." Reading 12: spaces
+/// "Spaces at the end are removed before a line is judged." DECISIONS 10: spaces
 /// only, and none in front.
 pub fn trimmed(line: &[u8]) -> &[u8] {
     let end = line.iter().rposition(|&byte| byte != b' ');
@@ -46,7 +46,7 @@ pub fn is_comment(line: &[u8]) -> bool {
 }
 
 /// "A prompt is a line whose last byte is its only `>`."
-/// The line comes trimmed, as everywhere (reading 12).
+/// The line comes trimmed, as everywhere (DECISIONS 10).
 pub fn is_prompt(line: &[u8]) -> bool {
     match line.split_last() {
         Some((b'>', before)) => !before.contains(&b'>'),

@@ -5,7 +5,7 @@
 //! turn or transfer from them, and applies what 01 says of it under "The log".
 //! It ends where no whole one is left, or at what the rules forbid.
 //!
-//! Reading 47: it knows no store sizes, inbox places or known list, so it judges
+//! DECISIONS 59: it knows no store sizes, inbox places or known list, so it judges
 //! neither room nor our signs.
 
 use crate::fs::{self, Sign};

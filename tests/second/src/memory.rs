@@ -30,7 +30,7 @@ pub struct Span {
 }
 
 impl Span {
-    /// The part of the store. Reading 43: start plus length lies within it,
+    /// The part of the store. DECISIONS 55: start plus length lies within it,
     /// also where the length is 0.
     pub fn of<'a>(&self, store: &'a [u8]) -> Option<&'a [u8]> {
         store.get(self.start..)?.get(..self.length)

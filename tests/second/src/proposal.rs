@@ -39,7 +39,7 @@ pub enum TurnLine<'a> {
 /// Reads a trimmed line of a turn. Whether FF, FQ or one more proposal is
 /// allowed just now is the session's business.
 ///
-/// Reading 19: with anything more on the line, FF, FQ and `F>` get 5.
+/// DECISIONS 14: with anything more on the line, FF, FQ and `F>` get 5.
 pub fn read(line: &[u8], mode: Mode) -> Result<TurnLine<'_>, Refusal> {
     match line {
         [b'F' | b'f', b'F' | b'f'] => Ok(TurnLine::Nothing),

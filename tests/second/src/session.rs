@@ -19,6 +19,7 @@
 //! lends: this side is compared by what it answers and leaves, nothing else.
 
 use crate::buffer;
+use crate::fs::Sign;
 use crate::memory::{Envelope, Memory, Sizes};
 use crate::sid::Mode;
 use crate::transfer::reader::Reader;
@@ -80,6 +81,19 @@ pub enum Phase {
     Over,
 }
 
+/// What a dropped link would cut in two.
+#[derive(Clone, Copy, Debug, PartialEq, Eq)]
+pub enum Inside {
+    /// Nothing: the last byte ended what it belongs to.
+    Nothing,
+    /// A line of the partner.
+    Line,
+    /// A transfer of the partner.
+    Transfer,
+    /// What we say.
+    OurWords,
+}
+
 /// One end of a session.
 #[derive(Clone, Debug)]
 pub struct Session {
@@ -104,6 +118,9 @@ pub struct Session {
     /// Messages kept, and the store bytes that they use.
     kept: usize,
     used: usize,
+    /// Whole turns of either side, and our signs: nothing turns on them.
+    turns: usize,
+    signs: Vec<Sign>,
 }
 
 impl Session {
@@ -137,6 +154,30 @@ impl Session {
     /// How many bytes wait for give.
     pub fn waiting(&self) -> usize {
         self.waiting.len() - self.given
+    }
+
+    /// Records that the partner deferred.
+    pub fn deferred(&self) -> usize {
+        self.deferred.len()
+    }
+
+    /// Whole turns of either side so far; FQ is none.
+    pub fn turns(&self) -> usize {
+        self.turns
+    }
+
+    /// All signs that we gave.
+    pub fn signs_given(&self) -> &[Sign] {
+        &self.signs
+    }
+
+    pub fn inside(&self) -> Inside {
+        match &self.phase {
+            _ if self.given > 0 => Inside::OurWords,
+            _ if !self.line.is_empty() => Inside::Line,
+            Phase::Transfers { reader, .. } if reader.has_begun() => Inside::Transfer,
+            _ => Inside::Nothing,
+        }
     }
 
     pub fn is_over(&self) -> bool {

@@ -139,7 +139,7 @@ fn read_features(text: &[u8]) -> Option<FeatureSet> {
 }
 
 /// Judges the partner's first line: 3 "first line isn't a valid SID", 4
-/// "partner's SID has no F". Reading 16: 3 goes before 4.
+/// "partner's SID has no F". DECISIONS 13: 3 goes before 4.
 pub fn judge(line: &[u8]) -> Result<FeatureSet, Refusal> {
     let set = read(line).ok_or(Refusal::NoSid)?;
     if set.has(Feature::FORWARDING) {

@@ -1,7 +1,7 @@
 //! Document 002 (FBB protocol). What it shows in angle brackets and colours
 //! stands here as bytes; `^Z` is 0x1A. Spaces at the end of its lines are kept.
 
-use super::{partner, us, Example, Taken};
+use super::{both_roles, partner, us, Example, Taken};
 use crate::host::Letter;
 use crate::memory::State::{self, Declined, Forwarded, Waiting};
 use crate::sid::Mode;
@@ -27,21 +27,24 @@ const BACK_SPACES: &str =
     "FB P FC1GHV F6FBB F6FBB 2734_FC1GHV 234 \rFB B FC1GHV F6FBB FC1CDC 2745_FC1GHV 3524 \rF> \r";
 
 pub(super) fn all() -> Vec<Example> {
-    vec![
+    let one_role = vec![
         long_session_called(),
         long_session_caller(),
+        no_f_called(),
+        no_f_caller(),
+        ff_and_block_end(),
+    ];
+    let either_role = vec![
         block_answered(),
         block_answering(),
         version_0_called(),
         version_1_caller(),
-        no_f_called(),
-        no_f_caller(),
         field_missing(),
-        ff_and_block_end(),
         new_answers(),
         checksum_error(),
         checksum_comment(),
-    ]
+    ];
+    [one_role, both_roles(either_role)].concat()
 }
 
 fn plain(line: &[u8], heading: &[u8], body: &[u8]) -> Letter {
@@ -58,7 +61,7 @@ fn five_letters() -> Vec<Letter> {
     ]
 }
 
-/// The long session from the called end. Reading 48: whose line it is follows
+/// The long session from the called end. DECISIONS 60: whose line it is follows
 /// from the italics.
 fn long_session_called() -> Example {
     let back = vec![
@@ -99,7 +102,7 @@ fn long_session_called() -> Example {
     .inbox(&taken)
 }
 
-/// The long session from the calling end. Reading 48: 002 splits the fourth and
+/// The long session from the calling end. DECISIONS 60: 002 splits the fourth and
 /// the fifth message over two turns, 01 puts both in one block.
 fn long_session_caller() -> Example {
     let message = "Title message\rText message ......\r\x1A\r";

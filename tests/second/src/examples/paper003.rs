@@ -1,17 +1,11 @@
 //! Document 003 (W0RLI specification). Its sessions use the old send commands,
 //! which 01 doesn't cover: what 01 can judge is where they part.
 
-use super::{partner, us, Example};
+use super::{both_roles, partner, us, Example};
 
 pub(super) fn all() -> Vec<Example> {
-    vec![
-        slave_without_f(),
-        master_without_f(),
-        example_sid(),
-        old_system(),
-        send_command(),
-        null_command(),
-    ]
+    let one_role = vec![slave_without_f(), master_without_f(), old_system()];
+    [one_role, both_roles(vec![example_sid(), send_command(), null_command()])].concat()
 }
 
 /// The introduction's session, with us as its master: the slave's SID has no F.

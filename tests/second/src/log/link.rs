@@ -48,7 +48,7 @@ impl<'a> Link<'a> {
     }
 
     /// "One LF directly after the CR that ended a line, or after the CR that
-    /// closes a plain transfer, is dropped". Reading 3: directly after it in what
+    /// closes a plain transfer, is dropped". DECISIONS 3: directly after it in what
     /// the partner sent, whatever we gave in between.
     fn drop_lf(&mut self) {
         if self.rest(Side::Partner).first() == Some(&LF) {
@@ -83,7 +83,7 @@ impl<'a> Link<'a> {
     }
 
     /// The partner's next whole transfer: heading and body. "A body over 65,535 bytes is
-    /// not valid" (reading 47), whatever room there was.
+    /// not valid" (DECISIONS 59), whatever room there was.
     pub(super) fn transfer(&mut self, mode: Mode) -> Option<(Vec<u8>, Vec<u8>)> {
         let rest = self.rest(Side::Partner);
         let reading = match mode {

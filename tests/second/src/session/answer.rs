@@ -12,6 +12,7 @@ impl Session {
     pub(super) fn answer(&mut self, memory: &Memory, block: Vec<Offer>) {
         let signs = self.signs(memory, &block);
         self.say(&fs::write(&signs));
+        self.signs.extend(&signs);
         let accepted = block.into_iter().zip(signs).filter(|(_, sign)| *sign == Sign::Accept);
         let owed: std::collections::VecDeque<Offer> = accepted.map(|(offer, _)| offer).collect();
         if owed.is_empty() {
@@ -43,7 +44,7 @@ impl Session {
         if self.is_here(memory, &offer.envelope.bid, accepted) {
             return Sign::Decline;
         }
-        // Reading 28: bodies kept count as they came, those accepted as
+        // DECISIONS 46: bodies kept count as they came, those accepted as
         // announced.
         let promised: usize = accepted.iter().map(|offer| offer.size as usize).sum();
         let free = memory.store.len() - self.used - promised;
@@ -55,7 +56,7 @@ impl Session {
         Sign::Accept
     }
 
-    /// Reading 29: table BIDs count in any state and form, and the inbox means
+    /// DECISIONS 47: table BIDs count in any state and form, and the inbox means
     /// up to this session's count.
     fn is_here(&self, memory: &Memory, bid: &[u8], accepted: &[&Offer]) -> bool {
         let table = memory.table.iter().map(|record| &record.envelope.bid);

@@ -47,7 +47,7 @@ impl Session {
         let last = owed.is_empty();
         self.kept += 1;
         self.used += length;
-        // Reading 6: only the CR of a plain transfer closes it like a line.
+        // DECISIONS 5: only the CR of a plain transfer closes it like a line.
         self.after_cr = self.mode == Mode::Plain;
         if last {
             self.say_turn(memory, false);

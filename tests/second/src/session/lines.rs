@@ -85,6 +85,7 @@ impl Session {
 
     /// "State 1 is set at the CR that ends the partner's next whole valid turn."
     fn mark_sent(&mut self, memory: &mut Memory) {
+        self.turns += 1;
         for place in self.sent.drain(..) {
             memory.table[place].state = State::Forwarded;
         }

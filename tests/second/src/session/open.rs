@@ -111,5 +111,7 @@ fn start(role: Role, sizes: Sizes) -> Session {
         deferred: Vec::new(),
         kept: 0,
         used: 0,
+        turns: 0,
+        signs: Vec::new(),
     }
 }

@@ -22,6 +22,7 @@ impl Session {
             (true, true) => (TurnLine::Quit, Phase::Quit),
         };
         self.say(&proposal::write(&last));
+        self.turns += usize::from(last != TurnLine::Quit);
         self.phase = phase;
     }
 

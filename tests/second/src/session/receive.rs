@@ -49,7 +49,7 @@ impl Session {
     }
 
     /// "A line ends with CR." "Spaces at the end are removed before a line is
-    /// judged." Reading 13: a line is refused at its CR, or for its length.
+    /// judged." DECISIONS 11: a line is refused at its CR, or for its length.
     fn take_line_byte(&mut self, memory: &mut Memory, byte: u8) -> Result<(), Refusal> {
         match line::step(false, self.line.len(), byte)? {
             Step::Dropped => Ok(()),

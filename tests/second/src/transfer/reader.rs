@@ -62,6 +62,11 @@ impl Reader {
         }
     }
 
+    /// True from the transfer's first byte on.
+    pub fn has_begun(&self) -> bool {
+        !matches!(self.stage, Stage::Start | Stage::Title) || !self.heading.is_empty()
+    }
+
     /// The title or name so far.
     pub fn heading(&self) -> &[u8] {
         &self.heading
@@ -173,7 +178,7 @@ impl Reader {
         }
     }
 
-    /// A byte of a framed heading, or the 00 after it. Reading 32: "a heading
+    /// A byte of a framed heading, or the 00 after it. DECISIONS 18: "a heading
     /// byte too many, a 00 too early" are refused at that byte.
     fn heading_step(&mut self, byte: u8, both: usize) -> Next {
         let length = self.heading.len();
@@ -189,7 +194,7 @@ impl Reader {
     }
 }
 
-/// "L = heading + offset + 2." Reading 32: an L that no heading and offset can
+/// "L = heading + offset + 2." DECISIONS 18: an L that no heading and offset can
 /// make is refused at once.
 fn length_step(length: u8) -> Next {
     match usize::from(length).checked_sub(2) {

@@ -43,14 +43,14 @@ pub fn read_plain(bytes: &[u8], room: usize) -> Reading<'_> {
     let reading = Reading::new(&bytes[..title]);
     match bytes.get(title) {
         None => return reading.more(title),
-        // Reading 33: an empty title gets 8 at its CR.
+        // DECISIONS 19: an empty title gets 8 at its CR.
         Some(&CR) if title > 0 => {}
         Some(_) => return reading.refused(Refusal::WrongTransfer, title),
     }
     read_plain_body(bytes, title + 1, room.min(BODY_LIMIT), reading)
 }
 
-/// The length of the heading that the bytes begin with. Reading 33: one byte
+/// The length of the heading that the bytes begin with. DECISIONS 19: one byte
 /// over the limit is no longer heading, so the search stops there.
 fn heading_run(bytes: &[u8]) -> usize {
     let most = &bytes[..bytes.len().min(HEADING_LIMIT)];
@@ -146,7 +146,7 @@ fn read_blocks<'a>(
     while let [BLOCK, n, rest @ ..] = &bytes[at..] {
         let n = if *n == 0 { BLOCK_BYTES } else { usize::from(*n) };
         let data = &rest[..n.min(rest.len())];
-        // Reading 31: the block's length is taken; 10 comes at the data byte
+        // DECISIONS 20: the block's length is taken; 10 comes at the data byte
         // without room.
         let free = room - reading.body.len();
         reading.body.extend(&data[..data.len().min(free)]);

@@ -19,7 +19,7 @@ fn signs(end: &mut End, proposals: &[(&str, u32)]) -> String {
 }
 
 /// "`-` if the BID is in the table, the known list, the inbox, or accepted earlier
-/// in this block". Reading 29: the table counts in any state and form, a BID
+/// in this block". DECISIONS 47: the table counts in any state and form, a BID
 /// deferred earlier in the block is judged anew.
 #[test]
 fn copies_are_declined() {
@@ -46,7 +46,7 @@ fn a_size_over_65535_is_deferred() {
     assert_eq!(signs(&mut End::called(&buffers), &sizes), "+==+");
 }
 
-/// "or over the free store less the sizes accepted in this block". Reading 28:
+/// "or over the free store less the sizes accepted in this block". DECISIONS 46:
 /// "its size less the bodies kept in this session as they came".
 #[test]
 fn a_size_over_the_free_store_is_deferred() {

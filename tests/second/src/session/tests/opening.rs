@@ -91,7 +91,7 @@ fn the_first_bad_record_is_the_place() {
     assert_eq!(place(7, &buffers), Some(255));
 }
 
-/// Reading 45: "Of three records with one BID the second is the place. Copies
+/// DECISIONS 57: "Of three records with one BID the second is the place. Copies
 /// within the known list, or of a table BID, are allowed."
 #[test]
 fn of_two_records_with_one_bid_the_later_is_bad() {

@@ -50,7 +50,7 @@ fn the_room_of_a_failed_message_is_used_again() {
     assert_eq!(end.memory.inbox[0], Some(first));
 }
 
-/// Readings 3 to 6: one LF, directly after the CR in the received stream,
+/// DECISIONS 3 to 5: one LF, directly after the CR in the received stream,
 /// whatever is given in between; none after a framed transfer.
 #[test]
 fn one_lf_is_dropped_after_the_cr_of_a_line_or_plain_transfer() {
@@ -148,7 +148,7 @@ fn other_sizes_get_1() {
     end.memory.sizes = sizes;
     end.says(b"[NOD-1-BFH$]\r>\r");
     end.refuses(b"x\r", 3);
-    // Reading 38: also on a session that has ended.
+    // DECISIONS 51: also on a session that has ended.
     end.memory.sizes = changed[1];
     assert_eq!(end.session.receive(&mut end.memory, b""), bad);
     assert_eq!(end.session.give(&end.memory, &mut [0; 4], 0), bad);

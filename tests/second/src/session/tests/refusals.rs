@@ -69,9 +69,9 @@ fn r3_first_line_is_no_sid() {
         end.say();
         end.refuses(line, 3);
     }
-    // Reading 4: an LF as the very first byte is an ordinary one.
+    // DECISIONS 4: an LF as the very first byte is an ordinary one.
     End::open(CALLER, &empty()).refuses(b"\n[TST-1-F$]\r", 3);
-    // Reading 23: FS is no turn line here.
+    // DECISIONS 43: FS is no turn line here.
     End::open(CALLER, &empty()).refuses(b"FS +\r", 3);
 }
 
@@ -127,7 +127,7 @@ fn r5_ff_and_fq_after_our_ff() {
     after_ff().refuses(b"FF\r", 5);
     after_ff().refuses(b"; hello\rFF\r", 5);
     after_ff().hears(b"; hello\rFQ\r");
-    // Reading 21: FQ only as the first line but for `;` lines.
+    // DECISIONS 42: FQ only as the first line but for `;` lines.
     after_ff().refuses(b"FB P THEM US ME 1_THEM 5\rFQ\r", 5);
     // After a block of the partner FF is said again, and FQ is allowed again.
     let mut end = after_ff();
@@ -150,7 +150,7 @@ fn r6_sixth_proposal_and_none() {
         End::called(&empty()).refuses(&[&five[..], malformed].concat(), 5);
     }
     End::called(&empty()).refuses(b"F>\r", 6);
-    // Reading 22: right after our FF, and after our transfers.
+    // DECISIONS 42: right after our FF, and after our transfers.
     let mut end = End::caller(&empty());
     end.say();
     end.refuses(b"F>\r", 6);
@@ -191,7 +191,7 @@ fn r8_plain_transfer() {
     owed(5, &room, false).hears(&[&[b't'; 80][..], b"\r"].concat());
     owed(5, &room, false).refuses(b"T\rab\x1A  x", 8);
     owed(5, &room, false).refuses(b"T\rab\x1A\n", 8);
-    // Reading 11: a `;` line is a title here. Reading 5: a second LF is part of
+    // DECISIONS 9: a `;` line is a title here. DECISIONS 4: a second LF is part of
     // the title.
     owed(5, &room, false).hears(b"\n; T\rab\x1A\r");
     owed(5, &room, false).refuses(b"\n\n", 8);
@@ -235,7 +235,7 @@ fn r10_no_room() {
     let mut end = owed(5, &room(5), false);
     end.refuses(b"T\r123456", 10);
     assert_eq!(end.memory.store, b"12345");
-    // Reading 31: the block's length is taken, its sixth byte isn't.
+    // DECISIONS 20: the block's length is taken, its sixth byte isn't.
     owed(5, &room(5), true).refuses(b"\x01\x05HI\x000\x00\x02\x06123456", 10);
     // A body may be longer than announced while there is room.
     owed(5, &room(6), false).hears(b"T\r123456\x1A\r");
@@ -244,7 +244,7 @@ fn r10_no_room() {
     owed(5, &room(70_000), false).refuses(&[&long[..], b"x"].concat(), 10);
 }
 
-/// Reading 31: "So is an 02 after 65,535 bytes": it is taken, and 10 comes at the
+/// DECISIONS 20: "So is an 02 after 65,535 bytes": it is taken, and 10 comes at the
 /// data byte.
 #[test]
 fn r10_a_block_after_the_longest_body() {
@@ -259,7 +259,7 @@ fn r10_a_block_after_the_longest_body() {
     owed().hears(&[&full[..], &[4, sum.wrapping_neg()]].concat());
 }
 
-/// Reading 30: a body longer than announced takes the room promised to a later
+/// DECISIONS 48: a body longer than announced takes the room promised to a later
 /// message of the block; that one then gets 10.
 #[test]
 fn r10_room_taken_by_an_earlier_message() {
@@ -281,7 +281,7 @@ fn r11_bytes_wait() {
     let mut end = End::open(CALLED, &empty());
     assert_eq!(end.say_up_to(14), b"[NOD-1-BFH$]\r>");
     end.refuses(b"\n", 11);
-    // Reading 37: within the same receive; the rest isn't consumed.
+    // DECISIONS 50: within the same receive; the rest isn't consumed.
     let mut end = End::called(&empty());
     assert_eq!(end.hear(b"FF\rFF\r"), Reply { answer: 11, place: 0, count: 4 });
     assert_eq!(end.say(), b"");
@@ -309,7 +309,7 @@ fn r12_ended() {
         assert_eq!(end.hear(bytes), Reply { answer: 12, place: 0, count: 0 });
     }
     assert_eq!(end.memory, memory);
-    // Reading 8: an LF after the CR of FQ is not read.
+    // DECISIONS 40: an LF after the CR of FQ is not read.
     let mut end = End::caller(&empty());
     end.say();
     assert_eq!(end.hear(b"FQ\r\nFF\r"), Reply::ok(3));

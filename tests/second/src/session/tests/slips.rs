@@ -37,7 +37,7 @@ fn marked_by_ff_at_its_cr() {
     assert_eq!(end.states(), [Forwarded; 2]);
 }
 
-/// Reading 27: "A turn of nothing but copies marks too", and the mark "stands if
+/// DECISIONS 45: "A turn of nothing but copies marks too", and the mark "stands if
 /// the partner's transfers after it fail".
 #[test]
 fn marked_by_a_turn_of_copies_and_by_one_that_fails_later() {

@@ -103,7 +103,7 @@ fn ff_after_a_block_and_fq_after_ff() {
     assert_eq!(end.kept().len(), 3);
 }
 
-/// Reading 40: "The session lives until our FQ's CR is handed out".
+/// DECISIONS 53: "The session lives until our FQ's CR is handed out".
 #[test]
 fn our_fq_ends_the_session_when_it_is_given() {
     let mut end = End::called(&plain_table(&[]));
@@ -131,7 +131,7 @@ fn the_calling_end_waits_for_the_prompt() {
     end.says(b"[NOD-1-BFH$]\rFB P US THEM YOU 1_US 7\rF>\r");
 }
 
-/// Reading 18: "A prompt may hold any bytes; `F>` is one."
+/// DECISIONS 41: "A prompt may hold any bytes; `F>` is one."
 #[test]
 fn any_line_with_one_mark_at_its_end_is_a_prompt() {
     for prompt in [&b"F>\r"[..], b">\r", b"\xFF\t>  \r", b"FS +>\r"] {
@@ -141,7 +141,7 @@ fn any_line_with_one_mark_at_its_end_is_a_prompt() {
     }
 }
 
-/// Reading 25: "A record deferred in a session is not proposed again in it; an
+/// DECISIONS 44: "A record deferred in a session is not proposed again in it; an
 /// accepted open clears that."
 #[test]
 fn a_deferred_record_is_proposed_again_in_the_next_session() {
