@@ -208,7 +208,7 @@ fn session(input: &[u8]) {
     };
     let sid = sid::read_sid(judged(&line, got.len));
     let features = sid.features;
-    let framed = sid::is_framed(features);
+    let framed = features::is_framed(features);
     say_sid(sid.number, framed);
     if sid.number == 0 {
         turn(input, next, framed);

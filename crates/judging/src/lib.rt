@@ -21,7 +21,7 @@ fn sid_line(line: &[u8], awaited: Await, say: Say, keep: Keep, reader: Reader) -
         return refusal(r.number, awaited, say, keep, reader);
     }
     let mut k = keep;
-    k.framed = sid::is_framed(r.features);
+    k.framed = features::is_framed(r.features);
     if awaited.phase == 1 {
         let mut t = awaited;
         t.phase = 2;

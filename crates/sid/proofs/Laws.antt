@@ -7,13 +7,12 @@ use Prim.Native.Nat.{ℕ, zero, suc, _+_, _-_, _<_, _≤_}
 use native.Mathlib.Omega.{arith}
 use native.Mathlib.Numerals.{add-one, add-two}
 use lib.Dec.{eqb, ltb}
-use lib.ListN.{length, getD, take, drop, length-drop, drop-of-length-le, List·getD-eq-default}
-use lib.Seq.{drop-cons, set-out}
+use lib.ListN.{length, getD, take, drop, length-drop, drop-of-length-le}
+use lib.Seq.{drop-cons}
 use borrow.Author.Tests.{eq-eqb, ne-eqb, lt-ltb, le-ltb, ltb-true, ltb-false, not-true, not-false}
 use Rattle.grammar.specs.Bytes.{Bytes, null, all, splitAt}
 use Rattle.grammar.specs.Fields.{upper, digit}
 use Rattle.grammar.specs.Sid.{isLetter, letterPlace, noFeatures, hasFeature, withFeature, sidEnd, readLevels, readFeatures, splitLast, dataRead, authorRead, sidRead, readSid}
-use Rattle.grammar.specs.Turns.{ourSid, fixedText}
 use Rattle.grammar.proofs.Basics.{to-end}
 use Rattle.byte.specs.declared.Class.{Class}
 use Rattle.byte.specs.Classes.{classOf}
@@ -22,24 +21,6 @@ use Rattle.field.proofs.Laws.{split-upto}
 use Rattle.sid.specs.Meaning.{lastBy}
 
 -- ---------------------------------------------------------------- the features
-
--- B, F, H and `$` added to none are what our SID says
-pub ours-said : {a b c d e : List ℕ} → a ≡ noFeatures → b ≡ withFeature 1 0 a → c ≡ withFeature 5 0 b → d ≡ withFeature 7 0 c → e ≡ withFeature 26 0 d
-    → some e ≡ readSid (fixedText ourSid)
-unfolding readSid
-ours-said p q r s t = rw (t, s, r, q, p)
-
--- a place from 27 on has no feature and takes none
-module _ (i : ℕ) (fs : Bytes) (n : length fs ≡ 27) (h : 27 ≤ i) where
-  pub has-outside : false ≡ hasFeature i fs
-  has-outside = rw (List·getD-eq-default fs 0 {n = i} (omega arith))
-
-  pub with-outside : (level : ℕ) → fs ≡ withFeature i level fs
-  with-outside level = rw (set-out fs i (level + 1) (omega arith)) (go (ltb level 10))
-    where
-      go : (t : Bool) → fs ≡ cond t fs fs
-      go true = refl
-      go false = refl
 
 pub letter-is : (x : ℕ) → isLetter x ≡ true → (65 ≤ upper x) × (upper x < 91)
 letter-is x e = go (ltb (upper x) 65) refl e

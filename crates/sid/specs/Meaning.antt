@@ -7,7 +7,7 @@ use lib.Dec.{eqb}
 use lib.ListN.{take, drop}
 use Rattle.grammar.specs.Bytes.{Bytes}
 use Rattle.grammar.specs.Sid.{noFeatures, sidNumber}
-use Rattle.sid.specs.declared.FeatureSet.{FeatureSet}
+use Rattle.features.specs.declared.FeatureSet.{FeatureSet}
 use Rattle.sid.specs.declared.Sid.{Sid}
 
 -- The features that a line says: those of a valid SID, and none where it is no SID.

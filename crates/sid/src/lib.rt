@@ -1,8 +1,9 @@
-// The SID: the set of features that a mailbox says it has, and the line in brackets that says it.
+// The SID: the line in brackets in which a mailbox says its features.
 use byte::Class;
 use byte::all_of;
 use byte::digit_byte;
 use byte::upper_of;
+use features::FeatureSet;
 use field::find;
 ghost use mathlib.Core.Path.{_≡_};
 ghost use mathlib.Core.Bool.{true, not, _&&_};
@@ -10,71 +11,9 @@ ghost use mathlib.Core.Option.{none, some};
 ghost use Prim.Native.Nat.{_≤_, _<_};
 ghost use lib.ListN.{length};
 ghost use Rattle.grammar.specs.Bytes.{null, all, splitAt};
-ghost use Rattle.grammar.specs.Sid.{isLetter, letterPlace, noFeatures, hasFeature, withFeature, sidEnd, readLevels, readFeatures, splitLast, dataRead, authorRead, readSid, framed};
-ghost use Rattle.grammar.specs.Turns.{ourSid, fixedText};
+ghost use Rattle.grammar.specs.Sid.{isLetter, letterPlace, noFeatures, sidEnd, readLevels, readFeatures, splitLast, dataRead, authorRead, readSid};
 ghost use Rattle.byte.specs.Classes.{classOf};
 ghost use Rattle.sid.specs.Meaning.{sidOf, lastBy};
-
-// The features of a mailbox by the fixed places of their letters: 0 where a feature isn't there, else its level and 1 more.
-pub struct FeatureSet {
-    pub levels: [u8; 27],
-}
-
-impl FeatureSet {
-    pub const B: u8 = 1;
-
-    pub const F: u8 = 5;
-
-    pub const H: u8 = 7;
-
-    pub const DOLLAR: u8 = 26;
-
-    // No feature at all.
-    pub fn none() -> Self
-        ensures { λ r. ⌜ r .levels ≡ noFeatures ⌝ }
-    {
-        Self { levels: [0u8; 27] }
-    }
-
-    // Ours, each at level 0: those that our SID says.
-    pub fn ours() -> Self
-        ensures { λ r. ⌜ some (r .levels) ≡ readSid (fixedText ourSid) ⌝ }
-    {
-        let none = FeatureSet::none();
-        let b = none.with(FeatureSet::B, 0);
-        let bf = b.with(FeatureSet::F, 0);
-        let bfh = bf.with(FeatureSet::H, 0);
-        bfh.with(FeatureSet::DOLLAR, 0)
-    }
-
-    // The set with the feature at this level; a level over 9 or a place over 26 adds nothing.
-    pub fn with(self, letter: u8, level: u8) -> Self
-        ensures { λ r. ⌜ r .levels ≡ withFeature letter level (self .levels) ⌝ }
-    {
-        if level < 10 {
-            let at = letter as usize;
-            if at < 27 {
-                let mut s = self;
-                s.levels[at] = level + 1;
-                return s;
-            }
-            return self;
-        }
-        self
-    }
-
-    // The feature is there, at any level.
-    pub fn has(self, letter: u8) -> bool
-        ensures { λ r. ⌜ r ≡ hasFeature letter (self .levels) ⌝ }
-    {
-        let at = letter as usize;
-        if 26 < at {
-            return false;
-        }
-        let level = self.levels[at];
-        0 < level
-    }
-}
 
 // 01's numbers for a line that isn't a SID, and for a SID without F.
 const NOT_SID: u8 = 3;
@@ -85,13 +24,6 @@ const NO_FORWARDING: u8 = 4;
 pub struct Sid {
     pub number: u8,
     pub features: FeatureSet,
-}
-
-// A partner with these features is met in framed mode.
-pub fn is_framed(features: FeatureSet) -> bool
-    ensures { λ r. ⌜ r ≡ framed (features .levels) ⌝ }
-{
-    features.has(FeatureSet::B)
 }
 
 // The answer to a line that isn't a SID.

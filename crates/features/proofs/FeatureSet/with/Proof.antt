@@ -1,9 +1,9 @@
 -- The tests of the definition are those of the code; a store outside the 27 places changes nothing.
 use borrow.Author.Needs.{needs}
 use borrow.Author.Tests.{lt-ltb, le-ltb}
-use Rattle.sid.proofs.Laws.{with-outside}
-use Rattle.sid.proofs.FeatureSet.with.Statement.{statement}
-use Rattle.sid.proofs.FeatureSet.with.Tie as tie
+use Rattle.features.proofs.Laws.{with-outside}
+use Rattle.features.proofs.FeatureSet.with.Statement.{statement}
+use Rattle.features.proofs.FeatureSet.with.Tie as tie
 
 add-s : tie.Need-add-s
 add-s c = search needs

@@ -1,8 +1,8 @@
 -- One feature after another, by `with`'s contract.
 use borrow.Author.Needs.{needs}
-use Rattle.sid.proofs.Laws.{ours-said}
-use Rattle.sid.proofs.FeatureSet.ours.Statement.{statement}
-use Rattle.sid.proofs.FeatureSet.ours.Tie as tie
+use Rattle.features.proofs.Laws.{ours-said}
+use Rattle.features.proofs.FeatureSet.ours.Statement.{statement}
+use Rattle.features.proofs.FeatureSet.ours.Tie as tie
 
 none-requires : tie.Need-none-requires
 none-requires c κs = search needs

@@ -1,8 +1,8 @@
 -- Within the 27 places by the test itself; outside them there is no feature.
 use borrow.Author.Needs.{needs}
-use Rattle.sid.proofs.Laws.{has-outside}
-use Rattle.sid.proofs.FeatureSet.has.Statement.{statement}
-use Rattle.sid.proofs.FeatureSet.has.Tie as tie
+use Rattle.features.proofs.Laws.{has-outside}
+use Rattle.features.proofs.FeatureSet.has.Statement.{statement}
+use Rattle.features.proofs.FeatureSet.has.Tie as tie
 
 returns : tie.Need-returns
 returns c = has-outside _ (c .before .args .t1 .levels) (search needs) (c .if1 .taken)

@@ -1,0 +1,31 @@
+-- Sets of features on plain values.
+use mathlib.Core.Path.{_≡_, refl}
+use mathlib.Core.Bool.{Bool, true, false, cond}
+use mathlib.Core.Option.{some}
+use mathlib.Core.List.{List}
+use Prim.Native.Nat.{ℕ, _+_, _≤_}
+use native.Mathlib.Omega.{arith}
+use lib.Dec.{ltb}
+use lib.ListN.{length, List·getD-eq-default}
+use lib.Seq.{set-out}
+use Rattle.grammar.specs.Bytes.{Bytes}
+use Rattle.grammar.specs.Sid.{noFeatures, hasFeature, withFeature, readSid}
+use Rattle.grammar.specs.Turns.{ourSid, fixedText}
+
+-- B, F, H and `$` added to none are what our SID says
+pub ours-said : {a b c d e : List ℕ} → a ≡ noFeatures → b ≡ withFeature 1 0 a → c ≡ withFeature 5 0 b → d ≡ withFeature 7 0 c → e ≡ withFeature 26 0 d
+    → some e ≡ readSid (fixedText ourSid)
+unfolding readSid
+ours-said p q r s t = rw (t, s, r, q, p)
+
+-- a place from 27 on has no feature and takes none
+module _ (i : ℕ) (fs : Bytes) (n : length fs ≡ 27) (h : 27 ≤ i) where
+  pub has-outside : false ≡ hasFeature i fs
+  has-outside = rw (List·getD-eq-default fs 0 {n = i} (omega arith))
+
+  pub with-outside : (level : ℕ) → fs ≡ withFeature i level fs
+  with-outside level = rw (set-out fs i (level + 1) (omega arith)) (go (ltb level 10))
+    where
+      go : (t : Bool) → fs ≡ cond t fs fs
+      go true = refl
+      go false = refl

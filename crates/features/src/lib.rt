@@ -1,0 +1,73 @@
+// The set of features that a mailbox says it has, by the fixed places of their letters.
+ghost use mathlib.Core.Path.{_≡_};
+ghost use mathlib.Core.Option.{some};
+ghost use Rattle.grammar.specs.Sid.{noFeatures, hasFeature, withFeature, readSid, framed};
+ghost use Rattle.grammar.specs.Turns.{ourSid, fixedText};
+
+// The features of a mailbox by the fixed places of their letters: 0 where a feature isn't there, else its level and 1 more.
+pub struct FeatureSet {
+    pub levels: [u8; 27],
+}
+
+impl FeatureSet {
+    pub const B: u8 = 1;
+
+    pub const F: u8 = 5;
+
+    pub const H: u8 = 7;
+
+    pub const DOLLAR: u8 = 26;
+
+    // No feature at all.
+    pub fn none() -> Self
+        ensures { λ r. ⌜ r .levels ≡ noFeatures ⌝ }
+    {
+        Self { levels: [0u8; 27] }
+    }
+
+    // Ours, each at level 0: those that our SID says.
+    pub fn ours() -> Self
+        ensures { λ r. ⌜ some (r .levels) ≡ readSid (fixedText ourSid) ⌝ }
+    {
+        let none = FeatureSet::none();
+        let b = none.with(FeatureSet::B, 0);
+        let bf = b.with(FeatureSet::F, 0);
+        let bfh = bf.with(FeatureSet::H, 0);
+        bfh.with(FeatureSet::DOLLAR, 0)
+    }
+
+    // The set with the feature at this level; a level over 9 or a place over 26 adds nothing.
+    pub fn with(self, letter: u8, level: u8) -> Self
+        ensures { λ r. ⌜ r .levels ≡ withFeature letter level (self .levels) ⌝ }
+    {
+        if level < 10 {
+            let at = letter as usize;
+            if at < 27 {
+                let mut s = self;
+                s.levels[at] = level + 1;
+                return s;
+            }
+            return self;
+        }
+        self
+    }
+
+    // The feature is there, at any level.
+    pub fn has(self, letter: u8) -> bool
+        ensures { λ r. ⌜ r ≡ hasFeature letter (self .levels) ⌝ }
+    {
+        let at = letter as usize;
+        if 26 < at {
+            return false;
+        }
+        let level = self.levels[at];
+        0 < level
+    }
+}
+
+// A partner with these features is met in framed mode.
+pub fn is_framed(features: FeatureSet) -> bool
+    ensures { λ r. ⌜ r ≡ framed (features .levels) ⌝ }
+{
+    features.has(FeatureSet::B)
+}
