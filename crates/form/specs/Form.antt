@@ -11,7 +11,8 @@ use Rattle.state.specs.State.{sessionSize, held, loadOf, loadSizes}
 use Rattle.state.specs.declared.Session.{Session}
 use Rattle.state.specs.declared.Sizes.{Sizes}
 use Rattle.choice.specs.Decoded.{placeCount}
-use Rattle.waiting.specs.Waiting.{waits, waitingOf}
+use Rattle.waiting.specs.Waiting.{waitingOf}
+use Rattle.pending.specs.Pending.{waits}
 
 -- The mark that open leaves.
 abbrev pub markOk : Bytes → Bool

@@ -104,7 +104,7 @@ fn waiting_ok(s: Session, table: &[u8], titles: &[u8], names: &[u8], bodies: &[u
     ensures { λ r. ⌜ r ≡ waitingOk s (now (table .entry)) (now (titles .entry)) (now (names .entry)) (now (bodies .entry)) ⌝ }
 {
     let say = s.say;
-    if !waiting::is_waiting(say) {
+    if !pending::is_waiting(say) {
         return true;
     }
     waiting::is_left(s, s.say.pos, table, titles, names, bodies)

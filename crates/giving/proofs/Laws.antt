@@ -11,7 +11,8 @@ use Rattle.buffer.specs.declared.Cursor.{Cursor}
 use Rattle.buffer.proofs.Laws.{cursor, cursor-at, cut-length}
 use Rattle.state.specs.State.{loadOf, saveOf}
 use Rattle.state.specs.declared.Session.{Session}
-use Rattle.waiting.specs.Waiting.{waitingOf, hasToGive}
+use Rattle.waiting.specs.Waiting.{waitingOf}
+use Rattle.pending.specs.Pending.{hasToGive}
 use Rattle.form.specs.Form.{formOf}
 use Rattle.giving.specs.declared.Reply.{Reply}
 use Rattle.giving.specs.declared.Handout.{Handout}

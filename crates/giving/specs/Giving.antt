@@ -9,7 +9,8 @@ use Rattle.grammar.specs.Refusals.{badMemory}
 use Rattle.buffer.specs.Put.{putBytes, cut}
 use Rattle.state.specs.State.{loadOf, saveOf}
 use Rattle.state.specs.declared.Session.{Session}
-use Rattle.waiting.specs.Waiting.{waitingOf, hasToGive, silentOf}
+use Rattle.waiting.specs.Waiting.{waitingOf}
+use Rattle.pending.specs.Pending.{hasToGive, silentOf}
 use Rattle.form.specs.Form.{formOf}
 use Rattle.giving.specs.declared.Reply.{Reply}
 use Rattle.giving.specs.declared.Handout.{Handout}

@@ -32,7 +32,7 @@ fn handed(s: Session, n: usize, table: &[u8], titles: &[u8], names: &[u8], bodie
         t.say.pos = pos;
         return t;
     }
-    waiting::silent(s)
+    pending::silent(s)
 }
 
 // Writes what waits into buf from place on, as far as it fits.
@@ -83,7 +83,7 @@ pub fn give(
         };
     }
     let s = state::load(sm);
-    if !waiting::has_to_give(s) {
+    if !pending::has_to_give(s) {
         return Reply {
             answer: 0,
             place: 0,

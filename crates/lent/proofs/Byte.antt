@@ -18,7 +18,8 @@ use Rattle.session.specs.Session as on-lists
 use Rattle.session.specs.Session.{Phase}
 use Rattle.session.specs.Calls as calls
 use Rattle.state.specs.declared.Session.{Session}
-use Rattle.waiting.specs.Waiting.{waits, waitingOf, overOf, thenText}
+use Rattle.waiting.specs.Waiting.{waitingOf, thenText}
+use Rattle.pending.specs.Pending.{waits, overOf}
 use Rattle.receiving.specs.Receiving.{Cs, cs, Moved, moved, lfDropped, refusedOf, lineStepOf, lineByteOf, transferStepOf, byteOf, Run, run, stops, receiveFrom}
 use Rattle.lent.specs.Represents.{Fixed, Says, Awaits, Represents}
 use Rattle.lent.specs.Frame.{reachOf, Spared}

@@ -24,7 +24,8 @@ use Rattle.state.specs.declared.Keep.{Keep}
 use Rattle.state.specs.declared.Session.{Session}
 use Rattle.judge.specs.Judge.{nextAccepted, judgeOf}
 use Rattle.judge.specs.declared.Judged.{Judged}
-use Rattle.waiting.specs.Waiting.{waits, waitingOf, overOf, hasToGive}
+use Rattle.waiting.specs.Waiting.{waitingOf}
+use Rattle.pending.specs.Pending.{waits, overOf, hasToGive}
 use Rattle.form.specs.Form.{formOf}
 use Rattle.receiving.specs.Receiving.{Cs, cs, Moved, Settled, settleOf, lineMoved, lineStepOf, keepOf, transferMoved, transferStep, transferStepOf, byteOf, Run, stops, receiveFrom, unchanged, saved, receiveOf}
 use Rattle.giving.specs.Giving.{reply, giveOf, handing, Given}

@@ -20,7 +20,8 @@ use Rattle.state.specs.declared.Session.{Session}
 use Rattle.state.specs.declared.Sizes.{Sizes}
 use Rattle.state.proofs.Laws.{sizes-length, Sized, sizes-saved, load-sizes}
 use Rattle.choice.specs.Decoded.{placeCount}
-use Rattle.waiting.specs.Waiting.{waits, waitingOf, silentOf, overOf, hasToGive}
+use Rattle.waiting.specs.Waiting.{waitingOf}
+use Rattle.pending.specs.Pending.{waits, silentOf, overOf, hasToGive}
 use Rattle.waiting.proofs.Short.{record-short, waiting-short}
 use Rattle.form.specs.Form.{usedBy, markOk, sameSizes, lentSizes, formOf}
 use Rattle.giving.specs.Giving.{Given, reply, handedOf, handing, giveOf}

@@ -12,7 +12,8 @@ use Rattle.state.specs.declared.Say.{Say}
 use Rattle.state.specs.declared.Keep.{Keep}
 use Rattle.state.specs.declared.Line.{Line}
 use Rattle.choice.specs.Decoded.{placeCount}
-use Rattle.waiting.specs.Waiting.{waits, waitingOf}
+use Rattle.waiting.specs.Waiting.{waitingOf}
+use Rattle.pending.specs.Pending.{waits}
 use Rattle.form.specs.Form.{usedBy, pluses}
 use Rattle.receiving.specs.Receiving.{Cs}
 use Rattle.lent.specs.Represents.{Fixed}

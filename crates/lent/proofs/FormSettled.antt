@@ -17,7 +17,7 @@ use Rattle.choice.specs.Choice.{chooseOf}
 use Rattle.judge.specs.Judge.{inPhase, toTurn, toAnswer, saysThen, spoken, speakOf}
 use Rattle.judge.specs.declared.Judged.{Judged}
 use Rattle.judge.specs.declared.Spoken.{Spoken}
-use Rattle.waiting.specs.Waiting.{waits}
+use Rattle.pending.specs.Pending.{waits}
 use Rattle.receiving.specs.Receiving.{cs, markAll, refusedOf, settledOf, spokenOf, Settled, settled, settleOf}
 use Rattle.lent.specs.Represents.{Fixed}
 use Rattle.lent.proofs.FormLaws.{mark-octets}

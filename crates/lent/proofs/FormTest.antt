@@ -17,7 +17,8 @@ use Rattle.state.specs.declared.Five.{Five}
 use Rattle.state.specs.declared.Session.{Session}
 use Rattle.state.proofs.Laws.{Shaped, load-shaped}
 use Rattle.choice.specs.Decoded.{placeCount}
-use Rattle.waiting.specs.Waiting.{waits, waitingOf}
+use Rattle.waiting.specs.Waiting.{waitingOf}
+use Rattle.pending.specs.Pending.{waits}
 use Rattle.form.specs.Form.{countsOk, usedBy, inboxOk, waitingOk, pluses, transferOk, phaseOk, stateOk}
 use Rattle.receiving.specs.Receiving.{Cs, cs}
 use Rattle.lent.specs.Represents.{Fixed}

@@ -16,7 +16,8 @@ use Rattle.our_line.specs.Lines.{fsText}
 use Rattle.state.specs.State.{held}
 use Rattle.state.specs.declared.Five.{Five}
 use Rattle.state.specs.declared.Session.{Session}
-use Rattle.waiting.specs.Waiting.{proposalAt, firstText, blockText, sendingText, thenText, waitingOf, waits}
+use Rattle.waiting.specs.Waiting.{proposalAt, firstText, blockText, sendingText, thenText, waitingOf}
+use Rattle.pending.specs.Pending.{waits}
 use Rattle.lent.proofs.FormLaws.{FiveOk, held-length}
 use Rattle.lent.proofs.Says.{some-turn, some-transfer}
 

@@ -24,7 +24,8 @@ use Rattle.layout.specs.Layout.{entryAt, recordSize, recordOf}
 use Rattle.state.specs.State.{loadOf, saveOf}
 use Rattle.state.specs.declared.Session.{Session}
 use Rattle.state.specs.declared.Sizes.{Sizes}
-use Rattle.waiting.specs.Waiting.{waits, waitingOf, firstText, thenText, overOf, hasToGive, silentOf}
+use Rattle.waiting.specs.Waiting.{waitingOf, firstText, thenText}
+use Rattle.pending.specs.Pending.{waits, overOf, hasToGive, silentOf}
 use Rattle.waiting.proofs.Short.{waiting-short}
 use Rattle.giving.specs.Giving.{Given, reply, handedOf, handing, giveOf}
 use Rattle.receiving.specs.Receiving.{Cs, cs}

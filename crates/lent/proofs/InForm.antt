@@ -18,7 +18,8 @@ use Rattle.choice.specs.Decoded.{placeCount, proposalsOf}
 use Rattle.state.specs.State.{sessionSize, held, loadOf, loadSizes}
 use Rattle.state.specs.declared.Session.{Session}
 use Rattle.state.specs.declared.Sizes.{Sizes}
-use Rattle.waiting.specs.Waiting.{waits, waitingOf}
+use Rattle.waiting.specs.Waiting.{waitingOf}
+use Rattle.pending.specs.Pending.{waits}
 use Rattle.form.specs.Form.{markOk, sameSizes, countsOk, usedBy, inboxOk, waitingOk, pluses, transferOk, phaseOk, stateOk, lentSizes, formOf}
 use Rattle.receiving.specs.Receiving.{Cs, cs}
 use Rattle.lent.specs.Represents.{Fixed, Arrays, Awaits, Represents, owed}

@@ -26,7 +26,8 @@ use Rattle.state.specs.declared.Session.{Session}
 use Rattle.choice.specs.Decoded.{proposalsOf}
 use Rattle.judge.specs.Judge.{noMarks, judged, toTransfer, plusFrom, nextAccepted, readerFor, speakOf}
 use Rattle.judge.specs.declared.Judged.{Judged}
-use Rattle.waiting.specs.Waiting.{waits, thenText}
+use Rattle.waiting.specs.Waiting.{thenText}
+use Rattle.pending.specs.Pending.{waits}
 use Rattle.receiving.specs.Receiving.{Cs, unsaid, keptKeep, nextJudged, isPlainAt, keepOf}
 use Rattle.lent.specs.Represents.{Fixed, Awaits, Represents, signsIn}
 use Rattle.lent.proofs.Proposals.{Found, owing, owed-now, next-found, plain-law, written-form}

@@ -44,7 +44,8 @@ use Rattle.judge.specs.Judge.{noMarks, judged, wentOn, refusal, inPhase, toTurn
 use Rattle.judge.specs.Judge as judge
 use Rattle.judge.specs.declared.Judged.{Judged}
 use Rattle.judge.specs.declared.Marks.{Marks}
-use Rattle.waiting.specs.Waiting.{waits, firstText, thenText}
+use Rattle.waiting.specs.Waiting.{firstText, thenText}
+use Rattle.pending.specs.Pending.{waits}
 use Rattle.receiving.specs.Receiving.{cs, unsaid, markAll}
 use Rattle.lent.specs.Represents.{Fixed, Awaits, signsIn}
 use Rattle.lent.proofs.Lists.{FiveOk, five-ok}

@@ -23,7 +23,8 @@ use Rattle.state.specs.declared.Line.{Line}
 use Rattle.state.specs.declared.Session.{Session}
 use Rattle.judge.specs.Judge.{wentOn, judgeOf, lineIn, sidLine, textLine, turnLine}
 use Rattle.judge.specs.declared.Judged.{Judged}
-use Rattle.waiting.specs.Waiting.{waits, waitingOf}
+use Rattle.waiting.specs.Waiting.{waitingOf}
+use Rattle.pending.specs.Pending.{waits}
 use Rattle.receiving.specs.Receiving.{Cs, cs, Settled, longer, lineMoved, lineStepOf, refusedOf}
 use Rattle.lent.specs.Represents.{Fixed, Says, Awaits, Represents}
 use Rattle.lent.proofs.Says.{waits-none}

@@ -16,7 +16,8 @@ use Rattle.state.specs.State.{sessionSize, loadOf, saveOf, sizesOut, saveSizes,
 use Rattle.state.specs.declared.Session.{Session}
 use Rattle.state.proofs.Laws.{Sized, load-save, load-sizes, save-length, sizes-length, sizes-saved, save-sizes-kept, fresh-shaped}
 use Rattle.choice.specs.Decoded.{recordsOf, statesOf, knownBids, placeCount, recordCount}
-use Rattle.waiting.specs.Waiting.{waits, waitingOf, firstText, thenText}
+use Rattle.waiting.specs.Waiting.{waitingOf, firstText, thenText}
+use Rattle.pending.specs.Pending.{waits}
 use Rattle.form.specs.Form.{markOk, usedBy}
 use Rattle.giving.specs.Giving.{reply}
 use Rattle.opening.specs.Opening.{Opened, opened, entriesOk, sizesOk, knownOk, tableFault, openOf}

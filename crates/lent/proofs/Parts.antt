@@ -18,7 +18,8 @@ use Rattle.state.specs.declared.Await.{Await}
 use Rattle.state.specs.declared.Say.{Say}
 use Rattle.state.specs.declared.Keep.{Keep}
 use Rattle.choice.specs.Decoded.{recordsOf, statesOf, knownBids, placeCount}
-use Rattle.waiting.specs.Waiting.{waits, waitingOf, firstText, thenText}
+use Rattle.waiting.specs.Waiting.{waitingOf, firstText, thenText}
+use Rattle.pending.specs.Pending.{waits}
 use Rattle.receiving.specs.Receiving.{Cs, cs, refusedOf}
 use Rattle.lent.specs.Represents.{Fixed, Written, Says, Awaits, Represents}
 use Rattle.lent.proofs.Lists.{FiveOk}

@@ -19,7 +19,7 @@ use Rattle.log.specs.Log.{Event, took, gave}
 use Rattle.demand3.specs.Demand as on-lists-run
 use Rattle.state.specs.State.{loadOf, loadSizes}
 use Rattle.state.specs.declared.Sizes.{Sizes}
-use Rattle.waiting.specs.Waiting.{overOf}
+use Rattle.pending.specs.Pending.{overOf}
 use Rattle.form.specs.Form.{markOk, sameSizes, lentSizes, stateOk, formOf}
 use Rattle.giving.specs.Giving.{Given, reply}
 use Rattle.receiving.specs.Receiving.{Cs, cs, Run, Received, unchanged, saved, receiveFrom, receiveOf}

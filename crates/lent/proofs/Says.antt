@@ -15,7 +15,8 @@ use Rattle.mail.specs.Mail.{Record, headingFor, proposalOf, recordAt, transferO
 use Rattle.choice.specs.Decoded.{recordsOf}
 use Rattle.state.specs.declared.Five.{Five}
 use Rattle.state.specs.declared.Say.{Say}
-use Rattle.waiting.specs.Waiting.{proposalAt, blockText, sendingText, firstText, thenText, waits}
+use Rattle.waiting.specs.Waiting.{proposalAt, blockText, sendingText, firstText, thenText}
+use Rattle.pending.specs.Pending.{waits}
 use Rattle.lent.proofs.Table.{Whole, record-at}
 
 -- ---------------------------------------------------------------- nothing

@@ -28,7 +28,8 @@ use Rattle.choice.specs.Choice.{chooseOf}
 use Rattle.judge.specs.Judge.{picked, flagged, settledKeep, sends, inPhase, toTurn, toAnswer, saysThen, spoken, speaking, speakOf}
 use Rattle.judge.specs.Judge as judge
 use Rattle.judge.specs.declared.Spoken.{Spoken}
-use Rattle.waiting.specs.Waiting.{waits, waitingOf, firstText, thenText, blockText}
+use Rattle.waiting.specs.Waiting.{waitingOf, firstText, thenText, blockText}
+use Rattle.pending.specs.Pending.{waits}
 use Rattle.receiving.specs.Receiving.{cs, unsaid, markAll}
 use Rattle.lent.specs.Represents.{Fixed, Awaits, Represents}
 use Rattle.lent.proofs.Lists.{FiveOk, five-ok}

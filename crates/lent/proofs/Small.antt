@@ -27,7 +27,7 @@ use Rattle.state.specs.declared.Keep.{Keep}
 use Rattle.state.specs.declared.Session.{Session}
 use Rattle.judge.specs.Judge.{nextAccepted, readerFor, judgeOf}
 use Rattle.judge.specs.declared.Judged.{Judged}
-use Rattle.waiting.specs.Waiting.{waits}
+use Rattle.pending.specs.Pending.{waits}
 use Rattle.receiving.specs.Receiving.{Cs, Moved, markAll, refusedOf, spokenOf, Settled, settleOf, lineMoved, lineStepOf, nextJudged, keepOf, isPlainAt, reading, transferMoved, transferStepOf, byteOf, Run, stops, receiveFrom}
 use Rattle.lent.proofs.LineWays.{by-line-ways}
 

@@ -19,7 +19,8 @@ use Rattle.transfer_read.specs.Meaning.{Stands}
 use Rattle.state.specs.State.{held}
 use Rattle.state.specs.declared.Session.{Session}
 use Rattle.choice.specs.Decoded.{recordsOf, statesOf, knownBids, proposalsOf, placeCount, recordCount}
-use Rattle.waiting.specs.Waiting.{waits, waitingOf}
+use Rattle.waiting.specs.Waiting.{waitingOf}
+use Rattle.pending.specs.Pending.{waits}
 use Rattle.form.specs.Form.{usedBy}
 use Rattle.receiving.specs.Receiving.{Cs}
 use Rattle.lent.specs.Laid.{proposalBytes, messageBytes, bodiesBytes}

@@ -22,7 +22,7 @@ use Rattle.state.specs.declared.Keep.{Keep}
 use Rattle.state.specs.declared.Session.{Session}
 use Rattle.judge.specs.declared.Judged.{Judged}
 use Rattle.judge.specs.Judge.{noMarks, judged, toTransfer, nextAccepted, readerFor}
-use Rattle.waiting.specs.Waiting.{waits}
+use Rattle.pending.specs.Pending.{waits}
 use Rattle.settling.specs.declared.Left.{Left}
 use Rattle.receiving.specs.Receiving.{Cs, Moved, cs, moved, refusedOf, Settled, settled, settleOf, lineStepOf, keptKeep, nextJudged, isPlainAt, keptInbox, keepOf, reading, transferMoved, transferStepOf, lfDropped, lineByteOf, byteOf, Run, run}
 use Rattle.portion.specs.declared.Taken.{Taken}

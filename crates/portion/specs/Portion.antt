@@ -9,7 +9,7 @@ use lib.ListN.{length, take, drop}
 use Rattle.grammar.specs.Bytes.{Bytes, LF}
 use Rattle.transfer_read.specs.Feed as transfer
 use Rattle.transfer_read.specs.Feed.{roomOf, feedOf}
-use Rattle.waiting.specs.Waiting.{waits}
+use Rattle.pending.specs.Pending.{waits}
 use Rattle.receiving.specs.Receiving.{Cs, Moved, Run, run, reading, transferMoved, byteOf}
 
 -- The room that the message under way has in the store: what kept messages leave, 65,535 bytes at most.

@@ -227,7 +227,7 @@ pub fn portion(
         return taken_as(0, 1, lf_dropped(s));
     }
     let say = s.say;
-    if waiting::is_waiting(say) {
+    if pending::is_waiting(say) {
         return taken_as(11, 1, settling::refused(s));
     }
     if s.now.phase == 5 {

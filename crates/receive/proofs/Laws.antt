@@ -11,7 +11,7 @@ use Rattle.grammar.specs.Bytes.{Bytes}
 use Rattle.layout.specs.Layout.{byteAt}
 use Rattle.state.specs.State.{loadOf, saveOf}
 use Rattle.state.specs.declared.Session.{Session}
-use Rattle.waiting.specs.Waiting.{overOf}
+use Rattle.pending.specs.Pending.{overOf}
 use Rattle.form.specs.Form.{formOf}
 use Rattle.giving.specs.Giving.{reply}
 use Rattle.receiving.specs.Receiving.{Cs, cs, moved, Run, run, stops, receiveFrom, Received, receiveOf}

@@ -21,7 +21,7 @@ use Rattle.transfer_step.specs.Step.{goesOn, stepOf}
 use Rattle.transfer_read.specs.Feed as transfer
 use Rattle.transfer_read.specs.Feed.{after, headingPut, storePut, roomOf, feedOf}
 use Rattle.state.specs.declared.Session.{Session}
-use Rattle.waiting.specs.Waiting.{waits, overOf}
+use Rattle.pending.specs.Pending.{waits, overOf}
 use Rattle.receiving.specs.Receiving.{Cs, Moved, cs, moved, reading, transferMoved, transferStepOf, byteOf, Run, run, stops, receiveFrom}
 use Rattle.portion.specs.Portion.{roomLeft, transferPortionOf, ofTransfer, counted, portionOf, Roomy}
 use Rattle.lent.specs.Represents.{Fixed}

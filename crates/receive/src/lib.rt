@@ -32,7 +32,7 @@ fn take_bytes(
             };
         }
         i = end;
-        if waiting::is_over(t) {
+        if pending::is_over(t) {
             return Taken {
                 answer: 0,
                 count: i,
@@ -69,7 +69,7 @@ pub fn receive(
         };
     }
     let s = state::load(sm);
-    if waiting::is_over(s) {
+    if pending::is_over(s) {
         return Reply {
             answer: 12,
             place: 0,

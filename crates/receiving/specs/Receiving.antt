@@ -23,7 +23,7 @@ use Rattle.state.specs.declared.Keep.{Keep}
 use Rattle.state.specs.declared.Session.{Session}
 use Rattle.judge.specs.Judge.{noMarks, judged, inPhase, toTransfer, nextAccepted, readerFor, judgeOf, speakOf}
 use Rattle.judge.specs.declared.Judged.{Judged}
-use Rattle.waiting.specs.Waiting.{waits, overOf}
+use Rattle.pending.specs.Pending.{waits, overOf}
 use Rattle.form.specs.Form.{formOf}
 use Rattle.giving.specs.Giving.{reply}
 use Rattle.giving.specs.declared.Reply.{Reply}

@@ -1,9 +1,9 @@
 -- What waits for give, as pieces: a first one and one after it. The bytes themselves are not kept, but written anew from the table and
 -- its stores at each give.
-use mathlib.Core.Bool.{Bool, true, false, cond, not}
+use mathlib.Core.Bool.{cond}
 use mathlib.Core.List.{List, [], _∷_, _++_, map}
 use Prim.Native.Nat.{ℕ}
-use lib.Dec.{eqb, ltb}
+use lib.Dec.{eqb}
 use Rattle.grammar.specs.Bytes.{Bytes}
 use Rattle.grammar.specs.Turns.{fixedText, withCr, ourSid, ourPrompt, ourFF, ourFQ, Proposal}
 use Rattle.mail.specs.Mail as mail
@@ -12,7 +12,6 @@ use Rattle.layout.specs.Layout.{entryAt, recordSize, recordOf}
 use Rattle.our_line.specs.Lines.{fsText}
 use Rattle.state.specs.State.{held}
 use Rattle.state.specs.declared.Five.{Five}
-use Rattle.state.specs.declared.Say.{Say}
 use Rattle.state.specs.declared.Session.{Session}
 
 -- The proposal of the record at a place of the table.
@@ -50,26 +49,3 @@ thenText then ours sending table titles names bodies =
 unfoldable pub waitingOf : Session → Bytes → Bytes → Bytes → Bytes → Bytes
 waitingOf s table titles names bodies =
     firstText (s .say .first) (s .say .signs) ++ thenText (s .say .then) (s .now .ours) (s .keep .sending) table titles names bodies
-
--- Something waits.
-unfoldable pub waits : Say → Bool
-waits y = cond (eqb (y .first) 0) (not (eqb (y .then) 0)) true
-
--- "Our FQ ends it when give has handed out its CR."; phase 6: our FQ is said; any later number: ended
-unfoldable pub overOf : Session → Bool
-overOf s = cond (ltb (s .now .phase) 6) false (cond (eqb (s .now .phase) 6) (not (waits (s .say))) true)
-
--- "Give on an ended session writes nothing": what is to be given waits, and the session has not ended.
-unfoldable pub hasToGive : Session → Bool
-hasToGive s = cond (overOf s) false (waits (s .say))
-
--- Nothing waits any more.
-unfoldable pub silentOf : Session → Session
-silentOf s =
-    record {
-      now = s .now;
-      say = record { first = 0; then = 0; pos = 0; signs = s .say .signs };
-      keep = s .keep;
-      reading = s .reading;
-      line = s .line;
-    }

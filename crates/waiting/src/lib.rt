@@ -8,7 +8,6 @@ use layout::number4;
 use our_line::Fixed;
 use part::part;
 use state::Five;
-use state::Say;
 use state::Session;
 ghost use mathlib.Core.Path.{_≡_};
 ghost use mathlib.Core.List.{[]};
@@ -20,7 +19,7 @@ ghost use Rattle.mail.specs.Mail.{proposalOf, transferOf};
 ghost use Rattle.layout.specs.Layout.{recordOf};
 ghost use Rattle.buffer.specs.Put.{Puts};
 ghost use Rattle.state.specs.State.{held};
-ghost use Rattle.waiting.specs.Waiting.{firstText, blockText, sendingText, thenText, waitingOf, waits, overOf, hasToGive, silentOf};
+ghost use Rattle.waiting.specs.Waiting.{firstText, blockText, sendingText, thenText, waitingOf};
 
 // How many of up to five numbers are in use.
 fn in_use(f: Five) -> usize
@@ -222,51 +221,4 @@ pub fn is_left(
     ensures { λ r. ⌜ r ≡ ltb pos (length (waitingOf s (now (table .entry)) (now (titles .entry)) (now (names .entry)) (now (bodies .entry)))) ⌝ }
 {
     pos < waiting_length(s, table, titles, names, bodies)
-}
-
-// Something waits.
-pub fn is_waiting(say: Say) -> bool
-    ensures { λ r. ⌜ r ≡ waits say ⌝ }
-{
-    if say.first != 0 {
-        return true;
-    }
-    say.then != 0
-}
-
-// The session has ended.
-pub fn is_over(s: Session) -> bool
-    ensures { λ r. ⌜ r ≡ overOf s ⌝ }
-{
-    let phase = s.now.phase;
-    if phase < 6 {
-        return false;
-    }
-    if phase == 6 {
-        let say = s.say;
-        return !is_waiting(say);
-    }
-    true
-}
-
-// Something is to be given: it waits, and the session has not ended.
-pub fn has_to_give(s: Session) -> bool
-    ensures { λ r. ⌜ r ≡ hasToGive s ⌝ }
-{
-    if is_over(s) {
-        return false;
-    }
-    let say = s.say;
-    is_waiting(say)
-}
-
-// The session with nothing waiting.
-pub fn silent(s: Session) -> Session
-    ensures { λ r. ⌜ r ≡ silentOf s ⌝ }
-{
-    let mut t = s;
-    t.say.first = 0;
-    t.say.then = 0;
-    t.say.pos = 0;
-    t
 }

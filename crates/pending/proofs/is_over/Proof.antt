@@ -1,9 +1,9 @@
 -- The definition's tests are the code's.
 use borrow.Author.Tests.{eq-eqb, ne-eqb, lt-ltb, le-ltb}
-use Rattle.waiting.specs.Waiting.{overOf}
+use Rattle.pending.specs.Pending.{overOf}
 use borrow.Author.Needs.{needs}
-use Rattle.waiting.proofs.is_over.Statement.{statement}
-use Rattle.waiting.proofs.is_over.Tie as tie
+use Rattle.pending.proofs.is_over.Statement.{statement}
+use Rattle.pending.proofs.is_over.Tie as tie
 
 returns : tie.Need-returns
 unfolding overOf

@@ -1,9 +1,9 @@
 -- The definition's two tests are the two calls.
 use mathlib.Core.Path.{sym, _∙_}
-use Rattle.waiting.specs.Waiting.{hasToGive}
+use Rattle.pending.specs.Pending.{hasToGive}
 use borrow.Author.Needs.{needs}
-use Rattle.waiting.proofs.has_to_give.Statement.{statement}
-use Rattle.waiting.proofs.has_to_give.Tie as tie
+use Rattle.pending.proofs.has_to_give.Statement.{statement}
+use Rattle.pending.proofs.has_to_give.Tie as tie
 
 is-over-requires : tie.Need-is-over-requires
 is-over-requires c κs = search needs

@@ -1,8 +1,8 @@
 -- The three numbers are set, all else is as before.
 use mathlib.Core.Path.{refl}
-use Rattle.waiting.specs.Waiting.{silentOf}
-use Rattle.waiting.proofs.silent.Statement.{statement}
-use Rattle.waiting.proofs.silent.Tie as tie
+use Rattle.pending.specs.Pending.{silentOf}
+use Rattle.pending.proofs.silent.Statement.{statement}
+use Rattle.pending.proofs.silent.Tie as tie
 
 returns : tie.Need-returns
 unfolding silentOf

@@ -1,8 +1,8 @@
 -- The definition's tests are the code's.
 use borrow.Author.Tests.{eq-eqb, ne-eqb}
-use Rattle.waiting.specs.Waiting.{waits}
-use Rattle.waiting.proofs.is_waiting.Statement.{statement}
-use Rattle.waiting.proofs.is_waiting.Tie as tie
+use Rattle.pending.specs.Pending.{waits}
+use Rattle.pending.proofs.is_waiting.Statement.{statement}
+use Rattle.pending.proofs.is_waiting.Tie as tie
 
 returns : tie.Need-returns
 unfolding waits

@@ -1,0 +1,2 @@
+-- What is pending.
+pub mod Pending

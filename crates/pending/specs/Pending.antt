@@ -1,0 +1,28 @@
+-- Whether bytes wait for give, and whether the session has ended, as session memory says it.
+use mathlib.Core.Bool.{Bool, true, false, cond, not}
+use lib.Dec.{eqb, ltb}
+use Rattle.state.specs.declared.Say.{Say}
+use Rattle.state.specs.declared.Session.{Session}
+
+-- Something waits.
+unfoldable pub waits : Say → Bool
+waits y = cond (eqb (y .first) 0) (not (eqb (y .then) 0)) true
+
+-- "Our FQ ends it when give has handed out its CR."; phase 6: our FQ is said; any later number: ended
+unfoldable pub overOf : Session → Bool
+overOf s = cond (ltb (s .now .phase) 6) false (cond (eqb (s .now .phase) 6) (not (waits (s .say))) true)
+
+-- "Give on an ended session writes nothing": what is to be given waits, and the session has not ended.
+unfoldable pub hasToGive : Session → Bool
+hasToGive s = cond (overOf s) false (waits (s .say))
+
+-- Nothing waits any more.
+unfoldable pub silentOf : Session → Session
+silentOf s =
+    record {
+      now = s .now;
+      say = record { first = 0; then = 0; pos = 0; signs = s .say .signs };
+      keep = s .keep;
+      reading = s .reading;
+      line = s .line;
+    }
