@@ -100,7 +100,13 @@ fn inbox_ok(s: Session, inbox: &[u8], store: &[u8]) -> bool
 }
 
 // Where something waits, not all of it is given.
-fn waiting_ok(s: Session, table: &[u8], titles: &[u8], names: &[u8], bodies: &[u8]) -> bool
+fn waiting_ok<'a>(
+    s: Session,
+    table: &[u8],
+    titles: &'a [u8],
+    names: &'a [u8],
+    bodies: &[u8],
+) -> bool
     ensures { λ r. ⌜ r ≡ waitingOk s (now (table .entry)) (now (titles .entry)) (now (names .entry)) (now (bodies .entry)) ⌝ }
 {
     let say = s.say;
@@ -202,11 +208,11 @@ fn phase_ok(s: Session, inbox: &[u8], store: &[u8]) -> bool
 }
 
 // The state is one that a call leaves.
-fn state_ok(
+fn state_ok<'a>(
     s: Session,
     table: &[u8],
-    titles: &[u8],
-    names: &[u8],
+    titles: &'a [u8],
+    names: &'a [u8],
     bodies: &[u8],
     inbox: &[u8],
     store: &[u8],
@@ -267,11 +273,11 @@ fn sizes_ok(
 }
 
 // The form test: lent memory is as an accepted open, a receive or a give leaves it.
-pub fn form(
+pub fn form<'a>(
     sm: &[u8],
     table: &[u8],
-    titles: &[u8],
-    names: &[u8],
+    titles: &'a [u8],
+    names: &'a [u8],
     bodies: &[u8],
     known: &[u8],
     inbox: &[u8],

@@ -5,11 +5,11 @@ ghost use Rattle.giving.specs.Giving.{giveOf};
 
 // Hands out as many waiting bytes as fit into buf from place on.
 #[no_mangle]
-pub extern "C" fn fringemole_give(
+pub extern "C" fn fringemole_give<'a>(
     session: &mut [u8],
     table: &[u8],
-    titles: &[u8],
-    names: &[u8],
+    titles: &'a [u8],
+    names: &'a [u8],
     bodies: &[u8],
     known: &[u8],
     inbox: &[u8],

@@ -5,11 +5,11 @@ ghost use Rattle.receiving.specs.Receiving.{receiveOf};
 
 // Takes bytes from the link.
 #[no_mangle]
-pub extern "C" fn fringemole_receive(
+pub extern "C" fn fringemole_receive<'a>(
     session: &mut [u8],
     table: &mut [u8],
-    titles: &[u8],
-    names: &[u8],
+    titles: &'a [u8],
+    names: &'a [u8],
     bodies: &[u8],
     known: &[u8],
     inbox: &mut [u8],

@@ -22,7 +22,14 @@ struct Handout {
 }
 
 // The state after n bytes more are given, of those that are left.
-fn handed(s: Session, n: usize, table: &[u8], titles: &[u8], names: &[u8], bodies: &[u8]) -> Session
+fn handed<'a>(
+    s: Session,
+    n: usize,
+    table: &[u8],
+    titles: &'a [u8],
+    names: &'a [u8],
+    bodies: &[u8],
+) -> Session
     requires { ⌜ n ≤ length (waitingOf s (now table) (now titles) (now names) (now bodies)) - s .say .pos ⌝ }
     ensures { λ r. ⌜ r ≡ handedOf s n (length (waitingOf s (now (table .entry)) (now (titles .entry)) (now (names .entry)) (now (bodies .entry)))) ⌝ }
 {
@@ -36,13 +43,13 @@ fn handed(s: Session, n: usize, table: &[u8], titles: &[u8], names: &[u8], bodie
 }
 
 // Writes what waits into buf from place on, as far as it fits.
-fn hand(
+fn hand<'a>(
     buf: &mut [u8],
     place: usize,
     s: Session,
     table: &[u8],
-    titles: &[u8],
-    names: &[u8],
+    titles: &'a [u8],
+    names: &'a [u8],
     bodies: &[u8],
 ) -> Handout
     ensures { λ r. ⌜ Hands s (waitingOf s (now (table .entry)) (now (titles .entry)) (now (names .entry)) (now (bodies .entry))) (now (buf .entry)) place r (now (buf .exit)) ⌝ }
@@ -61,11 +68,11 @@ fn hand(
 }
 
 // Hands out as many waiting bytes as fit into buf from place on.
-pub fn give(
+pub fn give<'a>(
     sm: &mut [u8],
     table: &[u8],
-    titles: &[u8],
-    names: &[u8],
+    titles: &'a [u8],
+    names: &'a [u8],
     bodies: &[u8],
     known: &[u8],
     inbox: &[u8],

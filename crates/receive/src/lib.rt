@@ -48,11 +48,11 @@ fn take_bytes(
 }
 
 // Takes bytes from the link.
-pub fn receive(
+pub fn receive<'a>(
     sm: &mut [u8],
     table: &mut [u8],
-    titles: &[u8],
-    names: &[u8],
+    titles: &'a [u8],
+    names: &'a [u8],
     bodies: &[u8],
     known: &[u8],
     inbox: &mut [u8],

@@ -12,7 +12,7 @@ use borrow.Author.Tests.{ne-eqb, ltb-true, ltb-false}
 use Rattle.grammar.specs.Bytes.{Bytes}
 use Rattle.grammar.specs.Fields.{Form, plain, message, file, formIs}
 use Rattle.grammar.specs.Turns.{proposalLine, withCr, fixedText, ourEnd}
-use Rattle.grammar.specs.Transfers.{partOf, writePlain, writeFramed, writeTransfer}
+use Rattle.grammar.specs.Transfers.{partOf, headingOf, writePlain, writeFramed, writeTransfer}
 use Rattle.mail.specs.Mail.{proposalOf, transferOf, headingFor, proposalLines, turnText}
 use Rattle.layout.specs.Layout.{byteAt, le2At, le4At, entryAt, recordSize, recordOf}
 use Rattle.buffer.specs.Put.{Puts, putBytes, putCursor}
@@ -21,7 +21,7 @@ use Rattle.buffer.proofs.Laws.{cursor, after-cursor, after-bytes, puts-as}
 use Rattle.our_line.specs.Lines.{fsText}
 use Rattle.state.specs.State.{held}
 use Rattle.state.specs.declared.Five.{Five}
-use Rattle.waiting.specs.Waiting.{proposalAt, firstText, blockText, sendingText, thenText}
+use Rattle.waiting.specs.Waiting.{proposalAt, headingPlace, firstText, blockText, sendingText, thenText}
 
 -- ---------------------------------------------------------------- up to five numbers
 
@@ -129,20 +129,31 @@ module _ (titles names bodies r : Bytes) where
   by-form k e =
       ap (λ (o : Form). writeTransfer o (headingFor o (recordOf titles names bodies r)) (partOf bodies (le4At r 83) (le2At r 87))) (sym e)
 
-  module _ {f : ℕ} {h x : Bytes} (p : f ≡ byteAt r 1) (q : x ≡ partOf bodies (le4At r 83) (le2At r 87)) where
-    pub of-message : f ≡ 1 → h ≡ partOf titles (le4At r 73) (byteAt r 77) → writeFramed h x ≡ transferText titles names bodies r
-    unfolding writeTransfer
-    of-message e t = framed-as t q ∙ by-form message (ap formIs (sym p ∙ e))
+  -- the heading that a record of this form tells
+  abbrev pub headingTold : ℕ → Bytes
+  headingTold f = headingOf titles names f (le4At r (headingPlace f)) (byteAt r (headingPlace f + 4))
 
-    pub of-file : f ≡ 2 → h ≡ partOf names (le4At r 78) (byteAt r 82) → writeFramed h x ≡ transferText titles names bodies r
-    unfolding writeTransfer
-    of-file e t = framed-as t q ∙ by-form file (ap formIs (sym p ∙ e))
+  -- its start and length as they were read
+  pub heading-read : (f : ℕ) {k a b : ℕ} {h : Bytes} → k ≡ headingPlace f → a ≡ le4At r k → b ≡ byteAt r (k + 4) → h ≡ headingOf titles names f a b → h ≡ headingTold f
+  heading-read f {k} {a} {b} p q o e =
+      e ∙ ap (λ (i : ℕ). headingOf titles names f i b) q ∙ ap (λ (n : ℕ). headingOf titles names f (le4At r k) n) o
+      ∙ ap (λ (j : ℕ). headingOf titles names f (le4At r j) (byteAt r (j + 4))) p
 
-    pub of-plain : (f ≡ 1 → ⊥) → (f ≡ 2 → ⊥) → h ≡ partOf titles (le4At r 73) (byteAt r 77) → writePlain h x ≡ transferText titles names bodies r
+  module _ (f : ℕ) {h x : Bytes} (p : f ≡ byteAt r 1) (q : x ≡ partOf bodies (le4At r 83) (le2At r 87)) (t : h ≡ headingTold f) where
+    pub of-message : f ≡ 1 → writeFramed h x ≡ transferText titles names bodies r
     unfolding writeTransfer
-    of-plain m n t =
+    of-message e = framed-as (t ∙ ap headingTold e) q ∙ by-form message (ap formIs (sym p ∙ e))
+
+    pub of-file : f ≡ 2 → writeFramed h x ≡ transferText titles names bodies r
+    unfolding writeTransfer
+    of-file e = framed-as (t ∙ ap headingTold e) q ∙ by-form file (ap formIs (sym p ∙ e))
+
+    pub of-plain : (f ≡ 1 → ⊥) → (f ≡ 2 → ⊥) → writePlain h x ≡ transferText titles names bodies r
+    unfolding writeTransfer
+    of-plain m n =
         let e : formIs (byteAt r 1) ≡ plain = rw (ne-eqb (byteAt r 1) 1 (λ o. m (p ∙ o)), ne-eqb (byteAt r 1) 2 (λ o. n (p ∙ o))) in
-        plain-as t q ∙ by-form plain e
+        let u : headingTold f ≡ partOf titles (le4At r 73) (byteAt r 77) = simp (ne-eqb f 2 n) in
+        plain-as (t ∙ u) q ∙ by-form plain e
 
 -- ---------------------------------------------------------------- the piece after the first, by its number
 

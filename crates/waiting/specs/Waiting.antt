@@ -18,6 +18,10 @@ use Rattle.state.specs.declared.Session.{Session}
 abbrev pub proposalAt : Bytes → ℕ → Proposal
 proposalAt table i = mail.proposalOf (recordOf [] [] [] (entryAt recordSize table i))
 
+-- Where a record of this form tells the start of its heading; its length stands four bytes further. The name's for a file, else the title's.
+abbrev pub headingPlace : ℕ → ℕ
+headingPlace form = cond (eqb form 2) 78 73
+
 -- first: 0 nothing, 1 our SID and the prompt, 2 our SID, any other: the FS line of our signs
 unfoldable pub firstText : ℕ → Five → Bytes
 firstText first signs =

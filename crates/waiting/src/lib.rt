@@ -11,15 +11,16 @@ use state::Five;
 use state::Session;
 ghost use mathlib.Core.Path.{_≡_};
 ghost use mathlib.Core.List.{[]};
-ghost use Prim.Native.Nat.{min};
+ghost use Prim.Native.Nat.{_+_, min};
 ghost use lib.Dec.{ltb};
 ghost use lib.ListN.{length};
 ghost use Rattle.grammar.specs.Turns.{withCr, proposalLine};
+ghost use Rattle.grammar.specs.Transfers.{headingOf};
 ghost use Rattle.mail.specs.Mail.{proposalOf, transferOf};
-ghost use Rattle.layout.specs.Layout.{recordOf};
+ghost use Rattle.layout.specs.Layout.{byteAt, le4At, recordOf};
 ghost use Rattle.buffer.specs.Put.{Puts};
 ghost use Rattle.state.specs.State.{held};
-ghost use Rattle.waiting.specs.Waiting.{firstText, blockText, sendingText, thenText, waitingOf};
+ghost use Rattle.waiting.specs.Waiting.{headingPlace, firstText, blockText, sendingText, thenText, waitingOf};
 
 // How many of up to five numbers are in use.
 fn in_use(f: Five) -> usize
@@ -72,50 +73,54 @@ fn write_block(buf: &mut [u8], c: Cursor, table: &[u8], ours: Five) -> Cursor
     our_line::write_fixed(Fixed::End, buf, d)
 }
 
+// Where in a record its heading is told, a start and a length after it: the name's for a file (form 2), else the title's.
+fn heading_place(form: u8) -> u8
+    ensures { λ r. ⌜ r ≡ headingPlace form ⌝ }
+{
+    if form == 2 {
+        return 78;
+    }
+    73
+}
+
+// The heading of a record, where it lies in its store.
+fn record_heading<'a>(r: &[u8], form: u8, titles: &'a [u8], names: &'a [u8]) -> &'a [u8]
+    ensures { λ h. ⌜ now h ≡ headingOf (now (titles .entry)) (now (names .entry)) form (le4At (now (r .entry)) (headingPlace form)) (byteAt (now (r .entry)) (headingPlace form + 4)) ⌝ }
+{
+    let at = heading_place(form) as u16;
+    let start = number4(r, at);
+    let len = byte_at(r, at as usize + 4) as usize;
+    transfer_write::heading(titles, names, form, start, len)
+}
+
 // The transfer of a record, by its form.
-fn write_record_transfer(
+fn write_record_transfer<'a>(
     buf: &mut [u8],
     c: Cursor,
     r: &[u8],
-    titles: &[u8],
-    names: &[u8],
+    titles: &'a [u8],
+    names: &'a [u8],
     bodies: &[u8],
 ) -> Cursor
     ensures { λ d. ⌜ Puts (now (buf .entry)) c (transferOf (recordOf (now (titles .entry)) (now (names .entry)) (now (bodies .entry)) (now (r .entry)))) d (now (buf .exit)) ⌝ }
 {
     let form = byte_at(r, 1);
+    let heading = record_heading(r, form, titles, names);
     let body = part(bodies, number4(r, 83), number2(r, 87));
-    if form == 1 {
-        return transfer_write::write_framed(
-            buf,
-            c,
-            part(titles, number4(r, 73), byte_at(r, 77) as usize),
-            body,
-        );
+    match form {
+        1 => transfer_write::write_framed(buf, c, heading, body),
+        2 => transfer_write::write_framed(buf, c, heading, body),
+        _ => transfer_write::write_plain(buf, c, heading, body),
     }
-    if form == 2 {
-        return transfer_write::write_framed(
-            buf,
-            c,
-            part(names, number4(r, 78), byte_at(r, 82) as usize),
-            body,
-        );
-    }
-    transfer_write::write_plain(
-        buf,
-        c,
-        part(titles, number4(r, 73), byte_at(r, 77) as usize),
-        body,
-    )
 }
 
 // The transfers of the records at these places.
-fn write_transfers(
+fn write_transfers<'a>(
     buf: &mut [u8],
     c: Cursor,
     table: &[u8],
-    titles: &[u8],
-    names: &[u8],
+    titles: &'a [u8],
+    names: &'a [u8],
     bodies: &[u8],
     sending: Five,
 ) -> Cursor
@@ -157,13 +162,13 @@ fn write_first(buf: &mut [u8], c: Cursor, first: u8, signs: Five) -> Cursor
 }
 
 // The piece after it.
-fn write_then(
+fn write_then<'a>(
     buf: &mut [u8],
     c: Cursor,
     s: Session,
     table: &[u8],
-    titles: &[u8],
-    names: &[u8],
+    titles: &'a [u8],
+    names: &'a [u8],
     bodies: &[u8],
 ) -> Cursor
     ensures { λ d. ⌜ Puts (now (buf .entry)) c (thenText (s .say .then) (s .now .ours) (s .keep .sending) (now (table .entry)) (now (titles .entry)) (now (names .entry)) (now (bodies .entry))) d (now (buf .exit)) ⌝ }
@@ -181,13 +186,13 @@ fn write_then(
 }
 
 // All that waits, from the byte that the cursor skips to on, as far as it fits.
-pub fn write_waiting(
+pub fn write_waiting<'a>(
     buf: &mut [u8],
     c: Cursor,
     s: Session,
     table: &[u8],
-    titles: &[u8],
-    names: &[u8],
+    titles: &'a [u8],
+    names: &'a [u8],
     bodies: &[u8],
 ) -> Cursor
     ensures { λ d. ⌜ Puts (now (buf .entry)) c (waitingOf s (now (table .entry)) (now (titles .entry)) (now (names .entry)) (now (bodies .entry))) d (now (buf .exit)) ⌝ }
@@ -199,7 +204,13 @@ pub fn write_waiting(
 
 // How many bytes wait, given bytes included. All of them are passed over, so none is written and no checksum is summed; what the cursor has
 // passed over is their number.
-fn waiting_length(s: Session, table: &[u8], titles: &[u8], names: &[u8], bodies: &[u8]) -> usize
+fn waiting_length<'a>(
+    s: Session,
+    table: &[u8],
+    titles: &'a [u8],
+    names: &'a [u8],
+    bodies: &[u8],
+) -> usize
     ensures { λ r. ⌜ r ≡ length (waitingOf s (now (table .entry)) (now (titles .entry)) (now (names .entry)) (now (bodies .entry))) ⌝ }
 {
     let mut one = [0u8; 1];
@@ -210,12 +221,12 @@ fn waiting_length(s: Session, table: &[u8], titles: &[u8], names: &[u8], bodies:
 }
 
 // More than pos bytes wait, given bytes included.
-pub fn is_left(
+pub fn is_left<'a>(
     s: Session,
     pos: usize,
     table: &[u8],
-    titles: &[u8],
-    names: &[u8],
+    titles: &'a [u8],
+    names: &'a [u8],
     bodies: &[u8],
 ) -> bool
     ensures { λ r. ⌜ r ≡ ltb pos (length (waitingOf s (now (table .entry)) (now (titles .entry)) (now (names .entry)) (now (bodies .entry)))) ⌝ }
