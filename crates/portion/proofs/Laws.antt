@@ -1,8 +1,8 @@
--- What each way through the code leaves, over plain values: a kept message, a transfer's run, a byte.
+-- What each way through the code leaves, over plain values: a transfer's run, a byte.
 use mathlib.Core.Path.{_≡_, sym, ap, _∙_, subst}
 use mathlib.Core.Bool.{Bool, true, false, cond, not, _&&_}
 use mathlib.Core.List.{[], _∷_, _++_, append-nil}
-use Prim.Native.Nat.{ℕ, _+_, _-_, _<_, _≤_}
+use Prim.Native.Nat.{ℕ, _-_, _<_, _≤_}
 use native.Mathlib.Omega.{arith}
 use lib.Dec.{eqb}
 use lib.ListN.{length, getD, take, drop, length-drop, drop-of-length-le}
@@ -10,44 +10,21 @@ use lib.Seq.{drop-cons}
 use borrow.Author.Tests.{eq-eqb, ne-eqb}
 use Rattle.grammar.specs.Bytes.{Bytes, LF}
 use Rattle.grammar.proofs.Basics.{to-end}
-use Rattle.transfer_step.specs.declared.Reader.{Reader}
 use Rattle.transfer_read.specs.declared.Fed.{Fed}
 use Rattle.transfer_step.specs.declared.Outcome.{Outcome}
 use Rattle.transfer_step.specs.declared.Outcome.the-variants.{More, Whole, Malformed, WrongSum, NoRoom}
 use Rattle.transfer_read.specs.Feed as transfer
 use Rattle.transfer_read.specs.Feed.{roomOf, feedOf}
 use Rattle.transfer_read.proofs.Room.{feed-within}
-use Rattle.state.specs.declared.Await.{Await}
-use Rattle.state.specs.declared.Keep.{Keep}
 use Rattle.state.specs.declared.Session.{Session}
-use Rattle.judge.specs.declared.Judged.{Judged}
-use Rattle.judge.specs.Judge.{noMarks, judged, toTransfer, nextAccepted, readerFor}
 use Rattle.pending.specs.Pending.{waits}
 use Rattle.settling.specs.declared.Left.{Left}
-use Rattle.receiving.specs.Receiving.{Cs, Moved, cs, moved, refusedOf, Settled, settled, settleOf, lineStepOf, keptKeep, nextJudged, isPlainAt, keptInbox, keepOf, reading, transferMoved, transferStepOf, lfDropped, lineByteOf, byteOf, Run, run}
+use Rattle.receiving.specs.Receiving.{Cs, Moved, cs, moved, refusedOf, Settled, settled, lineStepOf, keptInbox, keepOf, reading, transferMoved, transferStepOf, lfDropped, lineByteOf, byteOf, Run, run}
+use Rattle.keeping.specs.Keeping.{Keepable}
 use Rattle.portion.specs.declared.Taken.{Taken}
 use Rattle.portion.specs.declared.Reached.{Reached}
 use Rattle.portion.specs.Portion.{fed, counted, ofTransfer, transferPortionOf, portionOf}
-use Rattle.portion.specs.Parts.{taken, Keepable, ReadOn, Leaves}
-
--- ---------------------------------------------------------------- a kept message
-
-module _ (s : Session) (i : ℕ) (k : Keep) (e : k ≡ keptKeep s) where
-  pub next-turn : i ≡ 5 → judged 0 1 noMarks (s .now) (s .say) k (s .reading .reader) ≡ nextJudged s i
-  next-turn f = rw (eq-eqb _ _ f) (ap (λ (x : Keep). judged 0 1 noMarks (s .now) (s .say) x (s .reading .reader)) e)
-
-  pub next-transfer : (w : Await) (r : Reader) → (i ≡ 5 → ⊥) → w ≡ toTransfer i (s .now) → r ≡ readerFor (s .now) i → judged 0 0 noMarks w (s .say) k r ≡ nextJudged s i
-  next-transfer w r n f g =
-      rw (ne-eqb _ _ n)
-      (ap (λ (x : Keep). judged 0 0 noMarks w (s .say) x r) e ∙ ap (λ (x : Await). judged 0 0 noMarks x (s .say) (keptKeep s) r) f
-      ∙ ap (λ (x : Reader). judged 0 0 noMarks (toTransfer i (s .now)) (s .say) (keptKeep s) x) g)
-
-pub keep-by : (s : Session) (table : Bytes) (t : Settled) (i : ℕ) (j : Judged) (p : Bool)
-    → i ≡ nextAccepted (s .say .signs) (s .now .current + 1) → j ≡ nextJudged s i → p ≡ isPlainAt s → t ≡ settleOf s j p table → t ≡ keepOf s table
-unfolding keepOf
-keep-by s table t i j p e f g h =
-    h ∙ ap (λ (x : Judged). settleOf s x p table) f ∙ ap (λ (x : ℕ). settleOf s (nextJudged s x) p table) e
-    ∙ ap (λ (x : Bool). settleOf s (nextJudged s (nextAccepted (s .say .signs) (s .now .current + 1))) x table) g
+use Rattle.portion.specs.Parts.{taken, ReadOn, Leaves}
 
 -- ---------------------------------------------------------------- what a transfer's bytes came to
 

@@ -1,7 +1,7 @@
 -- What the parts of a transfer's run leave.
 use mathlib.Core.Path.{_≡_}
 use mathlib.Core.List.{_++_}
-use Prim.Native.Nat.{ℕ, _+_, _≤_, _<_}
+use Prim.Native.Nat.{ℕ}
 use lib.ListN.{take}
 use Rattle.grammar.specs.Bytes.{Bytes}
 use Rattle.transfer_step.specs.declared.Outcome.{Outcome}
@@ -14,10 +14,6 @@ use Rattle.portion.specs.Portion.{fed}
 
 abbrev pub taken : ℕ → ℕ → Session → Taken
 taken answer count s = record { answer = answer; count = count; session = s }
-
--- One message more can be counted in its byte, and its body's bytes with those used.
-abbrev pub Keepable : Session → Type 0
-Keepable s = (s .keep .kept ≤ 64) × (s .keep .used + s .reading .reader .body < 18446744073709551616)
 
 -- The bytes are read, and the store is st then.
 pub record ReadOn (c : Cs) (bs : Bytes) (r : Reached) (st : Bytes) : Type 0 where

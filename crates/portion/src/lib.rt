@@ -1,11 +1,5 @@
 // What receive takes at once: a byte of a line, or the run of a transfer's bytes; with its last byte the message is kept.
-use judge::Judged;
-use judge::Marks;
-use layout::byte_at;
-use layout::entry;
 use settling::Left;
-use state::Five;
-use state::Keep;
 use state::Line;
 use state::Session;
 use transfer_step::Outcome;
@@ -16,9 +10,10 @@ ghost use Prim.Native.Nat.{_≤_};
 ghost use lib.Dec.{eqb};
 ghost use lib.ListN.{length, drop};
 ghost use Rattle.transfer_read.specs.Feed.{roomOf};
-ghost use Rattle.receiving.specs.Receiving.{cs, settled, keptKeep, nextJudged, isPlainAt, keepOf, keptInbox, lfDropped, run};
+ghost use Rattle.receiving.specs.Receiving.{cs, lfDropped, run};
+ghost use Rattle.keeping.specs.Keeping.{Keepable};
 ghost use Rattle.portion.specs.Portion.{transferPortionOf, portionOf, Roomy};
-ghost use Rattle.portion.specs.Parts.{taken, Keepable, ReadOn, Leaves};
+ghost use Rattle.portion.specs.Parts.{taken, ReadOn, Leaves};
 
 // 01's number, how many bytes were taken, a refused one included, and the session after them.
 pub struct Taken {
@@ -34,77 +29,6 @@ pub struct Reached {
     pub session: Session,
 }
 
-// One message more is kept, its body behind those kept before.
-fn kept_keep(s: Session) -> Keep
-    requires { ⌜ Keepable s ⌝ }
-    ensures { λ r. ⌜ r ≡ keptKeep s ⌝ }
-{
-    let mut k = s.keep;
-    k.kept = s.keep.kept + 1;
-    k.used = s.keep.used + s.reading.reader.body as usize;
-    k
-}
-
-// After a kept message: the transfer of the next accepted proposal; our turn where none is left.
-fn next_judged(s: Session, next: u8) -> Judged
-    requires { ⌜ Keepable s ⌝ }
-    ensures { λ r. ⌜ r ≡ nextJudged s next ⌝ }
-{
-    let keep = kept_keep(s);
-    let awaited = s.now;
-    let say = s.say;
-    let marks = Marks {
-        state: 0,
-        places: Five {
-            count: 0,
-            items: [0u8; 5],
-        },
-    };
-    if next == 5 {
-        let reader = s.reading.reader;
-        return Judged {
-            answer: 0,
-            speaks: 1,
-            marks: marks,
-            now: awaited,
-            say: say,
-            keep: keep,
-            reader: reader,
-        };
-    }
-    Judged {
-        answer: 0,
-        speaks: 0,
-        marks: marks,
-        now: judge::to_transfer(awaited, next),
-        say: say,
-        keep: keep,
-        reader: judge::reader_for(awaited, next),
-    }
-}
-
-// The transfer under way is a plain one: it ends with CR, after which one LF is dropped.
-fn is_plain(s: Session) -> bool
-    ensures { λ r. ⌜ r ≡ isPlainAt s ⌝ }
-{
-    let block = s.now.block;
-    let proposal = entry(layout::PROPOSAL, &block, s.now.current as u16);
-    byte_at(proposal, 0) == 0
-}
-
-// A whole transfer: the message is kept, then the next is awaited or it is our turn.
-fn keep_message(s: Session, inbox: &mut [u8], table: &mut [u8]) -> Left
-    requires { ⌜ Keepable s ⌝ }
-    ensures { λ r. ⌜ (settled (r .answer) (r .session) (now (table .exit)) ≡ keepOf s (now (table .entry))) × (now (inbox .exit) ≡ keptInbox s (now (inbox .entry))) ⌝ }
-{
-    let signs = s.say.signs;
-    let next = judge::next_accepted(signs, s.now.current as usize + 1);
-    let j = next_judged(s, next);
-    let plain = is_plain(s);
-    settling::put_message(s, inbox);
-    settling::settle(s, j, plain, table)
-}
-
 // What a transfer's bytes leave, by what they came to.
 fn moved(outcome: Outcome, s: Session, table: &mut [u8], inbox: &mut [u8]) -> Left
     requires { ⌜ Keepable s ⌝ }
@@ -115,7 +39,7 @@ fn moved(outcome: Outcome, s: Session, table: &mut [u8], inbox: &mut [u8]) -> Le
             answer: 0,
             session: s,
         },
-        Outcome::Whole => keep_message(s, inbox, table),
+        Outcome::Whole => keeping::keep_message(s, inbox, table),
         Outcome::Malformed => Left {
             answer: 8,
             session: settling::refused(s),
@@ -233,7 +157,7 @@ pub fn portion(
     if s.now.phase == 5 {
         return transfer_portion(s, input, table, inbox, store);
     }
-    let m = settling::line_step(s, b, table, known, inbox, store.len());
+    let m = line_step::line_step(s, b, table, known, inbox, store.len());
     let next = m.session;
     taken_as(m.answer, 1, next)
 }

@@ -1,30 +1,22 @@
--- Marks place by place, a text clipped at its array's end, and what a byte of a line is.
+-- Marks place by place, what a judged line leaves, a text clipped at its array's end.
 use mathlib.Core.Path.{_≡_, refl, sym, ap, _∙_}
-use mathlib.Core.Bool.{Bool, true, false, cond}
+use mathlib.Core.Bool.{Bool, true, false}
 use Prim.Native.Nat.{ℕ, _+_, _*_, _<_, _≤_, min}
 use native.Mathlib.Omega.{arith}
-use lib.Dec.{eqb, ltb}
+use lib.Dec.{ltb}
 use lib.ListN.{length, getD, set, take, drop, length-set}
 use lib.Seq.{take-all}
 use borrow.Author.Tests.{eq-eqb, ne-eqb, ltb-true, ltb-false}
 use Rattle.grammar.specs.Bytes.{Bytes}
-use Rattle.grammar.specs.Lines.{LineByte, dropped, ends, grows, overruns, lineByte, trim}
-use Rattle.line.specs.declared.LineByte as code
-use Rattle.line.specs.Byte.{lineByteIs}
 use Rattle.buffer.specs.Put.{putBytes}
 use Rattle.buffer.specs.declared.Cursor.{Cursor}
 use Rattle.layout.specs.Layout.{entryOut}
 use Rattle.state.specs.State.{held}
 use Rattle.state.specs.declared.Five.{Five}
-use Rattle.state.specs.declared.Await.{Await}
-use Rattle.state.specs.declared.Say.{Say}
-use Rattle.state.specs.declared.Keep.{Keep}
 use Rattle.state.specs.declared.Session.{Session}
-use Rattle.transfer_step.specs.declared.Reader.{Reader}
 use Rattle.judge.specs.declared.Judged.{Judged}
-use Rattle.judge.specs.Judge.{judgeOf}
 use Rattle.judge.proofs.Laws.{held-cons, held-end}
-use Rattle.receiving.specs.Receiving.{markAll, refusedOf, spokenOf, Settled, settled, settleOf, lineMoved, lineStepOf}
+use Rattle.receiving.specs.Receiving.{markAll, refusedOf, spokenOf, settled, settleOf}
 
 -- ---------------------------------------------------------------- marks
 
@@ -49,7 +41,7 @@ module _ (s : Session) (j : Judged) (a : Bool) (t : Bytes) (x : Session) where
   unfolding settleOf
   settle-yes u n e f = rw (eq-eqb _ _ n) (ap (λ (y : Session). settled 0 y u) f ∙ ap (λ (w : Bytes). settled 0 (spokenOf s j a w) w) e)
 
--- ---------------------------------------------------------------- a byte of a line
+-- ---------------------------------------------------------------- a message in the inbox
 
 -- a text up to a length that may pass its array's end
 pub clipped : (l : Bytes) (k n m : ℕ) → length l ≡ k → m ≡ min k n → take m l ≡ take n l
@@ -63,35 +55,6 @@ clipped l k n m e f = go (ltb k n) refl
         let h : n ≤ k = ltb-false k n p in
         let q : m ≡ n = omega (arith, f) in
         ap (λ (i : ℕ). take i l) q
-
-pub judged-as : (w : Await) (y : Say) (k : Keep) (rd : Reader) (table known inbox : Bytes) (store : ℕ) (l m : Bytes) (j : Judged) → l ≡ m
-    → j ≡ judgeOf (trim l) w y k rd table known inbox store → j ≡ judgeOf (trim m) w y k rd table known inbox store
-judged-as w y k rd table known inbox store l m j e f = f ∙ ap (λ (x : Bytes). judgeOf (trim x) w y k rd table known inbox store) e
-
-module _ (s : Session) (b : ℕ) (u v : code.LineByte) (e : u ≡ v) (f : lineByteIs u ≡ lineByte false (s .line .len) b) where
-  said : lineByteIs v ≡ lineByte false (s .line .len) b
-  said = sym (ap lineByteIs e) ∙ f
-
-  pub line-by : (table known inbox : Bytes) (store : ℕ) (o : Settled) → o ≡ lineMoved (lineByteIs v) s b table known inbox store → o ≡ lineStepOf s b table known inbox store
-  unfolding lineStepOf
-  line-by table known inbox store o g = g ∙ ap (λ (x : LineByte). lineMoved x s b table known inbox store) said
-
--- a byte that makes the line longer leaves it within its array
-abbrev growing : LineByte → ℕ
-growing dropped = 0
-growing ends = 0
-growing grows = 1
-growing overruns = 0
-
-pub grows-short : (n b : ℕ) (u : code.LineByte) → u ≡ code.LineByte.Grows → lineByteIs u ≡ lineByte false n b → n < 256
-grows-short n b u e f = go (eqb b 13) (ltb n 256) refl (sym (ap lineByteIs e) ∙ f)
-  where
-    go : (x y : Bool) → ltb n 256 ≡ y → grows ≡ cond x ends (cond y grows overruns) → n < 256
-    go x true p q = ltb-true n 256 p
-    go true false p q = let z : _≡_ {A = ℕ} 1 0 = ap growing q in omega (arith, z)
-    go false false p q = let z : _≡_ {A = ℕ} 1 0 = ap growing q in omega (arith, z)
-
--- ---------------------------------------------------------------- a message in the inbox
 
 pub message-by : (inbox e p q hd : Bytes) (c : Cursor) (h n used body : ℕ) → p ≡ q → n ≡ min 80 h → length hd ≡ 80
     → e ≡ putBytes inbox c (entryOut p (take n hd) used body) → e ≡ putBytes inbox c (entryOut q (take h hd) used body)

@@ -1,26 +1,21 @@
-// What a byte of a line and a whole transfer leave: marks in the table, our turn, a message in the inbox.
+// What a whole line or message leaves: marks in the table, our turn, an entry in the inbox.
 use buffer::Cursor;
 use judge::Judged;
 use judge::count_of;
 use layout::entry;
-use line::LineByte;
 use state::Await;
 use state::Five;
 use state::Keep;
-use state::Line;
 use state::Reading;
 use state::Say;
 use state::Session;
-use transfer_step::Reader;
 ghost use mathlib.Core.Path.{_≡_};
-ghost use Prim.Native.Nat.{_*_, _≤_, _<_, min};
-ghost use lib.ListN.{length, set, take};
-ghost use Rattle.grammar.specs.Lines.{trim, ends};
+ghost use Prim.Native.Nat.{_*_, min};
+ghost use lib.ListN.{set, take};
 ghost use Rattle.buffer.specs.Put.{putBytes};
 ghost use Rattle.layout.specs.Layout.{entryAt, entryOut};
-ghost use Rattle.judge.specs.Judge.{judgeOf};
 ghost use Rattle.state.specs.State.{at, held};
-ghost use Rattle.receiving.specs.Receiving.{markAll, refusedOf, settledOf, spokenOf, settled, settleOf, longer, lineMoved, lineStepOf, keptInbox};
+ghost use Rattle.receiving.specs.Receiving.{markAll, refusedOf, settledOf, spokenOf, settled, settleOf, keptInbox};
 
 // 01's number, and the session after it.
 pub struct Left {
@@ -29,7 +24,7 @@ pub struct Left {
 }
 
 // n, or most where n is more.
-fn at_most(most: usize, n: usize) -> usize
+pub fn at_most(most: usize, n: usize) -> usize
     ensures { λ r. ⌜ r ≡ min most n ⌝ }
 {
     if most < n {
@@ -129,127 +124,6 @@ pub fn settle(s: Session, j: Judged, after_cr: bool, table: &mut [u8]) -> Left
     Left {
         answer: 0,
         session: spoken(s, j, after_cr, table),
-    }
-}
-
-// A whole line, judged without the spaces at its end.
-fn judged(
-    line: &[u8],
-    awaited: Await,
-    say: Say,
-    keep: Keep,
-    reader: Reader,
-    table: &[u8],
-    known: &[u8],
-    inbox: &[u8],
-    store: usize,
-) -> Judged
-    ensures { λ r. ⌜ r ≡ judgeOf (trim (now (line .entry))) awaited say keep reader (now (table .entry)) (now (known .entry)) (now (inbox .entry)) store ⌝ }
-{
-    let n = line::trimmed(line);
-    judging::judge(
-        &line[..n],
-        awaited,
-        say,
-        keep,
-        reader,
-        table,
-        known,
-        inbox,
-        store,
-    )
-}
-
-// How long the line is; its array ends it.
-fn line_len(line: Line) -> usize
-    ensures { λ r. ⌜ (take r (line .bytes) ≡ take (line .len) (line .bytes)) × (r ≤ length (line .bytes)) ⌝ }
-{
-    at_most(256, line.len as usize)
-}
-
-// The line in its array, up to its length.
-fn judged_line(
-    line: Line,
-    awaited: Await,
-    say: Say,
-    keep: Keep,
-    reader: Reader,
-    table: &[u8],
-    known: &[u8],
-    inbox: &[u8],
-    store: usize,
-) -> Judged
-    ensures { λ r. ⌜ r ≡ judgeOf (trim (take (line .len) (line .bytes))) awaited say keep reader (now (table .entry)) (now (known .entry)) (now (inbox .entry)) store ⌝ }
-{
-    let bytes = line.bytes;
-    let n = line_len(line);
-    judged(
-        &bytes[..n],
-        awaited,
-        say,
-        keep,
-        reader,
-        table,
-        known,
-        inbox,
-        store,
-    )
-}
-
-// The session with one byte more in its line.
-fn longer(s: Session, b: u8) -> Session
-    requires { ⌜ s .line .len < 256 ⌝ }
-    ensures { λ r. ⌜ r ≡ longer s b ⌝ }
-{
-    let mut line = s.line;
-    let n = line.len as usize;
-    line.bytes[n] = b;
-    line.len = s.line.len + 1;
-    line.after_cr = false;
-    let mut t = s;
-    t.line = line;
-    t
-}
-
-// The CR of a line: it is judged.
-fn ends(s: Session, table: &mut [u8], known: &[u8], inbox: &[u8], store: usize) -> Left
-    ensures { λ r. ⌜ settled (r .answer) (r .session) (now (table .exit)) ≡ lineMoved ends s 13 (now (table .entry)) (now (known .entry)) (now (inbox .entry)) store ⌝ }
-{
-    let line = s.line;
-    let awaited = s.now;
-    let say = s.say;
-    let keep = s.keep;
-    let reader = s.reading.reader;
-    let j = judged_line(line, awaited, say, keep, reader, table, known, inbox, store);
-    settle(s, j, true, table)
-}
-
-// A byte of a line.
-pub fn line_step(
-    s: Session,
-    b: u8,
-    table: &mut [u8],
-    known: &[u8],
-    inbox: &[u8],
-    store: usize,
-) -> Left
-    ensures { λ r. ⌜ settled (r .answer) (r .session) (now (table .exit)) ≡ lineStepOf s b (now (table .entry)) (now (known .entry)) (now (inbox .entry)) store ⌝ }
-{
-    let r = line::line_byte(false, s.line.len as usize, b);
-    match r {
-        LineByte::Dropped => Left {
-            answer: 0,
-            session: s,
-        },
-        LineByte::Ends => ends(s, table, known, inbox, store),
-        LineByte::Grows => Left {
-            answer: 0,
-            session: longer(s, b),
-        },
-        LineByte::Overruns => Left {
-            answer: 2,
-            session: refused(s),
-        },
     }
 }
 

@@ -1,8 +1,8 @@
 -- The next accepted proposal, then what is judged, settled; the inbox is that of put_message.
-use Rattle.portion.proofs.Laws.{keep-by}
+use Rattle.keeping.proofs.Laws.{keep-by}
 use borrow.Author.Needs.{needs}
-use Rattle.portion.proofs.keep_message.Statement.{statement}
-use Rattle.portion.proofs.keep_message.Tie as tie
+use Rattle.keeping.proofs.keep_message.Statement.{statement}
+use Rattle.keeping.proofs.keep_message.Tie as tie
 
 cast-next-accepted : tie.Need-cast-next-accepted
 cast-next-accepted c = search needs

@@ -4,8 +4,8 @@ use lib.Seq.{length-take-le}
 use Rattle.grammar.specs.Bytes.{Bytes}
 use Rattle.judge.specs.Judge.{judgeOf}
 use borrow.Author.Needs.{needs}
-use Rattle.settling.proofs.judged.Statement.{statement}
-use Rattle.settling.proofs.judged.Tie as tie
+use Rattle.line_step.proofs.judged.Statement.{statement}
+use Rattle.line_step.proofs.judged.Tie as tie
 
 trimmed-requires : tie.Need-trimmed-requires
 trimmed-requires c κs = search needs

@@ -3,10 +3,10 @@ use mathlib.Core.Path.{refl, ap}
 use Rattle.line.specs.declared.LineByte as code
 use Rattle.state.specs.declared.Session.{Session}
 use Rattle.receiving.specs.Receiving.{settled}
-use Rattle.settling.proofs.Laws.{line-by, grows-short}
+use Rattle.line_step.proofs.Laws.{line-by, grows-short}
 use borrow.Author.Needs.{needs}
-use Rattle.settling.proofs.line_step.Statement.{statement}
-use Rattle.settling.proofs.line_step.Tie as tie
+use Rattle.line_step.proofs.line_step.Statement.{statement}
+use Rattle.line_step.proofs.line_step.Tie as tie
 
 cast-line-byte : tie.Need-cast-line-byte
 cast-line-byte c = search needs

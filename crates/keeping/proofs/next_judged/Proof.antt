@@ -1,8 +1,8 @@
 -- Our turn, or the next transfer.
-use Rattle.portion.proofs.Laws.{next-turn, next-transfer}
+use Rattle.keeping.proofs.Laws.{next-turn, next-transfer}
 use borrow.Author.Needs.{needs}
-use Rattle.portion.proofs.next_judged.Statement.{statement}
-use Rattle.portion.proofs.next_judged.Tie as tie
+use Rattle.keeping.proofs.next_judged.Statement.{statement}
+use Rattle.keeping.proofs.next_judged.Tie as tie
 
 kept-keep-requires : tie.Need-kept-keep-requires
 kept-keep-requires c κs = search needs

@@ -5,8 +5,8 @@ use lib.Dec.{eqb}
 use Rattle.grammar.specs.Bytes.{Bytes}
 use Rattle.layout.specs.Layout.{byteAt}
 use borrow.Author.Needs.{needs}
-use Rattle.portion.proofs.is_plain.Statement.{statement}
-use Rattle.portion.proofs.is_plain.Tie as tie
+use Rattle.keeping.proofs.is_plain.Statement.{statement}
+use Rattle.keeping.proofs.is_plain.Tie as tie
 
 slice-aggregate-entry : tie.Need-slice-aggregate-entry
 slice-aggregate-entry c = search needs

@@ -3,9 +3,9 @@ use mathlib.Core.Path.{_≡_}
 use native.Mathlib.Omega.{arith}
 use lib.ListN.{length}
 use borrow.Author.Needs.{needs}
 use Rattle.settling.proofs.Laws.{clipped}
-use Rattle.settling.proofs.line_len.Statement.{statement}
-use Rattle.settling.proofs.line_len.Tie as tie
+use Rattle.line_step.proofs.line_len.Statement.{statement}
+use Rattle.line_step.proofs.line_len.Tie as tie
 
 cast-at-most : tie.Need-cast-at-most
 cast-at-most c = search needs

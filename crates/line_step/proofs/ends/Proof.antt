@@ -4,8 +4,8 @@ use mathlib.Core.Bool.{true}
 use Rattle.judge.specs.declared.Judged.{Judged}
 use Rattle.receiving.specs.Receiving.{settleOf}
 use borrow.Author.Needs.{needs}
-use Rattle.settling.proofs.ends.Statement.{statement}
-use Rattle.settling.proofs.ends.Tie as tie
+use Rattle.line_step.proofs.ends.Statement.{statement}
+use Rattle.line_step.proofs.ends.Tie as tie
 
 judged-line-requires : tie.Need-judged-line-requires
 judged-line-requires c κs = search needs

@@ -1,10 +1,10 @@
 -- The line up to its length.
 use mathlib.Core.Path.{sym}
 use lib.Seq.{length-take-le}
-use Rattle.settling.proofs.Laws.{judged-as}
+use Rattle.line_step.proofs.Laws.{judged-as}
 use borrow.Author.Needs.{needs}
-use Rattle.settling.proofs.judged_line.Statement.{statement}
-use Rattle.settling.proofs.judged_line.Tie as tie
+use Rattle.line_step.proofs.judged_line.Statement.{statement}
+use Rattle.line_step.proofs.judged_line.Tie as tie
 
 line-len-requires : tie.Need-line-len-requires
 line-len-requires c κs = search needs

@@ -1,0 +1,2 @@
+-- When a message can be kept.
+pub mod Keeping
