@@ -80,7 +80,7 @@ abbrev pub deedsFrom : ℕ → List Record → Log → List Event → List Deed
 deedsFrom zero T l es = []
 deedsFrom (suc n) T l es = deedsCut T l (λ m rest. deedsFrom n T m rest) (cutUnit T (l .course .next) (l .afterCr) [] es)
 
--- What the bytes consumed and gotPlus did, unit by unit, as the log cuts them.
+-- What the bytes consumed and given did, unit by unit, as the log cuts them.
 unfoldable pub deeds : List Record → Bool → List ℕ → List Event → List Deed
 deeds T caller states es = deedsFrom (length es) T (logOpened caller states) es
 
