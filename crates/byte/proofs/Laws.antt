@@ -1,16 +1,17 @@
 -- Laws for matches with several numbers in one arm, and for tests of every byte of a list.
 use mathlib.Core.Path.{_≡_, refl}
-use mathlib.Core.Bool.{Bool, true, false, _||_}
+use mathlib.Core.Bool.{Bool, true, false, cond, _||_}
 use mathlib.Core.List.{[], _∷_}
 use mathlib.Core.Logic.{_⊎_, inl, inr}
 use Prim.Native.Nat.{ℕ, zero, suc, _+_, _<_, _≤_}
 use native.Mathlib.Omega.{arith}
 use native.Mathlib.Numerals.{add-one}
-use lib.Dec.{eqb}
+use lib.Dec.{eqb, ltb}
 use lib.ListN.{length, getD, drop, drop-of-length-le}
 use lib.Seq.{drop-cons}
-use borrow.Author.Tests.{eq-eqb, ne-eqb}
+use borrow.Author.Tests.{eq-eqb, ne-eqb, ltb-true, ltb-false}
 use Rattle.grammar.specs.Bytes.{Bytes, all}
+use Rattle.grammar.specs.Fields.{digit}
 use Rattle.grammar.proofs.Basics.{and2}
 
 or-true : (a : Bool) → (a || true) ≡ true
@@ -56,3 +57,11 @@ module _ (c : ℕ → Bool) (l : Bytes) (i : ℕ) (h : i < length l) where
 
 pub all-end : (c : ℕ → Bool) (l : Bytes) (i : ℕ) → length l ≤ i → true ≡ all c (drop i l)
 all-end c l i h = rw (drop-of-length-le l {i = i} h)
+
+-- a digit's bounds
+pub digit-is : (x : ℕ) → digit x ≡ true → (48 ≤ x) × (x ≤ 57)
+digit-is x e = go (ltb x 48) refl e
+  where
+    go : (c : Bool) → ltb x 48 ≡ c → cond c false (ltb x 58) ≡ true → (48 ≤ x) × (x ≤ 57)
+    go true q k = let z : _≡_ {A = ℕ} 0 1 = cc in (omega arith, omega arith)
+    go false q k = let y = ltb-false x 48 q in let z = ltb-true x 58 k in (omega arith, omega arith)

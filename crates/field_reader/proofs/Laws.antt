@@ -15,9 +15,9 @@ use borrow.Author.Tests.{lt-ltb, le-ltb, ltb-true, ltb-false}
 use Rattle.grammar.specs.Bytes.{Bytes, SP}
 use Rattle.grammar.specs.Fields.{words, starts, attach}
 use Rattle.grammar.specs.Turns.{Proposal, sevenRead, readProposal}
-use Rattle.field.specs.declared.Span.{Span}
-use Rattle.field.specs.Places.{between, part, upto, wordsBy}
-use Rattle.field.proofs.Laws.{next-word, words-upto, upto-most}
+use Rattle.span.specs.declared.Span.{Span}
+use Rattle.span.specs.Places.{between, part, upto, wordsBy}
+use Rattle.span.proofs.Laws.{next-word, words-upto, upto-most}
 use Rattle.field_reader.specs.Reading.{spaces, fieldAt, nextFields}
 
 -- ---------------------------------------------------------------- spaces in front

@@ -5,8 +5,8 @@ use Prim.Native.Nat.{ℕ, zero, suc, _+_, min}
 use lib.Dec.{eqb, ltb}
 use lib.ListN.{length, drop}
 use Rattle.grammar.specs.Bytes.{Bytes, SP}
-use Rattle.field.specs.declared.Span.{Span}
-use Rattle.field.specs.Places.{part, upto}
+use Rattle.span.specs.declared.Span.{Span}
+use Rattle.span.specs.Places.{part, upto}
 
 -- How many spaces stand in front.
 unfoldable pub spaces : Bytes → ℕ

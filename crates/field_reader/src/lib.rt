@@ -1,13 +1,13 @@
 // The field reader of 01: it goes along a received line and hands out one field at a time. It is a struct that holds the line
 // and a place in it. The automatic proof covers no function over such a struct, so these are few and thin, and walked by hand;
 // the work is done by `field_at`, on the line and the place, which is covered.
-use field::Span;
-use field::next_field;
+use span::Span;
+use span::next_field;
 ghost use mathlib.Core.Path.{_≡_};
 ghost use Prim.Native.Nat.{_≤_};
 ghost use lib.ListN.{length, drop};
 ghost use Rattle.grammar.specs.Fields.{words};
-ghost use Rattle.field.specs.Places.{wordsBy};
+ghost use Rattle.span.specs.Places.{wordsBy};
 ghost use Rattle.field_reader.specs.Reading.{fieldAt};
 
 // A line, and the place from which its next field is read.

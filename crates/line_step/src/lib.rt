@@ -47,7 +47,7 @@ fn judged(
 fn line_len(line: Line) -> usize
     ensures { λ r. ⌜ (take r (line .bytes) ≡ take (line .len) (line .bytes)) × (r ≤ length (line .bytes)) ⌝ }
 {
-    settling::at_most(256, line.len as usize)
+    part::at_most(256, line.len as usize)
 }
 
 // The line in its array, up to its length.

@@ -1,5 +1,6 @@
-// A part of a lent store, where it lies.
+// A part of a lent store, where it lies, and a length that goes no further than it may.
 ghost use mathlib.Core.Path.{_≡_};
+ghost use Prim.Native.Nat.{min};
 ghost use lib.ListN.{length};
 ghost use Rattle.grammar.specs.Transfers.{partOf};
 
@@ -16,4 +17,14 @@ pub fn part(s: &[u8], start: usize, len: usize) -> &[u8]
     } else {
         &s[..0]
     }
+}
+
+// n, or most where n is more.
+pub fn at_most(most: usize, n: usize) -> usize
+    ensures { λ r. ⌜ r ≡ min most n ⌝ }
+{
+    if most < n {
+        return most;
+    }
+    n
 }

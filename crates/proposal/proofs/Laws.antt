@@ -13,9 +13,10 @@ use borrow.Author.Tests.{eq-eqb, ne-eqb, lt-ltb, le-ltb, not-true, not-false}
 use Rattle.grammar.specs.Bytes.{Bytes, SP, same}
 use Rattle.grammar.specs.Fields.{formIs, upper, words, starts, isCall, isAt, isBid, isSize, readFrom, readSize, sameBid}
 use Rattle.grammar.specs.Turns as turns
-use Rattle.field.specs.declared.Span.{Span}
-use Rattle.field.specs.declared.Size.{Size}
-use Rattle.field.specs.Places.{part, wordsBy, sizeIs}
+use Rattle.span.specs.declared.Span.{Span}
+use Rattle.size.specs.declared.Size.{Size}
+use Rattle.span.specs.Places.{part, wordsBy}
+use Rattle.size.specs.Meaning.{sizeIs}
 use Rattle.field.proofs.Laws.{same-length}
 use Rattle.proposal.specs.declared.TurnLine.{TurnLine}
 use Rattle.proposal.specs.declared.Seven.{Seven}

@@ -9,8 +9,8 @@ use lib.ListN.{length}
 use Rattle.grammar.specs.Bytes.{Bytes}
 use Rattle.grammar.specs.Fields.{Form, formIs, words, isCall, isAt, isBid}
 use Rattle.grammar.specs.Turns as turns
-use Rattle.field.specs.declared.Span.{Span}
-use Rattle.field.specs.Places.{part}
+use Rattle.span.specs.declared.Span.{Span}
+use Rattle.span.specs.Places.{part}
 use Rattle.proposal.specs.declared.Proposal.{Proposal}
 use Rattle.proposal.specs.declared.TurnLine.{TurnLine}
 use Rattle.proposal.specs.declared.Seven.{Seven}

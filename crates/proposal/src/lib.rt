@@ -1,12 +1,12 @@
 // The lines of a turn: FF, FQ, F> and proposals, whose fields are shown where they lie in the line.
 use byte::upper_of;
-use field::Size;
-use field::Span;
 use field::is_at;
 use field::is_bid;
 use field::is_call;
-use field::read_size;
 use field_reader::field_by_reader;
+use size::Size;
+use size::read_size;
+use span::Span;
 ghost use mathlib.Core.Path.{_≡_};
 ghost use mathlib.Core.List.{map};
 ghost use Prim.Native.Nat.{_≤_};

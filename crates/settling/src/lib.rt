@@ -3,6 +3,7 @@ use buffer::Cursor;
 use judge::Judged;
 use judge::count_of;
 use layout::entry;
+use part::at_most;
 use state::Await;
 use state::Five;
 use state::Keep;
@@ -10,7 +11,7 @@ use state::Reading;
 use state::Say;
 use state::Session;
 ghost use mathlib.Core.Path.{_≡_};
-ghost use Prim.Native.Nat.{_*_, min};
+ghost use Prim.Native.Nat.{_*_};
 ghost use lib.ListN.{set, take};
 ghost use Rattle.buffer.specs.Put.{putBytes};
 ghost use Rattle.layout.specs.Layout.{entryAt, entryOut};
@@ -21,16 +22,6 @@ ghost use Rattle.receiving.specs.Receiving.{markAll, refusedOf, settledOf, spok
 pub struct Left {
     pub answer: u8,
     pub session: Session,
-}
-
-// n, or most where n is more.
-pub fn at_most(most: usize, n: usize) -> usize
-    ensures { λ r. ⌜ r ≡ min most n ⌝ }
-{
-    if most < n {
-        return most;
-    }
-    n
 }
 
 // The record at a place gets this state.

@@ -16,8 +16,8 @@ use Rattle.grammar.specs.Sid.{isLetter, letterPlace, noFeatures, hasFeature, wi
 use Rattle.grammar.proofs.Basics.{to-end}
 use Rattle.byte.specs.declared.Class.{Class}
 use Rattle.byte.specs.Classes.{classOf}
-use Rattle.field.specs.Places.{upto}
-use Rattle.field.proofs.Laws.{split-upto}
+use Rattle.span.specs.Places.{upto}
+use Rattle.span.proofs.Laws.{split-upto}
 use Rattle.sid.specs.Meaning.{lastBy}
 
 -- ---------------------------------------------------------------- the features

@@ -4,7 +4,7 @@ use byte::all_of;
 use byte::digit_byte;
 use byte::upper_of;
 use features::FeatureSet;
-use field::find;
+use span::find;
 ghost use mathlib.Core.Path.{_≡_};
 ghost use mathlib.Core.Bool.{true, not, _&&_};
 ghost use mathlib.Core.Option.{none, some};

@@ -9,7 +9,7 @@ use Rattle.grammar.specs.Refusals.{lineNotAllowed}
 use Rattle.grammar.specs.Fields.{formIs, formNumber}
 use Rattle.grammar.specs.Turns as turns
 use Rattle.buffer.specs.Put.{putBytes}
-use Rattle.field.specs.Places.{part}
+use Rattle.span.specs.Places.{part}
 use Rattle.layout.specs.Layout.{proposalOut}
 use Rattle.proposal.specs.declared.Proposal.{Proposal}
 use Rattle.proposal.specs.declared.TurnLine.{TurnLine}

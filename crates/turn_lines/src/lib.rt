@@ -17,7 +17,7 @@ use state::Say;
 use transfer_step::Reader;
 ghost use mathlib.Core.Path.{_≡_};
 ghost use Rattle.buffer.specs.Put.{putBytes};
-ghost use Rattle.field.specs.Places.{part};
+ghost use Rattle.span.specs.Places.{part};
 ghost use Rattle.layout.specs.Layout.{proposalOut};
 ghost use Rattle.proposal.specs.Meaning.{ProposalLies, proposalIs};
 ghost use Rattle.state.specs.State.{at};

@@ -12,8 +12,8 @@ use Rattle.grammar.specs.Lines.{LineByte, dropped, ends, grows, overruns}
 use Rattle.grammar.specs.Sid.{noFeatures}
 use Rattle.grammar.specs.Turns.{Proposal, TurnLine, saysFF, saysFQ, endsBlock, notAllowed, proposes, turnLineNumber}
 use Rattle.byte.specs.declared.Class.{Class}
-use Rattle.field.specs.declared.Span.{Span}
-use Rattle.field.specs.Places.{part}
+use Rattle.span.specs.declared.Span.{Span}
+use Rattle.span.specs.Places.{part}
 use Rattle.proposal.specs.declared.Proposal as code
 use Rattle.proposal.specs.declared.TurnLine as told
 use Rattle.proposal.specs.Meaning.{Within}

@@ -1,10 +1,10 @@
 // The readers of the protocol's words for callers from C and Rust, in numbers and byte slices. They serve tests and benchmarks; the
 // product's own calls are in the crate fringemole.
 use byte::Class;
-use field::Size;
 use line::LineByte;
 use proposal::Proposal;
 use proposal::TurnLine;
+use size::Size;
 ghost use mathlib.Core.Path.{_≡_};
 ghost use lib.ListN.{length, take};
 ghost use Rattle.grammar.specs.Fields.{isSize, sameBid};
@@ -52,7 +52,7 @@ pub extern "C" fn words_byte_is(class: u8, b: u8) -> u8
 fn is_size(s: &[u8]) -> bool
     ensures { λ r. ⌜ r ≡ isSize (now (s .entry)) ⌝ }
 {
-    let size = field::read_size(s);
+    let size = size::read_size(s);
     match size {
         Size::Value(_n) => true,
         Size::Bad => false,

@@ -1,8 +1,11 @@
+-- Invariant: the parts from a on are calls exactly where all are. Measure: the bytes left.
 use mathlib.Core.Path.{_≡_, refl, sym, _∙_}
 use Prim.Native.Nat.{_≤_, _-_}
+use native.Mathlib.Omega.{arith}
 use lib.ListN.{length, drop}
 use borrow.Author.Needs.{needs}
 use Rattle.grammar.specs.Fields.{allCalls, parts}
+use Rattle.span.proofs.Laws.{found-within}
 use Rattle.field.proofs.Laws.{calls-stop, calls-end, calls-more}
 use Rattle.field.proofs.are_calls.Statement.{statement}
 use Rattle.field.proofs.are_calls.Tie as tie
@@ -26,16 +29,19 @@ part-is-call-start : tie.Need-part-is-call-start Inv-loop μ-loop
 part-is-call-start c = search needs
 
 part-is-call-end : tie.Need-part-is-call-end Inv-loop μ-loop
-part-is-call-end c = search needs
+part-is-call-end c =
+    let e = c .find-from .ensures in
+    let m = found-within (c .before .before .before .args .s .now) (c .before .loop .a) 46 (c .before .loop .inv .0) in
+    omega (arith, e, m)
 
 is-call-requires : tie.Need-is-call-requires Inv-loop μ-loop
 is-call-requires c κs = search needs
 
 returns : tie.Need-returns Inv-loop μ-loop
-returns c = calls-stop _ _ _ _ (c .before .before .before .before .loop .inv .0) (c .before .before .before .find-from .ensures .0) (c .before .is-call .ensures) (c .if1 .taken) ∙ sym (c .before .before .before .before .loop .inv .1)
+returns c = calls-stop _ _ _ _ (c .before .before .before .before .loop .inv .0) (c .before .before .before .find-from .ensures) (c .before .is-call .ensures) (c .if1 .taken) ∙ sym (c .before .before .before .before .loop .inv .1)
 
 returns-2 : tie.Need-returns-2 Inv-loop μ-loop
-returns-2 c = calls-end _ _ _ _ (c .before .before .before .before .before .loop .inv .0) (c .before .before .before .before .find-from .ensures .0) (c .before .before .is-call .ensures) (c .before .if1 .left) (c .if2 .taken) ∙ sym (c .before .before .before .before .before .loop .inv .1)
+returns-2 c = calls-end _ _ _ _ (c .before .before .before .before .before .loop .inv .0) (c .before .before .before .before .find-from .ensures) (c .before .before .is-call .ensures) (c .before .if1 .left) (c .if2 .taken) ∙ sym (c .before .before .before .before .before .loop .inv .1)
 
 add-a : tie.Need-add-a Inv-loop μ-loop
 add-a c = search needs
@@ -44,7 +50,7 @@ loop-less : tie.Need-loop-less Inv-loop μ-loop
 loop-less c = search needs
 
 loop-again : tie.Need-loop-again Inv-loop μ-loop
-loop-again c = (search needs, c .before .before .before .before .before .loop .inv .1 ∙ calls-more _ _ _ _ (c .before .before .before .before .before .loop .inv .0) (c .before .before .before .before .find-from .ensures .0) (c .before .before .is-call .ensures) (c .before .if1 .left) (c .if2 .left))
+loop-again c = (search needs, c .before .before .before .before .before .loop .inv .1 ∙ calls-more _ _ _ _ (c .before .before .before .before .before .loop .inv .0) (c .before .before .before .before .find-from .ensures) (c .before .before .is-call .ensures) (c .before .if1 .left) (c .if2 .left))
 
 pub are-calls-spec : {M : Type 1} → statement M
 are-calls-spec =

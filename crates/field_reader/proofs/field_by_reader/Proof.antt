@@ -50,10 +50,10 @@ use denote.Triple.Walked.{says, Stays, stay-none, stay-none-slice, walkOf, goes-
 use denote.Triple.Clauses.{ensured, lasts}
 use denote.Exit.{yes}
 use Rattle.grammar.specs.Fields.{words}
-use Rattle.field.specs.declared.Span.{Span}
-use Rattle.field.specs.Places.{wordsBy}
-use Rattle.field.proofs.Span as S
-use Rattle.field.proofs.Span.Laws as S′
+use Rattle.span.specs.declared.Span.{Span}
+use Rattle.span.specs.Places.{wordsBy}
+use Rattle.span.proofs.Span as S
+use Rattle.span.proofs.Span.Laws as S′
 use Rattle.field_reader.specs.Reading.{fieldAt}
 use Rattle.field_reader.specs.declared.FieldReader.{FieldReader}
 use Rattle.field_reader.proofs.Laws.{field-words, field-lies}

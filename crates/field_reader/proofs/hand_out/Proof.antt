@@ -45,9 +45,9 @@ use denote.Triple.Spec.{Meets, tripleOf}
 use denote.Triple.Table.{entered, cited}
 use denote.Triple.Walked.{says, Stays, stay-ref, walkOf, goes-ref, Walks, ends-at, walked, walk-meets}
 use denote.Triple.Clauses.{ensured, lasts}
-use Rattle.field.specs.declared.Span.{Span}
-use Rattle.field.proofs.Span as S
-use Rattle.field.proofs.Span.Laws as S′
+use Rattle.span.specs.declared.Span.{Span}
+use Rattle.span.proofs.Span as S
+use Rattle.span.proofs.Span.Laws as S′
 use Rattle.field_reader.specs.Reading.{fieldAt}
 use Rattle.field_reader.specs.declared.FieldReader.{FieldReader}
 use Rattle.field_reader.proofs.FieldReader as T

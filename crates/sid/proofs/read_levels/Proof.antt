@@ -6,7 +6,7 @@ use borrow.Author.Needs.{needs}
 use borrow.Author.Tests.{not-false}
 use Rattle.grammar.specs.Bytes.{Bytes}
 use Rattle.grammar.specs.Sid.{readLevels, noFeatures}
-use Rattle.field.proofs.Laws.{digit-is}
+use Rattle.byte.proofs.Laws.{digit-is}
 use Rattle.sid.specs.Meaning.{sidOf}
 use Rattle.sid.proofs.Laws.{levels-end, levels-stop, levels-twice, with-digit, no-digit}
 use Rattle.sid.proofs.read_levels.Statement.{statement}

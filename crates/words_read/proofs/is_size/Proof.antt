@@ -2,8 +2,8 @@
 use mathlib.Core.Path.{sym, ap, _∙_}
 use borrow.Author.Needs.{needs}
 use Rattle.grammar.specs.Bytes.{isSome}
-use Rattle.field.specs.Places.{sizeIs}
-use Rattle.field.specs.declared.Size.{Size}
+use Rattle.size.specs.Meaning.{sizeIs}
+use Rattle.size.specs.declared.Size.{Size}
 use Rattle.words_read.proofs.Laws.{size-read}
 use Rattle.words_read.proofs.is_size.Statement.{statement}
 use Rattle.words_read.proofs.is_size.Tie as tie

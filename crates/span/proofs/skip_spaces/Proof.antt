@@ -3,9 +3,9 @@ use Prim.Native.Nat.{_≤_, _-_}
 use lib.ListN.{length, drop}
 use borrow.Author.Needs.{needs}
 use Rattle.grammar.specs.Fields.{words}
-use Rattle.field.proofs.Laws.{skip-more, skip-stop, skip-end}
-use Rattle.field.proofs.skip_spaces.Statement.{statement}
-use Rattle.field.proofs.skip_spaces.Tie as tie
+use Rattle.span.proofs.Laws.{skip-more, skip-stop, skip-end}
+use Rattle.span.proofs.skip_spaces.Statement.{statement}
+use Rattle.span.proofs.skip_spaces.Tie as tie
 
 abbrev Inv-loop : tie.InvT-loop
 Inv-loop line at i₀ i = (at ≤ i) × (i ≤ length line) × (words (drop at line) ≡ words (drop i line))

@@ -1,9 +1,9 @@
 use mathlib.Core.Path.{sym, _∙_}
 use borrow.Author.Tests.{not-true, not-false}
 use borrow.Author.Needs.{needs}
-use Rattle.field.proofs.Laws.{size-is}
-use Rattle.field.proofs.read_size.Statement.{statement}
-use Rattle.field.proofs.read_size.Tie as tie
+use Rattle.size.proofs.Laws.{size-is}
+use Rattle.size.proofs.read_size.Statement.{statement}
+use Rattle.size.proofs.read_size.Tie as tie
 
 is-field-requires : tie.Need-is-field-requires
 is-field-requires c κs = search needs

@@ -4,9 +4,9 @@ use native.Mathlib.Omega.{arith}
 use lib.ListN.{length, drop}
 use borrow.Author.Needs.{needs}
 use Rattle.grammar.specs.Fields.{readFrom}
-use Rattle.field.proofs.Laws.{num-digit, num-small, num-bound, num-more, num-end}
-use Rattle.field.proofs.number.Statement.{statement}
-use Rattle.field.proofs.number.Tie as tie
+use Rattle.size.proofs.Laws.{num-digit, num-small, num-bound, num-more, num-end}
+use Rattle.size.proofs.number.Statement.{statement}
+use Rattle.size.proofs.number.Tie as tie
 
 abbrev Inv-loop : tie.InvT-loop
 Inv-loop s v₀ i₀ v i = (i ≤ length s) × (v < 10 ^ i) × (readFrom 0 s ≡ readFrom v (drop i s))

@@ -1,14 +1,12 @@
 -- Fields by their places in a line.
 use mathlib.Core.Bool.{cond}
-use mathlib.Core.Option.{Option, none, some}
 use mathlib.Core.List.{List, [], _∷_}
 use Prim.Native.Nat.{ℕ, suc, _-_}
 use lib.Dec.{eqb, ltb}
 use lib.ListN.{take, drop}
 use Rattle.grammar.specs.Bytes.{Bytes}
 use Rattle.grammar.specs.Fields.{words}
-use Rattle.field.specs.declared.Span.{Span}
-use Rattle.field.specs.declared.Size.{Size}
+use Rattle.span.specs.declared.Span.{Span}
 
 -- The bytes of a line from a to e.
 abbrev pub between : Bytes → ℕ → ℕ → Bytes
@@ -26,8 +24,3 @@ upto c (x ∷ xs) = cond (eqb x c) 0 (suc (upto c xs))
 -- empty span lies is left free, but it lies in the line.
 abbrev pub wordsBy : Bytes → Span → List Bytes
 wordsBy l s = cond (ltb (s .start) (s .end)) (part l s ∷ words (drop (s .end) l)) []
-
--- The size that an answer gives.
-abbrev pub sizeIs : Size → Option ℕ
-sizeIs (Size.Value n) = some n
-sizeIs Size.Bad = none

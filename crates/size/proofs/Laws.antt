@@ -1,0 +1,49 @@
+-- Decimal numbers, digit by digit.
+use mathlib.Core.Path.{_≡_, refl, ap, _∙_}
+use mathlib.Core.Bool.{true}
+use Prim.Native.Nat.{ℕ, _+_, _*_, _-_, _^_, _<_, _≤_}
+use native.Mathlib.Omega.{arith}
+use native.Mathlib.Numerals.{add-one}
+use native.Mathlib.Nat.{pow-succ', pow-le-pow-right}
+use lib.ListN.{length, getD, drop, drop-of-length-le}
+use lib.Seq.{drop-cons}
+use Rattle.grammar.specs.Bytes.{Bytes}
+use Rattle.grammar.specs.Fields.{digit, isSize, readFrom, field}
+use Rattle.grammar.proofs.Basics.{field-is}
+use Rattle.byte.specs.Classes.{classOf}
+use Rattle.byte.specs.declared.Class.{Class}
+use Rattle.byte.proofs.Laws.{all-get, digit-is}
+
+-- the field rule of a size, as the code tests it
+pub size-is : (s : Bytes) → field (classOf Class.Digit) 9 s ≡ isSize s
+unfolding isSize classOf
+size-is s = refl
+
+module _ (s : Bytes) (v i : ℕ) (f : isSize s ≡ true) (h : i < length s) (b : v < 10 ^ i) where
+  pub num-digit : (48 ≤ getD s i 0) × (getD s i 0 ≤ 57)
+  unfolding isSize
+  num-digit = digit-is (getD s i 0) (all-get digit s i ((field-is digit 9 s f) .class) h)
+
+  pub num-small : v < 100000000
+  unfolding isSize
+  num-small =
+      let m = (field-is digit 9 s f) .most in
+      let h8 : i ≤ 8 = omega arith in
+      let k : 10 ^ i ≤ 10 ^ 8 = pow-le-pow-right (omega arith) h8 in
+      omega (arith, k)
+
+  pub num-bound : v * 10 + (getD s i 0 - 48) < 10 ^ (i + 1)
+  num-bound =
+      let d = num-digit in
+      let d0 = d .0 in
+      let d1 = d .1 in
+      let e : 10 ^ (i + 1) ≡ 10 * 10 ^ i = ap (λ (n : ℕ). 10 ^ n) (add-one i) ∙ pow-succ' 10 i in
+      omega (arith, e)
+
+  pub num-more : readFrom v (drop i s) ≡ readFrom (v * 10 + (getD s i 0 - 48)) (drop (i + 1) s)
+  unfolding readFrom
+  num-more = rw (drop-cons s i 0 h, add-one i)
+
+pub num-end : (s : Bytes) (v i : ℕ) → length s ≤ i → v ≡ readFrom v (drop i s)
+unfolding readFrom
+num-end s v i h = rw (drop-of-length-le s {i = i} h)

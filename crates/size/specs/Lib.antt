@@ -1,0 +1,2 @@
+-- What the code of this crate means in the words of the grammar.
+pub mod Meaning
