@@ -10,7 +10,7 @@ fn main() {
     };
     println!("cargo:rerun-if-env-changed=FRINGEMOLE_LIB_DIR");
     println!("cargo:rustc-link-search=native={}", dir.display());
-    for name in ["words_read", "words_transfer", "words_write"] {
+    for name in ["words_is", "words_read", "words_transfer", "words_write"] {
         println!("cargo:rerun-if-changed={}", dir.join(format!("lib{name}.a")).display());
         println!("cargo:rustc-link-lib=static={name}");
     }

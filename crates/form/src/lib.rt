@@ -1,7 +1,7 @@
 // The form test: whether lent memory is as an accepted open, a receive or a give leaves it.
 use layout::byte_at;
 use layout::entry;
-use layout::number2;
+use number_read::number2;
 use state::Five;
 use state::Session;
 use state::Sizes;

@@ -25,7 +25,7 @@ use Rattle.judge.specs.declared.Judged.{Judged}
 use Rattle.judge.specs.Judge.{judged, refusal, toTurn, sends, picked, flagged, transfersAfter, answerTaken, answerLine}
 use Rattle.fs_line.specs.declared.Answered.{Answered}
 use Rattle.fs_line.specs.Signs.{withPlace, placed, answeredBy}
-use Rattle.judge.proofs.Laws.{held-cons, held-end}
+use Rattle.five.proofs.Laws.{held-cons, held-end}
 
 -- flags, place by place
 module _ (f : Five) (i n : ℕ) (e : n ≡ length (held f)) where

@@ -1,12 +1,12 @@
 // The FS line on our proposals: what is sent, what is declined, what is deferred.
 use answer::Sign;
 use answer::sign_of;
+use awaiting::to_turn;
+use five::count_of;
+use five::none;
 use judge::Judged;
 use judge::Marks;
-use judge::count_of;
-use judge::none;
 use judge::refusal;
-use judge::to_turn;
 use state::Await;
 use state::Five;
 use state::Keep;

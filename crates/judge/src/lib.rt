@@ -1,16 +1,12 @@
-// What a line comes to: its answer, the marks to set, and what is awaited then.
-use layout::byte_at;
-use layout::entry;
+// What a line comes to: its answer, the marks to set, and the state after it.
+use five::none;
 use state::Await;
 use state::Five;
 use state::Keep;
 use state::Say;
 use transfer_step::Reader;
 ghost use mathlib.Core.Path.{_≡_};
-ghost use Prim.Native.Nat.{_≤_};
-ghost use lib.ListN.{length};
-ghost use Rattle.state.specs.State.{held, noFive};
-ghost use Rattle.judge.specs.Judge.{noMarks, refusal, wentOn, toTurn, toTransfer, turnMarks, settledKeep, nextAccepted, readerFor};
+ghost use Rattle.judge.specs.Judge.{noMarks, refusal, wentOn, turnMarks, settledKeep};
 
 // The records at these places get this state.
 pub struct Marks {
@@ -34,16 +30,6 @@ pub struct Judged {
 pub struct Spoken {
     pub now: Await,
     pub say: Say,
-}
-
-// No numbers.
-pub fn none() -> Five
-    ensures { λ r. ⌜ r ≡ noFive ⌝ }
-{
-    Five {
-        count: 0,
-        items: [0u8; 5],
-    }
 }
 
 // Nothing is marked.
@@ -86,17 +72,6 @@ pub fn went(awaited: Await, say: Say, keep: Keep, reader: Reader) -> Judged
     }
 }
 
-// The partner's turn is awaited, with no line of it yet.
-pub fn to_turn(awaited: Await, ff: bool) -> Await
-    ensures { λ r. ⌜ r ≡ toTurn ff awaited ⌝ }
-{
-    let mut t = awaited;
-    t.phase = 3;
-    t.ff = ff;
-    t.proposals = 0;
-    t
-}
-
 // The turn is whole: what was being sent is forwarded.
 pub fn marks_of(keep: Keep) -> Marks
     ensures { λ r. ⌜ r ≡ turnMarks keep ⌝ }
@@ -115,48 +90,4 @@ pub fn marked(keep: Keep) -> Keep
     let mut k = keep;
     k.sending = none();
     k
-}
-
-// How many numbers are held.
-pub fn count_of(f: Five) -> usize
-    ensures { λ r. ⌜ (r ≡ length (held f)) × (r ≤ 5) ⌝ }
-{
-    if 5 < f.count {
-        return 5;
-    }
-    f.count as usize
-}
-
-// The first accepted proposal from a place on; 5 where there is none.
-pub fn next_accepted(signs: Five, from: usize) -> u8
-    ensures { λ r. ⌜ r ≡ nextAccepted signs from ⌝ }
-{
-    let n = count_of(signs);
-    let mut i = from;
-    while i < n {
-        if signs.items[i] == b'+' {
-            return i as u8;
-        }
-        i += 1;
-    }
-    5
-}
-
-// The transfer of the proposal at this place is awaited.
-pub fn to_transfer(awaited: Await, i: u8) -> Await
-    ensures { λ r. ⌜ r ≡ toTransfer i awaited ⌝ }
-{
-    let mut t = awaited;
-    t.phase = 5;
-    t.current = i;
-    t
-}
-
-// The reader at the start of that transfer.
-pub fn reader_for(awaited: Await, i: u8) -> Reader
-    ensures { λ r. ⌜ r ≡ readerFor awaited i ⌝ }
-{
-    let block = awaited.block;
-    let form = byte_at(entry(layout::PROPOSAL, &block, i as u16), 0);
-    transfer_step::start(form)
 }

@@ -1,8 +1,8 @@
 // A whole line, judged by what is awaited, and what we say in our turn.
+use awaiting::to_turn;
 use judge::Judged;
 use judge::Spoken;
 use judge::refusal;
-use judge::to_turn;
 use judge::unmarked;
 use judge::went;
 use state::Await;

@@ -53,10 +53,10 @@ fn next_judged(s: Session, next: u8) -> Judged
         answer: 0,
         speaks: 0,
         marks: marks,
-        now: judge::to_transfer(awaited, next),
+        now: awaiting::to_transfer(awaited, next),
         say: say,
         keep: keep,
-        reader: judge::reader_for(awaited, next),
+        reader: awaiting::reader_for(awaited, next),
     }
 }
 
@@ -75,7 +75,7 @@ pub fn keep_message(s: Session, inbox: &mut [u8], table: &mut [u8]) -> Left
     ensures { λ r. ⌜ (settled (r .answer) (r .session) (now (table .exit)) ≡ keepOf s (now (table .entry))) × (now (inbox .exit) ≡ keptInbox s (now (inbox .entry))) ⌝ }
 {
     let signs = s.say.signs;
-    let next = judge::next_accepted(signs, s.now.current as usize + 1);
+    let next = awaiting::next_accepted(signs, s.now.current as usize + 1);
     let j = next_judged(s, next);
     let plain = is_plain(s);
     settling::put_message(s, inbox);

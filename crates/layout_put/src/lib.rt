@@ -1,7 +1,7 @@
 // The entries of a block of proposals and of the inbox, written.
 use buffer::Cursor;
-use layout::bytes2;
-use layout::bytes4;
+use number_write::bytes2;
+use number_write::bytes4;
 use part::part;
 ghost use mathlib.Core.Path.{_≡_};
 ghost use mathlib.Core.List.{[], _∷_, _++_};

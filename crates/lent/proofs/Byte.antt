@@ -198,7 +198,7 @@ spared-then c d e p q =
     }
 
 module _ (F : Fixed) (E : Shelf) (c : Cs) (x : Moved) (o : on-lists.Stepped) (k : Moving F E c x o) where
-  same-stops : stops x ≡ calls.stops o
+  pub same-stops : stops x ≡ calls.stops o
   same-stops =
       ap (λ (a : ℕ). not (eqb a 0) || overOf (x .cs .session)) (k .answer) ∙ ap (λ (e : Bool). not (eqb (o .answer) 0) || e) (over-law F E (x .cs) (o .session) (k .represents))
 

@@ -15,12 +15,13 @@ use Rattle.demand3.specs.Demand as on-lists-run
 use Rattle.choice.specs.Decoded.{statesOf}
 use Rattle.lent.specs.Calls.{Lent, Buffer, Memory, fixedIn, lentIn, sizesOf, received, given}
 use Rattle.lent.specs.Demand3.{CallsOn, openedBy, finally}
+use Rattle.lent.specs.Link.{callOf}
 use Rattle.lent.specs.Demand2.{shelfIn, Claim2}
 use Rattle.lent.proofs.Accepted.{table-reads-back}
 use Rattle.lent.proofs.Opening.{freshCs, accepted}
 use Rattle.lent.proofs.Held.{Held}
 use Rattle.lent.proofs.Giving.{GaveAs, give-law}
-use Rattle.lent.proofs.Run.{callOf, TookAs, receive-law}
+use Rattle.lent.proofs.Run.{TookAs, receive-law}
 use Rattle.lent.proofs.Demand3.{open-as, ran}
 
 -- every list of calls leads to a session that is reached

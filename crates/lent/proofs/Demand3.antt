@@ -19,6 +19,7 @@ use Rattle.form.specs.Form.{formOf}
 use Rattle.lent.specs.Laid.{entriesBytes, bodiesBytes}
 use Rattle.lent.specs.Represents.{Fixed, messagesOf}
 use Rattle.lent.specs.Frame.{withStates}
+use Rattle.lent.specs.Link.{callOf}
 use Rattle.lent.specs.Calls.{Lent, Memory, fixedIn, lentIn, sizesOf, messageCount, received, given, withSession, run}
 use Rattle.lent.specs.Demand3.{openedBy, CallsOn, finally, logged, Claim}
 use Rattle.lent.proofs.Frame.{with-law}
@@ -26,7 +27,7 @@ use Rattle.lent.proofs.FormAnswers.{receive-exactly, give-exactly}
 use Rattle.lent.proofs.Held.{held-form}
 use Rattle.lent.proofs.Opening.{freshCs, shelfOf, accepted, OpenedAs, open-law}
 use Rattle.lent.proofs.FormClosed.{receive-one, give-one}
-use Rattle.lent.proofs.Run.{other-form, callOf, RanAs, run-law}
+use Rattle.lent.proofs.Run.{other-form, RanAs, run-law}
 use Rattle.lent.proofs.Laid.{entries-laid, bodies-laid}
 
 module _ (role : ℕ) (M : Memory) (e : openedBy role M .reply .answer ≡ 0) (cs : CallsOn M) where

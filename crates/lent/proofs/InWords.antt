@@ -19,7 +19,7 @@ use Rattle.lent.specs.Deeds.{deeds, Fate, messagesBrought, AsAccepted}
 use Rattle.lent.specs.InWords.{done, ClaimInWords}
 use Rattle.lent.proofs.Table.{Whole}
 use Rattle.lent.proofs.Opening.{shelfOf, accepted}
-use Rattle.lent.proofs.Run.{callOf}
+use Rattle.lent.specs.Link.{callOf}
 use Rattle.lent.proofs.Demand3.{open-as, ran, states-logged, inbox-logged}
 use Rattle.lent.proofs.Deeds.{accepted-law, brought-law}
 use Rattle.lent.proofs.Fates.{fates, messages}

@@ -38,8 +38,9 @@ pub mod FormSaved
 pub mod FormClosed
 pub mod FormAnswers
 -- Small: numbers that must fit their bytes. InForm: the form test. Held: memory as a call left it, and saving. Giving, Accepted,
--- Opening: the laws of give and open. Run: a list of calls. Laid: entries and bodies byte for byte. Demand3: the theorem; Demand2: what demand 2 says, over lent memory. DeedStates, Deeds, Becomes, Once, Fates, InWords: the same in
--- the mission's words.
+-- Opening: the laws of give and open. Run: a list of calls. Laid: entries and bodies byte for byte. Demand3: the theorem; Demand2: what demand 2 says, over lent
+-- memory. Stays, LastShown, Written, LastLive, Store: every byte of the inbox store. DeedStates, Deeds, Becomes, Once, Fates, InWords: demand 3 in the
+-- mission's words.
 pub mod Small
 pub mod InForm
 pub mod Held
@@ -50,6 +51,11 @@ pub mod Run
 pub mod Laid
 pub mod Demand3
 pub mod Demand2
+pub mod Stays
+pub mod LastShown
+pub mod Written
+pub mod LastLive
+pub mod Store
 pub mod DeedStates
 pub mod Deeds
 pub mod Becomes

@@ -24,6 +24,7 @@ use Rattle.form.specs.Form.{markOk, sameSizes, lentSizes, stateOk, formOf}
 use Rattle.giving.specs.Giving.{Given, reply}
 use Rattle.receiving.specs.Receiving.{Cs, cs, Run, Received, unchanged, saved, receiveFrom, receiveOf}
 use Rattle.lent.specs.Represents.{Fixed}
+use Rattle.lent.specs.Link.{callOf}
 use Rattle.lent.specs.Calls.{Lent, Call, receives, gives, receivesOther, givesOther, Other, instead, received, given, leftBy, withSession, tookBy, gaveBy, run}
 use Rattle.lent.proofs.FormClosed.{receive-one, give-one}
 use Rattle.lent.proofs.Byte as byte
@@ -49,13 +50,6 @@ other-form sm z o e =
     (ap (λ (b : Bool). b && stateOk (loadOf sm) (o .table) (o .fixed .titles) (o .fixed .names) (o .fixed .bodies) (o .inbox) (o .store)) (ap (λ (x : Sizes). sameSizes x y) e ∙ o .another)))
 
 -- ---------------------------------------------------------------- one call
-
--- the call on lists that a call over lent memory stands for
-abbrev pub callOf : {z : Sizes} → Call z → on-lists-run.Call
-callOf (receives b) = on-lists-run.receiving (b .bytes)
-callOf (gives b place) = on-lists-run.giving (length (b .bytes) - place)
-callOf (receivesOther o b) = on-lists-run.refusedCall
-callOf (givesOther o b place) = on-lists-run.refusedCall
 
 module _ (F : Fixed) (E : Shelf) (c₀ : Cs) (z : Sizes) (roomy : E .bytes < word) (short : Short (E .table)) where
   pub record TookAs (r : Received) (q : on-lists-calls.Received) : Type 0 where

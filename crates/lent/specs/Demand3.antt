@@ -44,7 +44,7 @@ pub record Demand3 (role : ℕ) (M : Memory) (cs : CallsOn M) : Type 0 where
   pub count : messageCount (finally role M cs) ≡ length (logged role M cs .book .kept)
   pub inbox : take (length (logged role M cs .book .kept) * entrySize) (finally role M cs .inbox) ≡ entriesBytes 0 (logged role M cs .book .kept)
   pub bodies : take (length (bodiesBytes (logged role M cs .book .kept))) (finally role M cs .store) ≡ bodiesBytes (logged role M cs .book .kept)
-  -- Beyond demand 3's words. Of the inbox store: past the bytes written so far, "the rest is untouched"
+  -- Beyond demand 3's words. Of the inbox store: past the bytes written so far, "the rest is untouched"; each byte of it stands in Store
   pub rest : drop (storeReach (finally role M cs)) (finally role M cs .store) ≡ drop (storeReach (finally role M cs)) (M .store .bytes)
   -- and of the inbox, "so are inbox places past the count"
   pub places : drop (messageCount (finally role M cs) * entrySize) (finally role M cs .inbox) ≡ drop (messageCount (finally role M cs) * entrySize) (M .inbox .bytes)

@@ -2,9 +2,10 @@
 pub mod Laid
 pub mod Represents
 pub mod Frame
-pub mod Link
 pub mod Calls
+pub mod Link
 pub mod Demand3
 pub mod Demand2
+pub mod Store
 pub mod Deeds
 pub mod InWords

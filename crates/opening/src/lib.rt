@@ -2,8 +2,8 @@
 use giving::Reply;
 use layout::byte_at;
 use layout::entry;
-use layout::number2;
-use layout::number4;
+use number_read::number2;
+use number_read::number4;
 use part::part;
 use state::Sizes;
 ghost use mathlib.Core.Path.{_≡_};

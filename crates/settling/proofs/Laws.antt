@@ -15,7 +15,7 @@ use Rattle.state.specs.State.{held}
 use Rattle.state.specs.declared.Five.{Five}
 use Rattle.state.specs.declared.Session.{Session}
 use Rattle.judge.specs.declared.Judged.{Judged}
-use Rattle.judge.proofs.Laws.{held-cons, held-end}
+use Rattle.five.proofs.Laws.{held-cons, held-end}
 use Rattle.receiving.specs.Receiving.{markAll, refusedOf, spokenOf, settled, settleOf}
 
 -- ---------------------------------------------------------------- marks

@@ -1,7 +1,7 @@
 // What a whole line or message leaves: marks in the table, our turn, an entry in the inbox.
 use buffer::Cursor;
+use five::count_of;
 use judge::Judged;
-use judge::count_of;
 use layout::entry;
 use part::at_most;
 use state::Await;

@@ -1,14 +1,15 @@
 -- Decimal numbers, digit by digit.
 use mathlib.Core.Path.{_≡_, refl, ap, _∙_}
-use mathlib.Core.Bool.{true}
+use mathlib.Core.Bool.{Bool, true, false, cond}
+use mathlib.Core.Option.{Option, none, some}
 use Prim.Native.Nat.{ℕ, _+_, _*_, _-_, _^_, _<_, _≤_}
 use native.Mathlib.Omega.{arith}
 use native.Mathlib.Numerals.{add-one}
 use native.Mathlib.Nat.{pow-succ', pow-le-pow-right}
 use lib.ListN.{length, getD, drop, drop-of-length-le}
 use lib.Seq.{drop-cons}
-use Rattle.grammar.specs.Bytes.{Bytes}
-use Rattle.grammar.specs.Fields.{digit, isSize, readFrom, field}
+use Rattle.grammar.specs.Bytes.{Bytes, isSome}
+use Rattle.grammar.specs.Fields.{digit, isSize, readFrom, readSize, field}
 use Rattle.grammar.proofs.Basics.{field-is}
 use Rattle.byte.specs.Classes.{classOf}
 use Rattle.byte.specs.declared.Class.{Class}
@@ -47,3 +48,11 @@ module _ (s : Bytes) (v i : ℕ) (f : isSize s ≡ true) (h : i < length s) (b :
 pub num-end : (s : Bytes) (v i : ℕ) → length s ≤ i → v ≡ readFrom v (drop i s)
 unfolding readFrom
 num-end s v i h = rw (drop-of-length-le s {i = i} h)
+
+-- a size is read from what is one, and from nothing else
+pub size-read : (s : Bytes) {o : Option ℕ} → o ≡ readSize s → isSome o ≡ isSize s
+size-read s e = rw e (go (isSize s) (readFrom 0 s))
+  where
+    go : (b : Bool) (n : ℕ) → isSome (cond b (some n) none) ≡ b
+    go true n = refl
+    go false n = refl

@@ -1,9 +1,9 @@
 // The session's state, and how it is read from session memory.
 use buffer::Cursor;
 use layout::byte_at;
-use layout::number2;
-use layout::number4;
-use layout::number8;
+use number_read::number2;
+use number_read::number4;
+use number_read::number8;
 use part::part;
 use transfer_step::Reader;
 ghost use mathlib.Core.Path.{_≡_};

@@ -1,8 +1,8 @@
 // The session's state, written into session memory.
 use buffer::Cursor;
-use layout::bytes2;
-use layout::bytes4;
-use layout::bytes8;
+use number_write::bytes2;
+use number_write::bytes4;
+use number_write::bytes8;
 use state::Five;
 use state::Session;
 use state::Sizes;

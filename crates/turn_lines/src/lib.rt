@@ -1,12 +1,12 @@
 // The lines of the partner's turn: proposals, F>, FF and FQ.
+use awaiting::next_accepted;
+use awaiting::reader_for;
+use awaiting::to_transfer;
 use buffer::Cursor;
 use judge::Judged;
 use judge::marked;
 use judge::marks_of;
-use judge::next_accepted;
-use judge::reader_for;
 use judge::refusal;
-use judge::to_transfer;
 use judge::went;
 use proposal::Proposal;
 use proposal::TurnLine;

@@ -1,14 +1,13 @@
 -- What the answers of the readers come to as numbers. Assumes nothing.
 use mathlib.Core.Path.{_≡_, refl, sym, ap, _∙_}
-use mathlib.Core.Bool.{Bool, true, false, cond}
 use mathlib.Core.Option.{Option, none, some}
 use mathlib.Core.List.{List}
 use Prim.Native.Nat.{ℕ, zero, suc, _≤_}
 use native.Mathlib.Omega.{arith}
 use lib.ListN.{length, take}
 use lib.Seq.{length-take-le}
-use Rattle.grammar.specs.Bytes.{Bytes, isSome}
-use Rattle.grammar.specs.Fields.{formIs, formNumber, isSize, readFrom, readSize}
+use Rattle.grammar.specs.Bytes.{Bytes}
+use Rattle.grammar.specs.Fields.{formIs, formNumber}
 use Rattle.grammar.specs.Lines.{trim}
 use Rattle.grammar.specs.Sid.{sidNumber}
 use Rattle.grammar.specs.Turns.{TurnLine}
@@ -17,14 +16,6 @@ use Rattle.sid.specs.Meaning.{featuresOf, sidOf}
 use Rattle.proposal.specs.declared.TurnLine as told
 use Rattle.proposal.specs.Meaning.{turnLineIs, LiesIn}
 use Rattle.words_read.specs.Numbers.{sidLevels, turnLineCode, NumbersOf, toldNumbers, toldCode}
-
--- a size is read from what is one, and from nothing else
-pub size-read : (s : Bytes) {o : Option ℕ} → o ≡ readSize s → isSome o ≡ isSize s
-size-read s e = rw e (go (isSize s) (readFrom 0 s))
-  where
-    go : (b : Bool) (n : ℕ) → isSome (cond b (some n) none) ≡ b
-    go true n = refl
-    go false n = refl
 
 -- as many bytes are judged as the trimmed line has
 pub trimmed-length : (l : Bytes) (n : ℕ) → take n l ≡ trim l → n ≤ length l → n ≡ length (trim l)

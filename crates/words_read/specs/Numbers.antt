@@ -1,52 +1,25 @@
 -- The questions and answers of the readers as numbers, for callers from C and Rust.
 use mathlib.Core.Path.{_≡_}
-use mathlib.Core.Bool.{Bool, true, false, cond, not}
+use mathlib.Core.Bool.{Bool, not}
 use mathlib.Core.Option.{Option, none, some}
 use mathlib.Core.List.{List, [], _∷_}
 use Prim.Native.Nat.{ℕ}
 use lib.Dec.{eqb}
 use lib.ListN.{replicate}
 use Rattle.grammar.specs.Bytes.{Bytes}
-use Rattle.grammar.specs.Fields.{plain, message, formNumber, isCall, isAt, isBid, isHeading, isSize, isBody}
+use Rattle.grammar.specs.Fields.{formNumber}
 use Rattle.grammar.specs.Lines.{LineByte, dropped, ends, grows, overruns}
 use Rattle.grammar.specs.Sid.{noFeatures}
 use Rattle.grammar.specs.Turns.{Proposal, TurnLine, saysFF, saysFQ, endsBlock, notAllowed, proposes, turnLineNumber}
-use Rattle.byte.specs.declared.Class.{Class}
 use Rattle.span.specs.declared.Span.{Span}
 use Rattle.span.specs.Places.{part}
 use Rattle.proposal.specs.declared.Proposal as code
 use Rattle.proposal.specs.declared.TurnLine as told
 use Rattle.proposal.specs.Meaning.{Within}
 
--- A test's answer: 1 where it holds.
-abbrev pub flag : Bool → ℕ
-flag true = 1
-flag false = 0
-
 -- A flag that is lent: any number but 0 says that it holds.
 abbrev pub holds : ℕ → Bool
 holds n = not (eqb n 0)
-
--- A class of bytes by its number: 0 from and to, 1 BID, 2 title or name, 3 digit, 4 SID author, any other: SID data.
-unfoldable pub classBy : ℕ → Class
-classBy k =
-    cond (eqb k 0) Class.Call
-    (cond (eqb k 1) Class.Bid
-    (cond (eqb k 2) Class.Heading
-    (cond (eqb k 3) Class.Digit
-    (cond (eqb k 4) Class.Author
-    Class.Data))))
-
--- A field's rule by its number: 0 from and to, 1 at, 2 BID, 3 title or name, 4 size, 5 plain body, any other: packed body.
-unfoldable pub fieldIs : ℕ → Bytes → Bool
-fieldIs k w =
-    cond (eqb k 0) (isCall w)
-    (cond (eqb k 1) (isAt w)
-    (cond (eqb k 2) (isBid w)
-    (cond (eqb k 3) (isHeading w)
-    (cond (eqb k 4) (isSize w)
-    (cond (eqb k 5) (isBody plain w)
-    (isBody message w))))))
 
 -- What a byte does where a line is awaited: 0 it is dropped, 1 it ends the line, 2 it is one byte more, 3 it is the 257th.
 abbrev pub lineByteCode : LineByte → ℕ

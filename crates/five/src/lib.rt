@@ -1,0 +1,26 @@
+// Up to five numbers: places of a block, or signs.
+use state::Five;
+ghost use mathlib.Core.Path.{_≡_};
+ghost use Prim.Native.Nat.{_≤_};
+ghost use lib.ListN.{length};
+ghost use Rattle.state.specs.State.{held, noFive};
+
+// No numbers.
+pub fn none() -> Five
+    ensures { λ r. ⌜ r ≡ noFive ⌝ }
+{
+    Five {
+        count: 0,
+        items: [0u8; 5],
+    }
+}
+
+// How many numbers are held.
+pub fn count_of(f: Five) -> usize
+    ensures { λ r. ⌜ (r ≡ length (held f)) × (r ≤ 5) ⌝ }
+{
+    if 5 < f.count {
+        return 5;
+    }
+    f.count as usize
+}

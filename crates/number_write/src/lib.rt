@@ -1,0 +1,40 @@
+// Numbers as bytes, little end first, as they are written to lent memory.
+ghost use mathlib.Core.Path.{_≡_};
+ghost use Rattle.layout.specs.Layout.{le2, le4, le8};
+
+// A number in two bytes.
+pub fn bytes2(x: usize) -> [u8; 2]
+    ensures { λ r. ⌜ r ≡ le2 x ⌝ }
+{
+    [(x % 256) as u8, (x / 256 % 256) as u8]
+}
+
+// A number in four bytes.
+pub fn bytes4(x: usize) -> [u8; 4]
+    ensures { λ r. ⌜ r ≡ le4 x ⌝ }
+{
+    [
+        (x % 256) as u8,
+        (x / 256 % 256) as u8,
+        (x / 65536 % 256) as u8,
+        (x / 16777216 % 256) as u8,
+    ]
+}
+
+// A number in eight bytes.
+pub fn bytes8(x: usize) -> [u8; 8]
+    ensures { λ r. ⌜ r ≡ le8 x ⌝ }
+{
+    let low = bytes4(x);
+    let high = bytes4(x / 4294967296);
+    [
+        low[0],
+        low[1],
+        low[2],
+        low[3],
+        high[0],
+        high[1],
+        high[2],
+        high[3],
+    ]
+}
