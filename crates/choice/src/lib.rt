@@ -1,6 +1,5 @@
 // Our choices: which records we propose, and how we answer the partner's proposals.
 use field::same_bid;
-use five::none;
 use layout::byte_at;
 use layout::entry;
 use number_read::number4;
@@ -49,6 +48,16 @@ fn inbox_places(inbox: &[u8]) -> usize
     ensures { λ r. ⌜ r ≡ placeCount (now (inbox .entry)) ⌝ }
 {
     inbox.len() / (layout::ENTRY as usize)
+}
+
+// No numbers.
+fn none() -> Five
+    ensures { λ r. ⌜ r ≡ fiveOf [] ⌝ }
+{
+    Five {
+        count: 0,
+        items: [0u8; 5],
+    }
 }
 
 // These numbers and one more.

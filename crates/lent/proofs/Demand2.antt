@@ -1,6 +1,6 @@
 -- DEMAND 2 OVER LENT MEMORY. Idea: the memory after the list represents the session on lists that the same list leads to (Run), and that
 -- session is reached; the laws of receive and give say the rest. A record that open accepted obeys the rules under which it reads back.
-use mathlib.Core.Path.{_≡_}
+use mathlib.Core.Path.{_≡_, refl}
 use mathlib.Core.List.{List, [], _∷_, map}
 use Prim.Native.Nat.{ℕ}
 use lib.Dec.{eqb}
@@ -60,6 +60,7 @@ demand-2-lent role M e cs =
     record {
       session = after role M e cs;
       transfer = (led role M e cs) .0;
+      same = refl;
       reached = (led role M e cs) .1;
       answers = λ b. took role M e cs b .answer;
       consumes = λ b. took role M e cs b .count;

@@ -1,20 +1,23 @@
--- DEMAND 2 over lent memory. After an accepted open and every list of calls there is a session on lists that open, receive and give lead to;
--- of every such session crates/demand2 says when each refusal comes, what each byte does, what we propose, answer and give. What the next
--- call on lent memory answers, consumes and gives is what that session does. The proof is proofs/Demand2.
+-- DEMAND 2 over lent memory. After an accepted open and every list of calls there is the session on lists that the same calls lead to; of every
+-- session that open, receive and give lead to crates/demand2 says when each refusal comes, what each byte does, what we propose, answer and give.
+-- What the next call on lent memory answers, consumes and gives is what that session does. The proof is proofs/Demand2.
 use mathlib.Core.Path.{_≡_}
-use mathlib.Core.List.{List}
+use mathlib.Core.List.{map}
 use Prim.Native.Nat.{ℕ, _-_, _<_}
+use lib.Dec.{eqb}
 use lib.ListN.{length}
 use Rattle.grammar.specs.Bytes.{Bytes}
 use Rattle.mail.specs.Mail.{recordAt}
 use Rattle.session.specs.Choices.{Shelf}
-use Rattle.session.specs.Session.{Session}
+use Rattle.session.specs.Session.{Session, opened}
 use Rattle.session.specs.Calls.{receive, handedOut}
 use Rattle.demand2.specs.Reached.{Reached}
 use Rattle.demand2.specs.ReadBack.{ReadsBack}
+use Rattle.demand3.specs.Demand as on-lists-run
 use Rattle.buffer.specs.Put.{wrote}
 use Rattle.choice.specs.Decoded.{recordCount, recordsOf, statesOf, knownBids, placeCount}
 use Rattle.lent.specs.Represents.{messagesOf}
+use Rattle.lent.specs.Link.{callOf}
 use Rattle.lent.specs.Calls.{Buffer, Memory, fixedIn, messageCount, received, given}
 use Rattle.lent.specs.Demand3.{openedBy, CallsOn, finally}
 
@@ -29,9 +32,10 @@ shelfIn M =
     }
 
 pub record Demand2 (role : ℕ) (M : Memory) (cs : CallsOn M) : Type 0 where
-  -- the session, and the bytes so far of the transfer under way
+  -- the session on lists after the same calls, and the bytes so far of the transfer under way
   pub session : Session
   pub transfer : Bytes
+  pub same : session ≡ (on-lists-run.run (shelfIn M) (opened (eqb role 1) (statesOf (M .table .bytes))) (map callOf cs)) .0
   pub reached : Reached (shelfIn M) session transfer
   -- "What is read, answered": the number given back, and how many bytes are consumed
   pub answers : (b : Buffer) → received (fixedIn M) (finally role M cs) (b .bytes) .reply .answer ≡ receive (shelfIn M) session (b .bytes) .answer
