@@ -14,18 +14,17 @@ use Rattle.grammar.specs.Lines.{ends, grows, overruns, trim, isComment}
 use Rattle.grammar.specs.Turns.{Proposal, saysFF, endsBlock, readTurnLine, proposalLine, fixedText, ourSid, ourEnd, withCr}
 use Rattle.grammar.specs.Answers.{Sign, accept, readFs, fsLine}
 use Rattle.grammar.specs.Scan.{Scan, Scanned, goes, got, scanByte}
-use Rattle.grammar.proofs.Basics.{no-both}
 use Rattle.grammar.proofs.Refusal.{whole-got}
 use Rattle.mail.specs.Mail.{Record, messageOf, proposalOf, transferOf, recordAt, proposalLines, turnText, transfersText, accepted}
 use Rattle.session.specs.Choices.{Shelf, answersTo}
-use Rattle.session.specs.Session.{Phase, awaitsSid, awaitsPrompt, leaving, over, awaitsTurn, awaitsAnswer, awaitsTransfer, Memory, Session, goesOn, speaking, turnMarks, answering, answerMarks, lineJudged, Stepped, moved, settled, lineMoved, isPlain, keptIn, nextTransfer, transferMoved, freeStep, lfDropped, step}
+use Rattle.session.specs.Session.{awaitsSid, awaitsPrompt, awaitsAnswer, Phase, aLine, newTurn, Memory, Session, withPart, withAfterCr, between, goesOn, speaking, turnMarks, answering, answerMarks, awaitedJudged, Stepped, moved, settled, lineMoved, isPlain, keptIn, nextTransfer, transferMoved, freeStep, step}
 use Rattle.demand2.specs.Room.{room}
 use Rattle.demand2.specs.Marks.{withSign, AnswerLeaves, TurnLeaves}
 use Rattle.demand2.specs.Refusals.{isDropped, Heeded, awaitsLine, WholeLine, TurnSaid, SoFar, TransferByte}
-use Rattle.demand2.specs.Events.{session, messageFrom, withMessage, endsWithCr, proposed, blockText, transfersSaid, turnSaid, turnAwaits, weSpeak, transfersOr, Event, lfGoes, lineGrows, ignored, sidOfCaller, sidOfCalled, textLine, prompt, proposal, ffTurn, fqTurn, blockEnd, fsLineComes, transferGrows, transferWhole}
+use Rattle.demand2.specs.Events.{messageFrom, withMessage, endsWithCr, proposed, blockText, transfersSaid, turnSaid, turnAwaits, weSpeak, transfersOr, Event, lfGoes, lineGrows, ignored, sidOfCaller, sidOfCalled, textLine, prompt, proposal, ffTurn, fqTurn, blockEnd, fsLineComes, transferGrows, transferWhole}
 use Rattle.demand2.proofs.Room.{fits-within}
 use Rattle.demand2.proofs.Marks.{accepted-is, answer-marks, turn-marks, answer-only, turn-only}
-use Rattle.demand2.proofs.Steps.{line-step, phase-step, transfer-step, turn-step, scan-more}
+use Rattle.demand2.proofs.Steps.{which-line, line-step, whole-step, transfer-step, turn-step, scan-more}
 
 -- ---------------------------------------------------------------- our turn
 
@@ -44,11 +43,11 @@ transfers-are T [] = refl
 transfers-are T (i ∷ is) = ap (λ (l : Bytes). transferOf (recordAt T i) ++ l) (transfers-are T is)
 
 speaks : (E : Shelf) (s : Session) (cr : Bool) (o : Bytes) (ff : Bool) (is : List ℕ) (m : Memory)
-    → settled s cr (speaking E o ff is m) ≡ moved (session (turnAwaits ff is) cr (o ++ turnSaid E ff is) m)
+    → settled s cr (speaking E o ff is m) ≡ moved (between (turnAwaits ff is) cr (o ++ turnSaid E ff is) m)
 speaks E s cr o true [] m = refl
 speaks E s cr o false [] m = refl
 speaks E s cr o ff (i ∷ is) m =
-    ap (λ (l : Bytes). moved (session (awaitsAnswer (i ∷ is)) cr (o ++ l) m)) (block-is (E .table) (i ∷ is))
+    ap (λ (l : Bytes). moved (between (aLine (awaitsAnswer (i ∷ is))) cr (o ++ l) m)) (block-is (E .table) (i ∷ is))
 
 answers : (E : Shelf) (s : Session) (cr : Bool) (ss : List Sign) (ps : List Proposal) (m : Memory)
     → settled s cr (answering E ss ps m) ≡ moved (transfersOr E cr (withCr (fsLine ss)) ps m)
@@ -71,35 +70,29 @@ module _ (E : Shelf) (q : Bytes) (s : Session) (b : ℕ) where
   abbrev answerTo : List Proposal → Memory → Session
   answerTo ps m = transfersOr E true (withCr (fsLine (answersTo E (s .memory .inbox) ps))) (withSign accept ps (answersTo E (s .memory .inbox) ps)) m
 
-  goes-lf : isDropped s b ≡ true → step E s b ≡ moved (lfDropped s)
-  goes-lf e = ap (λ (c : Bool). cond c (moved (lfDropped s)) (freeStep E (s .out) s b)) e
+  goes-lf : isDropped s b ≡ true → step E s b ≡ moved (withAfterCr false s)
+  goes-lf e = ap (λ (c : Bool). cond c (moved (withAfterCr false s)) (freeStep E (s .out) s b)) e
 
   goes-line : Heeded s b → awaitsLine (s .phase) ≡ true → eqb b CR ≡ false → length (s .part) < 256
-      → step E s b ≡ moved (record { phase = s .phase; part = s .part ++ (b ∷ []); afterCr = false; out = s .out; memory = s .memory })
-  goes-line h a e l =
-      line-step E s b h a
-      ∙ ap (λ (c : Bool). lineMoved E s b (cond c ends (cond (ltb (length (s .part)) 256) grows overruns))) e
-      ∙ ap (λ (c : Bool). lineMoved E s b (cond c grows overruns)) (lt-ltb (length (s .part)) 256 l)
+      → step E s b ≡ moved (withPart (s .part ++ (b ∷ [])) (withAfterCr false s))
+  goes-line h w e l =
+      let a = which-line (s .phase) w in
+      line-step E s b (a .0) h (a .1)
+      ∙ ap (λ (c : Bool). lineMoved E (a .0) s b (cond c ends (cond (ltb (length (s .part)) 256) grows overruns))) e
+      ∙ ap (λ (c : Bool). lineMoved E (a .0) s b (cond c grows overruns)) (lt-ltb (length (s .part)) 256 l)
 
   goes-ignored : Heeded s b → awaitsLine (s .phase) ≡ true → b ≡ CR → isComment (trim (s .part)) ≡ true
-      → step E s b ≡ moved (session (s .phase) true [] (s .memory))
-  goes-ignored h a e c =
-      line-step E s b h a
-      ∙ ap (λ (d : Bool). lineMoved E s b (cond d ends (cond (ltb (length (s .part)) 256) grows overruns))) (eq-eqb b CR e)
-      ∙ ap (settled s true) (go (s .phase) a)
-    where
-      go : (p : Phase) → awaitsLine p ≡ true → lineJudged E p (s .memory) (trim (s .part)) ≡ goesOn p (s .memory) []
-      go (awaitsSid x) a = rw c
-      go awaitsPrompt a = rw c
-      go (awaitsTurn ff ps) a = rw c
-      go (awaitsAnswer is) a = rw c
-      go (awaitsTransfer p ps sc) a = absurd (no-both false a refl)
-      go leaving a = absurd (no-both false a refl)
-      go over a = absurd (no-both false a refl)
+      → step E s b ≡ moved (between (s .phase) true [] (s .memory))
+  goes-ignored h w e c =
+      let a = which-line (s .phase) w in
+      line-step E s b (a .0) h (a .1)
+      ∙ ap (λ (d : Bool). lineMoved E (a .0) s b (cond d ends (cond (ltb (length (s .part)) 256) grows overruns))) (eq-eqb b CR e)
+      ∙ ap (λ (d : Bool). settled s true (cond d (goesOn (aLine (a .0)) (s .memory) []) (awaitedJudged E (a .0) (s .memory) (s .part)))) c
+      ∙ ap (λ (p : Phase). moved (between p true [] (s .memory))) (sym (a .1))
 
-  goes-answer : (ln : Bytes) (is : List ℕ) (ss : List Sign) → WholeLine s b ln → s .phase ≡ awaitsAnswer is → readFs (length is) ln ≡ some ss
-      → step E s b ≡ moved (session (awaitsTurn false []) true (transfersText (E .table) (accepted ss is)) (answerMarks is ss (s .memory)))
-  goes-answer ln is ss w p r = phase-step E s b ln (awaitsAnswer is) w p refl ∙ rw (w .judged, r)
+  goes-answer : (ln : Bytes) (is : List ℕ) (ss : List Sign) → WholeLine s b ln → s .phase ≡ aLine (awaitsAnswer is) → readFs (length is) ln ≡ some ss
+      → step E s b ≡ moved (between (newTurn false) true (transfersText (E .table) (accepted ss is)) (answerMarks is ss (s .memory)))
+  goes-answer ln is ss w p r = whole-step E s b (awaitsAnswer is) ln w p ∙ rw (w .bytes, r)
 
   goes-ff : (ln : Bytes) → TurnSaid s b false [] ln → readTurnLine (s .memory .framed) ln ≡ saysFF
       → step E s b ≡ moved (weSpeak E true true [] (turnMarks (s .memory)))
@@ -121,20 +114,20 @@ module _ (E : Shelf) (q : Bytes) (s : Session) (b : ℕ) where
     happens t (lfGoes e) = goes-lf e
     happens t (lineGrows h a e l) = goes-line h a e l
     happens t (ignored h a e c) = goes-ignored h a e c
-    happens t (sidOfCaller ln w p fs r f) = phase-step E s b ln (awaitsSid false) w p refl ∙ rw (w .judged, r, f)
-    happens t (sidOfCalled ln w p fs r f) = phase-step E s b ln (awaitsSid true) w p refl ∙ rw (w .judged, r, f)
-    happens t (textLine ln w p r) = phase-step E s b ln awaitsPrompt w p refl ∙ rw (w .judged, r)
+    happens t (sidOfCaller ln w p fs r f) = whole-step E s b (awaitsSid false) ln w p ∙ rw (w .bytes, r, f)
+    happens t (sidOfCalled ln w p fs r f) = whole-step E s b (awaitsSid true) ln w p ∙ rw (w .bytes, r, f)
+    happens t (textLine ln w p r) = whole-step E s b awaitsPrompt ln w p ∙ rw (w .bytes, r)
     happens t (prompt ln w p r) =
-        phase-step E s b ln awaitsPrompt w p refl ∙ rw (w .judged, r) (speaks E s true (withCr (fixedText ourSid)) false (proposed E (s .memory)) (s .memory))
+        whole-step E s b awaitsPrompt ln w p ∙ rw (w .bytes, r) (speaks E s true (withCr (fixedText ourSid)) false (proposed E (s .memory)) (s .memory))
     happens t (proposal ln ff ps w p r l) = turn-step E s b ff ps ln w ∙ rw (r, lt-ltb (length ps) 5 l)
     happens t (ffTurn ln w r m l) = goes-ff ln w r ∙ ap (λ (n : Memory). moved (weSpeak E true true [] n)) (sym (turn-only (s .memory) m l))
     happens t (fqTurn ln w r) = turn-step E s b true [] ln w ∙ rw r
     happens t (blockEnd ln ff p ps w r m l) = goes-block ln ff p ps w r ∙ ap (λ (n : Memory). moved (answerTo (p ∷ ps) n)) (sym (turn-only (s .memory) m l))
     happens t (fsLineComes ln is w p ss r m l) =
         goes-answer ln is ss w p r
-        ∙ ap (λ (l : List ℕ). moved (session (awaitsTurn false []) true (transfersText (E .table) l) (answerMarks is ss (s .memory)))) (accepted-is is ss)
-        ∙ ap (λ (l : Bytes). moved (session (awaitsTurn false []) true l (answerMarks is ss (s .memory)))) (transfers-are (E .table) (withSign accept is ss))
-        ∙ ap (λ (n : Memory). moved (session (awaitsTurn false []) true (transfersSaid (E .table) (withSign accept is ss)) n))
+        ∙ ap (λ (l : List ℕ). moved (between (newTurn false) true (transfersText (E .table) l) (answerMarks is ss (s .memory)))) (accepted-is is ss)
+        ∙ ap (λ (l : Bytes). moved (between (newTurn false) true l (answerMarks is ss (s .memory)))) (transfers-are (E .table) (withSign accept is ss))
+        ∙ ap (λ (n : Memory). moved (between (newTurn false) true (transfersSaid (E .table) (withSign accept is ss)) n))
         (sym (answer-only is ss (s .memory) m l))
     happens t (transferGrows p sc sc′ u e) = goes-transfer p sc u (goes sc′) (sym (scan-more E s b q p sc u S) ∙ e)
     happens t (transferWhole p sc u h x e l) =
@@ -153,7 +146,7 @@ memory-kept E cr o (p ∷ ps) m = refl
 
 module _ (E : Shelf) (s : Session) (b : ℕ) (ln : Bytes) where
   -- ITS VALID FS LINE
-  pub fs-leaves : (is : List ℕ) (ss : List Sign) → WholeLine s b ln → s .phase ≡ awaitsAnswer is → readFs (length is) ln ≡ some ss
+  pub fs-leaves : (is : List ℕ) (ss : List Sign) → WholeLine s b ln → s .phase ≡ aLine (awaitsAnswer is) → readFs (length is) ln ≡ some ss
       → AnswerLeaves is ss (s .memory) (step E s b .session .memory)
   fs-leaves is ss w p r =
       subst (AnswerLeaves is ss (s .memory)) (sym (ap (λ (o : Stepped). o .session .memory) (goes-answer E [] s b ln is ss w p r)))

@@ -12,7 +12,7 @@ use borrow.Author.Tests.{eqb-true, eqb-false, eq-eqb}
 use Rattle.grammar.specs.Answers.{Sign, accept, decline, defer, writeSign}
 use Rattle.grammar.proofs.Basics.{or-second, no-both}
 use Rattle.mail.specs.Mail.{Message, accepted, marked, declined}
-use Rattle.session.specs.Session.{Memory, turnMarks, deferring, answerMarks}
+use Rattle.session.specs.Session.{withFramed, withStates, withSending, withInbox, withDeferred, Memory, turnMarks, deferring, answerMarks}
 use Rattle.demand2.specs.Marks.{isIn, isSign, withSign, AnswerLeaves, TurnLeaves}
 use Rattle.demand2.specs.OurTurn.{rising}
 use Rattle.demand2.proofs.Candidates.{rising-first, rising-rest}
@@ -99,11 +99,11 @@ turn-marks m =
 pub memory-is : (m n : Memory) → m .framed ≡ n .framed → m .states ≡ n .states → m .sending ≡ n .sending → m .inbox ≡ n .inbox
     → m .deferred ≡ n .deferred → m ≡ n
 memory-is m n a b c d e =
-    ap (λ (x : Bool). record { framed = x; states = m .states; sending = m .sending; inbox = m .inbox; deferred = m .deferred }) a
-    ∙ ap (λ (x : List ℕ). record { framed = n .framed; states = x; sending = m .sending; inbox = m .inbox; deferred = m .deferred }) b
-    ∙ ap (λ (x : List ℕ). record { framed = n .framed; states = n .states; sending = x; inbox = m .inbox; deferred = m .deferred }) c
-    ∙ ap (λ (x : List Message). record { framed = n .framed; states = n .states; sending = n .sending; inbox = x; deferred = m .deferred }) d
-    ∙ ap (λ (x : List ℕ). record { framed = n .framed; states = n .states; sending = n .sending; inbox = n .inbox; deferred = x }) e
+    ap (λ (x : Bool). withFramed x m) a
+    ∙ ap (λ (x : List ℕ). withStates x (withFramed (n .framed) m)) b
+    ∙ ap (λ (x : List ℕ). withSending x (withStates (n .states) (withFramed (n .framed) m))) c
+    ∙ ap (λ (x : List Message). withInbox x (withDeferred (m .deferred) n)) d
+    ∙ ap (λ (x : List ℕ). withDeferred x n) e
 
 -- two lists, each as long as l and with the entries f
 alike : (f : ℕ → ℕ) (l u v : List ℕ) → length u ≡ length l → length v ≡ length l → ((k : ℕ) → k < length l → getD u k 0 ≡ f k)

@@ -7,7 +7,7 @@ use native.Mathlib.Omega.{arith}
 use lib.ListN.{replicate, length-replicate, getD-replicate}
 use lib.Seq.{ext-getD}
 use Rattle.grammar.specs.Bytes.{Bytes}
-use Rattle.session.specs.Session.{Phase, Memory, Session, greeting, opened}
+use Rattle.session.specs.Session.{Phase, Memory, Session, withPhase, withPart, withAfterCr, withOut, withMemory, greeting, opened}
 use Rattle.demand2.specs.Opening.{OpenExact}
 use Rattle.demand2.proofs.Marks.{memory-is}
 
@@ -31,11 +31,11 @@ open-exact caller states =
 -- a session by its five parts
 session-is : (s t : Session) → s .phase ≡ t .phase → s .part ≡ t .part → s .afterCr ≡ t .afterCr → s .out ≡ t .out → s .memory ≡ t .memory → s ≡ t
 session-is s t a b c d e =
-    ap (λ (x : Phase). record { phase = x; part = s .part; afterCr = s .afterCr; out = s .out; memory = s .memory }) a
-    ∙ ap (λ (x : Bytes). record { phase = t .phase; part = x; afterCr = s .afterCr; out = s .out; memory = s .memory }) b
-    ∙ ap (λ (x : Bool). record { phase = t .phase; part = t .part; afterCr = x; out = s .out; memory = s .memory }) c
-    ∙ ap (λ (x : Bytes). record { phase = t .phase; part = t .part; afterCr = t .afterCr; out = x; memory = s .memory }) d
-    ∙ ap (λ (x : Memory). record { phase = t .phase; part = t .part; afterCr = t .afterCr; out = t .out; memory = x }) e
+    ap (λ (x : Phase). withPhase x s) a
+    ∙ ap (λ (x : Bytes). withPart x (withPhase (t .phase) s)) b
+    ∙ ap (λ (x : Bool). withAfterCr x (withPart (t .part) (withPhase (t .phase) s))) c
+    ∙ ap (λ (x : Bytes). withOut x (withMemory (s .memory) t)) d
+    ∙ ap (λ (x : Memory). withMemory x t) e
 
 -- AND NO OTHER SESSION is one that open leaves
 pub open-only : (caller : Bool) (states : List ℕ) (s : Session) → OpenExact caller states s → s ≡ opened caller states

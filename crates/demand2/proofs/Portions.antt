@@ -12,7 +12,7 @@ use Rattle.grammar.specs.Bytes.{Bytes, null}
 use Rattle.grammar.specs.Refusals.{sessionEnded}
 use Rattle.grammar.proofs.Basics.{and2, or2}
 use Rattle.session.specs.Choices.{Shelf}
-use Rattle.session.specs.Session.{Phase, leaving, Session, Stepped, step, ended, endedIn}
+use Rattle.session.specs.Session.{withOut, Phase, leaving, Session, Stepped, step, ended, endedIn}
 use Rattle.session.specs.Calls.{Received, oneMore, stoppedAt, stops, receiveOn, receive, give, handedOut}
 use Rattle.demand2.specs.Refusals.{Live}
 use Rattle.demand2.specs.Portions.{ByteReceived, livesOn, andThen, Counted, all, upTo, GivenTogether, GivenOut}
@@ -219,7 +219,7 @@ unfolding give
 two-rooms s a b =
     record {
       bytes = take-add a b (s .out);
-      session = ap (λ (o : Bytes). record { phase = s .phase; part = s .part; afterCr = s .afterCr; out = o; memory = s .memory }) (sym (drop-drop b a (s .out)));
+      session = ap (λ (o : Bytes). withOut o s) (sym (drop-drop b a (s .out)));
     }
 
 -- GIVE COUNTS WHAT IT HANDS OUT

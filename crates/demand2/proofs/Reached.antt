@@ -3,27 +3,24 @@
 -- every other byte leaves no transfer under way, or one that begins.
 use mathlib.Core.Path.{_≡_, refl, sym, ap, _∙_, subst}
 use mathlib.Core.Bool.{Bool, true, false, cond, not, _&&_}
-use mathlib.Core.Option.{Option, none, some}
 use mathlib.Core.List.{List, [], _∷_, _++_}
 use Prim.Native.Nat.{ℕ, zero, suc, _+_}
 use native.Mathlib.Omega.{arith}
-use lib.Dec.{eqb, ltb}
+use lib.Dec.{eqb}
 use lib.ListN.{length, drop}
 use lib.Seq.{drop-nil}
 use borrow.Author.Tests.{eq-eqb, ne-eqb}
 use Rattle.grammar.specs.Bytes.{Bytes, null}
-use Rattle.grammar.specs.Lines.{LineByte, dropped, ends, grows, overruns, lineByte, trim, isComment, isPrompt}
-use Rattle.grammar.specs.Sid.{readSid, hasFeature, framed}
-use Rattle.grammar.specs.Turns.{Proposal, TurnLine, saysFF, saysFQ, endsBlock, notAllowed, proposes, readTurnLine}
-use Rattle.grammar.specs.Answers.{Sign, readFs, fsNumber}
-use Rattle.grammar.specs.Scan.{Scan, Scanned, goes, got, malformed, wrongSum, noRoom, scan, scanByte, scanFrom, onward}
-use Rattle.grammar.proofs.Basics.{no-both, and-false, both, by-cond}
+use Rattle.grammar.specs.Sid.{framed}
+use Rattle.grammar.specs.Turns.{Proposal}
+use Rattle.grammar.specs.Scan.{Scan, Scanned, goes, scan, scanByte, scanFrom, onward}
+use Rattle.grammar.proofs.Basics.{no-both, and-false, both}
 use Rattle.grammar.proofs.Portions.{scan-append}
-use Rattle.mail.specs.Mail.{messageOf, accepted}
-use Rattle.session.specs.Choices.{Shelf, answersTo}
-use Rattle.session.specs.Session.{Phase, awaitsSid, awaitsPrompt, leaving, over, awaitsTurn, awaitsAnswer, awaitsTransfer, Memory, Session, Outcome, refuses, goesOn}
-use Rattle.session.specs.Session.{speaking, ourTurn, turnMarks, answering, turnJudged, answerMarks, answerJudged, inMode, afterSid, sidJudged, textJudged, lineJudged, refused, moved}
-use Rattle.session.specs.Session.{settled, lineMoved, isPlain, keptIn, nextTransfer, transferMoved, phaseStep, freeStep, lfDropped, step, ended, endedIn, opened}
+use Rattle.mail.specs.Mail.{messageOf}
+use Rattle.session.specs.Choices.{Shelf}
+use Rattle.session.specs.Session.{Awaited, awaitsPrompt, awaitsTurn, awaitsAnswer, Phase, aLine, newTurn, awaitsTransfer, leaving, over, Memory, Session, withFramed, withAfterCr, Outcome, refuses, goesOn}
+use Rattle.session.specs.Session.{speaking, turnMarks, answerMarks, Stepped, refused, settled, isPlain, keptIn, nextTransfer, step, ended, endedIn, opened}
+use Rattle.session.proofs.Ways.{Passes, toEnd, toTurn, toAnswer, toTransfer, our-turn, our-answer, next-transfer, Judged, isWrong, hearsSid, hearsText, hearsPrompt, hearsProposal, hearsFF, hearsFQ, hearsEnd, hearsFs, At, Way, isRefused, dropsLf, growsLine, ignoresLine, hearsLine, readsOn, readsLast, way}
 use Rattle.session.specs.Calls.{Received, receive, give}
 use Rattle.demand2.specs.Room.{room}
 use Rattle.demand2.specs.Refusals.{isDropped, SoFar, Exact, Live}
@@ -31,6 +28,7 @@ use Rattle.demand2.specs.Events.{Event, proposed}
 use Rattle.demand2.specs.OurTurn.{OurBlock}
 use Rattle.demand2.specs.Portions.{livesOn}
 use Rattle.demand2.specs.Reached.{owed, sameTransfer, soFarWith, Reached, atOpen, received, given, Sound}
+use Rattle.demand2.proofs.Room.{room-is}
 use Rattle.demand2.proofs.Refusals.{exact, complete}
 use Rattle.demand2.proofs.OurTurn.{block-exact}
 use Rattle.demand2.proofs.Portions.{ended-receive, no-bytes, receive-byte, two-portions}
@@ -39,6 +37,10 @@ use Rattle.demand2.proofs.Portions.{ended-receive, no-bytes, receive-by
 null-nil : (o : Bytes) → null o ≡ true → o ≡ []
 null-nil [] e = refl
 null-nil (x ∷ o) e = cc
+
+-- facts that clash: `clash cc`
+clash : {A : Type 0} → true ≡ false → A
+clash e = absurd (no-both true refl e)
 
 -- our block in a memory
 abbrev Block : Shelf → Memory → List ℕ → Type 0
@@ -49,103 +51,42 @@ Block E m is = OurBlock (E .table) (m .framed) (m .states) (m .deferred) is
 -- no byte of a transfer has come then
 abbrev Fair : Shelf → Outcome → Type 0
 Fair E (refuses n) = Unit {0}
-Fair E (goesOn p m o) = SoFar E p m [] × ((is : List ℕ) → p ≡ awaitsAnswer is → Block E m is) × (endedIn p o ≡ true → o ≡ [])
+Fair E (goesOn p m o) = SoFar E p m [] × ((is : List ℕ) → p ≡ aLine (awaitsAnswer is) → Block E m is) × (endedIn p o ≡ true → o ≡ [])
 
 module _ (E : Shelf) where
-  fair-if : (c : Bool) (x y : Outcome) → Fair E x → Fair E y → Fair E (cond c x y)
-  fair-if c x y h k = by-cond (Fair E) c h k
+  alive : (p : Phase) (m : Memory) (o : Bytes) → endedIn p o ≡ false → ((is : List ℕ) → p ≡ aLine (awaitsAnswer is) → Block E m is) → SoFar E p m []
+      → Fair E (goesOn p m o)
+  alive p m o l h s = (s, h, λ e. absurd (no-both (endedIn p o) e l))
 
-  -- a phase in which the session lives and no FS line is awaited
-  abbrev noAnswer : Phase → Bool
-  noAnswer (awaitsSid c) = true
-  noAnswer awaitsPrompt = true
-  noAnswer (awaitsTurn ff ps) = true
-  noAnswer (awaitsAnswer is) = false
-  noAnswer (awaitsTransfer p ps sc) = true
-  noAnswer leaving = true
-  noAnswer over = true
-
-  not-asked : (p : Phase) (m : Memory) → noAnswer p ≡ true → (is : List ℕ) → p ≡ awaitsAnswer is → Block E m is
-  not-asked p m h is e = absurd (no-both (noAnswer p) h (ap noAnswer e))
-
-  alive : (p : Phase) (m : Memory) (o : Bytes) → endedIn p o ≡ false → noAnswer p ≡ true → SoFar E p m [] → Fair E (goesOn p m o)
-  alive p m o l h s = (s, not-asked p m h, λ e. absurd (no-both (endedIn p o) e l))
-
-  speaking-fair : (o : Bytes) (ff : Bool) (is : List ℕ) (m : Memory) → Block E m is → Fair E (speaking E o ff is m)
-  speaking-fair o true [] m k = (tt, not-asked leaving m refl, λ e. null-nil _ e)
-  speaking-fair o false [] m k = alive (awaitsTurn true []) m _ refl refl tt
-  speaking-fair o ff (i ∷ is) m k = (tt, λ js e. asks js e, λ e. absurd (no-both false e refl))
+  passes-fair : (m : Memory) (o : Outcome) → Passes E m o → Fair E o
+  passes-fair m o (toEnd x) = (tt, λ is e. clash cc, λ e. null-nil _ e)
+  passes-fair m o (toTurn x) = alive (newTurn true) m x refl (λ is e. clash cc) tt
+  passes-fair m o (toAnswer x i is f) = alive (aLine (awaitsAnswer (i ∷ is))) m x refl asks tt
     where
-      asks : (js : List ℕ) → awaitsAnswer (i ∷ is) ≡ awaitsAnswer js → Block E m js
-      asks js e = let z : i ∷ is ≡ js = cc in subst (Block E m) z k
+      asks : (js : List ℕ) → aLine (awaitsAnswer (i ∷ is)) ≡ aLine (awaitsAnswer js) → Block E m js
+      asks js e = let z : i ∷ is ≡ js = cc in subst (Block E m) (f ∙ z) (block-exact (E .table) (m .framed) (m .states) (m .deferred))
+  passes-fair m o (toTransfer x p ps) = alive (awaitsTransfer p ps (scanFrom (p .form))) m x refl (λ is e. clash cc) refl
 
-  turn-fair : (o : Bytes) (ff : Bool) (m : Memory) → Fair E (ourTurn E o ff m)
-  turn-fair o ff m = speaking-fair o ff (proposed E m) m (block-exact (E .table) (m .framed) (m .states) (m .deferred))
-
-  answering-fair : (ss : List Sign) (ps : List Proposal) (m : Memory) → Fair E (answering E ss ps m)
-  answering-fair ss [] m = turn-fair _ false m
-  answering-fair ss (p ∷ ps) m = alive (awaitsTransfer p ps (scanFrom (p .form))) m _ refl refl refl
-
-  said-fair : (t : TurnLine) (ff : Bool) (ps : List Proposal) (m : Memory) → Fair E (turnJudged E t ff ps m)
-  said-fair saysFF ff [] m = fair-if ff _ _ tt (turn-fair [] true (turnMarks m))
-  said-fair saysFF ff (p ∷ ps) m = tt
-  said-fair saysFQ ff [] m = fair-if ff (goesOn over m []) _ (tt, not-asked over m refl, λ e. refl) tt
-  said-fair saysFQ ff (p ∷ ps) m = tt
-  said-fair endsBlock ff [] m = tt
-  said-fair endsBlock ff (p ∷ ps) m =
-      let n = turnMarks m in
-      answering-fair (answersTo E (n .inbox) (p ∷ ps)) (accepted (answersTo E (n .inbox) (p ∷ ps)) (p ∷ ps)) n
-  said-fair notAllowed ff ps m = tt
-  said-fair (proposes q) ff ps m =
-      fair-if (ltb (length ps) 5) (goesOn (awaitsTurn ff (ps ++ (q ∷ []))) m []) _ (alive (awaitsTurn ff (ps ++ (q ∷ []))) m [] refl refl tt) tt
-
-  sid-fair : (c : Bool) (m : Memory) (o : Option (List ℕ)) → Fair E (sidJudged c m o)
-  sid-fair c m none = tt
-  sid-fair c m (some fs) = fair-if (hasFeature 5 fs) (goesOn (afterSid c) (inMode (framed fs) m) []) _ (go c) tt
-    where
-      go : (c : Bool) → Fair E (goesOn (afterSid c) (inMode (framed fs) m) [])
-      go true = alive awaitsPrompt (inMode (framed fs) m) [] refl refl tt
-      go false = alive (awaitsTurn false []) (inMode (framed fs) m) [] refl refl tt
-
-  text-fair : (c : Bool) (m : Memory) → Fair E (textJudged E c m)
-  text-fair true m = turn-fair _ false m
-  text-fair false m = alive awaitsPrompt m [] refl refl tt
-
-  answer-fair : (is : List ℕ) (m : Memory) (n : ℕ) (o : Option (List Sign)) → Fair E (answerJudged E is m n o)
-  answer-fair is m n none = tt
-  answer-fair is m n (some ss) = (tt, not-asked (awaitsTurn false []) (answerMarks is ss m) refl, λ e. absurd (no-both false e refl))
-
-  line-fair : (p : Phase) (m : Memory) (ln : Bytes) → ((is : List ℕ) → p ≡ awaitsAnswer is → Block E m is) → Fair E (lineJudged E p m ln)
-  line-fair (awaitsSid c) m ln k = fair-if (isComment ln) (goesOn (awaitsSid c) m []) _ (alive (awaitsSid c) m [] refl refl tt) (sid-fair c m (readSid ln))
-  line-fair awaitsPrompt m ln k = fair-if (isComment ln) (goesOn awaitsPrompt m []) _ (alive awaitsPrompt m [] refl refl tt) (text-fair (isPrompt ln) m)
-  line-fair (awaitsTurn ff ps) m ln k =
-      fair-if (isComment ln) (goesOn (awaitsTurn ff ps) m []) _ (alive (awaitsTurn ff ps) m [] refl refl tt) (said-fair (readTurnLine (m .framed) ln) ff ps m)
-  line-fair (awaitsAnswer is) m ln k =
-      fair-if (isComment ln) (goesOn (awaitsAnswer is) m []) _ (tt, k, λ e. absurd (no-both false e refl))
-      (answer-fair is m (fsNumber (length is) ln) (readFs (length is) ln))
-  line-fair (awaitsTransfer p ps sc) m ln k = tt
-  line-fair leaving m ln k = tt
-  line-fair over m ln k = tt
-
-  next-fair : (ps : List Proposal) (m : Memory) → Fair E (nextTransfer E ps m)
-  next-fair [] m = turn-fair [] false m
-  next-fair (p ∷ ps) m = alive (awaitsTransfer p ps (scanFrom (p .form))) m [] refl refl refl
+  judged-fair : (a : Awaited) (m : Memory) (ln : Bytes) (o : Outcome) → Judged E m ln a o → Fair E o
+  judged-fair a m ln o (isWrong n w) = tt
+  judged-fair a m ln o (hearsSid true fs r f) = alive (aLine awaitsPrompt) (withFramed (framed fs) m) [] refl (λ is e. clash cc) tt
+  judged-fair a m ln o (hearsSid false fs r f) = alive (newTurn false) (withFramed (framed fs) m) [] refl (λ is e. clash cc) tt
+  judged-fair a m ln o (hearsText r) = alive (aLine awaitsPrompt) m [] refl (λ is e. clash cc) tt
+  judged-fair a m ln o (hearsPrompt r) = passes-fair m _ (our-turn E _ false m)
+  judged-fair a m ln o (hearsProposal ff ps q r l) = alive (aLine (awaitsTurn ff (ps ++ (q ∷ [])))) m [] refl (λ is e. clash cc) tt
+  judged-fair a m ln o (hearsFF r) = passes-fair (turnMarks m) _ (our-turn E [] true (turnMarks m))
+  judged-fair a m ln o (hearsFQ r) = (tt, λ is e. clash cc, λ e. refl)
+  judged-fair a m ln o (hearsEnd ff p ps r) = passes-fair (turnMarks m) _ (our-answer E (p ∷ ps) (turnMarks m))
+  judged-fair a m ln o (hearsFs is ss r) = alive (newTurn false) (answerMarks is ss m) _ refl (λ is e. clash cc) tt
 
   -- ---------------------------------------------------------------- the session after it, with no byte of a transfer
 
   refused-sound : (s : Session) (n : ℕ) → Sound E (refused s n .session) []
-  refused-sound s n = record { soFar = tt; between = λ e. refl; asked = not-asked over (s .memory) refl; silent = λ e. refl }
+  refused-sound s n = record { soFar = tt; between = λ e. refl; asked = λ is e. clash cc; silent = λ e. refl }
 
   settled-sound : (s : Session) (c : Bool) (o : Outcome) → Fair E o → Sound E (settled s c o .session) []
   settled-sound s c (refuses n) h = refused-sound s n
   settled-sound s c (goesOn p m o) h = record { soFar = h .0; between = λ e. refl; asked = h .1; silent = h .2 }
-
-  line-sound : (s : Session) (b : ℕ) (l : LineByte) → Sound E s [] → Sound E (lineMoved E s b l .session) []
-  line-sound s b dropped h = h
-  line-sound s b ends h =
-      settled-sound s true (lineJudged E (s .phase) (s .memory) (trim (s .part))) (line-fair (s .phase) (s .memory) (trim (s .part)) (h .asked))
-  line-sound s b grows h = record { soFar = h .soFar; between = h .between; asked = h .asked; silent = h .silent }
-  line-sound s b overruns h = refused-sound s 2
 
   -- ---------------------------------------------------------------- the bytes so far
 
@@ -191,64 +132,55 @@ module _ (E : Shelf) where
     refuses-sound : (n : ℕ) → Sound E (refused s n .session) (with (refused s n .session))
     refuses-sound n = begins (refused s n .session) (to-none (owed (s .phase))) (refused-sound s n)
 
-    transfer-sound : (p : Proposal) (ps : List Proposal) (sc : Scan) → s .phase ≡ awaitsTransfer p ps sc
-        → scan (room E (s .memory .inbox)) (p .form) q ≡ goes sc → (o : Scanned) → scanByte (room E (s .memory .inbox)) sc b ≡ o
-        → Sound E (transferMoved E p ps s o .session) (with (transferMoved E p ps s o .session))
-    transfer-sound p ps sc a e (goes sc′) f =
-        subst (λ (c : Bool). Sound E (transferMoved E p ps s (goes sc′) .session) (cond c (q ++ (b ∷ [])) []))
-        (sym (ap (λ (r : Phase). sameTransfer (owed r) (suc (length ps))) a ∙ to-same (length ps)))
-        (record {
-          soFar = more-so-far (room E (s .memory .inbox)) p sc sc′ q b e f;
-          between = λ x. absurd (omega arith);
-          asked = not-asked (awaitsTransfer p ps sc′) (s .memory) refl;
-          silent = λ x. absurd (no-both false x refl);
-        })
-    transfer-sound p ps sc a e (got h x) f =
-        let m = keptIn (s .memory) (messageOf p (record { heading = h; body = x })) in
-        let t : Session = settled s (isPlain (p .form)) (nextTransfer E ps m) .session in
-        begins t
-        (ap (λ (r : Phase). sameTransfer (owed r) (owed (t .phase))) a
-        ∙ ap (sameTransfer (suc (length ps))) (one-less ps m s (isPlain (p .form))) ∙ to-next (length ps))
-        (settled-sound s (isPlain (p .form)) (nextTransfer E ps m) (next-fair ps m))
-    transfer-sound p ps sc a e malformed f = refuses-sound 8
-    transfer-sound p ps sc a e wrongSum f = refuses-sound 9
-    transfer-sound p ps sc a e noRoom f = refuses-sound 10
+    -- the byte is not dropped
+    heeds : (t : Session) → isDropped s b ≡ false → Sound E t (with t) → Sound E t (soFarWith s q b t)
+    heeds t e h = subst (λ (c : Bool). Sound E t (cond c q (with t))) (sym e) h
 
     -- where a line is awaited
-    lines-sound : owed (s .phase) ≡ 0 → Sound E s q → (l : LineByte) → Sound E (lineMoved E s b l .session) (with (lineMoved E s b l .session))
-    lines-sound a h l =
-        begins (lineMoved E s b l .session)
-        (ap (λ (n : ℕ). sameTransfer n (owed (lineMoved E s b l .session .phase))) a ∙ from-none (owed (lineMoved E s b l .session .phase)))
-        (line-sound s b l (subst (Sound E s) (h .between a) h))
+    after-line : (a : Awaited) → At s b (aLine a) → (t : Session) → Sound E t [] → Sound E t (soFarWith s q b t)
+    after-line a w t h =
+        heeds t (w .kept) (begins t (ap (λ (p : Phase). sameTransfer (owed p) (owed (t .phase))) (w .awaited) ∙ from-none (owed (t .phase))) h)
 
-    phase-sound : (p : Phase) → s .phase ≡ p → Sound E s q → Sound E (phaseStep E p s b .session) (with (phaseStep E p s b .session))
-    phase-sound (awaitsSid c) e h = lines-sound (ap owed e) h (lineByte false (length (s .part)) b)
-    phase-sound awaitsPrompt e h = lines-sound (ap owed e) h (lineByte false (length (s .part)) b)
-    phase-sound (awaitsTurn ff ps) e h = lines-sound (ap owed e) h (lineByte false (length (s .part)) b)
-    phase-sound (awaitsAnswer is) e h = lines-sound (ap owed e) h (lineByte false (length (s .part)) b)
-    phase-sound (awaitsTransfer p ps sc) e h =
-        transfer-sound p ps sc e (subst (λ (r : Phase). SoFar E r (s .memory) q) e (h .soFar)) (scanByte (room E (s .memory .inbox)) sc b) refl
-    phase-sound leaving e h = refuses-sound 12
-    phase-sound over e h = refuses-sound 12
+    way-sound : Sound E s q → (o : Stepped) → Way E s b o → Sound E (o .session) (soFarWith s q b (o .session))
+    way-sound h o (isRefused n k w) = heeds (refused s n .session) k (refuses-sound n)
+    way-sound h o (dropsLf e) =
+        subst (λ (c : Bool). Sound E (withAfterCr false s) (cond c q (with (withAfterCr false s)))) (sym e)
+        (record { soFar = h .soFar; between = h .between; asked = h .asked; silent = h .silent })
+    way-sound h o (growsLine a w x y) =
+        let k = subst (Sound E s) (h .between (ap owed (w .awaited))) h in
+        after-line a w (o .session) (record { soFar = k .soFar; between = k .between; asked = k .asked; silent = k .silent })
+    way-sound h o (ignoresLine a w x y) =
+        after-line a w (o .session) (record { soFar = tt; between = λ e. refl; asked = λ is e. h .asked is (w .awaited ∙ e); silent = λ e. refl })
+    way-sound h o (hearsLine a w x y z j) = after-line a w (settled s true z .session) (settled-sound s true z (judged-fair a (s .memory) (s .part) z j))
+    way-sound h o (readsOn p ps sc on w e) =
+        let f = ap (λ (n : ℕ). scanByte n sc b) (sym (room-is E (s .memory))) ∙ e in
+        heeds (o .session) (w .kept)
+        (subst (λ (c : Bool). Sound E (o .session) (cond c (q ++ (b ∷ [])) []))
+        (sym (ap (λ (r : Phase). sameTransfer (owed r) (suc (length ps))) (w .awaited) ∙ to-same (length ps)))
+        (record {
+          soFar = more-so-far (room E (s .memory .inbox)) p sc on q b (subst (λ (r : Phase). SoFar E r (s .memory) q) (w .awaited) (h .soFar)) f;
+          between = λ x. absurd (omega arith);
+          asked = λ is e. clash cc;
+          silent = λ x. absurd (no-both false x refl);
+        }))
+    way-sound h o (readsLast p ps sc g x w e) =
+        let m = keptIn (s .memory) (messageOf p (record { heading = g; body = x })) in
+        let t : Session = settled s (isPlain (p .form)) (nextTransfer E ps m) .session in
+        heeds t (w .kept)
+        (begins t
+        (ap (λ (r : Phase). sameTransfer (owed r) (owed (t .phase))) (w .awaited)
+        ∙ ap (sameTransfer (suc (length ps))) (one-less ps m s (isPlain (p .form))) ∙ to-next (length ps))
+        (settled-sound s (isPlain (p .form)) (nextTransfer E ps m) (passes-fair m _ (next-transfer E ps m))))
 
     step-sound : Sound E s q → Sound E (step E s b .session) (soFarWith s q b (step E s b .session))
-    step-sound h = go (isDropped s b) (s .out)
-      where
-        go : (c : Bool) (o : Bytes) → Sound E ((cond c (moved (lfDropped s)) (freeStep E o s b)) .session)
-            (cond c q (with ((cond c (moved (lfDropped s)) (freeStep E o s b)) .session)))
-        go true o = record { soFar = h .soFar; between = h .between; asked = h .asked; silent = h .silent }
-        go false [] = phase-sound (s .phase) refl h
-        go false (x ∷ o) = refuses-sound 11
+    step-sound h = way-sound h (step E s b) (way E s b)
 
     -- after the end nothing comes
     ended-sound : ended s ≡ true → Sound E s q → Sound E s (soFarWith s q b s)
     ended-sound l h = subst (Sound E s) (sym (go (isDropped s b))) h
       where
         none-owed : (p : Phase) → endedIn p (s .out) ≡ true → owed p ≡ 0
-        none-owed (awaitsSid c) e = refl
-        none-owed awaitsPrompt e = refl
-        none-owed (awaitsTurn ff ps) e = refl
-        none-owed (awaitsAnswer is) e = refl
+        none-owed (aLine a) e = refl
         none-owed (awaitsTransfer p ps sc) e = absurd (no-both false e refl)
         none-owed leaving e = refl
         none-owed over e = refl
@@ -275,10 +207,7 @@ module _ (E : Shelf) where
       record { soFar = h .soFar; between = h .between; asked = h .asked; silent = λ e. go (s .phase) (s .out) e (h .silent) }
     where
       go : (p : Phase) (o : Bytes) → endedIn p (drop room o) ≡ true → (endedIn p o ≡ true → o ≡ []) → drop room o ≡ []
-      go (awaitsSid c) o e k = cc
-      go awaitsPrompt o e k = cc
-      go (awaitsTurn ff ps) o e k = cc
-      go (awaitsAnswer is) o e k = cc
+      go (aLine a) o e k = cc
       go (awaitsTransfer p ps sc) o e k = cc
       go leaving o e k = null-nil (drop room o) e
       go over o e k = ap (drop room) (k refl) ∙ drop-nil room
@@ -288,7 +217,7 @@ module _ (E : Shelf) where
       record {
         soFar = tt;
         between = λ e. refl;
-        asked = not-asked (awaitsSid caller) (opened caller states .memory) refl;
+        asked = λ is e. clash cc;
         silent = λ e. absurd (no-both false e refl);
       }
 

@@ -1,30 +1,29 @@
 -- REFUSALS ARE EXACT. Idea: a situation gives its number (`given`), and in a live session a byte that is not answered 0 is in one of the
 -- situations (`found`); since the numbers differ, the situation of a number is then the only one that gives it.
 use mathlib.Core.Path.{_≡_, refl, sym, ap, _∙_, subst}
-use mathlib.Core.Bool.{Bool, true, false, cond, not, _&&_}
+use mathlib.Core.Bool.{Bool, true, false, cond, not}
 use mathlib.Core.Option.{Option, none, some}
 use mathlib.Core.List.{List, [], _∷_, _++_}
 use Prim.Native.Nat.{ℕ, _≤_}
 use native.Mathlib.Omega.{arith}
 use lib.Dec.{eqb, ltb}
 use lib.ListN.{length}
-use borrow.Author.Tests.{eqb-true, ltb-true, ltb-false, not-false, not-true}
-use Rattle.grammar.specs.Bytes.{Bytes, CR, null}
-use Rattle.grammar.specs.Lines.{trim, isComment, isPrompt}
-use Rattle.grammar.specs.Sid.{readSid, hasFeature}
+use borrow.Author.Tests.{eqb-true, ltb-true, ltb-false, not-true}
+use Rattle.grammar.specs.Bytes.{Bytes, CR}
+use Rattle.grammar.specs.Lines.{trim}
 use Rattle.grammar.specs.Turns.{Proposal, TurnLine, saysFF, saysFQ, endsBlock, notAllowed, proposes, readTurnLine}
-use Rattle.grammar.specs.Answers.{Sign, readFs}
 use Rattle.grammar.specs.Transfers.{Parsed, parse}
 use Rattle.grammar.specs.Scan.{Scan, Scanned, goes, got, malformed, wrongSum, noRoom, scan, scanByte, bodyOf, isBodyByte}
 use Rattle.grammar.proofs.Basics.{and2, no-both, and-false}
-use Rattle.grammar.proofs.Rest.{Wrong}
+use Rattle.grammar.proofs.Rest.{Wrong as Unsummed}
 use Rattle.grammar.proofs.Refusal.{exact as exact-byte, Verdict, exact-8, exact-10, isTen}
 use Rattle.session.specs.Choices.{Shelf}
-use Rattle.session.specs.Session.{Phase, awaitsSid, awaitsPrompt, leaving, over, awaitsTurn, awaitsAnswer, awaitsTransfer, Session, turnMarks, answerMarks, Stepped, step, ended, endedIn}
+use Rattle.session.specs.Session.{Awaited, awaitsTurn, Phase, aLine, awaitsTransfer, leaving, over, Session, between, Outcome, turnMarks, answerMarks, Stepped, roomFor, step, ended, endedIn}
+use Rattle.session.proofs.Ways.{Wrong, noSid, noF, noTurnLine, ffAfterFf, ffInBlock, fqFirst, fqInBlock, emptyBlock, tooMany, noAnswer, Judged, isWrong, hearsSid, hearsText, hearsPrompt, hearsProposal, hearsFF, hearsFQ, hearsEnd, hearsFs, At, Why, waits, hasLeft, isOver, tooLong, unread, unsummed, unkept, Way, isRefused, dropsLf, growsLine, ignoresLine, hearsLine, readsOn, readsLast, way}
 use Rattle.demand2.specs.Room.{room}
-use Rattle.demand2.specs.Refusals.{isDropped, Heeded, awaitsLine, WholeLine, isAllowed, isMiscounted, TurnSaid, beginsFs, inTurn, forAnswer, SoFar, TransferByte, Refusal, no2, no3, no4, no5, no6, no7, no8, no9, no10, no11, numberOf, Situation, Exact, Live}
+use Rattle.demand2.specs.Refusals.{Heeded, awaitsLine, WholeLine, isAllowed, isMiscounted, beginsFs, inTurn, forAnswer, SoFar, TransferByte, Refusal, no2, no3, no4, no5, no6, no7, no8, no9, no10, no11, numberOf, Situation, Exact, Live}
 use Rattle.demand2.specs.Events.{Event, lfGoes, lineGrows, ignored, sidOfCaller, sidOfCalled, textLine, prompt, proposal, ffTurn, fqTurn, blockEnd, fsLineComes, transferGrows, transferWhole}
-use Rattle.demand2.proofs.Room.{at-full, within-fits}
+use Rattle.demand2.proofs.Room.{room-is, at-full, within-fits}
 use Rattle.demand2.proofs.Marks.{answer-marks, turn-marks}
 use Rattle.demand2.proofs.Steps.{so-far, scan-more}
 use Rattle.demand2.proofs.Events.{happens}
@@ -36,123 +35,121 @@ pub data Found (E : Shelf) (q : Bytes) (s : Session) (b : ℕ) : Type 0 where
   happened : (t : Session) → Event E q s b t → Found E q s b
   found : (n : Refusal) → Situation E q s b n → Found E q s b
 
-module _ (E : Shelf) (q : Bytes) (s : Session) (b : ℕ) (H : Heeded s b) where
+module _ (E : Shelf) (q : Bytes) (s : Session) (b : ℕ) where
   -- the line that is whole
-  abbrev line : Bytes
+  abbrev pub line : Bytes
   line = trim (s .part)
 
-  sid-found : (c : Bool) → s .phase ≡ awaitsSid c → WholeLine s b line → Found E q s b
-  sid-found c e w = sid (readSid line) refl
+  pub heeded : {p : Phase} → At s b p → Heeded s b
+  heeded w = record { kept = w .kept; silent = w .silent }
+
+  module _ (a : Awaited) (e : s .phase ≡ aLine a) (w : WholeLine s b line) where
+    -- a line of a turn, by what it says
+    forbidden : (ff : Bool) (ps : List Proposal) (t : TurnLine) → a ≡ awaitsTurn ff ps → readTurnLine (s .memory .framed) line ≡ t → isAllowed ff ps t ≡ false → Found E q s b
+    forbidden ff ps t f r x = found no5 (inTurn ff ps line (record { whole = w; awaited = e ∙ ap aLine f }) (ap (isAllowed ff ps) r ∙ x))
+
+    miscounts : (ff : Bool) (ps : List Proposal) (t : TurnLine) → a ≡ awaitsTurn ff ps → readTurnLine (s .memory .framed) line ≡ t → isAllowed ff ps t ≡ true
+        → isMiscounted ps t ≡ true → Found E q s b
+    miscounts ff ps t f r x y =
+        found no6
+        (record {
+          ff = ff;
+          proposals = ps;
+          line = line;
+          said = record { whole = w; awaited = e ∙ ap aLine f };
+          allowed = ap (isAllowed ff ps) r ∙ x;
+          miscounted = ap (isMiscounted ps) r ∙ y;
+        })
+
+  wrong-found : (a : Awaited) → s .phase ≡ aLine a → WholeLine s b line → (n : ℕ) → Wrong (s .memory) (s .part) a n → Found E q s b
+  wrong-found a e w n (noSid c r) = found no3 (record { line = line; whole = w; caller = c; awaited = e; invalid = r })
+  wrong-found a e w n (noF c fs r f) = found no4 (record { line = line; whole = w; caller = c; awaited = e; features = fs; valid = r; without = f })
+  wrong-found a e w n (noTurnLine ff ps r) = forbidden a e w ff ps notAllowed refl r refl
+  wrong-found a e w n (ffAfterFf r) = forbidden a e w true [] saysFF refl r refl
+  wrong-found a e w n (ffInBlock ff p ps r) = forbidden a e w ff (p ∷ ps) saysFF refl r (and-false (not ff) false refl)
+  wrong-found a e w n (fqFirst r) = forbidden a e w false [] saysFQ refl r refl
+  wrong-found a e w n (fqInBlock ff p ps r) = forbidden a e w ff (p ∷ ps) saysFQ refl r (and-false ff false refl)
+  wrong-found a e w n (emptyBlock ff r) = miscounts a e w ff [] endsBlock refl r refl refl
+  wrong-found a e w n (tooMany ff ps p r l) = miscounts a e w ff ps (proposes p) refl r refl (ap not l)
+  wrong-found a e w n (noAnswer is r) = go (beginsFs line) refl
     where
-      heard : (c : Bool) → s .phase ≡ awaitsSid c → (fs : List ℕ) → readSid line ≡ some fs → (f : Bool) → hasFeature 5 fs ≡ f → Found E q s b
-      heard true e fs r true f = happened _ (sidOfCalled line w e fs r f)
-      heard false e fs r true f = happened _ (sidOfCaller line w e fs r f)
-      heard c e fs r false f = found no4 (record { line = line; whole = w; caller = c; awaited = e; features = fs; valid = r; without = f })
+      go : (c : Bool) → beginsFs line ≡ c → Found E q s b
+      go true f = found no7 (record { line = line; answer = record { whole = w; places = is; awaited = e; wrong = r }; begun = f })
+      go false f = found no5 (forAnswer line (record { whole = w; places = is; awaited = e; wrong = r }) f)
 
-      sid : (o : Option (List ℕ)) → readSid line ≡ o → Found E q s b
-      sid none r = found no3 (record { line = line; whole = w; caller = c; awaited = e; invalid = r })
-      sid (some fs) r = heard c e fs r (hasFeature 5 fs) refl
-
-  text-found : s .phase ≡ awaitsPrompt → WholeLine s b line → Found E q s b
-  text-found e w = go (isPrompt line) refl
-    where
-      go : (c : Bool) → isPrompt line ≡ c → Found E q s b
-      go true r = happened _ (prompt line w e r)
-      go false r = happened _ (textLine line w e r)
-
-  -- a line of a turn that is allowed and not one too many
-  turn-happened : (t : TurnLine) (ff : Bool) (ps : List Proposal) → readTurnLine (s .memory .framed) line ≡ t → TurnSaid s b ff ps line → isAllowed ff ps t ≡ true
-      → isMiscounted ps t ≡ false → Found E q s b
-  turn-happened saysFF true [] r w x y = absurd (no-both false x refl)
-  turn-happened saysFF false [] r w x y = happened _ (ffTurn line w r (turnMarks (s .memory)) (turn-marks (s .memory)))
-  turn-happened saysFF ff (p ∷ ps) r w x y = absurd (no-both (not ff && false) x (and-false (not ff) false refl))
-  turn-happened saysFQ true [] r w x y = happened _ (fqTurn line w r)
-  turn-happened saysFQ false [] r w x y = absurd (no-both false x refl)
-  turn-happened saysFQ ff (p ∷ ps) r w x y = absurd (no-both (ff && false) x (and-false ff false refl))
-  turn-happened endsBlock ff [] r w x y = absurd (no-both true refl y)
-  turn-happened endsBlock ff (p ∷ ps) r w x y = happened _ (blockEnd line ff p ps w r (turnMarks (s .memory)) (turn-marks (s .memory)))
-  turn-happened notAllowed ff ps r w x y = absurd (no-both false x refl)
-  turn-happened (proposes p) ff ps r w x y = happened _ (proposal line ff ps w p r (ltb-true (length ps) 5 (not-false (ltb (length ps) 5) y)))
-
-  turn-found : (ff : Bool) (ps : List Proposal) → TurnSaid s b ff ps line → Found E q s b
-  turn-found ff ps w = go (isAllowed ff ps (readTurnLine (s .memory .framed) line)) (isMiscounted ps (readTurnLine (s .memory .framed) line)) refl refl
-    where
-      go : (c d : Bool) → isAllowed ff ps (readTurnLine (s .memory .framed) line) ≡ c → isMiscounted ps (readTurnLine (s .memory .framed) line) ≡ d → Found E q s b
-      go false d x y = found no5 (inTurn ff ps line w x)
-      go true true x y = found no6 (record { ff = ff; proposals = ps; line = line; said = w; allowed = x; miscounted = y })
-      go true false x y = turn-happened (readTurnLine (s .memory .framed) line) ff ps refl w x y
-
-  answer-found : (is : List ℕ) → s .phase ≡ awaitsAnswer is → WholeLine s b line → Found E q s b
-  answer-found is e w = go (readFs (length is) line) refl
-    where
-      wrong : readFs (length is) line ≡ none → (c : Bool) → beginsFs line ≡ c → Found E q s b
-      wrong r true f = found no7 (record { line = line; answer = record { whole = w; places = is; awaited = e; wrong = r }; begun = f })
-      wrong r false f = found no5 (forAnswer line (record { whole = w; places = is; awaited = e; wrong = r }) f)
-
-      go : (o : Option (List Sign)) → readFs (length is) line ≡ o → Found E q s b
-      go none r = wrong r (beginsFs line) refl
-      go (some ss) r = happened _ (fsLineComes line is w e ss r (answerMarks is ss (s .memory)) (answer-marks is ss (s .memory)))
-
-  whole-found : (p : Phase) → s .phase ≡ p → awaitsLine p ≡ true → WholeLine s b line → Found E q s b
-  whole-found (awaitsSid c) e a w = sid-found c e w
-  whole-found awaitsPrompt e a w = text-found e w
-  whole-found (awaitsTurn ff ps) e a w = turn-found ff ps (record { whole = w; awaited = e })
-  whole-found (awaitsAnswer is) e a w = answer-found is e w
-  whole-found (awaitsTransfer p ps sc) e a w = absurd (no-both false a refl)
-  whole-found leaving e a w = absurd (no-both false a refl)
-  whole-found over e a w = absurd (no-both false a refl)
-
-  pub line-found : awaitsLine (s .phase) ≡ true → Found E q s b
-  line-found a = go (eqb b CR) (ltb (length (s .part)) 256) (isComment line) refl refl refl
-    where
-      go : (c d e : Bool) → eqb b CR ≡ c → ltb (length (s .part)) 256 ≡ d → isComment line ≡ e → Found E q s b
-      go false true e x y z = happened _ (lineGrows H a x (ltb-true (length (s .part)) 256 y))
-      go false false e x y z = found no2 (record { heeded = H; awaited = a; more = x; full = ltb-false (length (s .part)) 256 y })
-      go true d true x y z = happened _ (ignored H a (eqb-true b CR x) z)
-      go true d false x y z = whole-found (s .phase) refl a (record { heeded = H; end = eqb-true b CR x; bytes = refl; judged = z })
-
-  transfer-found : (p : Proposal) (sc : Scan) → TransferByte s b p sc → SoFar E (s .phase) (s .memory) q → Found E q s b
-  transfer-found p sc w S = go (scanByte (room E (s .memory .inbox)) sc b) refl (exact-byte (room E (s .memory .inbox)) (p .form) q sc T b)
-    where
-      T : scan (room E (s .memory .inbox)) (p .form) q ≡ goes sc
-      T = so-far E s b q p sc w S
-
-      wrong : (o : Option Parsed) → parse (p .form) (q ++ (b ∷ [])) ≡ o → Wrong o → Found E q s b
-      wrong none x e = absurd e
-      wrong (some t) x e = found no9 (record { proposal = p; reading = sc; within = w; transfer = t; whole = x; wrong = e })
-
-      go : (o : Scanned) → scanByte (room E (s .memory .inbox)) sc b ≡ o → Verdict (room E (s .memory .inbox)) (p .form) o (q ++ (b ∷ [])) → Found E q s b
-      go (goes sc′) x k = happened _ (transferGrows p sc sc′ w (scan-more E s b q p sc w S ∙ x))
-      go (got h y) x k = happened _ (transferWhole p sc w h y (k .0) (within-fits E (s .memory .inbox) y (k .1)))
-      go malformed x k = found no8 (record { proposal = p; reading = sc; within = w; hopeless = exact-8 (room E (s .memory .inbox)) (p .form) q sc T b .0 x })
-      go wrongSum x k = wrong (parse (p .form) (q ++ (b ∷ []))) refl (k .0)
-      go noRoom x k =
-          let n = room E (s .memory .inbox) in
-          let t = and2 (isBodyByte sc b) (not (ltb (length (bodyOf sc)) n)) (sym (exact-10 n sc b) ∙ ap isTen x) in
-          let l = ltb-false (length (bodyOf sc)) n (not-true (ltb (length (bodyOf sc)) n) (t .1)) in
-          found no10 (record { proposal = p; reading = sc; within = w; body = t .0; full = at-full E (s .memory .inbox) (bodyOf sc) l })
+  pub judged-found : (a : Awaited) → s .phase ≡ aLine a → WholeLine s b line → (o : Outcome) → Judged E (s .memory) (s .part) a o → Found E q s b
+  judged-found a e w o (isWrong n x) = wrong-found a e w n x
+  judged-found a e w o (hearsSid true fs r f) = happened _ (sidOfCalled line w e fs r f)
+  judged-found a e w o (hearsSid false fs r f) = happened _ (sidOfCaller line w e fs r f)
+  judged-found a e w o (hearsText r) = happened _ (textLine line w e r)
+  judged-found a e w o (hearsPrompt r) = happened _ (prompt line w e r)
+  judged-found a e w o (hearsProposal ff ps p r l) = happened _ (proposal line ff ps (record { whole = w; awaited = e }) p r (ltb-true (length ps) 5 l))
+  judged-found a e w o (hearsFF r) = happened _ (ffTurn line (record { whole = w; awaited = e }) r (turnMarks (s .memory)) (turn-marks (s .memory)))
+  judged-found a e w o (hearsFQ r) = happened _ (fqTurn line (record { whole = w; awaited = e }) r)
+  judged-found a e w o (hearsEnd ff p ps r) =
+      happened _ (blockEnd line ff p ps (record { whole = w; awaited = e }) r (turnMarks (s .memory)) (turn-marks (s .memory)))
+  judged-found a e w o (hearsFs is ss r) = happened _ (fsLineComes line is w e ss r (answerMarks is ss (s .memory)) (answer-marks is ss (s .memory)))
 
 module _ (E : Shelf) (q : Bytes) (s : Session) (b : ℕ) (L : Live s) (S : SoFar E (s .phase) (s .memory) q) where
   -- an ended session is not live
-  gone : (p : Phase) → s .phase ≡ p → endedIn p [] ≡ true → s .out ≡ [] → ⊥
-  gone p e f o = no-both (ended s) (ap (λ (r : Phase). endedIn r (s .out)) e ∙ ap (endedIn p) o ∙ f) L
+  gone : (p : Phase) → endedIn p [] ≡ true → At s b p → ⊥
+  gone p f w = no-both (ended s) (ap (λ (r : Phase). endedIn r (s .out)) (w .awaited) ∙ ap (endedIn p) (w .silent) ∙ f) L
 
-  heeded-found : Heeded s b → (p : Phase) → s .phase ≡ p → Found E q s b
-  heeded-found H (awaitsSid c) e = line-found E q s b H (ap awaitsLine e)
-  heeded-found H awaitsPrompt e = line-found E q s b H (ap awaitsLine e)
-  heeded-found H (awaitsTurn ff ps) e = line-found E q s b H (ap awaitsLine e)
-  heeded-found H (awaitsAnswer is) e = line-found E q s b H (ap awaitsLine e)
-  heeded-found H (awaitsTransfer p ps sc) e = transfer-found E q s b H p sc (record { heeded = H; others = ps; awaited = e }) S
-  heeded-found H leaving e = absurd (gone leaving e refl (H .silent))
-  heeded-found H over e = absurd (gone over e refl (H .silent))
+  -- a byte of a transfer, read in the room there is
+  module _ (p : Proposal) (ps : List Proposal) (sc : Scan) (w : At s b (awaitsTransfer p ps sc)) (o : Scanned) (e : scanByte (roomFor E (s .memory)) sc b ≡ o) where
+    within : TransferByte s b p sc
+    within = record { heeded = heeded E q s b w; others = ps; awaited = w .awaited }
+
+    so : scan (room E (s .memory .inbox)) (p .form) q ≡ goes sc
+    so = so-far E s b q p sc within S
+
+    reads : scanByte (room E (s .memory .inbox)) sc b ≡ o
+    reads = ap (λ (n : ℕ). scanByte n sc b) (sym (room-is E (s .memory))) ∙ e
+
+    verdict : Verdict (room E (s .memory .inbox)) (p .form) o (q ++ (b ∷ []))
+    verdict =
+        subst (λ (r : Scanned). Verdict (room E (s .memory .inbox)) (p .form) r (q ++ (b ∷ []))) reads (exact-byte (room E (s .memory .inbox)) (p .form) q sc so b)
+
+  why-found : (n : ℕ) → Why E s b n → Found E q s b
+  why-found n (waits e f) = found no11 (record { kept = e; waiting = f })
+  why-found n (hasLeft w) = absurd (gone leaving refl w)
+  why-found n (isOver w) = absurd (gone over refl w)
+  why-found n (tooLong a w x y) =
+      found no2 (record { heeded = heeded E q s b w; awaited = ap awaitsLine (w .awaited); more = x; full = ltb-false (length (s .part)) 256 y })
+  why-found n (unread p ps sc w e) =
+      found no8
+      (record {
+        proposal = p;
+        reading = sc;
+        within = within p ps sc w malformed e;
+        hopeless = exact-8 (room E (s .memory .inbox)) (p .form) q sc (so p ps sc w malformed e) b .0 (reads p ps sc w malformed e);
+      })
+  why-found n (unsummed p ps sc w e) = go (parse (p .form) (q ++ (b ∷ []))) refl (verdict p ps sc w wrongSum e .0)
+    where
+      go : (o : Option Parsed) → parse (p .form) (q ++ (b ∷ [])) ≡ o → Unsummed o → Found E q s b
+      go none x y = absurd y
+      go (some t) x y = found no9 (record { proposal = p; reading = sc; within = within p ps sc w wrongSum e; transfer = t; whole = x; wrong = y })
+  why-found n (unkept p ps sc w e) =
+      let n = room E (s .memory .inbox) in
+      let t = and2 (isBodyByte sc b) (not (ltb (length (bodyOf sc)) n)) (sym (exact-10 n sc b) ∙ ap isTen (reads p ps sc w noRoom e)) in
+      let l = ltb-false (length (bodyOf sc)) n (not-true (ltb (length (bodyOf sc)) n) (t .1)) in
+      found no10 (record { proposal = p; reading = sc; within = within p ps sc w noRoom e; body = t .0; full = at-full E (s .memory .inbox) (bodyOf sc) l })
+
+  way-found : (o : Stepped) → Way E s b o → Found E q s b
+  way-found o (isRefused n k w) = why-found n w
+  way-found o (dropsLf e) = happened _ (lfGoes e)
+  way-found o (growsLine a w x y) = happened _ (lineGrows (heeded E q s b w) (ap awaitsLine (w .awaited)) x (ltb-true (length (s .part)) 256 y))
+  way-found o (ignoresLine a w x y) = happened _ (ignored (heeded E q s b w) (ap awaitsLine (w .awaited)) (eqb-true b CR x) y)
+  way-found o (hearsLine a w x y z j) =
+      judged-found E q s b a (w .awaited) (record { heeded = heeded E q s b w; end = eqb-true b CR x; bytes = refl; judged = y }) z j
+  way-found o (readsOn p ps sc on w e) =
+      happened _ (transferGrows p sc on (within p ps sc w (goes on) e) (scan-more E s b q p sc (within p ps sc w (goes on) e) S ∙ reads p ps sc w (goes on) e))
+  way-found o (readsLast p ps sc h x w e) =
+      let k = verdict p ps sc w (got h x) e in
+      happened _ (transferWhole p sc (within p ps sc w (got h x) e) h x (k .0) (within-fits E (s .memory .inbox) x (k .1)))
 
   pub byte-found : Found E q s b
-  byte-found = go (isDropped s b) (s .out) refl refl
-    where
-      go : (c : Bool) (o : Bytes) → isDropped s b ≡ c → s .out ≡ o → Found E q s b
-      go true o e f = happened _ (lfGoes e)
-      go false [] e f = heeded-found (record { kept = e; silent = f }) (s .phase) refl
-      go false (x ∷ o) e f = found no11 (record { kept = e; waiting = ap null f })
+  byte-found = way-found (step E s b) (way E s b)
 
 -- ---------------------------------------------------------------- the theorem
 
@@ -175,17 +172,17 @@ number-back no9 = refl
 number-back no10 = refl
 number-back no11 = refl
 
-pub some-number : (n : Refusal) → (2 ≤ numberOf n) × (numberOf n ≤ 11)
-some-number no2 = (omega arith, omega arith)
-some-number no3 = (omega arith, omega arith)
-some-number no4 = (omega arith, omega arith)
-some-number no5 = (omega arith, omega arith)
-some-number no6 = (omega arith, omega arith)
-some-number no7 = (omega arith, omega arith)
-some-number no8 = (omega arith, omega arith)
-some-number no9 = (omega arith, omega arith)
-some-number no10 = (omega arith, omega arith)
-some-number no11 = (omega arith, omega arith)
+pub some-number : (n : Refusal) → (2 ≤ numberOf n) × (numberOf n ≡ 12 → ⊥)
+some-number no2 = (omega arith, λ e. omega arith)
+some-number no3 = (omega arith, λ e. omega arith)
+some-number no4 = (omega arith, λ e. omega arith)
+some-number no5 = (omega arith, λ e. omega arith)
+some-number no6 = (omega arith, λ e. omega arith)
+some-number no7 = (omega arith, λ e. omega arith)
+some-number no8 = (omega arith, λ e. omega arith)
+some-number no9 = (omega arith, λ e. omega arith)
+some-number no10 = (omega arith, λ e. omega arith)
+some-number no11 = (omega arith, λ e. omega arith)
 
 -- REFUSALS ARE EXACT
 pub exact : (E : Shelf) (q : Bytes) (s : Session) (b : ℕ) → Live s → SoFar E (s .phase) (s .memory) q → Exact E q s b
@@ -194,7 +191,7 @@ exact E q s b L S = record { given = given; only = only; none = none₀; else = 
     given : (n : Refusal) → Situation E q s b n → step E s b .answer ≡ numberOf n
     given n h = ap (λ (x : Stepped). x .answer) (refuses-with E s b q S n h)
 
-    leaves : (n : Refusal) → Situation E q s b n → step E s b .session ≡ record { phase = over; part = []; afterCr = false; out = []; memory = s .memory }
+    leaves : (n : Refusal) → Situation E q s b n → step E s b .session ≡ between over false [] (s .memory)
     leaves n h = ap (λ (x : Stepped). x .session) (refuses-with E s b q S n h)
 
     zero-event : (t : Session) → Event E q s b t → step E s b .answer ≡ 0

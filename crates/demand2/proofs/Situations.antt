@@ -17,11 +17,11 @@ use Rattle.grammar.proofs.Basics.{both}
 use Rattle.grammar.proofs.Rest.{Wrong}
 use Rattle.grammar.proofs.Refusal.{exact-8, exact-9, exact-10, isTen}
 use Rattle.session.specs.Choices.{Shelf}
-use Rattle.session.specs.Session.{awaitsSid, awaitsAnswer, Session, turnJudged, refused, moved, settled, lineMoved, transferMoved, freeStep, lfDropped, step}
+use Rattle.session.specs.Session.{awaitsSid, awaitsAnswer, Session, withAfterCr, turnJudged, refused, moved, settled, lineMoved, transferMoved, freeStep, step}
 use Rattle.demand2.specs.Room.{room}
 use Rattle.demand2.specs.Refusals.{LineTooLong, NotSid, NoForwarding, isAllowed, isMiscounted, NoAnswer, beginsFs, LineNotAllowed, inTurn, forAnswer, WrongCount, WrongAnswer, SoFar, WrongTransfer, WrongChecksum, NoRoom, BytesWait, Refusal, no2, no3, no4, no5, no6, no7, no8, no9, no10, no11, numberOf, Situation}
 use Rattle.demand2.proofs.Room.{full-at}
-use Rattle.demand2.proofs.Steps.{line-step, phase-step, turn-step, transfer-step, so-far}
+use Rattle.demand2.proofs.Steps.{which-line, line-step, whole-step, turn-step, transfer-step, so-far}
 
 -- the byte is refused with this number
 abbrev pub Refuses : Shelf → Session → ℕ → ℕ → Type 0
@@ -30,15 +30,16 @@ Refuses E s b n = step E s b ≡ refused s n
 module _ (E : Shelf) (s : Session) (b : ℕ) where
   too-long : LineTooLong s b → Refuses E s b number.lineTooLong
   too-long h =
-      line-step E s b (h .heeded) (h .awaited)
-      ∙ ap (λ (c : Bool). lineMoved E s b (cond c ends (cond (ltb (length (s .part)) 256) grows overruns))) (h .more)
-      ∙ ap (λ (c : Bool). lineMoved E s b (cond c grows overruns)) (le-ltb (length (s .part)) 256 (h .full))
+      let a = which-line (s .phase) (h .awaited) in
+      line-step E s b (a .0) (h .heeded) (a .1)
+      ∙ ap (λ (c : Bool). lineMoved E (a .0) s b (cond c ends (cond (ltb (length (s .part)) 256) grows overruns))) (h .more)
+      ∙ ap (λ (c : Bool). lineMoved E (a .0) s b (cond c grows overruns)) (le-ltb (length (s .part)) 256 (h .full))
 
   not-sid : NotSid s b → Refuses E s b number.notSid
-  not-sid h = phase-step E s b (h .line) (awaitsSid (h .caller)) (h .whole) (h .awaited) refl ∙ rw (h .whole .judged, h .invalid)
+  not-sid h = whole-step E s b (awaitsSid (h .caller)) (h .line) (h .whole) (h .awaited) ∙ rw (h .whole .bytes, h .invalid)
 
   no-forwarding : NoForwarding s b → Refuses E s b number.noForwarding
-  no-forwarding h = phase-step E s b (h .line) (awaitsSid (h .caller)) (h .whole) (h .awaited) refl ∙ rw (h .whole .judged, h .valid, h .without)
+  no-forwarding h = whole-step E s b (awaitsSid (h .caller)) (h .line) (h .whole) (h .awaited) ∙ rw (h .whole .bytes, h .valid, h .without)
 
   forbidden : (t : TurnLine) (ff : Bool) (ps : List Proposal) → isAllowed ff ps t ≡ false → settled s true (turnJudged E t ff ps (s .memory)) ≡ refused s number.lineNotAllowed
   forbidden saysFF true [] e = refl
@@ -61,7 +62,7 @@ module _ (E : Shelf) (s : Session) (b : ℕ) where
 
   -- a line where FS is awaited
   answer-step : (ln : Bytes) (h : NoAnswer s b ln) → Refuses E s b (fsNumber (length (h .places)) ln)
-  answer-step ln h = phase-step E s b ln (awaitsAnswer (h .places)) (h .whole) (h .awaited) refl ∙ rw (h .whole .judged, h .wrong)
+  answer-step ln h = whole-step E s b (awaitsAnswer (h .places)) ln (h .whole) (h .awaited) ∙ simp (h .whole .bytes, h .wrong)
 
   answer-number : (ln : Bytes) (h : NoAnswer s b ln) (c : Bool) → beginsFs ln ≡ c → fsNumber (length (h .places)) ln ≡ cond c number.badAnswer number.lineNotAllowed
   answer-number ln h c e = rw (h .wrong, e)
@@ -78,7 +79,7 @@ module _ (E : Shelf) (s : Session) (b : ℕ) where
   wrong-answer h = answer-step (h .line) (h .answer) ∙ ap (refused s) (answer-number (h .line) (h .answer) true (h .begun))
 
   pub bytes-wait : BytesWait s b → Refuses E s b number.bytesWait
-  bytes-wait h = ap (λ (c : Bool). cond c (moved (lfDropped s)) (freeStep E (s .out) s b)) (h .kept) ∙ go (s .out) (h .waiting)
+  bytes-wait h = ap (λ (c : Bool). cond c (moved (withAfterCr false s)) (freeStep E (s .out) s b)) (h .kept) ∙ go (s .out) (h .waiting)
     where
       go : (o : Bytes) → null o ≡ false → freeStep E o s b ≡ refused s number.bytesWait
       go [] e = cc

@@ -1,53 +1,47 @@
 -- THE STEP OF A BYTE by what it is: the rule of a line or a transfer decides, a line is whole, a transfer is read on. Assumes nothing.
 use mathlib.Core.Path.{_≡_, refl, ap, _∙_, subst}
-use mathlib.Core.Bool.{Bool, true, cond}
+use mathlib.Core.Bool.{Bool, true, false, cond}
 use mathlib.Core.List.{List, [], _∷_, _++_}
 use Prim.Native.Nat.{ℕ}
 use lib.Dec.{ltb}
 use lib.ListN.{length}
 use borrow.Author.Tests.{eq-eqb}
 use Rattle.grammar.specs.Bytes.{Bytes, CR}
-use Rattle.grammar.specs.Lines.{ends, grows, overruns}
+use Rattle.grammar.specs.Lines.{ends, grows, overruns, isComment}
 use Rattle.grammar.specs.Turns.{Proposal, readTurnLine}
 use Rattle.grammar.specs.Scan.{Scan, Scanned, goes, scan, scanByte, scanFrom, onward}
+use Rattle.grammar.proofs.Basics.{no-both}
 use Rattle.grammar.proofs.Portions.{scan-append}
 use Rattle.session.specs.Choices.{Shelf}
-use Rattle.session.specs.Session.{Phase, awaitsSid, awaitsPrompt, leaving, over, awaitsTurn, awaitsAnswer, awaitsTransfer, Session, turnJudged, lineJudged, moved, settled, lineMoved, transferMoved, lineStep, phaseStep, freeStep, lfDropped, step}
+use Rattle.session.specs.Session.{Awaited, awaitsTurn, Phase, aLine, awaitsTransfer, leaving, over, Session, withAfterCr, goesOn, turnJudged, awaitedJudged, moved, settled, lineMoved, transferMoved, lineStep, phaseStep, freeStep, step}
 use Rattle.demand2.specs.Room.{room}
 use Rattle.demand2.specs.Refusals.{Heeded, awaitsLine, WholeLine, TurnSaid, SoFar, TransferByte}
 use Rattle.demand2.proofs.Room.{room-is}
 
 -- ---------------------------------------------------------------- the step of a byte, by what it is
 
+-- which line is awaited
+pub which-line : (p : Phase) → awaitsLine p ≡ true → (a : Awaited) × (p ≡ aLine a)
+which-line (aLine a) e = (a, refl)
+which-line (awaitsTransfer p ps sc) e = absurd (no-both false e refl)
+which-line leaving e = absurd (no-both false e refl)
+which-line over e = absurd (no-both false e refl)
+
 module _ (E : Shelf) (s : Session) (b : ℕ) where
   -- the rule of the line or transfer decides
   pub heeded-step : Heeded s b → step E s b ≡ phaseStep E (s .phase) s b
   heeded-step h =
-      ap (λ (c : Bool). cond c (moved (lfDropped s)) (freeStep E (s .out) s b)) (h .kept) ∙ ap (λ (o : Bytes). freeStep E o s b) (h .silent)
+      ap (λ (c : Bool). cond c (moved (withAfterCr false s)) (freeStep E (s .out) s b)) (h .kept) ∙ ap (λ (o : Bytes). freeStep E o s b) (h .silent)
 
-  pub line-step : Heeded s b → awaitsLine (s .phase) ≡ true → step E s b ≡ lineStep E s b
-  line-step h e = heeded-step h ∙ go (s .phase) e
-    where
-      go : (p : Phase) → awaitsLine p ≡ true → phaseStep E p s b ≡ lineStep E s b
-      go (awaitsSid c) e = refl
-      go awaitsPrompt e = refl
-      go (awaitsTurn ff ps) e = refl
-      go (awaitsAnswer is) e = refl
-      go (awaitsTransfer p ps sc) e = cc
-      go leaving e = cc
-      go over e = cc
+  pub line-step : (a : Awaited) → Heeded s b → s .phase ≡ aLine a → step E s b ≡ lineStep E a s b
+  line-step a h e = heeded-step h ∙ ap (λ (p : Phase). phaseStep E p s b) e
 
   -- a line is whole
-  pub whole-step : (ln : Bytes) → WholeLine s b ln → awaitsLine (s .phase) ≡ true → step E s b ≡ settled s true (lineJudged E (s .phase) (s .memory) ln)
-  whole-step ln w e =
-      line-step (w .heeded) e
-      ∙ ap (λ (c : Bool). lineMoved E s b (cond c ends (cond (ltb (length (s .part)) 256) grows overruns))) (eq-eqb b CR (w .end))
-      ∙ ap (λ (l : Bytes). settled s true (lineJudged E (s .phase) (s .memory) l)) (w .bytes)
-
-  -- the same in a phase
-  pub phase-step : (ln : Bytes) (p : Phase) → WholeLine s b ln → s .phase ≡ p → awaitsLine p ≡ true → step E s b ≡ settled s true (lineJudged E p (s .memory) ln)
-  phase-step ln p w e a =
-      whole-step ln w (ap awaitsLine e ∙ a) ∙ ap (λ (r : Phase). settled s true (lineJudged E r (s .memory) ln)) e
+  pub whole-step : (a : Awaited) (ln : Bytes) → WholeLine s b ln → s .phase ≡ aLine a → step E s b ≡ settled s true (awaitedJudged E a (s .memory) (s .part))
+  whole-step a ln w e =
+      line-step a (w .heeded) e
+      ∙ ap (λ (c : Bool). lineMoved E a s b (cond c ends (cond (ltb (length (s .part)) 256) grows overruns))) (eq-eqb b CR (w .end))
+      ∙ ap (λ (c : Bool). settled s true (cond c (goesOn (aLine a) (s .memory) []) (awaitedJudged E a (s .memory) (s .part)))) (ap isComment (w .bytes) ∙ w .judged)
 
   pub transfer-step : (p : Proposal) (sc : Scan) (t : TransferByte s b p sc)
       → step E s b ≡ transferMoved E p (t .others) s (scanByte (room E (s .memory .inbox)) sc b)
@@ -58,7 +52,9 @@ module _ (E : Shelf) (s : Session) (b : ℕ) where
   -- a line of a turn
   pub turn-step : (ff : Bool) (ps : List Proposal) (ln : Bytes) → TurnSaid s b ff ps ln
       → step E s b ≡ settled s true (turnJudged E (readTurnLine (s .memory .framed) ln) ff ps (s .memory))
-  turn-step ff ps ln h = phase-step ln (awaitsTurn ff ps) (h .whole) (h .awaited) refl ∙ rw (h .whole .judged)
+  turn-step ff ps ln h =
+      whole-step (awaitsTurn ff ps) ln (h .whole) (h .awaited)
+      ∙ ap (λ (l : Bytes). settled s true (turnJudged E (readTurnLine (s .memory .framed) l) ff ps (s .memory))) (h .whole .bytes)
 
   -- the bytes so far of a transfer, with its phase known
   pub so-far : (q : Bytes) (p : Proposal) (sc : Scan) (t : TransferByte s b p sc) → SoFar E (s .phase) (s .memory) q → scan (room E (s .memory .inbox)) (p .form) q ≡ goes sc

@@ -21,16 +21,16 @@ use Rattle.grammar.proofs.Rest.{Wrong, Longer, rest-nil}
 use Rattle.grammar.proofs.Refusal.{Reach, reach-step, from, exact-at, exact-8, Verdict}
 use Rattle.mail.specs.Mail.{messageOf}
 use Rattle.session.specs.Choices.{Shelf}
-use Rattle.session.specs.Session.{Phase, awaitsSid, awaitsPrompt, leaving, over, awaitsTurn, awaitsAnswer, awaitsTransfer, Memory, Session}
+use Rattle.session.specs.Session.{Phase, aLine, awaitsTransfer, leaving, over, Memory, Session, between}
 use Rattle.session.specs.Session.{Outcome, refuses, goesOn, Stepped, moved, settled, lineMoved, isPlain, keptIn, nextTransfer, transferMoved, freeStep, step, ended, endedIn}
 use Rattle.session.specs.Calls.{Received, oneMore, stoppedAt, stops, receiveOn, receive}
-use Rattle.demand2.specs.Room.{Fits, room}
+use Rattle.demand2.specs.Room.{room}
 use Rattle.demand2.specs.Refusals.{awaitsLine}
-use Rattle.demand2.specs.Events.{session, messageFrom, withMessage, endsWithCr, transfersOr}
+use Rattle.demand2.specs.Events.{messageFrom, withMessage, endsWithCr, transfersOr}
 use Rattle.demand2.specs.Portions.{andThen}
 use Rattle.demand2.specs.Units.{lineBegun, hasNoCr, LineWhole, transferDue, TransferKept}
 use Rattle.demand2.proofs.Room.{fits-within}
-use Rattle.demand2.proofs.Steps.{line-step}
+use Rattle.demand2.proofs.Steps.{which-line, line-step}
 use Rattle.demand2.proofs.Events.{plain-is, next}
 use Rattle.demand2.proofs.Portions.{live-receive, one, receive-byte, two-portions}
 
@@ -49,10 +49,7 @@ module _ (E : Shelf) (p : Phase) (a : awaitsLine p ≡ true) (m : Memory) where
   lives cr w = go p a
     where
       go : (p : Phase) → awaitsLine p ≡ true → endedIn p [] ≡ false
-      go (awaitsSid c) e = refl
-      go awaitsPrompt e = refl
-      go (awaitsTurn ff ps) e = refl
-      go (awaitsAnswer is) e = refl
+      go (aLine a) e = refl
       go (awaitsTransfer q ps sc) e = cc
       go leaving e = cc
       go over e = cc
@@ -61,9 +58,10 @@ module _ (E : Shelf) (p : Phase) (a : awaitsLine p ≡ true) (m : Memory) where
   grown : (cr : Bool) (w : Bytes) (b : ℕ) → cr && eqb b LF ≡ false → eqb b CR ≡ false → length w + 1 ≤ 256
       → step E (lineBegun p m cr w) b ≡ moved (lineBegun p m false (w ++ (b ∷ [])))
   grown cr w b d e l =
-      line-step E (lineBegun p m cr w) b (record { kept = d; silent = refl }) a
-      ∙ ap (λ (c : Bool). lineMoved E (lineBegun p m cr w) b (cond c ends (cond (ltb (length w) 256) grows overruns))) e
-      ∙ ap (λ (c : Bool). lineMoved E (lineBegun p m cr w) b (cond c grows overruns)) (lt-ltb (length w) 256 (omega arith))
+      let l′ = which-line p a in
+      line-step E (lineBegun p m cr w) b (l′ .0) (record { kept = d; silent = refl }) (l′ .1)
+      ∙ ap (λ (c : Bool). lineMoved E (l′ .0) (lineBegun p m cr w) b (cond c ends (cond (ltb (length w) 256) grows overruns))) e
+      ∙ ap (λ (c : Bool). lineMoved E (l′ .0) (lineBegun p m cr w) b (cond c grows overruns)) (lt-ltb (length w) 256 (omega arith))
 
   -- bytes of it, none of them its CR, where no LF is dropped
   line-more : (u w : Bytes) → Lacks CR u → length w + length u ≤ 256
@@ -140,7 +138,7 @@ bodyIn (some t) = t .body
 module _ (E : Shelf) (p : Proposal) (ps : List Proposal) (m : Memory) where
   -- a session where the transfer of p is awaited and its reading stands here
   abbrev pub reading : Scan → Session
-  reading sc = session (awaitsTransfer p ps sc) false [] m
+  reading sc = between (awaitsTransfer p ps sc) false [] m
 
   -- an outcome other than going on stays
   not-malformed : (bs : Bytes) → scanOn (room E (m .inbox)) malformed bs ≡ malformed

@@ -19,19 +19,10 @@ use Rattle.grammar.specs.Transfers.{parse}
 use Rattle.grammar.specs.Scan.{Scan, goes, scan, scanFrom}
 use Rattle.mail.specs.Mail.{Record, Message, proposalOf, transferOf, recordAt}
 use Rattle.session.specs.Choices.{Shelf, chosen, answersTo}
-use Rattle.session.specs.Session.{Phase, awaitsSid, awaitsPrompt, leaving, over, awaitsTurn, awaitsAnswer, awaitsTransfer, Memory, Session}
+use Rattle.session.specs.Session.{awaitsSid, awaitsPrompt, awaitsTurn, awaitsAnswer, Phase, aLine, newTurn, awaitsTransfer, leaving, over, Memory, Session, withFramed, withInbox, withPhase, withPart, withAfterCr, between}
 use Rattle.demand2.specs.Room.{Fits, room}
 use Rattle.demand2.specs.Marks.{withSign, AnswerLeaves, TurnLeaves}
 use Rattle.demand2.specs.Refusals.{isDropped, Heeded, awaitsLine, WholeLine, TurnSaid, TransferByte}
-
--- A session with no line begun. afterCr: an LF now is dropped; out: what waits for give
-abbrev pub session : Phase → Bool → Bytes → Memory → Session
-session p afterCr out m = record { phase = p; part = []; afterCr = afterCr; out = out; memory = m }
-
--- "Partner has B: framed mode, at any level. Otherwise plain mode.": the mode is this, all else is as it was
-abbrev pub withMode : Bool → Memory → Memory
-withMode framed m =
-    record { framed = framed; states = m .states; sending = m .sending; inbox = m .inbox; deferred = m .deferred }
 
 -- "kept, with its proposal's form and fields as read, and its own heading and body"
 abbrev pub messageFrom : Proposal → Bytes → Bytes → Message
@@ -40,8 +31,7 @@ messageFrom p heading body =
 
 -- "A message is kept at its last byte.": after those that are kept, all else is as it was
 abbrev pub withMessage : Memory → Message → Memory
-withMessage m x =
-    record { framed = m .framed; states = m .states; sending = m .sending; inbox = m .inbox ++ (x ∷ []); deferred = m .deferred }
+withMessage m x = withInbox (m .inbox ++ (x ∷ [])) m
 
 -- "One LF directly after .. the CR that closes a plain transfer, is dropped"; a framed one is closed by its checksum
 abbrev pub endsWithCr : Form → Bool
@@ -74,64 +64,63 @@ turnSaid E ff (i ∷ is) = blockText (E .table) (i ∷ is)
 -- After FQ nothing more, after FF the partner's turn, after proposals its FS line is awaited.
 abbrev pub turnAwaits : Bool → List ℕ → Phase
 turnAwaits true [] = leaving
-turnAwaits false [] = awaitsTurn true []
-turnAwaits ff (i ∷ is) = awaitsAnswer (i ∷ is)
+turnAwaits false [] = newTurn true
+turnAwaits ff (i ∷ is) = aLine (awaitsAnswer (i ∷ is))
 
 -- Our turn, said after o; ff: the partner's turn just now was FF
 abbrev pub weSpeak : Shelf → Bool → Bool → Bytes → Memory → Session
-weSpeak E afterCr ff o m = session (turnAwaits ff (proposed E m)) afterCr (o ++ turnSaid E ff (proposed E m)) m
+weSpeak E afterCr ff o m = between (turnAwaits ff (proposed E m)) afterCr (o ++ turnSaid E ff (proposed E m)) m
 
 -- "The right to propose passes to whoever sent the FS.": o waits; the transfers of these proposals are awaited, or else it is our turn
 abbrev pub transfersOr : Shelf → Bool → Bytes → List Proposal → Memory → Session
 transfersOr E afterCr o [] m = weSpeak E afterCr false o m
-transfersOr E afterCr o (p ∷ ps) m = session (awaitsTransfer p ps (scanFrom (p .form))) afterCr o m
+transfersOr E afterCr o (p ∷ ps) m = between (awaitsTransfer p ps (scanFrom (p .form))) afterCr o m
 
 -- ---------------------------------------------------------------- THE EVENTS
 
 -- The byte b comes to the session s, and then the session is the one named; q: the bytes so far of the transfer under way
 pub data Event (E : Shelf) (q : Bytes) (s : Session) (b : ℕ) : Session → Type 0 where
   -- "One LF .. is dropped"
-  lfGoes : isDropped s b ≡ true
-      → Event E q s b (record { phase = s .phase; part = s .part; afterCr = false; out = s .out; memory = s .memory })
+  lfGoes : isDropped s b ≡ true → Event E q s b (withAfterCr false s)
   -- a byte of a line
   lineGrows : Heeded s b → awaitsLine (s .phase) ≡ true → eqb b CR ≡ false → length (s .part) < lineLimit
-      → Event E q s b (record { phase = s .phase; part = s .part ++ (b ∷ []); afterCr = false; out = s .out; memory = s .memory })
+      → Event E q s b (withPart (s .part ++ (b ∷ [])) (withAfterCr false s))
   -- "A line that begins with `;` is ignored"
   ignored : Heeded s b → awaitsLine (s .phase) ≡ true → b ≡ CR → isComment (trim (s .part)) ≡ true
-      → Event E q s b (session (s .phase) true [] (s .memory))
+      → Event E q s b (between (s .phase) true [] (s .memory))
   -- the SID: "Called: we .. await the caller's SID, then its first turn."; "Partner has B: framed mode"
-  sidOfCaller : (line : Bytes) → WholeLine s b line → s .phase ≡ awaitsSid false → (fs : List ℕ) → readSid line ≡ some fs → hasFeature 5 fs ≡ true
-      → Event E q s b (session (awaitsTurn false []) true [] (withMode (framed fs) (s .memory)))
+  sidOfCaller : (line : Bytes) → WholeLine s b line → s .phase ≡ aLine (awaitsSid false) → (fs : List ℕ) → readSid line ≡ some fs → hasFeature 5 fs ≡ true
+      → Event E q s b (between (newTurn false) true [] (withFramed (framed fs) (s .memory)))
   -- "Caller: we await the SID, skip text lines until the prompt"
-  sidOfCalled : (line : Bytes) → WholeLine s b line → s .phase ≡ awaitsSid true → (fs : List ℕ) → readSid line ≡ some fs → hasFeature 5 fs ≡ true
-      → Event E q s b (session awaitsPrompt true [] (withMode (framed fs) (s .memory)))
-  textLine : (line : Bytes) → WholeLine s b line → s .phase ≡ awaitsPrompt → isPrompt line ≡ false
-      → Event E q s b (session awaitsPrompt true [] (s .memory))
+  sidOfCalled : (line : Bytes) → WholeLine s b line → s .phase ≡ aLine (awaitsSid true) → (fs : List ℕ) → readSid line ≡ some fs → hasFeature 5 fs ≡ true
+      → Event E q s b (between (aLine awaitsPrompt) true [] (withFramed (framed fs) (s .memory)))
+  textLine : (line : Bytes) → WholeLine s b line → s .phase ≡ aLine awaitsPrompt → isPrompt line ≡ false
+      → Event E q s b (between (aLine awaitsPrompt) true [] (s .memory))
   -- "then send SID and first turn"
-  prompt : (line : Bytes) → WholeLine s b line → s .phase ≡ awaitsPrompt → isPrompt line ≡ true
+  prompt : (line : Bytes) → WholeLine s b line → s .phase ≡ aLine awaitsPrompt → isPrompt line ≡ true
       → Event E q s b (weSpeak E true false (withCr (fixedText ourSid)) (s .memory))
   -- a proposal of the partner's
   proposal : (line : Bytes) (ff : Bool) (ps : List Proposal) → TurnSaid s b ff ps line → (p : Proposal) → readTurnLine (s .memory .framed) line ≡ proposes p
-      → length ps < blockLimit → Event E q s b (session (awaitsTurn ff (ps ++ (p ∷ []))) true [] (s .memory))
+      → length ps < blockLimit → Event E q s b (between (aLine (awaitsTurn ff (ps ++ (p ∷ [])))) true [] (s .memory))
   -- its FF: "State 1 is set at the CR that ends the partner's next whole valid turn.", then our turn
   ffTurn : (line : Bytes) → TurnSaid s b false [] line → readTurnLine (s .memory .framed) line ≡ saysFF → (after : Memory) → TurnLeaves (s .memory) after
       → Event E q s b (weSpeak E true true [] after)
   -- "FQ received ends the session at its CR"
   fqTurn : (line : Bytes) → TurnSaid s b true [] line → readTurnLine (s .memory .framed) line ≡ saysFQ
-      → Event E q s b (session over true [] (s .memory))
+      → Event E q s b (between over true [] (s .memory))
   -- its F>: the same marks, and our FS line waits
   blockEnd : (line : Bytes) (ff : Bool) (p : Proposal) (ps : List Proposal) → TurnSaid s b ff (p ∷ ps) line → readTurnLine (s .memory .framed) line ≡ endsBlock
       → (after : Memory) → TurnLeaves (s .memory) after
       → Event E q s b
       (transfersOr E true (withCr (fsLine (answersTo E (s .memory .inbox) (p ∷ ps)))) (withSign accept (p ∷ ps) (answersTo E (s .memory .inbox) (p ∷ ps))) after)
   -- its FS line: "`-` sets state 2 .. Accepted records are sent in order.", then its turn
-  fsLineComes : (line : Bytes) (is : List ℕ) → WholeLine s b line → s .phase ≡ awaitsAnswer is → (ss : List Sign) → readFs (length is) line ≡ some ss
+  fsLineComes : (line : Bytes) (is : List ℕ) → WholeLine s b line → s .phase ≡ aLine (awaitsAnswer is) → (ss : List Sign) → readFs (length is) line ≡ some ss
       → (after : Memory) → AnswerLeaves is ss (s .memory) after
-      → Event E q s b (session (awaitsTurn false []) true (transfersSaid (E .table) (withSign accept is ss)) after)
+      → Event E q s b (between (newTurn false) true (transfersSaid (E .table) (withSign accept is ss)) after)
   -- a byte of a transfer
   transferGrows : (p : Proposal) (reading onward : Scan) → (t : TransferByte s b p reading)
-      → scan (room E (s .memory .inbox)) (p .form) (q ++ (b ∷ [])) ≡ goes onward → Event E q s b
-      (record { phase = awaitsTransfer p (t .others) onward; part = s .part; afterCr = false; out = s .out; memory = s .memory })
+      → scan (room E (s .memory .inbox)) (p .form) (q ++ (b ∷ [])) ≡ goes onward
+      → Event E q s b (withPhase (awaitsTransfer p (t .others) onward) (withAfterCr false s))
   -- its last byte: "A message is kept at its last byte."; an LF after it is dropped if it is plain
   transferWhole : (p : Proposal) (reading : Scan) → (t : TransferByte s b p reading) → (heading body : Bytes)
       → parse (p .form) (q ++ (b ∷ [])) ≡ some (record { heading = heading; body = body; right = true }) → Fits E (s .memory .inbox) body

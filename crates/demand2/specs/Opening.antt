@@ -6,12 +6,12 @@ use Prim.Native.Nat.{ℕ, _<_}
 use lib.ListN.{length, getD}
 use Rattle.grammar.specs.Ascii.{text}
 use Rattle.grammar.specs.Turns.{withCr}
-use Rattle.session.specs.Session.{awaitsSid, Session}
+use Rattle.session.specs.Session.{awaitsSid, aLine, Session}
 
 -- caller: the role (true: 1, caller); states: those of the records, as open found them
 pub record OpenExact (caller : Bool) (states : List ℕ) (s : Session) : Type 0 where
   -- "Called: we send it, CR, `>`, CR, and await the caller's SID"; "Caller: we await the SID"
-  pub awaits : s .phase ≡ awaitsSid caller
+  pub awaits : s .phase ≡ aLine (awaitsSid caller)
   pub called : caller ≡ false → s .out ≡ withCr (text "[NOD-1-BFH$]") ++ withCr (text ">")
   pub calling : caller ≡ true → s .out ≡ []
   -- no line is begun, and no CR came after which an LF is dropped

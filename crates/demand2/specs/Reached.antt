@@ -9,7 +9,7 @@ use lib.ListN.{length}
 use Rattle.grammar.specs.Bytes.{Bytes}
 use Rattle.grammar.specs.Answers.{Sign}
 use Rattle.session.specs.Choices.{Shelf}
-use Rattle.session.specs.Session.{Phase, awaitsSid, awaitsPrompt, leaving, over, awaitsTurn, awaitsAnswer, awaitsTransfer, Memory, Session, opened, ended}
+use Rattle.session.specs.Session.{awaitsAnswer, Phase, aLine, awaitsTransfer, leaving, over, Memory, Session, opened, ended}
 use Rattle.session.specs.Calls.{receive, give}
 use Rattle.demand2.specs.Refusals.{isDropped, SoFar}
 use Rattle.demand2.specs.Marks.{isIn, withSign, AnswerLeaves}
@@ -17,10 +17,7 @@ use Rattle.demand2.specs.OurTurn.{OurBlock}
 
 -- How many transfers are owed to us, the one under way with them.
 abbrev pub owed : Phase → ℕ
-owed (awaitsSid c) = 0
-owed awaitsPrompt = 0
-owed (awaitsTurn ff ps) = 0
-owed (awaitsAnswer is) = 0
+owed (aLine a) = 0
 owed (awaitsTransfer p ps sc) = suc (length ps)
 owed leaving = 0
 owed over = 0
@@ -46,7 +43,7 @@ pub record Sound (E : Shelf) (s : Session) (q : Bytes) : Type 0 where
   pub soFar : SoFar E (s .phase) (s .memory) q
   pub between : owed (s .phase) ≡ 0 → q ≡ []
   -- the records whose FS line is awaited are those of our block: places of the table in order, each waiting and not deferred
-  pub asked : (is : List ℕ) → s .phase ≡ awaitsAnswer is → OurBlock (E .table) (s .memory .framed) (s .memory .states) (s .memory .deferred) is
+  pub asked : (is : List ℕ) → s .phase ≡ aLine (awaitsAnswer is) → OurBlock (E .table) (s .memory .framed) (s .memory .states) (s .memory .deferred) is
   -- after the end nothing waits: "After a refusal nothing more is sent"; "Give on an ended session writes nothing"
   pub silent : ended s ≡ true → s .out ≡ []
 

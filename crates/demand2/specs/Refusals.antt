@@ -27,7 +27,7 @@ use Rattle.grammar.specs.Answers.{readFs}
 use Rattle.grammar.specs.Transfers.{Parsed, parse}
 use Rattle.grammar.specs.Scan.{Scan, goes, scan, bodyOf, isBodyByte}
 use Rattle.session.specs.Choices.{Shelf}
-use Rattle.session.specs.Session.{Phase, awaitsSid, awaitsPrompt, leaving, over, awaitsTurn, awaitsAnswer, awaitsTransfer, Memory, Session, step, ended}
+use Rattle.session.specs.Session.{awaitsSid, awaitsTurn, awaitsAnswer, Phase, aLine, awaitsTransfer, leaving, over, Memory, Session, between, step, ended}
 use Rattle.session.specs.Calls.{receive}
 use Rattle.demand2.specs.Room.{Full, room}
 
@@ -44,10 +44,7 @@ pub record Heeded (s : Session) (b : ℕ) : Type 0 where
 
 -- "wherever a line is awaited"
 abbrev pub awaitsLine : Phase → Bool
-awaitsLine (awaitsSid c) = true
-awaitsLine awaitsPrompt = true
-awaitsLine (awaitsTurn ff ps) = true
-awaitsLine (awaitsAnswer is) = true
+awaitsLine (aLine a) = true
 awaitsLine (awaitsTransfer p ps sc) = false
 awaitsLine leaving = false
 awaitsLine over = false
@@ -73,7 +70,7 @@ pub record NotSid (s : Session) (b : ℕ) : Type 0 where
   pub line : Bytes
   pub whole : WholeLine s b line
   pub caller : Bool
-  pub awaited : s .phase ≡ awaitsSid caller
+  pub awaited : s .phase ≡ aLine (awaitsSid caller)
   pub invalid : readSid line ≡ none
 
 -- 4: "partner's SID has no F"; F is feature 5
@@ -81,7 +78,7 @@ pub record NoForwarding (s : Session) (b : ℕ) : Type 0 where
   pub line : Bytes
   pub whole : WholeLine s b line
   pub caller : Bool
-  pub awaited : s .phase ≡ awaitsSid caller
+  pub awaited : s .phase ≡ aLine (awaitsSid caller)
   pub features : List ℕ
   pub valid : readSid line ≡ some features
   pub without : hasFeature 5 features ≡ false
@@ -108,13 +105,13 @@ isMiscounted ps (proposes q) = not (ltb (length ps) blockLimit)
 -- A line of the partner's turn, of which these proposals are there.
 pub record TurnSaid (s : Session) (b : ℕ) (ff : Bool) (ps : List Proposal) (line : Bytes) : Type 0 where
   pub whole : WholeLine s b line
-  pub awaited : s .phase ≡ awaitsTurn ff ps
+  pub awaited : s .phase ≡ aLine (awaitsTurn ff ps)
 
 -- A line where the FS line on our n proposals is awaited, and it is none.
 pub record NoAnswer (s : Session) (b : ℕ) (line : Bytes) : Type 0 where
   pub whole : WholeLine s b line
   pub places : List ℕ
-  pub awaited : s .phase ≡ awaitsAnswer places
+  pub awaited : s .phase ≡ aLine (awaitsAnswer places)
   pub wrong : readFs (length places) line ≡ none
 
 -- "Where FS is awaited, a wrong line that begins with FS gets 7 and any other 5"
@@ -146,10 +143,7 @@ pub record WrongAnswer (s : Session) (b : ℕ) : Type 0 where
 
 -- q: the bytes of the transfer under way that came so far; its reading has come from them.
 abbrev pub SoFar : Shelf → Phase → Memory → Bytes → Type 0
-SoFar E (awaitsSid c) m q = Unit {0}
-SoFar E awaitsPrompt m q = Unit {0}
-SoFar E (awaitsTurn ff ps) m q = Unit {0}
-SoFar E (awaitsAnswer is) m q = Unit {0}
+SoFar E (aLine a) m q = Unit {0}
 SoFar E (awaitsTransfer p ps sc) m q = scan (room E (m .inbox)) (p .form) q ≡ goes sc
 SoFar E leaving m q = Unit {0}
 SoFar E over m q = Unit {0}
@@ -229,8 +223,7 @@ pub record Exact (E : Shelf) (q : Bytes) (s : Session) (b : ℕ) : Type 0 where
   pub only : (n : Refusal) → step E s b .answer ≡ numberOf n → Situation E q s b n
   pub none : step E s b .answer ≡ 0 → (n : Refusal) → Situation E q s b n → ⊥
   pub else : ((n : Refusal) → Situation E q s b n → ⊥) → step E s b .answer ≡ 0
-  pub leaves : (n : Refusal) → Situation E q s b n
-      → step E s b .session ≡ record { phase = over; part = []; afterCr = false; out = []; memory = s .memory }
+  pub leaves : (n : Refusal) → Situation E q s b n → step E s b .session ≡ between over false [] (s .memory)
 
 -- ---------------------------------------------------------------- 12
 

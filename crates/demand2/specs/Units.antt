@@ -12,14 +12,14 @@ use Rattle.grammar.specs.Turns.{Proposal}
 use Rattle.grammar.specs.Transfers.{parse}
 use Rattle.grammar.specs.Scan.{scanFrom}
 use Rattle.session.specs.Choices.{Shelf}
-use Rattle.session.specs.Session.{Phase, awaitsTransfer, Memory, Session, step}
+use Rattle.session.specs.Session.{Phase, awaitsTransfer, Memory, Session, withPart, between, step}
 use Rattle.session.specs.Calls.{Received, receive}
 use Rattle.demand2.specs.Room.{Fits}
-use Rattle.demand2.specs.Events.{session, messageFrom, withMessage, endsWithCr, transfersOr}
+use Rattle.demand2.specs.Events.{messageFrom, withMessage, endsWithCr, transfersOr}
 
 -- A session where a line is awaited and these bytes of it have come; afterCr: an LF now is dropped
 abbrev pub lineBegun : Phase → Memory → Bool → Bytes → Session
-lineBegun p m afterCr w = record { phase = p; part = w; afterCr = afterCr; out = []; memory = m }
+lineBegun p m afterCr w = withPart w (between p afterCr [] m)
 
 -- "A line ends with CR.": none of these bytes is one
 abbrev pub hasNoCr : Bytes → Bool
@@ -41,7 +41,7 @@ pub record LineWhole (E : Shelf) (p : Phase) (m : Memory) : Type 0 where
 
 -- Where the transfer of p is awaited, then those of ps, and none of its bytes has come.
 abbrev pub transferDue : Proposal → List Proposal → Memory → Bool → Session
-transferDue p ps m afterCr = session (awaitsTransfer p ps (scanFrom (p .form))) afterCr [] m
+transferDue p ps m afterCr = between (awaitsTransfer p ps (scanFrom (p .form))) afterCr [] m
 
 -- The message is kept, n bytes were consumed, and the next transfer or our turn follows.
 abbrev pub keptWith : Shelf → Proposal → List Proposal → Memory → ℕ → Bytes → Bytes → Received

@@ -68,9 +68,9 @@ module _ (E : Shelf) (S : Sound E) where
 
 pub open-inv : (E : Shelf) (caller : Bool) (states : List ℕ) → Inv E (opened caller states) (fedOpened caller states)
 open-inv E true states =
-    live (record { unit = []; course = spoken-nil (E .table) false _; book = refl; afterCr = refl; pending = no-line })
+    live (record { unit = []; course = spoken-nil (E .table) false _; book = refl; afterCr = refl; pending = (no-line, tt) })
 open-inv E false states =
-    live (record { unit = []; course = greeting-spoken (E .table) false []; book = refl; afterCr = refl; pending = no-line })
+    live (record { unit = []; course = greeting-spoken (E .table) false []; book = refl; afterCr = refl; pending = (no-line, tt) })
 
 -- THE THEOREM: every table that open accepts, either role, any states, every list of calls
 pub demand-3 : (E : Shelf) → Good (E .table) → (caller : Bool) (states : List ℕ) (cs : List Call) → Demand3 E caller states cs

@@ -14,17 +14,21 @@ use Rattle.grammar.specs.Scan.{goes}
 use Rattle.grammar.proofs.Refusal.{Reach}
 use Rattle.mail.specs.Mail.{Record}
 use Rattle.session.specs.Choices.{Shelf}
-use Rattle.session.specs.Session.{Phase, awaitsSid, awaitsPrompt, leaving, awaitsTurn, awaitsAnswer, awaitsTransfer, Memory, Session, roomFor, ended}
+use Rattle.session.specs.Session.{Awaited, awaitsSid, awaitsPrompt, awaitsTurn, awaitsAnswer, Phase, aLine, awaitsTransfer, leaving, Memory, Session, roomFor, ended}
 use Rattle.session.specs.Calls.{give, handedOut}
-use Rattle.log.specs.Log.{gave, Next, theirSid, theirText, theirTurn, theirAnswer, theirTransfer, Course, Book}
+use Rattle.log.specs.Log.{gave, Theirs, theirText, theirSid, theirTurn, theirAnswer, Next, theySay, theirTransfer, Course, Book}
 use Rattle.log.specs.Fed.{Fed, fedAll}
 use Rattle.log.proofs.Spoken.{spoken, spoken-append, spoken-none, gave-spoken}
 
+-- the line that is awaited, for the log
+abbrev pub lineOf : Awaited → Theirs
+lineOf (awaitsSid c) = theirSid c
+lineOf awaitsPrompt = theirText
+lineOf (awaitsTurn ff ps) = theirTurn ff (map proposes ps)
+lineOf (awaitsAnswer is) = theirAnswer is
+
 abbrev pub nextOf : Phase → Next
-nextOf (awaitsSid c) = theirSid c
-nextOf awaitsPrompt = theirText
-nextOf (awaitsTurn ff ps) = theirTurn ff (map proposes ps)
-nextOf (awaitsAnswer is) = theirAnswer is
+nextOf (aLine a) = theySay (lineOf a)
 nextOf (awaitsTransfer p ps sc) = theirTransfer p ps
 nextOf leaving = Next.over
 nextOf Phase.over = Next.over
@@ -42,12 +46,16 @@ Line part u = (u ≡ part) × (length part ≤ 256)
 pub no-line : Line [] []
 no-line = (refl, omega arith)
 
+-- the proposals so far
+abbrev pub Few : Awaited → Type 0
+Few (awaitsSid c) = Unit {0}
+Few awaitsPrompt = Unit {0}
+Few (awaitsTurn ff ps) = length ps ≤ 5
+Few (awaitsAnswer is) = Unit {0}
+
 -- what the session holds of the partner's unit so far, u
 abbrev pub Pending : Shelf → Memory → Phase → Bytes → Bytes → Type 0
-Pending E m (awaitsSid c) part u = Line part u
-Pending E m awaitsPrompt part u = Line part u
-Pending E m (awaitsTurn ff ps) part u = Line part u × (length ps ≤ 5)
-Pending E m (awaitsAnswer is) part u = Line part u
+Pending E m (aLine a) part u = Line part u × Few a
 Pending E m (awaitsTransfer p ps sc) part u = Reach (roomFor E m) (p .form) (goes sc) u
 Pending E m leaving part u = Unit {0}
 Pending E m Phase.over part u = Unit {0}

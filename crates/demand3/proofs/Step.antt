@@ -20,15 +20,15 @@ use Rattle.grammar.specs.Scan.{Scan, Scanned, goes, got, malformed, wrongSum, n
 use Rattle.grammar.proofs.Refusal.{Reach, reach-step, from, contentOf, read-as}
 use Rattle.mail.specs.Mail.{Record, messageOf, turnText, transfersText, accepted}
 use Rattle.session.specs.Choices.{Shelf, answersTo}
-use Rattle.session.specs.Session.{Phase, awaitsSid, awaitsPrompt, leaving, awaitsTurn, awaitsAnswer, awaitsTransfer, Memory, Session, Outcome, refuses, goesOn, speaking, turnMarks, answering, answered, turnJudged, answerMarks, answerJudged, afterSid, sidJudged, textJudged, lineJudged, refused, settled, lineMoved, keptIn, nextTransfer, transferMoved, roomFor, lineStep, phaseStep, freeStep, lfDropped, step, ended}
+use Rattle.session.specs.Session.{Awaited, awaitsSid, awaitsPrompt, awaitsTurn, awaitsAnswer, Phase, aLine, newTurn, awaitsTransfer, leaving, Memory, Session, withFramed, withPart, withAfterCr, between, Outcome, refuses, goesOn, speaking, ourTurn as speakNow, turnMarks, answering, answered, turnJudged, answerMarks, answerJudged, afterSid, sidJudged, textJudged, awaitedJudged, lineJudged, refused, settled, lineMoved, keptIn, nextTransfer, transferMoved, roomFor, lineStep, phaseStep, freeStep, step, ended}
 use Rattle.session.specs.Session
-use Rattle.log.specs.Log.{took, Next, ourSidLine, theirText, ourAnswer, theirTransfer, Course, Book, Log, isOurs, saidOn, inOrder, said, theirsOwed, placesOf, ourProposed, Effect, effect, theirSaid, theirAnswered, theirSidRead, theirLine, judgedLine}
+use Rattle.log.specs.Log.{ourNewTurn, took, ourSidLine, ourAnswer, theirText, Next, weSay, theySay, theirTransfer, Course, Book, Log, isOurs, saidOn, inOrder, said, theirsOwed, placesOf, ourProposed, Effect, effect, theirSaid, theirAnswered, theirSidRead, theirRead, theirLine, judgedLine}
 use Rattle.log.specs.Log
 use Rattle.log.specs.Fed.{Fed, unitByte, outOfOrder, fedByte}
 use Rattle.log.proofs.Said.{said-after}
 use Rattle.log.proofs.Spoken.{spoken, spoken-nil, spoken-append, spoken-alone, spoken-ours, withSpoken, at, AllFit, map-snoc, ff-spoken, fq-spoken, sid-spoken, turn-spoken, fs-spoken, transfers-spoken}
 use Rattle.demand3.proofs.Choice.{Sound, ourChoice, proposalsAt}
-use Rattle.demand3.proofs.Inv.{nextOf, courseOf, bookOf, no-line, Pending, Live, Inv, live, gone}
+use Rattle.demand3.proofs.Inv.{lineOf, Few, nextOf, courseOf, bookOf, no-line, Pending, Live, Inv, live, gone}
 
 -- a refusal that leaves the log's book; whatever its number, the session is the same
 refusal : (E : Shelf) (s : Session) (f : Fed) → f .log .book ≡ bookOf (s .memory) → Inv E (refused s 0 .session) f
@@ -46,7 +46,7 @@ says : (E : Shelf) (s : Session) (a : Bool) (p : Phase) (m : Memory) (o : Bytes)
 says E s a p m o c e h = live (record { unit = []; course = e; book = refl; afterCr = refl; pending = h })
 
 our-turn : (E : Shelf) → Sound E → (o : Bytes) (ff : Bool) (m : Memory) (s : Session) (a : Bool) (c : Course)
-    → spoken (E .table) (m .framed) (some (c, [])) o ≡ at (Next.ourTurn ff []) (m .sending) → Inv E (settled s a (Session.ourTurn E o ff m) .session) (after a m c)
+    → spoken (E .table) (m .framed) (some (c, [])) o ≡ at (ourNewTurn ff) (m .sending) → Inv E (settled s a (speakNow E o ff m) .session) (after a m c)
 our-turn E S o ff m s a c e = go ff (ourChoice E m) (S .few m) (S .own m) (S .fit m) e
   where
     T : List Record
@@ -60,24 +60,24 @@ our-turn E S o ff m s a c e = go ff (ourChoice E m) (S .few m) (S .own m) (S .fi
         (spoken-append T (m .framed) (some (c, [])) o x ∙ ap (λ (y : Option (Course × Bytes)). spoken T (m .framed) y x) e ∙ k) h
 
     go : (ff : Bool) (is : List ℕ) → length is ≤ 5 → placesOf T (proposalsAt T is) ≡ some is → AllFit (m .framed) (proposalsAt T is)
-        → spoken T (m .framed) (some (c, [])) o ≡ at (Next.ourTurn ff []) (m .sending) → Inv E (settled s a (speaking E o ff is m) .session) (after a m c)
-    go true [] few own fit e = then (Next.ourTurn true []) (withCr (fixedText ourFQ)) leaving e (fq-spoken T (m .framed) (m .sending)) tt
-    go false [] few own fit e = then (Next.ourTurn false []) (withCr (fixedText ourFF)) (awaitsTurn true []) e (ff-spoken T (m .framed) (m .sending)) (no-line, omega arith)
+        → spoken T (m .framed) (some (c, [])) o ≡ at (ourNewTurn ff) (m .sending) → Inv E (settled s a (speaking E o ff is m) .session) (after a m c)
+    go true [] few own fit e = then (ourNewTurn true) (withCr (fixedText ourFQ)) leaving e (fq-spoken T (m .framed) (m .sending)) tt
+    go false [] few own fit e = then (ourNewTurn false) (withCr (fixedText ourFF)) (newTurn true) e (ff-spoken T (m .framed) (m .sending)) (no-line, omega arith)
     go ff (i ∷ is) few own fit e =
-        then (Next.ourTurn ff []) (turnText (proposalsAt T (i ∷ is))) (awaitsAnswer (i ∷ is)) e
+        then (ourNewTurn ff) (turnText (proposalsAt T (i ∷ is))) (aLine (awaitsAnswer (i ∷ is))) e
         (turn-spoken T (m .framed) ff _ (proposalsAt T is) (m .sending) fit (rw (length-map is) few)
         ∙ ap (λ (js : Option (List ℕ)). at (ourProposed js) (m .sending)) own)
-        no-line
+        (no-line, tt)
 
 answer : (E : Shelf) → Sound E → (ps : List Proposal) (m : Memory) (s : Session) → 1 ≤ length ps → length ps ≤ 5
-    → Inv E (settled s true (answered E ps m) .session) (after true m (record { next = ourAnswer ps; sent = m .sending }))
+    → Inv E (settled s true (answered E ps m) .session) (after true m (record { next = weSay (ourAnswer ps); sent = m .sending }))
 answer E S ps m s k l = go (accepted ss ps) (fs-spoken (E .table) (m .framed) ps ss (m .sending) (S .full (m .inbox) ps) k l)
   where
     ss : List Sign
     ss = answersTo E (m .inbox) ps
 
     c : Course
-    c = record { next = ourAnswer ps; sent = m .sending }
+    c = record { next = weSay (ourAnswer ps); sent = m .sending }
 
     go : (qs : List Proposal) → spoken (E .table) (m .framed) (some (c, [])) (withCr (fsLine ss)) ≡ at (theirsOwed qs) (m .sending)
         → Inv E (settled s true (answering E ss qs m) .session) (after true m c)
@@ -87,8 +87,11 @@ answer E S ps m s k l = go (accepted ss ps) (fs-spoken (E .table) (m .framed) ps
 -- ---------------------------------------------------------------- the partner's lines and transfers
 
 -- a session with no bytes waiting, and its twin; u is the partner's unit so far
+abbrev holding : Phase → Bytes → Bool → Bytes → Memory → Session
+holding p part a o m = withPart part (between p a o m)
+
 abbrev idle : Phase → Bytes → Bool → Memory → Session
-idle p part a m = record { phase = p; part = part; afterCr = a; out = []; memory = m }
+idle p part a m = holding p part a [] m
 
 abbrev twin : Phase → Bool → Memory → Bytes → Fed
 twin p a m u = record { log = record { afterCr = a; course = courseOf p m; book = bookOf m }; raw = u }
@@ -109,51 +112,51 @@ plain-alike file = refl
 
 module _ (E : Shelf) (S : Sound E) (part : Bytes) (a : Bool) (m : Memory) where
   -- a whole line's outcome for the session, and its effect on the log
-  AfterLine : Phase → Outcome → Effect → Type 0
-  AfterLine p o e = Inv E (settled (idle p part a m) true o .session) (effected e)
+  AfterLine : Awaited → Outcome → Effect → Type 0
+  AfterLine p o e = Inv E (settled (idle (aLine p) part a m) true o .session) (effected e)
 
-  wrong-line : (p : Phase) (n : ℕ) (e : Effect) → e .book ≡ bookOf m → AfterLine p (refuses n) e
+  wrong-line : (p : Awaited) (n : ℕ) (e : Effect) → e .book ≡ bookOf m → AfterLine p (refuses n) e
   unfolding AfterLine
-  wrong-line p n e h = refusal E (idle p part a m) (effected e) h
+  wrong-line p n e h = refusal E (idle (aLine p) part a m) (effected e) h
 
   -- with nothing to say
-  quiet : (p q : Phase) (k : Memory) → Pending E k q [] [] → AfterLine p (goesOn q k []) (effect (bookOf k) (k .sending) (nextOf q))
+  quiet : (p : Awaited) (q : Phase) (k : Memory) → Pending E k q [] [] → AfterLine p (goesOn q k []) (effect (bookOf k) (k .sending) (nextOf q))
   unfolding AfterLine
-  quiet p q k h = says E (idle p part a m) true q k [] (courseOf q k) (spoken-nil (E .table) (k .framed) (some (courseOf q k, []))) h
+  quiet p q k h = says E (idle (aLine p) part a m) true q k [] (courseOf q k) (spoken-nil (E .table) (k .framed) (some (courseOf q k, []))) h
 
   sid-line : (c : Bool) (r : Option (List ℕ)) → AfterLine (awaitsSid c) (sidJudged c m r) (theirSidRead c (bookOf m) (m .sending) r)
-  sid-line c none = wrong-line (awaitsSid c) _ _ refl
+  sid-line c none = wrong-line _ _ _ refl
   sid-line c (some fs) = go c (hasFeature 5 fs)
     where
       k : Memory
-      k = Session.inMode (framed fs) m
+      k = withFramed (framed fs) m
 
       go : (c d : Bool)
           → AfterLine (awaitsSid c) (cond d (goesOn (afterSid c) k []) (refuses noForwarding))
-          (cond d (effect (bookOf k) (m .sending) (Log.afterTheirSid c)) (effect (bookOf m) (m .sending) Next.over))
-      go true true = quiet (awaitsSid true) awaitsPrompt k no-line
-      go false true = quiet (awaitsSid false) (awaitsTurn false []) k (no-line, omega arith)
-      go c false = wrong-line (awaitsSid c) _ _ refl
+          (cond d (effect (bookOf k) (m .sending) (theySay (Log.afterTheirSid c))) (effect (bookOf m) (m .sending) Next.over))
+      go true true = quiet _ (aLine awaitsPrompt) k (no-line, tt)
+      go false true = quiet _ (newTurn false) k (no-line, omega arith)
+      go c false = wrong-line _ _ _ refl
 
   text-line : (c : Bool)
-      → AfterLine awaitsPrompt (textJudged E c m) (cond c (effect (bookOf m) (m .sending) ourSidLine) (effect (bookOf m) (m .sending) theirText))
+      → AfterLine awaitsPrompt (textJudged E c m) (cond c (effect (bookOf m) (m .sending) (weSay ourSidLine)) (effect (bookOf m) (m .sending) (theySay theirText)))
   unfolding AfterLine
   text-line true =
-      our-turn E S (withCr (fixedText ourSid)) false m (idle awaitsPrompt part a m) true (record { next = ourSidLine; sent = m .sending })
+      our-turn E S (withCr (fixedText ourSid)) false m (idle (aLine awaitsPrompt) part a m) true (record { next = weSay ourSidLine; sent = m .sending })
       (sid-spoken (E .table) (m .framed) (m .sending))
-  text-line false = quiet awaitsPrompt awaitsPrompt m no-line
+  text-line false = quiet awaitsPrompt (aLine awaitsPrompt) m (no-line, tt)
 
   -- FF, and a whole block
-  after-ff : (p : Phase) → AfterLine p (Session.ourTurn E [] true (turnMarks m)) (effect (bookOf (turnMarks m)) [] (Next.ourTurn true []))
+  after-ff : (p : Awaited) → AfterLine p (speakNow E [] true (turnMarks m)) (effect (bookOf (turnMarks m)) [] (ourNewTurn true))
   unfolding AfterLine
   after-ff p =
-      our-turn E S [] true (turnMarks m) (idle p part a m) true (record { next = Next.ourTurn true []; sent = [] })
-      (spoken-nil (E .table) (m .framed) (at (Next.ourTurn true []) []))
+      our-turn E S [] true (turnMarks m) (idle (aLine p) part a m) true (record { next = ourNewTurn true; sent = [] })
+      (spoken-nil (E .table) (m .framed) (at (ourNewTurn true) []))
 
-  after-block : (p : Phase) (q : Proposal) (qs : List Proposal) → length (q ∷ qs) ≤ 5
-      → AfterLine p (answered E (q ∷ qs) (turnMarks m)) (effect (bookOf (turnMarks m)) [] (ourAnswer (q ∷ qs)))
+  after-block : (p : Awaited) (q : Proposal) (qs : List Proposal) → length (q ∷ qs) ≤ 5
+      → AfterLine p (answered E (q ∷ qs) (turnMarks m)) (effect (bookOf (turnMarks m)) [] (weSay (ourAnswer (q ∷ qs))))
   unfolding AfterLine
-  after-block p q qs h = answer E S (q ∷ qs) (turnMarks m) (idle p part a m) (omega arith) h
+  after-block p q qs h = answer E S (q ∷ qs) (turnMarks m) (idle (aLine p) part a m) (omega arith) h
 
   -- the lines of the partner's turn so far say ps; the next is l
   turn-line : (ff : Bool) (ps : List Proposal) (l : TurnLine) → length ps ≤ 5
@@ -161,71 +164,81 @@ module _ (E : Shelf) (S : Sound E) (part : Bytes) (a : Bool) (m : Memory) where
   turn-line ff ps l h = rw (said-after ff ps (l ∷ []) h) (go ff ps l h)
     where
       five : (ff : Bool) (ps : List Proposal) (q : Proposal) (c : Bool) → ltb (length ps) 5 ≡ c
-          → AfterLine (awaitsTurn ff ps) (cond c (goesOn (awaitsTurn ff (ps ++ (q ∷ []))) m []) (refuses proposalCount))
+          → AfterLine (awaitsTurn ff ps) (cond c (goesOn (aLine (awaitsTurn ff (ps ++ (q ∷ [])))) m []) (refuses proposalCount))
           (theirSaid ff (map proposes ps ++ (proposes q ∷ [])) (bookOf m) (m .sending) (inOrder ff (cond c Log.unfinished Log.wrong)))
       five ff ps q true e =
           rw (map-snoc ps q)
-          (quiet (awaitsTurn ff ps) (awaitsTurn ff (ps ++ (q ∷ []))) m (no-line, simp length-append (omega (arith, ltb-true (length ps) 5 e))))
-      five ff ps q false e = wrong-line (awaitsTurn ff ps) _ _ refl
+          (quiet _ (aLine (awaitsTurn ff (ps ++ (q ∷ [])))) m (no-line, simp length-append (omega (arith, ltb-true (length ps) 5 e))))
+      five ff ps q false e = wrong-line _ _ _ refl
 
       go : (ff : Bool) (ps : List Proposal) (l : TurnLine) → length ps ≤ 5
           → AfterLine (awaitsTurn ff ps) (turnJudged E l ff ps m) (theirSaid ff (map proposes ps ++ (l ∷ [])) (bookOf m) (m .sending) (inOrder ff (saidOn ps (l ∷ []))))
-      go true [] saysFF h = wrong-line (awaitsTurn true []) _ _ refl
-      go false [] saysFF h = after-ff (awaitsTurn false [])
-      go ff (p ∷ ps) saysFF h = wrong-line (awaitsTurn ff (p ∷ ps)) _ _ refl
-      go true [] saysFQ h = quiet (awaitsTurn true []) Phase.over m tt
-      go false [] saysFQ h = wrong-line (awaitsTurn false []) _ _ refl
-      go ff (p ∷ ps) saysFQ h = wrong-line (awaitsTurn ff (p ∷ ps)) _ _ refl
-      go ff [] endsBlock h = wrong-line (awaitsTurn ff []) _ _ refl
-      go ff (p ∷ ps) endsBlock h = after-block (awaitsTurn ff (p ∷ ps)) p ps h
-      go ff [] notAllowed h = wrong-line (awaitsTurn ff []) _ _ refl
-      go ff (p ∷ ps) notAllowed h = wrong-line (awaitsTurn ff (p ∷ ps)) _ _ refl
+      go true [] saysFF h = wrong-line _ _ _ refl
+      go false [] saysFF h = after-ff _
+      go ff (p ∷ ps) saysFF h = wrong-line _ _ _ refl
+      go true [] saysFQ h = quiet _ Phase.over m tt
+      go false [] saysFQ h = wrong-line _ _ _ refl
+      go ff (p ∷ ps) saysFQ h = wrong-line _ _ _ refl
+      go ff [] endsBlock h = wrong-line _ _ _ refl
+      go ff (p ∷ ps) endsBlock h = after-block _ p ps h
+      go ff [] notAllowed h = wrong-line _ _ _ refl
+      go ff (p ∷ ps) notAllowed h = wrong-line _ _ _ refl
       go ff ps (proposes q) h = five ff ps q (ltb (length ps) 5) refl
 
   answer-line : (is : List ℕ) (n : ℕ) (r : Option (List Sign)) → AfterLine (awaitsAnswer is) (answerJudged E is m n r) (theirAnswered is (bookOf m) (m .sending) r)
   unfolding AfterLine
   answer-line is n none = wrong-line (awaitsAnswer is) n _ refl
   answer-line is n (some ss) =
-      says E (idle (awaitsAnswer is) part a m) true (awaitsTurn false []) (answerMarks is ss m) (transfersText (E .table) (accepted ss is))
+      says E (idle (aLine (awaitsAnswer is)) part a m) true (newTurn false) (answerMarks is ss m) (transfersText (E .table) (accepted ss is))
       (record { next = Log.oursOwed (accepted ss is); sent = m .sending })
       (transfers-spoken (E .table) (m .framed) (accepted ss is) (m .sending))
       (no-line, omega arith)
 
+  -- the line that is awaited
+  read-line : (p : Awaited) → Few p → AfterLine p (awaitedJudged E p m part) (theirRead (lineOf p) (bookOf m) (m .sending) part)
+  read-line (awaitsSid c) f = sid-line c (readSid (trim part))
+  read-line awaitsPrompt f = text-line (isPrompt (trim part))
+  read-line (awaitsTurn ff ps) f = turn-line ff ps (readTurnLine (m .framed) (trim part)) f
+  read-line (awaitsAnswer is) f = answer-line is (fsNumber (length is) (trim part)) (readFs (length is) (trim part))
+
   -- a comment, or the line
-  heard : (p : Phase) (c : Bool) (o : Outcome) (e : Effect) → Pending E m p [] [] → AfterLine p o e
-      → AfterLine p (cond c (goesOn p m []) o) (cond c (effect (bookOf m) (m .sending) (nextOf p)) e)
-  heard p true o e h k = quiet p p m h
-  heard p false o e h k = k
+  heard : (p : Awaited) → Few p → AfterLine p (lineJudged E p m part) (theirLine (lineOf p) (bookOf m) (m .sending) part)
+  heard p f = go (isComment (trim part))
+    where
+      go : (c : Bool)
+          → AfterLine p (cond c (goesOn (aLine p) m []) (awaitedJudged E p m part))
+          (cond c (effect (bookOf m) (m .sending) (theySay (lineOf p))) (theirRead (lineOf p) (bookOf m) (m .sending) part))
+      go true = quiet p (aLine p) m (no-line, f)
+      go false = read-line p f
 
   -- a byte of a line: it ends, it goes on, or it is too long
-  line-byte : (p : Phase) (b : ℕ) → length part ≤ 256 → ((u : Bytes) → length u ≤ 256 → Pending E m p u u)
-      → AfterLine p (lineJudged E p m (trim part)) (theirLine (nextOf p) (bookOf m) (m .sending) (trim part))
-      → Inv E (lineStep E (idle p part a m) b .session)
-      (cond (eqb b CR) (effected (judgedLine (nextOf p) (bookOf m) (m .sending) part)) (twin p false m (part ++ (b ∷ []))))
+  line-byte : (p : Awaited) (b : ℕ) → length part ≤ 256 → Few p
+      → Inv E (lineStep E p (idle (aLine p) part a m) b .session)
+      (cond (eqb b CR) (effected (judgedLine (lineOf p) (bookOf m) (m .sending) part)) (twin (aLine p) false m (part ++ (b ∷ []))))
   unfolding AfterLine
-  line-byte p b z w h = go (eqb b CR) (ltb (length part) 256) refl
+  line-byte p b z f = go (eqb b CR) (ltb (length part) 256) refl
     where
       go : (c d : Bool) → ltb (length part) 256 ≡ d
-          → Inv E (lineMoved E (idle p part a m) b (cond c ends (cond d grows overruns)) .session)
-          (cond c (effected (judgedLine (nextOf p) (bookOf m) (m .sending) part)) (twin p false m (part ++ (b ∷ []))))
-      go true d e = rw (le-leb (length part) 256 z) h
+          → Inv E (lineMoved E p (idle (aLine p) part a m) b (cond c ends (cond d grows overruns)) .session)
+          (cond c (effected (judgedLine (lineOf p) (bookOf m) (m .sending) part)) (twin (aLine p) false m (part ++ (b ∷ []))))
+      go true d e = rw (le-leb (length part) 256 z) (heard p f)
       go false true e =
           live
           (record {
             unit = part ++ (b ∷ []);
-            course = spoken-nil (E .table) (m .framed) (some (courseOf p m, part ++ (b ∷ [])));
+            course = spoken-nil (E .table) (m .framed) (some (courseOf (aLine p) m, part ++ (b ∷ [])));
             book = refl;
             afterCr = refl;
-            pending = w (part ++ (b ∷ [])) (simp length-append (omega (arith, ltb-true (length part) 256 e)));
+            pending = ((refl, simp length-append (omega (arith, ltb-true (length part) 256 e))), f);
           })
-      go false false e = refusal E (idle p part a m) (twin p false m (part ++ (b ∷ []))) refl
+      go false false e = refusal E (idle (aLine p) part a m) (twin (aLine p) false m (part ++ (b ∷ []))) refl
 
   -- a byte of a transfer
   next-transfer : (p : Phase) (c : Bool) (ps : List Proposal) (k : Memory)
       → Inv E (settled (idle p part a m) c (nextTransfer E ps k) .session) (after c k (record { next = theirsOwed ps; sent = k .sending }))
   next-transfer p c [] k =
-      our-turn E S [] false k (idle p part a m) c (record { next = Next.ourTurn false []; sent = k .sending })
-      (spoken-nil (E .table) (k .framed) (at (Next.ourTurn false []) (k .sending)))
+      our-turn E S [] false k (idle p part a m) c (record { next = ourNewTurn false; sent = k .sending })
+      (spoken-nil (E .table) (k .framed) (at (ourNewTurn false) (k .sending)))
   next-transfer p c (q ∷ qs) k =
       says E (idle p part a m) c (awaitsTransfer q qs (scanFrom (q .form))) k [] (record { next = theirTransfer q qs; sent = k .sending })
       (spoken-nil (E .table) (k .framed) (at (theirTransfer q qs) (k .sending)))
@@ -261,20 +274,7 @@ module _ (E : Shelf) (S : Sound E) (part : Bytes) (a : Bool) (m : Memory) where
 
   phase-byte : (p : Phase) (u : Bytes) (b : ℕ) → Pending E m p part u
       → Inv E (phaseStep E p (idle p part a m) b .session) (tookFree (E .table) (twin p a m u) b)
-  phase-byte (awaitsSid c) u b h =
-      rw (h .0)
-      (line-byte (awaitsSid c) b (h .1) (λ r k. (refl, k)) (heard (awaitsSid c) (isComment (trim part)) _ _ no-line (sid-line c (readSid (trim part)))))
-  phase-byte awaitsPrompt u b h =
-      rw (h .0)
-      (line-byte awaitsPrompt b (h .1) (λ r k. (refl, k)) (heard awaitsPrompt (isComment (trim part)) _ _ no-line (text-line (isPrompt (trim part)))))
-  phase-byte (awaitsTurn ff ps) u b h =
-      rw (h .0 .0)
-      (line-byte (awaitsTurn ff ps) b (h .0 .1) (λ r k. ((refl, k), h .1))
-      (heard (awaitsTurn ff ps) (isComment (trim part)) _ _ (no-line, h .1) (turn-line ff ps (readTurnLine (m .framed) (trim part)) (h .1))))
-  phase-byte (awaitsAnswer is) u b h =
-      rw (h .0)
-      (line-byte (awaitsAnswer is) b (h .1) (λ r k. (refl, k))
-      (heard (awaitsAnswer is) (isComment (trim part)) _ _ no-line (answer-line is (fsNumber (length is) (trim part)) (readFs (length is) (trim part)))))
+  phase-byte (aLine p) u b h = rw (h .0 .0) (line-byte p b (h .0 .1) (h .1))
   phase-byte (awaitsTransfer p ps sc) u b h = transfer-byte p ps sc u b h
   phase-byte leaving u b h = refusal E (idle leaving part a m) (twin leaving false m (u ++ (b ∷ []))) refl
   phase-byte Phase.over u b h = refusal E (idle Phase.over part a m) (twin Phase.over false m (u ++ (b ∷ []))) refl
@@ -289,23 +289,23 @@ is-twin E p part a m f h =
     ∙ ap (λ (c : Bool). record { log = record { afterCr = c; course = courseOf p m; book = bookOf m }; raw = h .unit }) (h .afterCr)
 
 free-byte : (E : Shelf) → Sound E → (p : Phase) (part : Bytes) (a : Bool) (o : Bytes) (m : Memory) (f : Fed) (b : ℕ)
-    → Live E (record { phase = p; part = part; afterCr = a; out = o; memory = m }) f
-    → Inv E (freeStep E o (record { phase = p; part = part; afterCr = a; out = o; memory = m }) b .session) (tookFree (E .table) f b)
+    → Live E (holding p part a o m) f
+    → Inv E (freeStep E o (holding p part a o m) b .session) (tookFree (E .table) f b)
 free-byte E S p part a [] m f b h =
     subst (λ (g : Fed). Inv E (phaseStep E p (idle p part a m) b .session) (tookFree (E .table) g b)) (sym (is-twin E p part a m f h))
     (phase-byte E S part a m p (h .unit) b (h .pending))
 free-byte E S p part a (x ∷ o) m f b h =
     rw (spoken-ours (E .table) (f .log .book .framed) (f .log .course, f .raw) (courseOf p m, h .unit) x o (h .course))
-    (refusal E (record { phase = p; part = part; afterCr = a; out = x ∷ o; memory = m }) (outOfOrder f) (h .book))
+    (refusal E (holding p part a (x ∷ o) m) (outOfOrder f) (h .book))
 
-drop-lf : (E : Shelf) (s : Session) (f : Fed) → Live E s f → Live E (lfDropped s) (record { log = Log.withAfterCr (f .log) false; raw = f .raw })
+drop-lf : (E : Shelf) (s : Session) (f : Fed) → Live E s f → Live E (withAfterCr false s) (record { log = Log.withAfterCr (f .log) false; raw = f .raw })
 drop-lf E s f h = record { unit = h .unit; course = h .course; book = h .book; afterCr = refl; pending = h .pending }
 
 live-byte : (E : Shelf) → Sound E → (s : Session) (f : Fed) (b : ℕ) → Live E s f → Inv E (step E s b .session) (fedByte (E .table) f (took b))
 live-byte E S s f b h = go (s .afterCr && eqb b LF) (f .log .afterCr && eqb b LF) (ap (λ (c : Bool). c && eqb b LF) (h .afterCr))
   where
     go : (c d : Bool) → d ≡ c
-        → Inv E (cond c (Session.moved (lfDropped s)) (freeStep E (s .out) s b) .session)
+        → Inv E (cond c (Session.moved (withAfterCr false s)) (freeStep E (s .out) s b) .session)
         (cond d (record { log = Log.withAfterCr (f .log) false; raw = f .raw }) (tookFree (E .table) f b))
     go true true e = live (drop-lf E s f h)
     go false false e = free-byte E S (s .phase) (s .part) (s .afterCr) (s .out) (s .memory) f b h

@@ -53,20 +53,20 @@ module _ (F : Fixed) (E : Shelf) (s : Session) (a : Bool) (i st : Bytes) (rest :
   -- the transfers of the records at these places wait, if there are any
   sending-law : (is fl : List ℕ) (u : Bytes) (m′ : Memory) → Holds F E (sends (fiveOf is) fl k) u i st m′
       → Represents F E (cs (left F E s a i st rest (toTurn false w) (transfersAfter (fiveOf is) y) (sends (fiveOf is) fl k) r) u i st)
-      (settle.after F E s a i st rest (on-lists.awaitsTurn false []) m′ (transfersText (E .table) is))
+      (settle.after F E s a i st rest (on-lists.newTurn false) m′ (transfersText (E .table) is))
   unfolding transfersText thenText
   sending-law [] fl u m′ h =
-      settled-is F E s a i st rest (toTurn false w) y (sends (fiveOf []) fl k) r u (on-lists.awaitsTurn false []) m′ [] (block-none (ready .block)) (ready .signs) h (ready .head)
+      settled-is F E s a i st rest (toTurn false w) y (sends (fiveOf []) fl k) r u (on-lists.newTurn false) m′ [] (block-none (ready .block)) (ready .signs) h (ready .head)
       (ap (λ (l : Bytes). l ++ thenText (y .then) (w .ours) (fiveOf []) u (F .titles) (F .names) (F .bodies)) (first-nothing (y .first) (y .signs) (ready .first))
       ∙ then-nothing (y .then) (w .ours) (fiveOf []) u (F .titles) (F .names) (F .bodies) (ready .then))
       (λ e. absurd (let z : _≡_ {A = ℕ} 0 1 = (cc (e, waits-not (unsaid y) (ready .first) (ready .then))) in omega arith))
-      (refl, refl, no-proposals (w .block))
+      (refl, (refl, no-proposals (w .block)))
   sending-law (j ∷ is) fl u m′ h =
       subst (λ (c : Bool). Represents F E (cs (left F E s a i st rest (toTurn false w) (cond c (saysThen 4 y) y) (sends (fiveOf (j ∷ is)) fl k) r) u i st)
-      (settle.after F E s a i st rest (on-lists.awaitsTurn false []) m′ (transfersText (E .table) (j ∷ is))))
+      (settle.after F E s a i st rest (on-lists.newTurn false) m′ (transfersText (E .table) (j ∷ is))))
       (sym (lt-ltb 0 (suc (length is)) (omega arith)))
-      (settled-is F E s a i st rest (toTurn false w) (saysThen 4 y) (sends (fiveOf (j ∷ is)) fl k) r u (on-lists.awaitsTurn false []) m′ (transfersText (E .table) (j ∷ is))
-      (block-none (ready .block)) (ready .signs) h (ready .head) said (λ e. some-transfers (E .table) j is) (refl, refl, no-proposals (w .block)))
+      (settled-is F E s a i st rest (toTurn false w) (saysThen 4 y) (sends (fiveOf (j ∷ is)) fl k) r u (on-lists.newTurn false) m′ (transfersText (E .table) (j ∷ is))
+      (block-none (ready .block)) (ready .signs) h (ready .head) said (λ e. some-transfers (E .table) j is) (refl, (refl, no-proposals (w .block))))
     where
       said : firstText (y .first) (y .signs) ++ thenText 4 (w .ours) (fiveOf (j ∷ is)) u (F .titles) (F .names) (F .bodies) ≡ transfersText (E .table) (j ∷ is)
       said =
@@ -76,7 +76,7 @@ module _ (F : Fixed) (E : Shelf) (s : Session) (a : Bool) (i st : Bytes) (rest :
 
   taken-law : (ss : List Sign) (z : ℕ) → k .sending .count ≡ 0 → length (held (w .ours)) ≤ 5
       → Lead (answerTaken (zerosAfter ss z) w y k r)
-      (goesOn (on-lists.awaitsTurn false []) (on-lists.answerMarks (held (w .ours)) ss m) (transfersText (E .table) (accepted ss (held (w .ours)))))
+      (goesOn (on-lists.newTurn false) (on-lists.answerMarks (held (w .ours)) ss m) (transfersText (E .table) (accepted ss (held (w .ours)))))
   taken-law ss z idle few =
       let is = held (w .ours) in
       let zs = zerosAfter ss z in (
@@ -87,7 +87,7 @@ module _ (F : Fixed) (E : Shelf) (s : Session) (a : Bool) (i st : Bytes) (rest :
             (λ (js : List ℕ). Represents F E
             (cs (left F E s a i st rest (toTurn false w) (transfersAfter (fiveOf (picked 43 is zs)) y) (sends (fiveOf (picked 43 is zs)) (flagged (picked 61 is zs) (k .deferred)) k) r)
             (markAll (held (fiveOf (picked 45 is zs))) 2 t) i st)
-            (settle.after F E s a i st rest (on-lists.awaitsTurn false []) (on-lists.answerMarks is ss m) (transfersText (E .table) js)))
+            (settle.after F E s a i st rest (on-lists.newTurn false) (on-lists.answerMarks is ss m) (transfersText (E .table) js)))
             (picked-accepted is ss z)
             (sending-law (picked 43 is zs) (flagged (picked 61 is zs) (k .deferred)) (markAll (held (fiveOf (picked 45 is zs))) 2 t) (on-lists.answerMarks is ss m)
             (holds-answer F E k t i st m (ready .holds) is ss z idle few)),

@@ -8,7 +8,7 @@ use native.Mathlib.Omega.{arith}
 use lib.Dec.{eqb, ltb}
 use lib.ListN.{length, drop, length-drop}
 use lib.Seq.{drop-nil}
-use borrow.Author.Tests.{ne-eqb, le-ltb}
+use borrow.Author.Tests.{ne-eqb, lt-ltb, le-ltb}
 use Rattle.grammar.specs.Bytes.{Bytes, LF, null}
 use Rattle.grammar.specs.Refusals.{bytesWait}
 use Rattle.grammar.proofs.Basics.{or2, no-both}
@@ -21,13 +21,13 @@ use Rattle.state.specs.declared.Session.{Session}
 use Rattle.waiting.specs.Waiting.{waitingOf, thenText}
 use Rattle.pending.specs.Pending.{waits, overOf}
 use Rattle.receiving.specs.Receiving.{Cs, cs, Moved, moved, lfDropped, refusedOf, lineStepOf, lineByteOf, transferStepOf, byteOf, Run, run, stops, receiveFrom}
-use Rattle.lent.specs.Represents.{Fixed, Says, Awaits, Represents}
+use Rattle.lent.specs.Represents.{Fixed, Says, lineNumber, Awaits, Represents}
 use Rattle.lent.specs.Frame.{reachOf, Spared}
 use Rattle.lent.specs.Link.{Moving, Receiving}
 use Rattle.lent.proofs.Frame.{only-same, only-then}
 use Rattle.lent.proofs.Says.{first-nothing, then-nothing, waits-none}
 use Rattle.lent.proofs.Parts.{block-of, signs-of, rest-of, holds-of, represents, refuse-law}
-use Rattle.lent.proofs.LineStep.{AwaitsLine, awaits-line, says-line, line-step}
+use Rattle.lent.proofs.LineStep.{line-below, awaits-line, says-line, line-step}
 use Rattle.lent.proofs.TransferStep.{reach-least, transfer-step}
 
 -- ---------------------------------------------------------------- what waits
@@ -75,11 +75,8 @@ over-law F E c v h = go (v .phase) (h .awaits)
 
     go : (p : Phase) → Awaits c p
         → cond (ltb (c .session .now .phase) 6) false (cond (eqb (c .session .now .phase) 6) (not (waits (c .session .say))) true) ≡ on-lists.endedIn p (v .out)
-    go (on-lists.awaitsSid false) a = at 0 (a .0)
-    go (on-lists.awaitsSid true) a = at 1 (a .0)
-    go on-lists.awaitsPrompt a = at 2 (a .0)
-    go (on-lists.awaitsTurn ff ps) a = at 3 (a .0)
-    go (on-lists.awaitsAnswer is) a = at 4 (a .0)
+    go (on-lists.aLine l) a =
+        at (lineNumber l) (a .0) ∙ ap (λ (q : Bool). cond q false (cond (eqb (lineNumber l) 6) (not (waits (c .session .say))) true)) (lt-ltb (lineNumber l) 6 (omega (arith, line-below l)))
     go (on-lists.awaitsTransfer p ps sc) a = at 5 (a .0)
     go on-lists.leaving a = at 6 a ∙ ap not (waits-law F c (v .out) (h .says)) ∙ not-not (null (v .out))
     go on-lists.over a =
@@ -106,11 +103,11 @@ module _ (F : Fixed) (E : Shelf) (c : Cs) (v : on-lists.Session) (b : ℕ) (h : 
   abbrev Moves : Moved → on-lists.Stepped → Type 0
   Moves x o = Moving F E c x o
 
-  dropped-law : Moves (moved 0 (cs (lfDropped (c .session)) (c .table) (c .inbox) (c .store))) (on-lists.moved (on-lists.lfDropped v))
+  dropped-law : Moves (moved 0 (cs (lfDropped (c .session)) (c .table) (c .inbox) (c .store))) (on-lists.moved (on-lists.withAfterCr false v))
   dropped-law =
       record {
         answer = refl;
-        represents = represents F E (cs (lfDropped (c .session)) (c .table) (c .inbox) (c .store)) (on-lists.lfDropped v)
+        represents = represents F E (cs (lfDropped (c .session)) (c .table) (c .inbox) (c .store)) (on-lists.withAfterCr false v)
             (block-of h) (signs-of h) (holds-of h) (rest-of h) (h .arrays .head) (h .arrays .lineLen)
             (says-line F (c .session) (c .table) (c .inbox) (c .store) (lfDropped (c .session) .line) (v .out) (h .says))
             (awaits-line (v .phase) (c .session) (c .table) (c .inbox) (c .store) (lfDropped (c .session) .line) (h .awaits)) (h .part) refl;
@@ -128,11 +125,11 @@ module _ (F : Fixed) (E : Shelf) (c : Cs) (v : on-lists.Session) (b : ℕ) (h : 
 
   module _ (quiet : waits (c .session .say) ≡ false) where
     -- where a line is awaited
-    line-law : (n : ℕ) → c .session .now .phase ≡ n → ltb n 5 ≡ true → eqb n 5 ≡ false → AwaitsLine (v .phase)
-        → Moves (cond (eqb (c .session .now .phase) 5) (transferStepOf c b) (lineByteOf (F .known) c b)) (on-lists.lineStep E v b)
-    line-law n e low ne x =
-        let t = line-step F E c v h quiet b x in
-        subst (λ (q : Bool). Moves (cond q (transferStepOf c b) (lineByteOf (F .known) c b)) (on-lists.lineStep E v b)) (sym (ap (λ (p : ℕ). eqb p 5) e ∙ ne))
+    line-law : (n : ℕ) → c .session .now .phase ≡ n → ltb n 5 ≡ true → eqb n 5 ≡ false → (l : on-lists.Awaited) → v .phase ≡ on-lists.aLine l
+        → Moves (cond (eqb (c .session .now .phase) 5) (transferStepOf c b) (lineByteOf (F .known) c b)) (on-lists.lineStep E l v b)
+    line-law n e low ne l x =
+        let t = line-step F E c v h quiet b l x in
+        subst (λ (q : Bool). Moves (cond q (transferStepOf c b) (lineByteOf (F .known) c b)) (on-lists.lineStep E l v b)) (sym (ap (λ (p : ℕ). eqb p 5) e ∙ ne))
         (record {
           answer = t .answer;
           represents = t .represents;
@@ -145,11 +142,9 @@ module _ (F : Fixed) (E : Shelf) (c : Cs) (v : on-lists.Session) (b : ℕ) (h : 
 
     phase-law : on-lists.ended v ≡ false → null (v .out) ≡ true → (p : Phase) → v .phase ≡ p → Awaits c p
         → Moves (cond (eqb (c .session .now .phase) 5) (transferStepOf c b) (lineByteOf (F .known) c b)) (on-lists.phaseStep E p v b)
-    phase-law live out (on-lists.awaitsSid false) e a = line-law 0 (a .0) refl refl (subst AwaitsLine (sym e) tt)
-    phase-law live out (on-lists.awaitsSid true) e a = line-law 1 (a .0) refl refl (subst AwaitsLine (sym e) tt)
-    phase-law live out on-lists.awaitsPrompt e a = line-law 2 (a .0) refl refl (subst AwaitsLine (sym e) tt)
-    phase-law live out (on-lists.awaitsTurn ff ps) e a = line-law 3 (a .0) refl refl (subst AwaitsLine (sym e) tt)
-    phase-law live out (on-lists.awaitsAnswer is) e a = line-law 4 (a .0) refl refl (subst AwaitsLine (sym e) tt)
+    phase-law live out (on-lists.aLine l) e a =
+        let k = line-below l in
+        line-law (lineNumber l) (a .0) (lt-ltb (lineNumber l) 5 k) (ne-eqb (lineNumber l) 5 (λ z. omega arith)) l e
     phase-law live out (on-lists.awaitsTransfer p ps sc) e a =
         subst (λ (q : Bool). Moves (cond q (transferStepOf c b) (lineByteOf (F .known) c b)) (on-lists.phaseStep E (on-lists.awaitsTransfer p ps sc) v b)) (sym (ap (λ (n : ℕ). eqb n 5) (a .0)))
         (transfer-step F E c v h b quiet p ps sc a)
@@ -180,7 +175,7 @@ byte-law F E c v b h live =
         cond (waits (c .session .say)) (moved bytesWait (cs (refusedOf (c .session)) (c .table) (c .inbox) (c .store)))
         (cond (eqb (c .session .now .phase) 5) (transferStepOf c b) (lineByteOf (F .known) c b))
 
-    go : (q : Bool) → Moving F E c (cond q dropped free) (cond q (on-lists.moved (on-lists.lfDropped v)) (on-lists.freeStep E (v .out) v b))
+    go : (q : Bool) → Moving F E c (cond q dropped free) (cond q (on-lists.moved (on-lists.withAfterCr false v)) (on-lists.freeStep E (v .out) v b))
     go true = dropped-law F E c v b h
     go false = free-law F E c v b h live (waits (c .session .say)) refl (v .out) refl
 

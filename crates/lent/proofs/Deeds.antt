@@ -15,22 +15,15 @@ use Rattle.grammar.specs.Answers.{Sign, accept, decline, defer, readFs}
 use Rattle.grammar.specs.Transfers.{Content, readTransfer}
 use Rattle.grammar.proofs.Basics.{no-both, by-cond, by-test}
 use Rattle.mail.specs.Mail.{Record, accepted, marked, declined}
-use Rattle.log.specs.Log.{Event, took, gave, Next, over, ourGreeting, ourFirstPrompt, ourSidLine, theirText, theirSid, theirTurn, ourTurn, theirAnswer, ourAnswer, theirTransfer, ourTransfer, Course, Book, Log, isOurs, Said, unfinished, farewell, wrong, turn, said, placesOf, ourProposed, ourSaid, ourAnswered, oursOwed, theirsOwed, ourLine, Effect, effect, theirSaid, theirAnswered, theirSidRead, theirTransferred, afterTheirTurn, whole, applied, Cut, notWhole, outOfTurn, unit, cutUnit, withAfterCr, logOpened}
-use Rattle.lent.specs.Deeds.{Deed, answered, sent, turned, weAnswered, nothing, brought, turnDeed, answerDeed, ourAnswerDeed, transferDeed, deedOf, deedsCut, deedsFrom, deeds, messagesBrought, gotPlus, acceptedFrom, BroughtFor, AsAccepted}
+use Rattle.log.specs.Log.{ourNewTurn, Event, took, gave, Ours, ourGreeting, ourFirstPrompt, ourSidLine, ourTurn, ourAnswer, Theirs, theirText, theirSid, theirTurn, theirAnswer, Next, over, weSay, theySay, theirTransfer, ourTransfer, Course, Book, Log, isOurs, Said, unfinished, farewell, wrong, turn, said, placesOf, ourProposed, ourSaid, ourAnswered, oursOwed, theirsOwed, ourLine, Effect, effect, theirSaid, theirAnswered, theirSidRead, theirRead, theirTransferred, afterTheirTurn, whole, applied, Cut, notWhole, outOfTurn, unit, cutUnit, withAfterCr, logOpened}
+use Rattle.lent.specs.Deeds.{Deed, answered, sent, turned, weAnswered, nothing, brought, turnDeed, answerDeed, ourAnswerDeed, transferDeed, theirDeed, ourDeed, deedOf, deedsCut, deedsFrom, deeds, messagesBrought, gotPlus, acceptedFrom, BroughtFor, AsAccepted}
 
 -- the records whose transfers we owe
 abbrev pub owes : Next → List ℕ
 owes (ourTransfer i is) = i ∷ is
 owes over = []
-owes ourGreeting = []
-owes ourFirstPrompt = []
-owes ourSidLine = []
-owes theirText = []
-owes (theirSid c) = []
-owes (theirTurn ff ls) = []
-owes (ourTurn ff ls) = []
-owes (theirAnswer is) = []
-owes (ourAnswer ps) = []
+owes (weSay n) = []
+owes (theySay n) = []
 owes (theirTransfer p ps) = []
 
 -- what course and book have become after a unit with this deed: states, records sent, records owed, messages kept
@@ -71,43 +64,44 @@ module _ (T : List Record) (a : Bool) (st : List ℕ) (k : Book) where
   quiet : (n m : Next) → owes m ≡ [] → Comes nothing n (record { next = m; sent = st }) k
   quiet n m e = (refl, refl, e, refl)
 
-  said-does : (ff : Bool) (ls ls′ : List TurnLine) (n : Next) (x y : Bool) (z : Said)
-      → ComesTo (cond x (cond y nothing (turnDeed z)) nothing) n (cond x (cond y (effect k st (theirTurn ff ls)) (theirSaid ff ls′ k st z)) (effect k st over))
-  said-does ff ls ls′ n true true z = quiet n (theirTurn ff ls) refl
-  said-does ff ls ls′ n true false unfinished = quiet n (theirTurn ff ls′) refl
-  said-does ff ls ls′ n true false farewell = quiet n over refl
-  said-does ff ls ls′ n true false wrong = quiet n over refl
-  said-does ff ls ls′ n true false (turn ps) = (refl, refl, owed-answer ps, refl)
-  said-does ff ls ls′ n false y z = quiet n over refl
+  said-does : (ff : Bool) (ls : List TurnLine) (n : Next) (z : Said) → ComesTo (turnDeed z) n (theirSaid ff ls k st z)
+  said-does ff ls n unfinished = quiet n (theySay (theirTurn ff ls)) refl
+  said-does ff ls n farewell = quiet n over refl
+  said-does ff ls n wrong = quiet n over refl
+  said-does ff ls n (turn ps) = (refl, refl, owed-answer ps, refl)
 
-  answered-does : (is : List ℕ) (n : Next) (x y : Bool) (z : Option (List Sign))
-      → ComesTo (cond x (cond y nothing (answerDeed is z)) nothing) n (cond x (cond y (effect k st (theirAnswer is)) (theirAnswered is k st z)) (effect k st over))
-  answered-does is n true true z = quiet n (theirAnswer is) refl
-  answered-does is n true false none = quiet n over refl
-  answered-does is n true false (some ss) = (refl, refl, owed-ours (accepted ss is), refl)
-  answered-does is n false y z = quiet n over refl
+  answered-does : (is : List ℕ) (n : Next) (z : Option (List Sign)) → ComesTo (answerDeed is z) n (theirAnswered is k st z)
+  answered-does is n none = quiet n over refl
+  answered-does is n (some ss) = (refl, refl, owed-ours (accepted ss is), refl)
 
   transferred-does : (p : Proposal) (ps : List Proposal) (n : Next) (z : Option Content)
       → ComesTo (transferDeed p z) n (theirTransferred p ps k st z)
   transferred-does p ps n none = quiet n over refl
   transferred-does p ps n (some x) = (refl, refl, owed-theirs ps, refl)
 
-  sid-does : (c : Bool) (n : Next) (x y : Bool) (z : Option (List ℕ))
-      → ComesTo nothing n (cond x (cond y (effect k st (theirSid c)) (theirSidRead c k st z)) (effect k st over))
-  sid-does c n true true z = quiet n (theirSid c) refl
-  sid-does c n true false none = quiet n over refl
-  sid-does true n true false (some fs) =
-      by-cond (ComesTo nothing n) (hasFeature 5 fs) (refl, refl, refl, refl) (quiet n over refl)
-  sid-does false n true false (some fs) =
-      by-cond (ComesTo nothing n) (hasFeature 5 fs) (refl, refl, refl, refl) (quiet n over refl)
-  sid-does c n false y z = quiet n over refl
+  sid-does : (c : Bool) (n : Next) (z : Option (List ℕ)) → ComesTo nothing n (theirSidRead c k st z)
+  sid-does c n none = quiet n over refl
+  sid-does c n (some fs) = by-cond (ComesTo nothing n) (hasFeature 5 fs) (refl, refl, refl, refl) (quiet n over refl)
 
-  text-does : (n : Next) (x y z : Bool)
-      → ComesTo nothing n (cond x (cond y (effect k st theirText) (cond z (effect k st ourSidLine) (effect k st theirText))) (effect k st over))
-  text-does n true true z = quiet n theirText refl
-  text-does n true false true = quiet n ourSidLine refl
-  text-does n true false false = quiet n theirText refl
-  text-does n false y z = quiet n over refl
+  text-does : (n : Next) (z : Bool) → ComesTo nothing n (cond z (effect k st (weSay ourSidLine)) (effect k st (theySay theirText)))
+  text-does n true = quiet n (weSay ourSidLine) refl
+  text-does n false = quiet n (theySay theirText) refl
+
+  -- a line of the partner's that is no comment
+  read-does : (n : Theirs) (u : Bytes) → ComesTo (theirDeed n (k .framed) u) (theySay n) (theirRead n k st u)
+  read-does theirText u = text-does (theySay theirText) (isPrompt (trim u))
+  read-does (theirSid c) u = sid-does c (theySay (theirSid c)) (readSid (trim u))
+  read-does (theirTurn ff ls) u =
+      let ls′ = ls ++ (readTurnLine (k .framed) (trim u) ∷ []) in
+      said-does ff ls′ (theySay (theirTurn ff ls)) (said ff ls′)
+  read-does (theirAnswer is) u = answered-does is (theySay (theirAnswer is)) (readFs (length is) (trim u))
+
+  -- x, y: the line's tests
+  line-does : (n : Theirs) (u : Bytes) (x y : Bool)
+      → ComesTo (cond x (cond y nothing (theirDeed n (k .framed) u)) nothing) (theySay n) (cond x (cond y (effect k st (theySay n)) (theirRead n k st u)) (effect k st over))
+  line-does n u true true = quiet (theySay n) (theySay n) refl
+  line-does n u true false = read-does n u
+  line-does n u false y = quiet (theySay n) over refl
 
   our-proposed : (z : Option (List ℕ)) → owes (ourProposed z) ≡ []
   our-proposed none = refl
@@ -127,21 +121,19 @@ module _ (T : List Record) (a : Bool) (st : List ℕ) (k : Book) where
   owes-nothing : (b : Bool) (n m : Next) → owes n ≡ [] → owes m ≡ [] → owes (cond b n m) ≡ []
   owes-nothing b n m e f = by-cond (λ (x : Next). owes x ≡ []) b e f
 
+  ours-does : (n : Ours) (u : Bytes) → Comes (ourDeed n u) (weSay n) (record { next = ourLine T (k .framed) n u; sent = st }) k
+  ours-does ourGreeting u = quiet (weSay ourGreeting) (ourLine T (k .framed) ourGreeting u) (owes-nothing (same u (fixedText ourSid)) (weSay ourFirstPrompt) over refl refl)
+  ours-does ourFirstPrompt u = quiet (weSay ourFirstPrompt) (ourLine T (k .framed) ourFirstPrompt u) (owes-nothing (same u (fixedText ourPrompt)) (theySay (theirSid false)) over refl refl)
+  ours-does ourSidLine u = quiet (weSay ourSidLine) (ourLine T (k .framed) ourSidLine u) (owes-nothing (same u (fixedText ourSid)) (ourNewTurn false) over refl refl)
+  ours-does (ourTurn ff ls) u =
+      let ls′ = ls ++ (readTurnLine (k .framed) u ∷ []) in
+      quiet (weSay (ourTurn ff ls)) (ourSaid T ff ls′ (said ff ls′)) (our-said ff ls′ (said ff ls′))
+  ours-does (ourAnswer ps) u = our-answered ps (weSay (ourAnswer ps)) (readFs (length ps) u)
+
   does : (n : Next) (u : Bytes) (b : ℕ) → Comes (deedOf n (k .framed) u b) n (applied T (before n) u b .course) (applied T (before n) u b .book)
   does over u b = quiet over over refl
-  does ourGreeting u b = quiet ourGreeting (ourLine T (k .framed) ourGreeting u) (owes-nothing (same u (fixedText ourSid)) ourFirstPrompt over refl refl)
-  does ourFirstPrompt u b = quiet ourFirstPrompt (ourLine T (k .framed) ourFirstPrompt u) (owes-nothing (same u (fixedText ourPrompt)) (theirSid false) over refl refl)
-  does ourSidLine u b = quiet ourSidLine (ourLine T (k .framed) ourSidLine u) (owes-nothing (same u (fixedText ourSid)) (ourTurn false []) over refl refl)
-  does theirText u b = text-does theirText (leb (length u) lineLimit) (isComment (trim u)) (isPrompt (trim u))
-  does (theirSid c) u b = sid-does c (theirSid c) (leb (length u) lineLimit) (isComment (trim u)) (readSid (trim u))
-  does (theirTurn ff ls) u b =
-      let ls′ = ls ++ (readTurnLine (k .framed) (trim u) ∷ []) in
-      said-does ff ls ls′ (theirTurn ff ls) (leb (length u) lineLimit) (isComment (trim u)) (said ff ls′)
-  does (ourTurn ff ls) u b =
-      let ls′ = ls ++ (readTurnLine (k .framed) u ∷ []) in
-      quiet (ourTurn ff ls) (ourSaid T ff ls′ (said ff ls′)) (our-said ff ls′ (said ff ls′))
-  does (theirAnswer is) u b = answered-does is (theirAnswer is) (leb (length u) lineLimit) (isComment (trim u)) (readFs (length is) (trim u))
-  does (ourAnswer ps) u b = our-answered ps (ourAnswer ps) (readFs (length ps) u)
+  does (weSay n) u b = ours-does n u
+  does (theySay n) u b = line-does n u (leb (length u) lineLimit) (isComment (trim u))
   does (theirTransfer p ps) u b = transferred-does p ps (theirTransfer p ps) (readTransfer (p .form) (u ++ (b ∷ [])))
   does (ourTransfer i is) u b = (refl, refl, ap (λ (js : List ℕ). i ∷ js) (sym (owed-ours is)), refl)
 
@@ -174,18 +166,18 @@ data Stand : Type 0 where
   answering bringing : List Proposal → Stand
 
 -- where nothing is owed, no transfers
+abbrev standOurs : Ours → Stand
+standOurs ourGreeting = bringing []
+standOurs ourFirstPrompt = bringing []
+standOurs ourSidLine = bringing []
+standOurs (ourTurn ff ls) = bringing []
+standOurs (ourAnswer ps) = answering ps
+
 abbrev stand : Next → Stand
 stand over = ended
-stand (ourAnswer ps) = answering ps
+stand (weSay n) = standOurs n
+stand (theySay n) = bringing []
 stand (theirTransfer p ps) = bringing (p ∷ ps)
-stand ourGreeting = bringing []
-stand ourFirstPrompt = bringing []
-stand ourSidLine = bringing []
-stand theirText = bringing []
-stand (theirSid c) = bringing []
-stand (theirTurn ff ls) = bringing []
-stand (ourTurn ff ls) = bringing []
-stand (theirAnswer is) = bringing []
 stand (ourTransfer i is) = bringing []
 
 -- the deeds to come are as accepted
@@ -235,8 +227,7 @@ module _ (T : List Record) (a : Bool) (st : List ℕ) (k : Book) (ds : List Deed
 
   sid-free : (c : Bool) (z : Option (List ℕ)) → FreeTo (theirSidRead c k st z)
   sid-free c none = ends
-  sid-free true (some fs) = by-cond FreeTo (hasFeature 5 fs) stays ends
-  sid-free false (some fs) = by-cond FreeTo (hasFeature 5 fs) stays ends
+  sid-free c (some fs) = by-cond FreeTo (hasFeature 5 fs) stays ends
 
   ours-free : (is : List ℕ) → Free (oursOwed is)
   ours-free [] = stays
@@ -257,25 +248,33 @@ module _ (T : List Record) (a : Bool) (st : List ℕ) (k : Book) (ds : List Deed
   idle : Brings (bringing []) ds → Brings (bringing []) (nothing ∷ ds)
   idle h = λ last. (refl, h last)
 
-  -- a line of the partner's turn, of its answer, our answer, and a transfer: x, y are the line's tests, z is what it says
-  turn-brings : (ff : Bool) (ls ls′ : List TurnLine) (x y : Bool) (z : Said)
-      → Brings (stand (cond x (cond y (effect k st (theirTurn ff ls)) (theirSaid ff ls′ k st z)) (effect k st over) .course .next)) ds
-      → Brings (bringing []) (cond x (cond y nothing (turnDeed z)) nothing ∷ ds)
-  turn-brings ff ls ls′ false y z h = idle (ends h)
-  turn-brings ff ls ls′ true true z h = idle h
-  turn-brings ff ls ls′ true false unfinished h = idle h
-  turn-brings ff ls ls′ true false farewell h = idle (ends h)
-  turn-brings ff ls ls′ true false wrong h = idle (ends h)
-  turn-brings ff ls ls′ true false (turn []) h = λ last. (refl, h [])
-  turn-brings ff ls ls′ true false (turn (p ∷ ps)) h = λ last. (refl, h)
+  -- a line of the partner's turn, of its answer, our answer, and a transfer: z is what it says
+  turn-brings : (ff : Bool) (ls : List TurnLine) (z : Said) → Brings (stand (theirSaid ff ls k st z .course .next)) ds → Brings (bringing []) (turnDeed z ∷ ds)
+  turn-brings ff ls unfinished h = idle h
+  turn-brings ff ls farewell h = idle (ends h)
+  turn-brings ff ls wrong h = idle (ends h)
+  turn-brings ff ls (turn []) h = λ last. (refl, h [])
+  turn-brings ff ls (turn (p ∷ ps)) h = λ last. (refl, h)
 
-  answer-brings : (is : List ℕ) (x y : Bool) (z : Option (List Sign))
-      → Brings (stand (cond x (cond y (effect k st (theirAnswer is)) (theirAnswered is k st z)) (effect k st over) .course .next)) ds
-      → Brings (bringing []) (cond x (cond y nothing (answerDeed is z)) nothing ∷ ds)
-  answer-brings is false y z h = idle (ends h)
-  answer-brings is true true z h = idle h
-  answer-brings is true false none h = idle (ends h)
-  answer-brings is true false (some ss) h = λ last. (refl, ours-free (accepted ss is) h last)
+  answer-brings : (is : List ℕ) (z : Option (List Sign)) → Brings (stand (theirAnswered is k st z .course .next)) ds → Brings (bringing []) (answerDeed is z ∷ ds)
+  answer-brings is none h = idle (ends h)
+  answer-brings is (some ss) h = λ last. (refl, ours-free (accepted ss is) h last)
+
+  read-brings : (n : Theirs) (u : Bytes) → Brings (stand (theirRead n k st u .course .next)) ds → Brings (bringing []) (theirDeed n (k .framed) u ∷ ds)
+  read-brings theirText u h = idle (by-cond FreeTo (isPrompt (trim u)) stays stays h)
+  read-brings (theirSid c) u h = idle (sid-free c (readSid (trim u)) h)
+  read-brings (theirTurn ff ls) u h =
+      let ls′ = ls ++ (readTurnLine (k .framed) (trim u) ∷ []) in
+      turn-brings ff ls′ (said ff ls′) h
+  read-brings (theirAnswer is) u h = answer-brings is (readFs (length is) (trim u)) h
+
+  -- x, y: the line's tests
+  line-brings : (n : Theirs) (u : Bytes) (x y : Bool)
+      → Brings (stand (cond x (cond y (effect k st (theySay n)) (theirRead n k st u)) (effect k st over) .course .next)) ds
+      → Brings (bringing []) (cond x (cond y nothing (theirDeed n (k .framed) u)) nothing ∷ ds)
+  line-brings n u true true h = idle h
+  line-brings n u true false h = read-brings n u h
+  line-brings n u false y h = idle (ends h)
 
   our-answer-brings : (ps : List Proposal) (z : Option (List Sign)) → Brings (stand (ourAnswered ps z)) ds → Brings (answering ps) (ourAnswerDeed z ∷ ds)
   our-answer-brings ps none h = (refl, no-more ps h)
@@ -292,25 +291,21 @@ module _ (T : List Record) (a : Bool) (st : List ℕ) (k : Book) (ds : List Deed
     subst (λ (s : Stand). Brings s ds) (owed-stand ps) h last,
   )
 
+  ours-brings : (n : Ours) (u : Bytes) → Brings (stand (ourLine T (k .framed) n u)) ds → Brings (standOurs n) (ourDeed n u ∷ ds)
+  ours-brings ourGreeting u h = idle (by-cond Free (same u (fixedText ourSid)) stays ends h)
+  ours-brings ourFirstPrompt u h = idle (by-cond Free (same u (fixedText ourPrompt)) stays ends h)
+  ours-brings ourSidLine u h = idle (by-cond Free (same u (fixedText ourSid)) stays ends h)
+  ours-brings (ourTurn ff ls) u h =
+      let ls′ = ls ++ (readTurnLine (k .framed) u ∷ []) in
+      idle (said-free ff ls′ (said ff ls′) h)
+  ours-brings (ourAnswer ps) u h = our-answer-brings ps (readFs (length ps) u) h
+
   -- any whole unit
   unit-brings : (n : Next) (u : Bytes) (b : ℕ) → whole T n u b ≡ true
       → Brings (stand (applied T (record { afterCr = a; course = record { next = n; sent = st }; book = k }) u b .course .next)) ds → Brings (stand n) (deedOf n (k .framed) u b ∷ ds)
   unit-brings over u b w h = absurd (no-both false w refl)
-  unit-brings ourGreeting u b w h = idle (by-cond Free (same u (fixedText ourSid)) stays ends h)
-  unit-brings ourFirstPrompt u b w h = idle (by-cond Free (same u (fixedText ourPrompt)) stays ends h)
-  unit-brings ourSidLine u b w h = idle (by-cond Free (same u (fixedText ourSid)) stays ends h)
-  unit-brings theirText u b w h =
-      idle (by-cond FreeTo (leb (length u) lineLimit) (by-cond FreeTo (isComment (trim u)) stays (by-cond FreeTo (isPrompt (trim u)) stays stays)) ends h)
-  unit-brings (theirSid c) u b w h =
-      idle (by-cond FreeTo (leb (length u) lineLimit) (by-cond FreeTo (isComment (trim u)) stays (sid-free c (readSid (trim u)))) ends h)
-  unit-brings (theirTurn ff ls) u b w h =
-      let ls′ = ls ++ (readTurnLine (k .framed) (trim u) ∷ []) in
-      turn-brings ff ls ls′ (leb (length u) lineLimit) (isComment (trim u)) (said ff ls′) h
-  unit-brings (ourTurn ff ls) u b w h =
-      let ls′ = ls ++ (readTurnLine (k .framed) u ∷ []) in
-      idle (said-free ff ls′ (said ff ls′) h)
-  unit-brings (theirAnswer is) u b w h = answer-brings is (leb (length u) lineLimit) (isComment (trim u)) (readFs (length is) (trim u)) h
-  unit-brings (ourAnswer ps) u b w h = our-answer-brings ps (readFs (length ps) u) h
+  unit-brings (weSay n) u b w h = ours-brings n u h
+  unit-brings (theySay n) u b w h = line-brings n u (leb (length u) lineLimit) (isComment (trim u)) h
   unit-brings (theirTransfer p ps) u b w h = transfer-brings p ps (readTransfer (p .form) (u ++ (b ∷ []))) w h
   unit-brings (ourTransfer i is) u b w h = λ last. (refl, ours-free is h last)
 
@@ -332,7 +327,7 @@ pub accepted-law : (T : List Record) (caller : Bool) (states : List ℕ) (es : L
 unfolding deeds
 accepted-law T caller states es = at-open caller (units-bring T (length es) es (logOpened caller states)) []
   where
-    at-open : (c : Bool) → Brings (stand (cond c (theirSid true) ourGreeting)) (deedsFrom (length es) T (logOpened caller states) es)
+    at-open : (c : Bool) → Brings (stand (cond c (theySay (theirSid true)) (weSay ourGreeting))) (deedsFrom (length es) T (logOpened caller states) es)
         → Brings (bringing []) (deedsFrom (length es) T (logOpened caller states) es)
     at-open true h = h
     at-open false h = h

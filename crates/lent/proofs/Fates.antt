@@ -13,7 +13,7 @@ use Rattle.mail.specs.Mail.{Record}
 use Rattle.session.specs.Choices.{Shelf}
 use Rattle.session.specs.Session.{Session, Stepped, step, ended, opened}
 use Rattle.session.specs.Calls.{oneMore, stoppedAt, stops, receiveOn, receive, give, handedOut}
-use Rattle.log.specs.Log.{Event, took, gave, Next, ourGreeting, theirSid, Book, Log, isOurs, ourUnit, theirUnit, endsWithCr, whole, applied, Cut, notWhole, outOfTurn, unit, cutUnit, withAfterCr, logOpened, log}
+use Rattle.log.specs.Log.{Event, took, gave, ourGreeting, theirSid, Next, weSay, theySay, Book, Log, isOurs, ourUnit, theirUnit, endsWithCr, whole, applied, Cut, notWhole, outOfTurn, unit, cutUnit, withAfterCr, logOpened, log}
 use Rattle.log.specs.Fed.{Fed, unitByte, outOfOrder, fedByte, fedAll}
 use Rattle.log.proofs.Units.{within, fedOpened, fed-append}
 use Rattle.demand3.specs.Demand.{Call, receiving, giving, refusedCall, run, Good}
@@ -208,7 +208,7 @@ module _ (E : Shelf) (g : Good (E .table)) (caller : Bool) (states : List ℕ) (
   pub fates : (i : ℕ) → i < length states → Fate i (deeds (E .table) caller states trace) (getD states i 0) (getD (log (E .table) caller states trace .book .states) i 0)
   unfolding log deeds
   fates i h =
-      fate-law i (E .table) (length trace) trace (logOpened caller states) kept refl (by-cond (λ (n : Next). owes n ≡ []) caller {x = theirSid true} {y = ourGreeting} refl refl) h
+      fate-law i (E .table) (length trace) trace (logOpened caller states) kept refl (by-cond (λ (n : Next). owes n ≡ []) caller {x = theySay (theirSid true)} {y = weSay ourGreeting} refl refl) h
 
   -- WHICH MESSAGES ARE KEPT
   pub messages : log (E .table) caller states trace .book .kept ≡ messagesBrought (deeds (E .table) caller states trace)

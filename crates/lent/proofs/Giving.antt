@@ -64,7 +64,7 @@ given-back buf place o = go (ltb (length buf) place) refl
 -- a session that gives nothing is as it was
 give-still : (s : on-lists.Session) (room : ℕ) → drop room (s .out) ≡ s .out → give s room ≡ s
 unfolding give
-give-still s room e = ap (λ (o : Bytes). record { phase = s .phase; part = s .part; afterCr = s .afterCr; out = o; memory = s .memory }) e
+give-still s room e = ap (λ (o : Bytes). on-lists.withOut o s) e
 
 -- ---------------------------------------------------------------- another part of what waits
 
@@ -77,16 +77,12 @@ abbrev csSaying : Cs → ℕ → ℕ → ℕ → Cs
 csSaying c first then pos = cs (saying (c .session) first then pos) (c .table) (c .inbox) (c .store)
 
 abbrev withOut : on-lists.Session → Bytes → on-lists.Session
-withOut s o = record { phase = s .phase; part = s .part; afterCr = s .afterCr; out = o; memory = s .memory }
+withOut s o = on-lists.withOut o s
 
 module _ (F : Fixed) (E : Shelf) (c : Cs) (first then pos : ℕ)
     (quiet : waits (c .session .say) ≡ false → waits (saying (c .session) first then pos .say) ≡ false) where
   awaits-still : (p : on-lists.Phase) → Awaits c p → Awaits (csSaying c first then pos) p
-  awaits-still (on-lists.awaitsSid false) a = a
-  awaits-still (on-lists.awaitsSid true) a = a
-  awaits-still on-lists.awaitsPrompt a = a
-  awaits-still (on-lists.awaitsTurn ff ps) a = a
-  awaits-still (on-lists.awaitsAnswer is) a = a
+  awaits-still (on-lists.aLine l) a = a
   awaits-still (on-lists.awaitsTransfer p ps sc) a = a
   awaits-still on-lists.leaving a = a
   awaits-still on-lists.over a = (a .0, quiet (a .1))
@@ -222,10 +218,7 @@ module _ (F : Fixed) (E : Shelf) (c₀ : Cs) (z : Sizes) (roomy : E .bytes < wor
 
         -- on an ended session nothing waits
         ended-null : (p : on-lists.Phase) → Awaits (csOf m) p → on-lists.endedIn p (s .out) ≡ true → not (null (s .out)) ≡ false
-        ended-null (on-lists.awaitsSid c) a e = absurd (no-both false e refl)
-        ended-null on-lists.awaitsPrompt a e = absurd (no-both false e refl)
-        ended-null (on-lists.awaitsTurn ff ps) a e = absurd (no-both false e refl)
-        ended-null (on-lists.awaitsAnswer is) a e = absurd (no-both false e refl)
+        ended-null (on-lists.aLine l) a e = absurd (no-both false e refl)
         ended-null (on-lists.awaitsTransfer p ps sc) a e = absurd (no-both false e refl)
         ended-null on-lists.leaving a e = ap not e
         ended-null on-lists.over a e = sym (waits-law F (csOf m) (s .out) (h .represents .says)) ∙ a .1

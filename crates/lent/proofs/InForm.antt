@@ -98,11 +98,11 @@ module _ (F : Fixed) (E : Shelf) (c : Cs) (s : on-lists.Session) (h : Represents
       test-at p n e f = ap₂ (λ (x y : ℕ). tested x y t) e f
 
       go : (p : on-lists.Phase) → Awaits c p → phaseOk (c .session) (c .inbox) (c .store) ≡ true
-      go (on-lists.awaitsSid false) a = test-at 0 0 (a .0) (a .1)
-      go (on-lists.awaitsSid true) a = test-at 1 0 (a .0) (a .1)
-      go on-lists.awaitsPrompt a = test-at 2 0 (a .0) (a .1)
-      go (on-lists.awaitsTurn ff ps) a = test-at 3 _ (a .0) refl
-      go (on-lists.awaitsAnswer is) a = test-at 4 0 (a .0) (a .1)
+      go (on-lists.aLine (on-lists.awaitsSid false)) a = test-at 0 0 (a .0) (a .1)
+      go (on-lists.aLine (on-lists.awaitsSid true)) a = test-at 1 0 (a .0) (a .1)
+      go (on-lists.aLine on-lists.awaitsPrompt) a = test-at 2 0 (a .0) (a .1)
+      go (on-lists.aLine (on-lists.awaitsTurn ff ps)) a = test-at 3 _ (a .0) refl
+      go (on-lists.aLine (on-lists.awaitsAnswer is)) a = test-at 4 0 (a .0) (a .1 .0)
       go (on-lists.awaitsTransfer p ps sc) a = test-at 5 0 (a .0) (a .1) ∙ transfer-ok p ps sc a
       go on-lists.leaving a = test-at 6 _ a refl
       go on-lists.over a =

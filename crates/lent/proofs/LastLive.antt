@@ -1,24 +1,19 @@
 -- On lists: the session just before the byte or the give that ended it keeps the same messages, goes on, and is reached. Idea: only a line or a refusal
 -- ends a session, and neither keeps a message.
 use mathlib.Core.Path.{_≡_, refl, sym, ap, _∙_, subst}
-use mathlib.Core.Bool.{Bool, true, false, cond, not, _&&_}
-use mathlib.Core.Option.{Option, none, some}
+use mathlib.Core.Bool.{Bool, true, false, cond, not}
 use mathlib.Core.List.{List, [], _∷_}
 use Prim.Native.Nat.{ℕ}
-use lib.Dec.{eqb, ltb}
-use lib.ListN.{length, drop}
+use lib.Dec.{eqb}
+use lib.ListN.{drop}
 use lib.Seq.{drop-nil}
-use Rattle.grammar.specs.Bytes.{Bytes, LF, null}
-use Rattle.grammar.specs.Lines.{LineByte, dropped, ends, grows, overruns, lineByte, trim, isComment, isPrompt}
-use Rattle.grammar.specs.Sid.{readSid, hasFeature}
-use Rattle.grammar.specs.Turns.{Proposal, TurnLine, saysFF, saysFQ, endsBlock, notAllowed, proposes, readTurnLine}
-use Rattle.grammar.specs.Answers.{Sign, readFs, fsNumber}
-use Rattle.grammar.specs.Scan.{Scanned, goes, got, malformed, wrongSum, noRoom, scanByte}
-use Rattle.grammar.proofs.Basics.{or2, no-both, by-cond}
-use Rattle.mail.specs.Mail.{accepted}
-use Rattle.session.specs.Choices.{Shelf, chosen, answersTo}
+use Rattle.grammar.specs.Bytes.{Bytes, null}
+use Rattle.grammar.specs.Turns.{Proposal}
+use Rattle.grammar.proofs.Basics.{or2, no-both}
+use Rattle.session.specs.Choices.{Shelf, chosen}
 use Rattle.session.specs.Session as on-lists
 use Rattle.session.specs.Session.{Phase}
+use Rattle.session.proofs.Ways.{Passes, toEnd, toTurn, toAnswer, toTransfer, our-turn, our-answer, Judged, isWrong, hearsSid, hearsText, hearsPrompt, hearsProposal, hearsFF, hearsFQ, hearsEnd, hearsFs, Way, isRefused, dropsLf, growsLine, ignoresLine, hearsLine, readsOn, readsLast, way}
 use Rattle.session.specs.Calls as calls
 use Rattle.demand2.specs.Reached.{Reached, soFarWith}
 use Rattle.demand2.specs.Reached as reached
@@ -34,71 +29,33 @@ abbrev Keeps : on-lists.Memory → on-lists.Outcome → Type 0
 Keeps m (on-lists.refuses n) = Unit {0}
 Keeps m (on-lists.goesOn p n o) = n .inbox ≡ m .inbox
 
-our-turn-keeps : (E : Shelf) (o : Bytes) (ff : Bool) (m n : on-lists.Memory) → n .inbox ≡ m .inbox → Keeps m (on-lists.ourTurn E o ff n)
-our-turn-keeps E o ff m n e = go ff (chosen (E .table) (n .framed) (n .states) (n .deferred))
-  where
-    go : (ff : Bool) (is : List ℕ) → Keeps m (on-lists.speaking E o ff is n)
-    go true [] = e
-    go false [] = e
-    go true (i ∷ is) = e
-    go false (i ∷ is) = e
+passes-keeps : (E : Shelf) (m n : on-lists.Memory) (o : on-lists.Outcome) → Passes E n o → n .inbox ≡ m .inbox → Keeps m o
+passes-keeps E m n o (toEnd x) e = e
+passes-keeps E m n o (toTurn x) e = e
+passes-keeps E m n o (toAnswer x i is f) e = e
+passes-keeps E m n o (toTransfer x p ps) e = e
 
-answering-keeps : (E : Shelf) (ss : List Sign) (ps : List Proposal) (m n : on-lists.Memory) → n .inbox ≡ m .inbox → Keeps m (on-lists.answering E ss ps n)
-answering-keeps E ss [] m n e = our-turn-keeps E _ false m n e
-answering-keeps E ss (p ∷ ps) m n e = e
-
-turn-keeps : (E : Shelf) (t : TurnLine) (ff : Bool) (ps : List Proposal) (m : on-lists.Memory) → Keeps m (on-lists.turnJudged E t ff ps m)
-turn-keeps E saysFF ff [] m = by-cond (Keeps m) ff tt (our-turn-keeps E [] true m (on-lists.turnMarks m) refl)
-turn-keeps E saysFF ff (p ∷ ps) m = tt
-turn-keeps E saysFQ ff [] m = by-cond (Keeps m) ff refl tt
-turn-keeps E saysFQ ff (p ∷ ps) m = tt
-turn-keeps E endsBlock ff [] m = tt
-turn-keeps E endsBlock ff (p ∷ ps) m =
-    let ss = answersTo E (m .inbox) (p ∷ ps) in
-    answering-keeps E ss (accepted ss (p ∷ ps)) m (on-lists.turnMarks m) refl
-turn-keeps E notAllowed ff ps m = tt
-turn-keeps E (proposes q) ff ps m = by-cond (Keeps m) (ltb (length ps) 5) refl tt
-
-line-keeps : (E : Shelf) (p : Phase) (m : on-lists.Memory) (ln : Bytes) → Keeps m (on-lists.lineJudged E p m ln)
-line-keeps E (on-lists.awaitsSid c) m ln = by-cond (Keeps m) (isComment ln) refl (go (readSid ln))
-  where
-    go : (o : Option (List ℕ)) → Keeps m (on-lists.sidJudged c m o)
-    go none = tt
-    go (some fs) = by-cond (Keeps m) (hasFeature 5 fs) refl tt
-line-keeps E on-lists.awaitsPrompt m ln = by-cond (Keeps m) (isComment ln) refl (go (isPrompt ln))
-  where
-    go : (q : Bool) → Keeps m (on-lists.textJudged E q m)
-    go true = our-turn-keeps E _ false m m refl
-    go false = refl
-line-keeps E (on-lists.awaitsTurn ff ps) m ln = by-cond (Keeps m) (isComment ln) refl (turn-keeps E (readTurnLine (m .framed) ln) ff ps m)
-line-keeps E (on-lists.awaitsAnswer is) m ln = by-cond (Keeps m) (isComment ln) refl (go (fsNumber (length is) ln) (readFs (length is) ln))
-  where
-    go : (n : ℕ) (o : Option (List Sign)) → Keeps m (on-lists.answerJudged E is m n o)
-    go n none = tt
-    go n (some ss) = refl
-line-keeps E (on-lists.awaitsTransfer p ps sc) m ln = tt
-line-keeps E on-lists.leaving m ln = tt
-line-keeps E on-lists.over m ln = tt
+judged-keeps : (E : Shelf) (m : on-lists.Memory) (ln : Bytes) (a : on-lists.Awaited) (o : on-lists.Outcome) → Judged E m ln a o → Keeps m o
+judged-keeps E m ln a o (isWrong n w) = tt
+judged-keeps E m ln a o (hearsSid c fs r f) = refl
+judged-keeps E m ln a o (hearsText r) = refl
+judged-keeps E m ln a o (hearsPrompt r) = passes-keeps E m m _ (our-turn E _ false m) refl
+judged-keeps E m ln a o (hearsProposal ff ps q r l) = refl
+judged-keeps E m ln a o (hearsFF r) = passes-keeps E m (on-lists.turnMarks m) _ (our-turn E [] true (on-lists.turnMarks m)) refl
+judged-keeps E m ln a o (hearsFQ r) = refl
+judged-keeps E m ln a o (hearsEnd ff p ps r) = passes-keeps E m (on-lists.turnMarks m) _ (our-answer E (p ∷ ps) (on-lists.turnMarks m)) refl
+judged-keeps E m ln a o (hearsFs is ss r) = refl
 
 -- the byte that ends the session keeps no message
 abbrev EndKeeps : on-lists.Session → on-lists.Stepped → Type 0
 EndKeeps s o = calls.stops o ≡ true → o .session .memory .inbox ≡ s .memory .inbox
 
 stop-keeps : (E : Shelf) (s : on-lists.Session) (b : ℕ) → EndKeeps s (on-lists.step E s b)
-stop-keeps E s b = by-cond (EndKeeps s) (s .afterCr && eqb b LF) (λ e. refl) (free (s .out))
+stop-keeps E s b = go (on-lists.step E s b) (way E s b)
   where
     settled : (q : Bool) (o : on-lists.Outcome) → Keeps (s .memory) o → EndKeeps s (on-lists.settled s q o)
     settled q (on-lists.refuses n) k e = refl
     settled q (on-lists.goesOn p m o) k e = k
-
-    line : EndKeeps s (on-lists.lineStep E s b)
-    line = go (lineByte false (length (s .part)) b)
-      where
-        go : (l : LineByte) → EndKeeps s (on-lists.lineMoved E s b l)
-        go dropped e = refl
-        go ends e = settled true (on-lists.lineJudged E (s .phase) (s .memory) (trim (s .part))) (line-keeps E (s .phase) (s .memory) (trim (s .part))) e
-        go grows e = refl
-        go overruns e = refl
 
     -- after a whole transfer the session goes on
     next : (q : Bool) (ps : List Proposal) (m : on-lists.Memory) → EndKeeps s (on-lists.settled s q (on-lists.nextTransfer E ps m))
@@ -109,25 +66,14 @@ stop-keeps E s b = by-cond (EndKeeps s) (s .afterCr && eqb b LF) (λ e. refl) (f
         go (i ∷ is) e = absurd (no-both true refl (sym e))
     next q (p ∷ ps) m = λ e. absurd (no-both true refl (sym e))
 
-    transfer : (p : Proposal) (ps : List Proposal) (o : Scanned) → EndKeeps s (on-lists.transferMoved E p ps s o)
-    transfer p ps (goes sc) e = refl
-    transfer p ps (got h x) e = next (on-lists.isPlain (p .form)) ps _ e
-    transfer p ps malformed e = refl
-    transfer p ps wrongSum e = refl
-    transfer p ps noRoom e = refl
-
-    at : (p : Phase) → EndKeeps s (on-lists.phaseStep E p s b)
-    at (on-lists.awaitsSid c) = line
-    at on-lists.awaitsPrompt = line
-    at (on-lists.awaitsTurn ff ps) = line
-    at (on-lists.awaitsAnswer is) = line
-    at (on-lists.awaitsTransfer p ps sc) = transfer p ps (scanByte (on-lists.roomFor E (s .memory)) sc b)
-    at on-lists.leaving = λ e. refl
-    at on-lists.over = λ e. refl
-
-    free : (o : Bytes) → EndKeeps s (on-lists.freeStep E o s b)
-    free [] = at (s .phase)
-    free (x ∷ xs) = λ e. refl
+    go : (o : on-lists.Stepped) → Way E s b o → EndKeeps s o
+    go o (isRefused n k w) e = refl
+    go o (dropsLf x) e = refl
+    go o (growsLine a w x y) e = refl
+    go o (ignoresLine a w x y) e = refl
+    go o (hearsLine a w x y z j) e = settled true z (judged-keeps E (s .memory) (s .part) a z j) e
+    go o (readsOn p ps sc on w x) e = refl
+    go o (readsLast p ps sc h x w y) e = next (on-lists.isPlain (p .form)) ps _ e
 
 bytes-kept : (E : Shelf) (bs : Bytes) (s : on-lists.Session) → calls.receiveOn E s bs .session .memory .inbox ≡ lastByte E s bs .memory .inbox
 bytes-kept E [] s = refl
@@ -146,10 +92,7 @@ unfolding calls.give
 give-ended s room e = go (s .phase) (s .out) e
   where
     go : (p : Phase) (o : Bytes) → on-lists.endedIn p o ≡ true → on-lists.endedIn p (drop room o) ≡ true
-    go (on-lists.awaitsSid c) o e = e
-    go on-lists.awaitsPrompt o e = e
-    go (on-lists.awaitsTurn ff ps) o e = e
-    go (on-lists.awaitsAnswer is) o e = e
+    go (on-lists.aLine a) o e = e
     go (on-lists.awaitsTransfer p ps sc) o e = e
     go on-lists.leaving [] e = ap null (drop-nil room)
     go on-lists.leaving (x ∷ o) e = absurd (no-both true refl (sym e))

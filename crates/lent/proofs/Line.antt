@@ -139,17 +139,17 @@ module _ (F : Fixed) (E : Shelf) (s : Session) (a : Bool) (i st : Bytes) (rest :
     sid-law caller e idle none = (refl, refl)
     sid-law caller e idle (some fs) = go (hasFeature 5 fs)
       where
-        mode : (c : Bool) → Lead (wentOn (cond c (inPhase 2 w) (toTurn false w)) y (judge.inMode (framed fs) k) r) (goesOn (on-lists.afterSid c) (on-lists.inMode (framed fs) m) [])
-        mode true = went-on (inPhase 2 w) (judge.inMode (framed fs) k) on-lists.awaitsPrompt (on-lists.inMode (framed fs) m) b (holds-mode F E k t i st m h (framed fs)) refl refl (refl, idle)
+        mode : (c : Bool) → Lead (wentOn (cond c (inPhase 2 w) (toTurn false w)) y (judge.inMode (framed fs) k) r) (goesOn (on-lists.afterSid c) (on-lists.withFramed (framed fs) m) [])
+        mode true = went-on (inPhase 2 w) (judge.inMode (framed fs) k) (on-lists.aLine on-lists.awaitsPrompt) (on-lists.withFramed (framed fs) m) b (holds-mode F E k t i st m h (framed fs)) refl refl (refl, idle)
         mode false =
-            went-on (toTurn false w) (judge.inMode (framed fs) k) (on-lists.awaitsTurn false []) (on-lists.inMode (framed fs) m) (block-none b)
-            (holds-mode F E k t i st m h (framed fs)) refl refl (refl, refl, no-proposals (w .block))
+            went-on (toTurn false w) (judge.inMode (framed fs) k) (on-lists.newTurn false) (on-lists.withFramed (framed fs) m) (block-none b)
+            (holds-mode F E k t i st m h (framed fs)) refl refl (refl, (refl, no-proposals (w .block)))
 
         go : (c : Bool)
             → Lead (cond c (wentOn (judge.afterSid w) y (judge.inMode (framed fs) k) r) (refusal noForwarding w y k r))
-            (cond c (goesOn (on-lists.afterSid caller) (on-lists.inMode (framed fs) m) []) (refuses noForwarding))
+            (cond c (goesOn (on-lists.afterSid caller) (on-lists.withFramed (framed fs) m) []) (refuses noForwarding))
         go true =
-            subst (λ (c : Bool). Lead (wentOn (judge.afterSid w) y (judge.inMode (framed fs) k) r) (goesOn (on-lists.afterSid c) (on-lists.inMode (framed fs) m) [])) e
+            subst (λ (c : Bool). Lead (wentOn (judge.afterSid w) y (judge.inMode (framed fs) k) r) (goesOn (on-lists.afterSid c) (on-lists.withFramed (framed fs) m) [])) e
             (mode (eqb (w .phase) 1))
         go false = (refl, refl)
 
@@ -157,7 +157,7 @@ module _ (F : Fixed) (E : Shelf) (s : Session) (a : Bool) (i st : Bytes) (rest :
         → Lead (cond c (judged 0 1 noMarks w (saysFirst 2 y) k r) (wentOn w y k r)) (on-lists.textJudged E c m)
     unfolding firstText
     text-law e idle true = speaks false noMarks (saysFirst 2 y) k m (withCr (fixedText ourSid)) g h refl refl idle refl
-    text-law e idle false = went-on w k on-lists.awaitsPrompt m b h refl refl (e, idle)
+    text-law e idle false = went-on w k (on-lists.aLine on-lists.awaitsPrompt) m b h refl refl (e, idle)
 
     -- ---------------------------------------------------------------- FF, FQ and proposals
 
@@ -189,18 +189,18 @@ module _ (F : Fixed) (E : Shelf) (s : Session) (a : Bool) (i st : Bytes) (rest :
     proposal-law q fits e =
         subst
         (λ (n : ℕ). Lead (cond (ltb (w .proposals) 5) (wentOn (withProposal q w) y k r) (refusal proposalCount w y k r))
-        (cond (ltb n 5) (goesOn (on-lists.awaitsTurn (w .ff) (proposalsOf (w .block) (w .proposals) ++ (q ∷ []))) m []) (refuses proposalCount)))
+        (cond (ltb n 5) (goesOn (on-lists.aLine (on-lists.awaitsTurn (w .ff) (proposalsOf (w .block) (w .proposals) ++ (q ∷ [])))) m []) (refuses proposalCount)))
         (sym (proposals-length (w .block) (w .proposals)))
         (go (ltb (w .proposals) 5) refl)
       where
         go : (c : Bool) → ltb (w .proposals) 5 ≡ c
             → Lead (cond c (wentOn (withProposal q w) y k r) (refusal proposalCount w y k r))
-            (cond c (goesOn (on-lists.awaitsTurn (w .ff) (proposalsOf (w .block) (w .proposals) ++ (q ∷ []))) m []) (refuses proposalCount))
+            (cond c (goesOn (on-lists.aLine (on-lists.awaitsTurn (w .ff) (proposalsOf (w .block) (w .proposals) ++ (q ∷ [])))) m []) (refuses proposalCount))
         go true f =
             let l = ltb-true (w .proposals) 5 f in
-            went-on (withProposal q w) k (on-lists.awaitsTurn (w .ff) (proposalsOf (w .block) (w .proposals) ++ (q ∷ []))) m
+            went-on (withProposal q w) k (on-lists.aLine (on-lists.awaitsTurn (w .ff) (proposalsOf (w .block) (w .proposals) ++ (q ∷ [])))) m
             (record { five = b .five; size = put-length (w .block) _ _ ∙ b .size; few = omega arith; entries = entries-more (w .block) (w .proposals) (b .size) l q fits (b .entries) })
-            h refl refl (e, refl, proposals-more (w .block) (w .proposals) (b .size) l q fits)
+            h refl refl (e, (refl, proposals-more (w .block) (w .proposals) (b .size) l q fits))
         go false f = (refl, refl)
 
     -- ---------------------------------------------------------------- F>

@@ -26,35 +26,28 @@ use Rattle.judge.specs.declared.Judged.{Judged}
 use Rattle.waiting.specs.Waiting.{waitingOf}
 use Rattle.pending.specs.Pending.{waits}
 use Rattle.receiving.specs.Receiving.{Cs, cs, Settled, longer, lineMoved, lineStepOf, refusedOf}
-use Rattle.lent.specs.Represents.{Fixed, Says, Awaits, Represents}
+use Rattle.lent.specs.Represents.{Fixed, Says, lineNumber, Awaits, Represents}
 use Rattle.lent.proofs.Says.{waits-none}
 use Rattle.lent.proofs.Parts.{Ready, block-of, signs-of, rest-of, holds-of, represents, refuse-law}
 use Rattle.lent.proofs.Frame.{only-same}
-use Rattle.lent.proofs.Settle.{left}
 use Rattle.lent.proofs.Leads.{Settling, Leads, settle-law}
 use Rattle.lent.proofs.Line.{went-on, sid-law, text-law, turn-law}
 use Rattle.lent.proofs.Answer.{fs-law}
 
--- a line is awaited
-abbrev pub AwaitsLine : Phase → Type 0
-AwaitsLine (on-lists.awaitsSid c) = Unit {0}
-AwaitsLine on-lists.awaitsPrompt = Unit {0}
-AwaitsLine (on-lists.awaitsTurn ff ps) = Unit {0}
-AwaitsLine (on-lists.awaitsAnswer is) = Unit {0}
-AwaitsLine (on-lists.awaitsTransfer p ps sc) = ⊥
-AwaitsLine on-lists.leaving = ⊥
-AwaitsLine on-lists.over = ⊥
+-- the numbers of lines
+pub line-below : (a : on-lists.Awaited) → lineNumber a < 5
+line-below (on-lists.awaitsSid true) = omega arith
+line-below (on-lists.awaitsSid false) = omega arith
+line-below on-lists.awaitsPrompt = omega arith
+line-below (on-lists.awaitsTurn ff ps) = omega arith
+line-below (on-lists.awaitsAnswer is) = omega arith
 
 -- the same session with another line
 abbrev pub withLine : Line → Session → Session
 withLine l s = record { now = s .now; say = s .say; keep = s .keep; reading = s .reading; line = l }
 
 pub awaits-line : (p : Phase) (s : Session) (t i st : Bytes) (l : Line) → Awaits (cs s t i st) p → Awaits (cs (withLine l s) t i st) p
-awaits-line (on-lists.awaitsSid false) s t i st l h = h
-awaits-line (on-lists.awaitsSid true) s t i st l h = h
-awaits-line on-lists.awaitsPrompt s t i st l h = h
-awaits-line (on-lists.awaitsTurn ff ps) s t i st l h = h
-awaits-line (on-lists.awaitsAnswer is) s t i st l h = h
+awaits-line (on-lists.aLine a) s t i st l h = h
 awaits-line (on-lists.awaitsTransfer p ps sc) s t i st l h = h
 awaits-line on-lists.leaving s t i st l h = h
 awaits-line on-lists.over s t i st l h = h
@@ -80,52 +73,46 @@ module _ (F : Fixed) (E : Shelf) (c : Cs) (v : on-lists.Session) (h : Represents
 
   -- ---------------------------------------------------------------- the line judged
 
-  module _ (ln : Bytes) where
+  module _ (raw : Bytes) where
+    -- the line that is judged
+    abbrev ln : Bytes
+    ln = trim raw
+
     abbrev judgedIn : ℕ → Judged
     judgedIn p = lineIn p ln (s .now) (s .say) (s .keep) (s .reading .reader) (c .table) (F .known) (c .inbox) (length (c .store))
 
-    -- "A line that begins with `;` is ignored wherever a line is awaited"
-    noted : (p : Phase) (n : ℕ) (o : Outcome) → s .now .phase ≡ n
-        → Awaits (cs (left F E s true (c .inbox) (c .store) (rest-of h) (s .now) (s .say) (s .keep) (s .reading .reader)) (c .table) (c .inbox) (c .store)) p
-        → Lead (judgedIn n) o
-        → Lead (judgeOf ln (s .now) (s .say) (s .keep) (s .reading .reader) (c .table) (F .known) (c .inbox) (length (c .store))) (cond (isComment ln) (goesOn p m []) o)
-    unfolding judgeOf
-    noted p n o e await j = go (isComment ln)
-      where
-        go : (x : Bool) → Lead (cond x (wentOn (s .now) (s .say) (s .keep) (s .reading .reader)) (judgedIn (s .now .phase))) (cond x (goesOn p m []) o)
-        go true =
-            went-on F E s true (c .inbox) (c .store) (rest-of h) (s .now) (s .say) (s .keep) (s .reading .reader) (c .table) m ready (s .now) (s .keep) p m
-            (block-of h) (holds-of h) refl refl await
-        go false = subst (λ (q : ℕ). Lead (judgedIn q) o) (sym e) j
-
-    judge-law : (p : Phase) → AwaitsLine p → Awaits c p
-        → Lead (judgeOf ln (s .now) (s .say) (s .keep) (s .reading .reader) (c .table) (F .known) (c .inbox) (length (c .store))) (on-lists.lineJudged E p m ln)
+    read-law : (a : on-lists.Awaited) → Awaits c (on-lists.aLine a) → Lead (judgedIn (lineNumber a)) (on-lists.awaitedJudged E a m raw)
     unfolding sidLine textLine turnLine
-    judge-law (on-lists.awaitsSid false) x a =
-        noted (on-lists.awaitsSid false) 0 _ (a .0) a
-        (sid-law F E s true (c .inbox) (c .store) (rest-of h) (s .now) (s .say) (s .keep) (s .reading .reader) (c .table) m ready false (ap (λ (p : ℕ). eqb p 1) (a .0)) (a .1) (readSid ln))
-    judge-law (on-lists.awaitsSid true) x a =
-        noted (on-lists.awaitsSid true) 1 _ (a .0) a
-        (sid-law F E s true (c .inbox) (c .store) (rest-of h) (s .now) (s .say) (s .keep) (s .reading .reader) (c .table) m ready true (ap (λ (p : ℕ). eqb p 1) (a .0)) (a .1) (readSid ln))
-    judge-law on-lists.awaitsPrompt x a =
-        noted on-lists.awaitsPrompt 2 _ (a .0) a
-        (text-law F E s true (c .inbox) (c .store) (rest-of h) (s .now) (s .say) (s .keep) (s .reading .reader) (c .table) m ready (a .0) (a .1) (isPrompt ln))
-    judge-law (on-lists.awaitsTurn ff ps) x a =
-        noted (on-lists.awaitsTurn ff ps) 3 _ (a .0) a
-        (subst (λ (o : Outcome). Lead (judgedIn 3) o) (same (h .framed) (a .1) (a .2))
+    read-law (on-lists.awaitsSid true) a =
+        sid-law F E s true (c .inbox) (c .store) (rest-of h) (s .now) (s .say) (s .keep) (s .reading .reader) (c .table) m ready true (ap (λ (p : ℕ). eqb p 1) (a .0)) (a .1) (readSid ln)
+    read-law (on-lists.awaitsSid false) a =
+        sid-law F E s true (c .inbox) (c .store) (rest-of h) (s .now) (s .say) (s .keep) (s .reading .reader) (c .table) m ready false (ap (λ (p : ℕ). eqb p 1) (a .0)) (a .1) (readSid ln)
+    read-law on-lists.awaitsPrompt a =
+        text-law F E s true (c .inbox) (c .store) (rest-of h) (s .now) (s .say) (s .keep) (s .reading .reader) (c .table) m ready (a .0) (a .1) (isPrompt ln)
+    read-law (on-lists.awaitsTurn ff ps) a =
+        subst (λ (o : Outcome). Lead (judgedIn 3) o) (same (h .framed) (a .1 .0) (a .1 .1))
         (turn-law F E s true (c .inbox) (c .store) (rest-of h) (s .now) (s .say) (s .keep) (s .reading .reader) (c .table) m ready (a .0)
-        (s .keep .framed) (readTurnLine (s .keep .framed) ln) (turn-read-ok (s .keep .framed) ln)))
+        (s .keep .framed) (readTurnLine (s .keep .framed) ln) (turn-read-ok (s .keep .framed) ln))
       where
         same : {d e : Bool} {f g : Bool} {qs rs : List Proposal} → d ≡ e → f ≡ g → qs ≡ rs
             → on-lists.turnJudged E (readTurnLine d ln) f qs m ≡ on-lists.turnJudged E (readTurnLine e ln) g rs m
         same p q r = rw (p, q, r)
-    judge-law (on-lists.awaitsAnswer is) x a =
-        noted (on-lists.awaitsAnswer is) 4 _ (a .0) a
-        (subst (λ (js : List ℕ). Lead (judgedIn 4) (on-lists.answerJudged E js m (fsNumber (length js) ln) (readFs (length js) ln))) (a .2)
-        (fs-law F E s true (c .inbox) (c .store) (rest-of h) (s .now) (s .say) (s .keep) (s .reading .reader) (c .table) m ready ln (a .1)))
-    judge-law (on-lists.awaitsTransfer p ps sc) x a = absurd x
-    judge-law on-lists.leaving x a = absurd x
-    judge-law on-lists.over x a = absurd x
+    read-law (on-lists.awaitsAnswer is) a =
+        subst (λ (js : List ℕ). Lead (judgedIn 4) (on-lists.answerJudged E js m (fsNumber (length js) ln) (readFs (length js) ln))) (a .1 .1)
+        (fs-law F E s true (c .inbox) (c .store) (rest-of h) (s .now) (s .say) (s .keep) (s .reading .reader) (c .table) m ready ln (a .1 .0))
+
+    -- "A line that begins with `;` is ignored wherever a line is awaited"
+    judge-law : (a : on-lists.Awaited) → Awaits c (on-lists.aLine a)
+        → Lead (judgeOf ln (s .now) (s .say) (s .keep) (s .reading .reader) (c .table) (F .known) (c .inbox) (length (c .store))) (on-lists.lineJudged E a m raw)
+    unfolding judgeOf
+    judge-law a w = go (isComment ln)
+      where
+        go : (x : Bool) → Lead (cond x (wentOn (s .now) (s .say) (s .keep) (s .reading .reader)) (judgedIn (s .now .phase)))
+            (cond x (goesOn (on-lists.aLine a) m []) (on-lists.awaitedJudged E a m raw))
+        go true =
+            went-on F E s true (c .inbox) (c .store) (rest-of h) (s .now) (s .say) (s .keep) (s .reading .reader) (c .table) m ready (s .now) (s .keep) (on-lists.aLine a) m
+            (block-of h) (holds-of h) refl refl w
+        go false = subst (λ (q : ℕ). Lead (judgedIn q) (on-lists.awaitedJudged E a m raw)) (sym (w .0)) (read-law a w)
 
   -- ---------------------------------------------------------------- a byte
 
@@ -150,24 +137,24 @@ module _ (F : Fixed) (E : Shelf) (c : Cs) (v : on-lists.Session) (h : Represents
   abbrev Moves : Settled → on-lists.Stepped → Type 0
   Moves x o = Settling F E (c .inbox) (c .store) (s .keep .kept) (s .keep .used) (c .table) x o
 
-  byte-moves : (b : ℕ) → AwaitsLine (v .phase) → (l : LineByte) → RoomIf l
-      → Moves (lineMoved l s b (c .table) (F .known) (c .inbox) (length (c .store))) (on-lists.lineMoved E v b l)
+  byte-moves : (b : ℕ) (a : on-lists.Awaited) → v .phase ≡ on-lists.aLine a → (l : LineByte) → RoomIf l
+      → Moves (lineMoved l s b (c .table) (F .known) (c .inbox) (length (c .store))) (on-lists.lineMoved E a v b l)
   unfolding refusedOf
-  byte-moves b x dropped room = record { answer = refl; represents = h; count = refl; spent = refl; table = only-same (c .table) }
-  byte-moves b x ends room =
+  byte-moves b a x dropped room = record { answer = refl; represents = h; count = refl; spent = refl; table = only-same (c .table) }
+  byte-moves b a x ends room =
       subst
-      (λ (w : Bytes). Moves (lineMoved ends s b (c .table) (F .known) (c .inbox) (length (c .store))) (on-lists.settled v true (on-lists.lineJudged E (v .phase) m (trim w))))
+      (λ (w : Bytes). Moves (lineMoved ends s b (c .table) (F .known) (c .inbox) (length (c .store))) (on-lists.settled v true (on-lists.lineJudged E a m w)))
       (h .part)
       (settle-law F E s true (c .inbox) (c .store) (rest-of h) (s .keep .kept) (s .keep .used) (c .table) v refl refl (λ n. refuse-law F E c v n h)
       (judgeOf (trim (take (s .line .len) (s .line .bytes))) (s .now) (s .say) (s .keep) (s .reading .reader) (c .table) (F .known) (c .inbox) (length (c .store)))
-      (on-lists.lineJudged E (v .phase) m (trim (take (s .line .len) (s .line .bytes))))
-      (judge-law (trim (take (s .line .len) (s .line .bytes))) (v .phase) x (h .awaits)))
-  byte-moves b x grows room =
+      (on-lists.lineJudged E a m (take (s .line .len) (s .line .bytes)))
+      (judge-law (take (s .line .len) (s .line .bytes)) a (subst (Awaits c) x (h .awaits))))
+  byte-moves b a x grows room =
       let size : length (set (s .line .bytes) (s .line .len) b) ≡ 256 = length-set (s .line .bytes) (s .line .len) b ∙ h .arrays .line in
       record {
         answer = refl;
         represents = represents F E (cs (longer s b) (c .table) (c .inbox) (c .store))
-            (record { phase = v .phase; part = v .part ++ (b ∷ []); afterCr = false; out = v .out; memory = v .memory })
+            (on-lists.withPart (v .part ++ (b ∷ [])) (on-lists.withAfterCr false v))
             (block-of h) (signs-of h) (holds-of h) (record { heading = h .arrays .heading; line = size }) (h .arrays .head) (omega (arith, room))
             (says-line F s (c .table) (c .inbox) (c .store) (longer s b .line) (v .out) (h .says))
             (awaits-line (v .phase) s (c .table) (c .inbox) (c .store) (longer s b .line) (h .awaits))
@@ -178,12 +165,12 @@ module _ (F : Fixed) (E : Shelf) (c : Cs) (v : on-lists.Session) (h : Represents
         spent = refl;
         table = only-same (c .table);
       }
-  byte-moves b x overruns room =
+  byte-moves b a x overruns room =
       record { answer = refl; represents = refuse-law F E c v lineTooLong h; count = refl; spent = refl; table = only-same (c .table) }
 
   -- A BYTE OF A LINE
-  pub line-step : (b : ℕ) → AwaitsLine (v .phase) → Moves (lineStepOf s b (c .table) (F .known) (c .inbox) (length (c .store))) (on-lists.lineStep E v b)
+  pub line-step : (b : ℕ) (a : on-lists.Awaited) → v .phase ≡ on-lists.aLine a → Moves (lineStepOf s b (c .table) (F .known) (c .inbox) (length (c .store))) (on-lists.lineStep E a v b)
   unfolding lineStepOf
-  line-step b x =
-      subst (λ (n : ℕ). Moves (lineMoved (lineByte false (s .line .len) b) s b (c .table) (F .known) (c .inbox) (length (c .store))) (on-lists.lineMoved E v b (lineByte false n b))) (sym line-length)
-      (byte-moves b x (lineByte false (s .line .len) b) (room-if b))
+  line-step b a x =
+      subst (λ (n : ℕ). Moves (lineMoved (lineByte false (s .line .len) b) s b (c .table) (F .known) (c .inbox) (length (c .store))) (on-lists.lineMoved E a v b (lineByte false n b))) (sym line-length)
+      (byte-moves b a x (lineByte false (s .line .len) b) (room-if b))

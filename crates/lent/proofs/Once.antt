@@ -2,24 +2,21 @@
 -- the partner's next whole turn. So, byte by byte, in the log that a list of calls feeds.
 use mathlib.Core.Path.{_≡_, refl, sym, ap, _∙_, subst}
 use mathlib.Core.Bool.{Bool, true, false, cond, _&&_}
-use mathlib.Core.Option.{Option, none, some}
 use mathlib.Core.List.{List, [], _∷_, _++_}
 use Prim.Native.Nat.{ℕ, suc, _+_, _≤_}
 use native.Mathlib.Omega.{arith}
 use lib.Dec.{eqb, ltb}
-use lib.ListN.{length, getD, set}
+use lib.ListN.{getD, set}
 use lib.Seq.{getD-set-other}
 use borrow.Author.Tests.{eqb-true, eqb-false, ne-eqb}
-use Rattle.grammar.specs.Bytes.{Bytes, LF}
-use Rattle.grammar.specs.Lines.{LineByte, dropped, ends, grows, overruns, lineByte, trim, isComment, isPrompt}
-use Rattle.grammar.specs.Sid.{readSid, hasFeature}
-use Rattle.grammar.specs.Turns.{Proposal, TurnLine, saysFF, saysFQ, endsBlock, notAllowed, proposes, readTurnLine, ourBlock, inMode}
-use Rattle.grammar.specs.Answers.{Sign, accept, decline, defer, readFs, fsNumber}
-use Rattle.grammar.specs.Scan.{Scanned, goes, got, malformed, wrongSum, noRoom, scanByte}
-use Rattle.grammar.proofs.Basics.{and2, or2, by-cond}
+use Rattle.grammar.specs.Bytes.{Bytes}
+use Rattle.grammar.specs.Turns.{ourBlock, inMode}
+use Rattle.grammar.specs.Answers.{Sign, accept, decline, defer}
+use Rattle.grammar.proofs.Basics.{and2, or2}
 use Rattle.mail.specs.Mail.{Record, accepted, marked, declined}
-use Rattle.session.specs.Choices.{Shelf, wanted, candidates, sizeAt, chosen, answersTo}
-use Rattle.session.specs.Session.{Phase, awaitsSid, awaitsPrompt, leaving, over, awaitsTurn, awaitsAnswer, awaitsTransfer, Memory, Session, Outcome, refuses, goesOn, speaking, ourTurn, turnMarks, answering, turnJudged, answerJudged, sidJudged, textJudged, lineJudged, Stepped, settled, lineMoved, isPlain, nextTransfer, transferMoved, roomFor, phaseStep, freeStep, step}
+use Rattle.session.specs.Choices.{Shelf, wanted, candidates, sizeAt, chosen}
+use Rattle.session.specs.Session.{Awaited, awaitsSid, awaitsPrompt, awaitsTurn, awaitsAnswer, Phase, aLine, awaitsTransfer, leaving, over, Memory, Session, Outcome, refuses, goesOn, turnMarks, Stepped, settled, isPlain, nextTransfer, step}
+use Rattle.session.proofs.Ways.{Passes, toEnd, toTurn, toAnswer, toTransfer, our-turn, our-answer, next-transfer, Judged, isWrong, hearsSid, hearsText, hearsPrompt, hearsProposal, hearsFF, hearsFQ, hearsEnd, hearsFs, Way, isRefused, dropsLf, growsLine, ignoresLine, hearsLine, readsOn, readsLast, way}
 use Rattle.lent.specs.Deeds.{gives}
 use Rattle.lent.proofs.DeedStates.{has, marked-other, declined-other}
 use Rattle.lent.proofs.Becomes.{Keeps}
@@ -138,12 +135,15 @@ chosen-fit T md st fl = block-fit (sizeAt T) st 0 0 (candidates md st fl 0 T) (c
 
 -- ---------------------------------------------------------------- the session
 
--- what is being sent in each phase, and what we proposed
+-- what is being sent where each line is awaited, and what we proposed
+abbrev pub SendsLine : Awaited → Memory → Type 0
+SendsLine (awaitsSid c) m = m .sending ≡ []
+SendsLine awaitsPrompt m = m .sending ≡ []
+SendsLine (awaitsTurn ff ps) m = Waiting (m .sending) (m .states)
+SendsLine (awaitsAnswer is) m = (m .sending ≡ []) × Fit (m .states) is
+
 abbrev pub Sends : Phase → Memory → Type 0
-Sends (awaitsSid c) m = m .sending ≡ []
-Sends awaitsPrompt m = m .sending ≡ []
-Sends (awaitsTurn ff ps) m = Waiting (m .sending) (m .states)
-Sends (awaitsAnswer is) m = (m .sending ≡ []) × Fit (m .states) is
+Sends (aLine a) m = SendsLine a m
 Sends (awaitsTransfer p ps sc) m = m .sending ≡ []
 Sends leaving m = Unit {0}
 Sends over m = Unit {0}
@@ -160,113 +160,55 @@ pub record StepOk (st : List ℕ) (o : Stepped) : Type 0 where
   pub keeps : Keeps st (o .session .memory .states)
   pub sends : Sends (o .session .phase) (o .session .memory)
 
-module _ (E : Shelf) (st : List ℕ) where
-  speaks : (o : Bytes) (ff : Bool) (is : List ℕ) (m : Memory) → Keeps st (m .states) → m .sending ≡ [] → Fit (m .states) is → OutcomeOk st (speaking E o ff is m)
-  speaks o true [] m k e f = (k, tt)
-  speaks o false [] m k e f = (k, none-sent m e)
-  speaks o true (i ∷ is) m k e f = (k, (e, f))
-  speaks o false (i ∷ is) m k e f = (k, (e, f))
+passes-ok : (E : Shelf) (st : List ℕ) (m : Memory) (o : Outcome) → Passes E m o → Keeps st (m .states) → m .sending ≡ [] → OutcomeOk st o
+passes-ok E st m o (toEnd x) k e = (k, tt)
+passes-ok E st m o (toTurn x) k e = (k, none-sent m e)
+passes-ok E st m o (toAnswer x i is f) k e =
+    (k, (e, subst (Fit (m .states)) f (chosen-fit (E .table) (m .framed) (m .states) (m .deferred))))
+passes-ok E st m o (toTransfer x p ps) k e = (k, e)
 
-  turn-ok : (o : Bytes) (ff : Bool) (m : Memory) → Keeps st (m .states) → m .sending ≡ [] → OutcomeOk st (ourTurn E o ff m)
-  turn-ok o ff m k e = speaks o ff (chosen (E .table) (m .framed) (m .states) (m .deferred)) m k e (chosen-fit (E .table) (m .framed) (m .states) (m .deferred))
+same-states : (m : Memory) → Keeps (m .states) (m .states)
+same-states m i h = refl
 
-  answering-ok : (ss : List Sign) (ps : List Proposal) (m : Memory) → Keeps st (m .states) → m .sending ≡ [] → OutcomeOk st (answering E ss ps m)
-  answering-ok ss [] m k e = turn-ok _ false m k e
-  answering-ok ss (p ∷ ps) m k e = (k, e)
-
-  next-ok : (ps : List Proposal) (m : Memory) → Keeps st (m .states) → m .sending ≡ [] → OutcomeOk st (nextTransfer E ps m)
-  next-ok [] m k e = turn-ok [] false m k e
-  next-ok (p ∷ ps) m k e = (k, e)
-
-module _ (E : Shelf) (m : Memory) where
-  same-states : Keeps (m .states) (m .states)
-  same-states i h = refl
-
-  abbrev Ok : Outcome → Type 0
-  Ok o = OutcomeOk (m .states) o
-
-  judged-turn : (l : TurnLine) (ff : Bool) (ps : List Proposal) → Waiting (m .sending) (m .states) → Ok (turnJudged E l ff ps m)
-  judged-turn saysFF true [] w = tt
-  judged-turn saysFF false [] w = turn-ok E (m .states) [] true (turnMarks m) (marks-keep (m .sending) (m .states) w) refl
-  judged-turn saysFF ff (p ∷ ps) w = tt
-  judged-turn saysFQ true [] w = (same-states, tt)
-  judged-turn saysFQ false [] w = tt
-  judged-turn saysFQ ff (p ∷ ps) w = tt
-  judged-turn endsBlock ff [] w = tt
-  judged-turn endsBlock ff (p ∷ ps) w =
-      let ss = answersTo E (m .inbox) (p ∷ ps) in
-      answering-ok E (m .states) ss (accepted ss (p ∷ ps)) (turnMarks m) (marks-keep (m .sending) (m .states) w) refl
-  judged-turn notAllowed ff ps w = tt
-  judged-turn (proposes q) ff ps w = by-cond Ok (ltb (length ps) 5) (same-states, w) tt
-
-  judged-answer : (is : List ℕ) (n : ℕ) (z : Option (List Sign)) → m .sending ≡ [] → Fit (m .states) is → Ok (answerJudged E is m n z)
-  judged-answer is n none e f = tt
-  judged-answer is n (some ss) e f = (
-    declines-keep is ss (m .states) (f .waiting),
-    subst (λ (x : List ℕ). Waiting (x ++ accepted ss is) (declined is ss (m .states))) (sym e) (accepted-wait is ss (m .states) (f .once) (f .waiting)),
-  )
-
-  judged-sid : (c : Bool) (z : Option (List ℕ)) → m .sending ≡ [] → Ok (sidJudged c m z)
-  judged-sid c none e = tt
-  judged-sid true (some fs) e = by-cond Ok (hasFeature 5 fs) (same-states, e) tt
-  judged-sid false (some fs) e = by-cond Ok (hasFeature 5 fs) (same-states, none-sent m e) tt
-
-  judged-text : (b : Bool) → m .sending ≡ [] → Ok (textJudged E b m)
-  judged-text true e = turn-ok E (m .states) _ false m same-states e
-  judged-text false e = (same-states, e)
-
-  judged-line : (p : Phase) (ln : Bytes) → Sends p m → Ok (lineJudged E p m ln)
-  judged-line (awaitsSid c) ln w = by-cond Ok (isComment ln) (same-states, w) (judged-sid c (readSid ln) w)
-  judged-line awaitsPrompt ln w = by-cond Ok (isComment ln) (same-states, w) (judged-text (isPrompt ln) w)
-  judged-line (awaitsTurn ff ps) ln w = by-cond Ok (isComment ln) (same-states, w) (judged-turn (readTurnLine (m .framed) ln) ff ps w)
-  judged-line (awaitsAnswer is) ln w =
-      by-cond Ok (isComment ln) (same-states, w) (judged-answer is (fsNumber (length is) ln) (readFs (length is) ln) (w .0) (w .1))
-  judged-line (awaitsTransfer p ps sc) ln w = tt
-  judged-line leaving ln w = tt
-  judged-line over ln w = tt
+judged-ok : (E : Shelf) (m : Memory) (ln : Bytes) (a : Awaited) (o : Outcome) → Judged E m ln a o → SendsLine a m → OutcomeOk (m .states) o
+judged-ok E m ln a o (isWrong n x) w = tt
+judged-ok E m ln a o (hearsSid true fs r f) w = (same-states m, w)
+judged-ok E m ln a o (hearsSid false fs r f) w = (same-states m, none-sent m w)
+judged-ok E m ln a o (hearsText r) w = (same-states m, w)
+judged-ok E m ln a o (hearsPrompt r) w = passes-ok E (m .states) m _ (our-turn E _ false m) (same-states m) w
+judged-ok E m ln a o (hearsProposal ff ps q r l) w = (same-states m, w)
+judged-ok E m ln a o (hearsFF r) w = passes-ok E (m .states) (turnMarks m) _ (our-turn E [] true (turnMarks m)) (marks-keep (m .sending) (m .states) w) refl
+judged-ok E m ln a o (hearsFQ r) w = (same-states m, tt)
+judged-ok E m ln a o (hearsEnd ff p ps r) w =
+    passes-ok E (m .states) (turnMarks m) _ (our-answer E (p ∷ ps) (turnMarks m)) (marks-keep (m .sending) (m .states) w) refl
+judged-ok E m ln a o (hearsFs is ss r) w = (
+  declines-keep is ss (m .states) (w .1 .waiting),
+  subst (λ (x : List ℕ). Waiting (x ++ accepted ss is) (declined is ss (m .states))) (sym (w .0)) (accepted-wait is ss (m .states) (w .1 .once) (w .1 .waiting)),
+)
 
 module _ (E : Shelf) (s : Session) (w : Sends (s .phase) (s .memory)) where
   abbrev OkStep : Stepped → Type 0
   OkStep o = StepOk (s .memory .states) o
 
-  -- states and what is sent are as before
-  as-before : {n : ℕ} {part out : Bytes} {a : Bool} → OkStep (record { answer = n; session = record { phase = s .phase; part = part; afterCr = a; out = out; memory = s .memory } })
-  as-before = record { keeps = same-states E (s .memory); sends = w }
-
-  -- the session is over
-  refused-ok : {n : ℕ} {part out : Bytes} {a : Bool} → OkStep (record { answer = n; session = record { phase = over; part = part; afterCr = a; out = out; memory = s .memory } })
-  refused-ok = record { keeps = same-states E (s .memory); sends = tt }
-
   settled-ok : (a : Bool) (o : Outcome) → OutcomeOk (s .memory .states) o → OkStep (settled s a o)
-  settled-ok a (refuses n) k = refused-ok
+  settled-ok a (refuses n) k = record { keeps = same-states (s .memory); sends = tt }
   settled-ok a (goesOn p m o) k = record { keeps = k .0; sends = k .1 }
 
-  line-ok : (b : ℕ) (l : LineByte) → OkStep (lineMoved E s b l)
-  line-ok b dropped = as-before
-  line-ok b ends = settled-ok true (lineJudged E (s .phase) (s .memory) (trim (s .part))) (judged-line E (s .memory) (s .phase) (trim (s .part)) w)
-  line-ok b grows = as-before
-  line-ok b overruns = refused-ok
+  -- in the phase that it is
+  in-phase : (p : Phase) → s .phase ≡ p → Sends p (s .memory)
+  in-phase p e = subst (λ (p : Phase). Sends p (s .memory)) e w
 
-  transfer-ok : (p : Proposal) (ps : List Proposal) (z : Scanned) → s .memory .sending ≡ [] → OkStep (transferMoved E p ps s z)
-  transfer-ok p ps (goes sc) e = record { keeps = same-states E (s .memory); sends = e }
-  transfer-ok p ps (got h x) e = settled-ok (isPlain (p .form)) (nextTransfer E ps _) (next-ok E (s .memory .states) ps _ (same-states E (s .memory)) e)
-  transfer-ok p ps malformed e = refused-ok
-  transfer-ok p ps wrongSum e = refused-ok
-  transfer-ok p ps noRoom e = refused-ok
-
-  phase-ok : (p : Phase) (b : ℕ) → Sends p (s .memory) → OkStep (phaseStep E p s b)
-  phase-ok (awaitsSid c) b v = line-ok b (lineByte false (length (s .part)) b)
-  phase-ok awaitsPrompt b v = line-ok b (lineByte false (length (s .part)) b)
-  phase-ok (awaitsTurn ff ps) b v = line-ok b (lineByte false (length (s .part)) b)
-  phase-ok (awaitsAnswer is) b v = line-ok b (lineByte false (length (s .part)) b)
-  phase-ok (awaitsTransfer p ps sc) b v = transfer-ok p ps (scanByte (roomFor E (s .memory)) sc b) v
-  phase-ok leaving b v = refused-ok
-  phase-ok over b v = refused-ok
-
-  free-ok : (o : Bytes) (b : ℕ) → OkStep (freeStep E o s b)
-  free-ok (x ∷ xs) b = refused-ok
-  free-ok [] b = phase-ok (s .phase) b w
+  way-ok : (b : ℕ) (o : Stepped) → Way E s b o → OkStep o
+  way-ok b o (isRefused n k x) = record { keeps = same-states (s .memory); sends = tt }
+  way-ok b o (dropsLf e) = record { keeps = same-states (s .memory); sends = w }
+  way-ok b o (growsLine a x y z) = record { keeps = same-states (s .memory); sends = w }
+  way-ok b o (ignoresLine a x y z) = record { keeps = same-states (s .memory); sends = in-phase (aLine a) (x .awaited) }
+  way-ok b o (hearsLine a x y z r j) = settled-ok true r (judged-ok E (s .memory) (s .part) a r j (in-phase (aLine a) (x .awaited)))
+  way-ok b o (readsOn p ps sc on x e) = record { keeps = same-states (s .memory); sends = in-phase (awaitsTransfer p ps sc) (x .awaited) }
+  way-ok b o (readsLast p ps sc g y x e) =
+      settled-ok (isPlain (p .form)) (nextTransfer E ps _)
+      (passes-ok E (s .memory .states) _ _ (next-transfer E ps _) (same-states (s .memory)) (in-phase (awaitsTransfer p ps sc) (x .awaited)))
 
   -- A BYTE keeps every state but 0
   pub step-once : (b : ℕ) → OkStep (step E s b)
-  step-once b = by-cond OkStep (s .afterCr && eqb b LF) as-before (free-ok (s .out) b)
+  step-once b = way-ok b (step E s b) (way E s b)

@@ -104,7 +104,7 @@ module _ (role : ℕ) (F : Fixed) (m : Lent) (a : Accepted role F m) where
   greeting-says true = record { toGive = refl; some = λ w. absurd (no-both false w refl) }
   greeting-says false = record { toGive = refl; some = λ w. omega arith }
 
-  sid-awaited : (caller : Bool) → Awaits (cs (freshOf caller) (m .table) (m .inbox) (m .store)) (on-lists.awaitsSid caller)
+  sid-awaited : (caller : Bool) → Awaits (cs (freshOf caller) (m .table) (m .inbox) (m .store)) (on-lists.aLine (on-lists.awaitsSid caller))
   unfolding freshOf
   sid-awaited true = (refl, refl)
   sid-awaited false = (refl, refl)

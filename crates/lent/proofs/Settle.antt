@@ -73,7 +73,7 @@ module _ (F : Fixed) (E : Shelf) (k : Keep) (t i st : Bytes) (m : Memory) (h : H
         };
       }
 
-  pub holds-mode : (md : Bool) → Holds F E (judge.inMode md k) t i st (on-lists.inMode md m)
+  pub holds-mode : (md : Bool) → Holds F E (judge.inMode md k) t i st (on-lists.withFramed md m)
   holds-mode md =
       let g = h .marks in
       record { lies = h .lies; box = h .box; marks = record { mode = refl; states = g .states; sending = g .sending; flags = g .flags; five = g .five; size = g .size } }
@@ -108,7 +108,7 @@ module _ (F : Fixed) (E : Shelf) (s : Session) (a : Bool) (i st : Bytes) (rest :
       record { now = w; say = unsaid y; keep = k; reading = record { reader = r; heading = s .reading .heading }; line = record { «after_cr» = a; len = 0; bytes = s .line .bytes } }
 
   abbrev pub after : Phase → Memory → Bytes → on-lists.Session
-  after p m o = record { phase = p; part = []; afterCr = a; out = o; memory = m }
+  after p m o = on-lists.between p a o m
 
   abbrev pub textOf : Await → Say → Keep → Bytes → Bytes
   textOf w y k t = firstText (y .first) (y .signs) ++ thenText (y .then) (w .ours) (k .sending) t (F .titles) (F .names) (F .bodies)
@@ -145,19 +145,19 @@ module _ (F : Fixed) (E : Shelf) (s : Session) (a : Bool) (i st : Bytes) (rest :
         settled-is (inPhase 6 w) (saysThen 2 y) k r t on-lists.leaving m _ b g h head refl
         (λ e. some-after (firstText (y .first) (y .signs)) (withCr (fixedText ourFQ)) (omega arith)) refl
     speak-law false [] l =
-        settled-is (toTurn true w) (saysThen 1 y) k r t (on-lists.awaitsTurn true []) m _
+        settled-is (toTurn true w) (saysThen 1 y) k r t (on-lists.newTurn true) m _
         (record { five = b .five; size = b .size; few = omega arith; entries = λ j e. absurd (not-suc-le-zero e) }) g h head refl
-        (λ e. some-after (firstText (y .first) (y .signs)) (withCr (fixedText ourFF)) (omega arith)) (refl, refl, refl)
+        (λ e. some-after (firstText (y .first) (y .signs)) (withCr (fixedText ourFF)) (omega arith)) (refl, (refl, refl))
     speak-law ff (j ∷ is) l =
         subst
         (λ (c : Bool). SpeaksAs (cond c (cond ff (spoken (inPhase 6 w) (saysThen 2 y)) (spoken (toTurn true w) (saysThen 1 y))) (spoken (toAnswer (fiveOf (j ∷ is)) w) (saysThen 3 y)))
         (on-lists.speaking E (firstText (y .first) (y .signs)) ff (j ∷ is) m))
         (sym (ne-eqb (suc (length is)) 0 (λ e. omega arith)))
-        (settled-is (toAnswer (fiveOf (j ∷ is)) w) (saysThen 3 y) k r t (on-lists.awaitsAnswer (j ∷ is)) m _
+        (settled-is (toAnswer (fiveOf (j ∷ is)) w) (saysThen 3 y) k r t (on-lists.aLine (on-lists.awaitsAnswer (j ∷ is))) m _
         (record { five = five-ok (j ∷ is) l; size = b .size; few = b .few; entries = b .entries }) g h head
         (ap (λ (x : Bytes). firstText (y .first) (y .signs) ++ x) (ap (blockText t) (held-five (j ∷ is)) ∙ ours))
         (λ e. some-after (firstText (y .first) (y .signs)) _ (some-turn _))
-        (refl, none, held-five (j ∷ is)))
+        (refl, (none, held-five (j ∷ is))))
       where
         ours : blockText t (j ∷ is) ≡ turnText (map (λ (n : ℕ). proposalOf (recordAt (E .table) n)) (j ∷ is))
         ours =

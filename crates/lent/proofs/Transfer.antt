@@ -112,11 +112,11 @@ module _ (F : Fixed) (E : Shelf) (c : Cs) (v : on-lists.Session) (h : Represents
   pub goes-on : (p : Proposal) (ps : List Proposal) (sc sc′ : Scan) → Awaits c (on-lists.awaitsTransfer p ps sc)
       → Stands (roomOf behind) (stepped .reader) heading′ behind′ sc′
       → Represents F E (cs s′ (c .table) (c .inbox) store′)
-      (record { phase = on-lists.awaitsTransfer p ps sc′; part = v .part; afterCr = false; out = v .out; memory = v .memory })
+      (on-lists.withPhase (on-lists.awaitsTransfer p ps sc′) (on-lists.withAfterCr false v))
   unfolding waitingOf
   goes-on p ps sc sc′ a k =
       represents F E (cs s′ (c .table) (c .inbox) store′)
-      (record { phase = on-lists.awaitsTransfer p ps sc′; part = v .part; afterCr = false; out = v .out; memory = v .memory })
+      (on-lists.withPhase (on-lists.awaitsTransfer p ps sc′) (on-lists.withAfterCr false v))
       (block-of h) (signs-of h) holds′ (record { heading = k .array; line = h .arrays .line }) (k .short) (h .arrays .lineLen)
       (record { toGive = h .says .toGive; some = h .says .some }) (
         a .0,

@@ -1,10 +1,11 @@
 -- The store of a session that goes on, every byte of it: kept bodies in a row (Boxed), the body under way behind them (Stands), the rest as open
 -- found it (Spared).
 use mathlib.Core.Path.{_≡_, refl, sym, ap, _∙_, subst}
-use mathlib.Core.Bool.{true, false, cond}
+use mathlib.Core.Bool.{Bool, false, cond}
 use mathlib.Core.List.{[], _++_}
 use Prim.Native.Nat.{ℕ, _+_, _≤_}
 use native.Mathlib.Omega.{arith}
+use borrow.Author.Tests.{lt-ltb}
 use lib.Dec.{eqb, ltb}
 use lib.ListN.{length, take, drop, length-append, length-drop, take-append-drop}
 use lib.Seq.{length-take-le, take-add}
@@ -17,9 +18,10 @@ use Rattle.session.specs.Session.{Phase}
 use Rattle.state.specs.declared.Session.{Session}
 use Rattle.receiving.specs.Receiving.{Cs}
 use Rattle.lent.specs.Laid.{bodiesBytes}
-use Rattle.lent.specs.Represents.{Fixed, Awaits, Represents}
+use Rattle.lent.specs.Represents.{Fixed, lineNumber, Awaits, Represents}
 use Rattle.lent.specs.Frame.{reachOf, Spared}
 use Rattle.lent.specs.Store.{underWay, written}
+use Rattle.lent.proofs.LineStep.{line-below}
 
 -- two parts that are known, and the rest
 parted : (l found k u : Bytes) (i n : ℕ) → i + n ≤ length l → take i l ≡ k → take n (drop i l) ≡ u → drop (i + n) l ≡ drop (i + n) found
@@ -63,11 +65,7 @@ store-written F E c₀ c v h p live = go (v .phase) refl (h .awaits)
     Holds q = c .store ≡ (bodiesBytes (v .memory .inbox) ++ underWay q) ++ drop (length (bodiesBytes (v .memory .inbox) ++ underWay q)) (c₀ .store)
 
     go : (q : Phase) → v .phase ≡ q → Awaits c q → Holds q
-    go (on-lists.awaitsSid false) e a = without 0 (a .0) refl
-    go (on-lists.awaitsSid true) e a = without 1 (a .0) refl
-    go on-lists.awaitsPrompt e a = without 2 (a .0) refl
-    go (on-lists.awaitsTurn ff ps) e a = without 3 (a .0) refl
-    go (on-lists.awaitsAnswer is) e a = without 4 (a .0) refl
+    go (on-lists.aLine l) e a = without (lineNumber l) (a .0) (ap (λ (q : Bool). cond q 0 (cond (eqb (lineNumber l) 6) 0 (c .session .reading .reader .body))) (lt-ltb (lineNumber l) 5 (line-below l)))
     go (on-lists.awaitsTransfer p ps sc) e a =
         let s = a .7 in
         let w = h .boxed .within in

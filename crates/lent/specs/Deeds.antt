@@ -13,7 +13,7 @@ use Rattle.grammar.specs.Turns.{Proposal, readTurnLine}
 use Rattle.grammar.specs.Answers.{Sign, accept, decline, defer, readFs}
 use Rattle.grammar.specs.Transfers.{Content, readTransfer}
 use Rattle.mail.specs.Mail.{Record, Message, messageOf}
-use Rattle.log.specs.Log.{Event, Next, over, ourGreeting, ourFirstPrompt, ourSidLine, theirText, theirSid, theirTurn, ourTurn, theirAnswer, ourAnswer, theirTransfer, ourTransfer, Log, Said, unfinished, farewell, wrong, turn, said, applied, Cut, notWhole, outOfTurn, unit, cutUnit, withAfterCr, logOpened}
+use Rattle.log.specs.Log.{Event, Ours, ourGreeting, ourFirstPrompt, ourSidLine, ourTurn, ourAnswer, Theirs, theirText, theirSid, theirTurn, theirAnswer, Next, over, weSay, theySay, theirTransfer, ourTransfer, Log, Said, unfinished, farewell, wrong, turn, said, applied, Cut, notWhole, outOfTurn, unit, cutUnit, withAfterCr, logOpened}
 
 -- ---------------------------------------------------------------- what a whole unit does
 
@@ -54,20 +54,27 @@ transferDeed p (some c) = brought (messageOf p c)
 abbrev pub ifLine : Bytes → Deed → Deed
 ifLine u d = cond (leb (length u) lineLimit) (cond (isComment (trim u)) nothing d) nothing
 
--- The unit u b of what is next, in plain (false) or framed (true) mode; a line is u, without its CR b.
+-- A line of the partner's, and one of ours; md: in plain (false) or framed (true) mode.
+abbrev pub theirDeed : Theirs → Bool → Bytes → Deed
+theirDeed theirText md u = nothing
+theirDeed (theirSid c) md u = nothing
+theirDeed (theirTurn ff ls) md u = turnDeed (said ff (ls ++ (readTurnLine md (trim u) ∷ [])))
+theirDeed (theirAnswer is) md u = answerDeed is (readFs (length is) (trim u))
+
+abbrev pub ourDeed : Ours → Bytes → Deed
+ourDeed ourGreeting u = nothing
+ourDeed ourFirstPrompt u = nothing
+ourDeed ourSidLine u = nothing
+ourDeed (ourTurn ff ls) u = nothing
+ourDeed (ourAnswer ps) u = ourAnswerDeed (readFs (length ps) u)
+
+-- The unit u b of what is next; a line is u, without its CR b.
 abbrev pub deedOf : Next → Bool → Bytes → ℕ → Deed
-deedOf (theirTurn ff ls) md u b = ifLine u (turnDeed (said ff (ls ++ (readTurnLine md (trim u) ∷ []))))
-deedOf (theirAnswer is) md u b = ifLine u (answerDeed is (readFs (length is) (trim u)))
+deedOf (theySay n) md u b = ifLine u (theirDeed n md u)
+deedOf (weSay n) md u b = ourDeed n u
 deedOf (theirTransfer p ps) md u b = transferDeed p (readTransfer (p .form) (u ++ (b ∷ [])))
 deedOf (ourTransfer i is) md u b = sent i
 deedOf over md u b = nothing
-deedOf ourGreeting md u b = nothing
-deedOf ourFirstPrompt md u b = nothing
-deedOf ourSidLine md u b = nothing
-deedOf theirText md u b = nothing
-deedOf (theirSid c) md u b = nothing
-deedOf (ourTurn ff ls) md u b = nothing
-deedOf (ourAnswer ps) md u b = ourAnswerDeed (readFs (length ps) u)
 
 -- Of the next whole unit cut off the trace, and of the rest.
 abbrev pub deedsCut : List Record → Log → (Log → List Event → List Deed) → Cut → List Deed

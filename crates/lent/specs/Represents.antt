@@ -17,6 +17,8 @@ use Rattle.layout.specs.Layout.{entryAt, recordSize, entrySize, proposalSize, p
 use Rattle.transfer_read.specs.Feed.{roomOf}
 use Rattle.transfer_read.specs.Meaning.{Stands}
 use Rattle.state.specs.State.{held}
+use Rattle.state.specs.declared.Five.{Five}
+use Rattle.state.specs.declared.Await.{Await}
 use Rattle.state.specs.declared.Session.{Session}
 use Rattle.choice.specs.Decoded.{recordsOf, statesOf, knownBids, proposalsOf, placeCount, recordCount}
 use Rattle.waiting.specs.Waiting.{waitingOf}
@@ -118,15 +120,22 @@ pub record Says (F : Fixed) (c : Cs) (out : Bytes) : Type 0 where
   pub toGive : drop (c .session .say .pos) (waitingOf (c .session) (c .table) (F .titles) (F .names) (F .bodies)) ≡ out
   pub some : waits (c .session .say) ≡ true → c .session .say .pos < length (waitingOf (c .session) (c .table) (F .titles) (F .names) (F .bodies))
 
--- What is awaited. Nothing is being sent where the partner's turn is not awaited and the session goes on.
+-- The number of the line that is awaited, and what is held with it. Nothing is being sent where the partner's turn is not awaited.
+abbrev pub lineNumber : on-lists.Awaited → ℕ
+lineNumber (on-lists.awaitsSid caller) = cond caller 1 0
+lineNumber on-lists.awaitsPrompt = 2
+lineNumber (on-lists.awaitsTurn ff ps) = 3
+lineNumber (on-lists.awaitsAnswer is) = 4
+
+abbrev pub HeldFor : Await → Five → on-lists.Awaited → Type 0
+HeldFor w f (on-lists.awaitsSid caller) = f .count ≡ 0
+HeldFor w f on-lists.awaitsPrompt = f .count ≡ 0
+HeldFor w f (on-lists.awaitsTurn ff ps) = (w .ff ≡ ff) × (proposalsOf (w .block) (w .proposals) ≡ ps)
+HeldFor w f (on-lists.awaitsAnswer is) = (f .count ≡ 0) × (held (w .ours) ≡ is)
+
+-- What is awaited. Nothing is being sent while a transfer is.
 abbrev pub Awaits : Cs → on-lists.Phase → Type 0
-Awaits c (on-lists.awaitsSid false) = (c .session .now .phase ≡ 0) × (c .session .keep .sending .count ≡ 0)
-Awaits c (on-lists.awaitsSid true) = (c .session .now .phase ≡ 1) × (c .session .keep .sending .count ≡ 0)
-Awaits c on-lists.awaitsPrompt = (c .session .now .phase ≡ 2) × (c .session .keep .sending .count ≡ 0)
-Awaits c (on-lists.awaitsTurn ff ps) =
-    (c .session .now .phase ≡ 3) × (c .session .now .ff ≡ ff) × (proposalsOf (c .session .now .block) (c .session .now .proposals) ≡ ps)
-Awaits c (on-lists.awaitsAnswer is) =
-    (c .session .now .phase ≡ 4) × (c .session .keep .sending .count ≡ 0) × (held (c .session .now .ours) ≡ is)
+Awaits c (on-lists.aLine a) = (c .session .now .phase ≡ lineNumber a) × HeldFor (c .session .now) (c .session .keep .sending) a
 Awaits c (on-lists.awaitsTransfer p ps sc) =
     (c .session .now .phase ≡ 5) × (c .session .keep .sending .count ≡ 0) × (owed (c .session) ≡ p ∷ ps)
     × (c .session .now .current < c .session .now .proposals) × (c .session .say .signs .count ≡ c .session .now .proposals)

@@ -9,7 +9,7 @@ use lib.ListN.{length, drop}
 use Rattle.grammar.specs.Bytes.{Bytes}
 use Rattle.grammar.specs.Scan.{bodyOf}
 use Rattle.session.specs.Choices.{Shelf}
-use Rattle.session.specs.Session.{Phase, awaitsSid, awaitsPrompt, leaving, over, awaitsTurn, awaitsAnswer, awaitsTransfer, Session, step, opened, ended}
+use Rattle.session.specs.Session.{Phase, aLine, awaitsTransfer, leaving, over, Session, step, opened, ended}
 use Rattle.session.specs.Calls.{stops, receive, give}
 use Rattle.demand2.specs.Reached.{Reached}
 use Rattle.demand3.specs.Demand as on-lists-run
@@ -35,10 +35,7 @@ lastLive E s (on-lists-run.refusedCall ∷ cs) = lastLive E s cs
 
 -- "the body bytes received so far of the message under way"
 abbrev pub underWay : Phase → Bytes
-underWay (awaitsSid c) = []
-underWay awaitsPrompt = []
-underWay (awaitsTurn ff ps) = []
-underWay (awaitsAnswer is) = []
+underWay (aLine a) = []
 underWay (awaitsTransfer p ps sc) = bodyOf sc
 underWay leaving = []
 underWay over = []

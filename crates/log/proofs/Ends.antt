@@ -18,8 +18,8 @@ use Rattle.grammar.specs.Answers.{consO}
 use Rattle.grammar.specs.Transfers.{readTransfer}
 use Rattle.grammar.proofs.Basics.{Lacks, snoc-cons, and-false}
 use Rattle.mail.specs.Mail.{Record, recordAt, transferOf, placeOf}
-use Rattle.log.specs.Log.{Event, took, gave, over, ourTurn, Course, Book, Log, isOurs, turn, said, placeFound, placesOf, ourSaid, theirTransfer, ourTransfer, whole, withAfterCr}
-use Rattle.log.specs.Fed.{Fed, unitByte, outOfOrder, fedByte, fedAll}
+use Rattle.log.specs.Log.{weSay, Event, took, gave, over, ourTurn, Course, Book, Log, isOurs, turn, said, placeFound, placesOf, ourSaid, theirTransfer, ourTransfer, whole, withAfterCr}
+use Rattle.log.specs.Fed.{unitByte, outOfOrder, fedByte, fedAll}
 use Rattle.log.proofs.Units.{within, ended-stays, line-fed, owing}
 
 -- the log k has the same records sent, states, mode and messages kept as l
@@ -107,9 +107,9 @@ none-of-them T (q ∷ ps) p qs h = rw (none-of-them T ps p qs h) (go (placeFound
 -- OUR TURN WITH A BID OF NO RECORD ENDS THE LOG, at the CR of its last line ln; ls are the lines before it
 pub no-record-ends : (T : List Record) (ff : Bool) (ls : List TurnLine) (ln : Bytes) (a : Bool) (sent : List ℕ) (k : Book) (ps : List Proposal) (p : Proposal) (qs : List Proposal)
     → Lacks CR ln → said ff (ls ++ (readTurnLine (k .framed) ln ∷ [])) ≡ turn (ps ++ p ∷ qs) → NoRecord (p .bid) T
-    → fedAll T (record { log = owing a (ourTurn ff ls) sent k; raw = [] }) (map gave (withCr ln)) ≡ record { log = owing a over sent k; raw = [] }
+    → fedAll T (record { log = owing a (weSay (ourTurn ff ls)) sent k; raw = [] }) (map gave (withCr ln)) ≡ record { log = owing a over sent k; raw = [] }
 no-record-ends T ff ls ln a sent k ps p qs c e h =
-    line-fed T (owing a (ourTurn ff ls) sent k) ln (and-false a false refl) refl c ∙ rw e (rw (ends ps))
+    line-fed T (owing a (weSay (ourTurn ff ls)) sent k) ln (and-false a false refl) refl c ∙ rw e (rw (ends ps))
   where
     ends : (ps : List Proposal) → ourSaid T ff (ls ++ (readTurnLine (k .framed) ln ∷ [])) (turn (ps ++ p ∷ qs)) ≡ over
     ends [] = rw (none-of-them T [] p qs h)

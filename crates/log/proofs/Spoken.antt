@@ -6,7 +6,6 @@ use mathlib.Core.Option.{Option, none, some}
 use mathlib.Core.List.{List, [], _∷_, _++_, map, append-assoc, append-nil}
 use Prim.Native.Nat.{ℕ, _+_, _≤_, _<_}
 use native.Mathlib.Omega.{arith}
-use lib.Dec.{eqb}
 use lib.ListN.{length, length-append}
 use borrow.Author.Tests.{eq-eqb, lt-ltb}
 use Rattle.grammar.specs.Bytes.{Bytes, CR, null, same}
@@ -17,7 +16,7 @@ use Rattle.grammar.specs.Transfers.{writeTransfer}
 use Rattle.grammar.proofs.Basics.{Lacks, snoc-cons}
 use Rattle.grammar.proofs.OurLines.{proposal-read, fs-back, ff-read, fq-read, end-read, good-line}
 use Rattle.mail.specs.Mail.{Record, recordAt, headingFor, transferOf, proposalLines, turnText, transfersText, accepted}
-use Rattle.log.specs.Log.{gave, Next, over, ourGreeting, ourFirstPrompt, ourSidLine, theirSid, theirTurn, ourTurn, ourAnswer, ourTransfer, Course, isOurs, placesOf, ourProposed, oursOwed, theirsOwed, ourUnit, whole, said, applied, withAfterCr}
+use Rattle.log.specs.Log.{theirNewTurn, ourNewTurn, gave, Ours, ourGreeting, ourFirstPrompt, ourSidLine, ourTurn, ourAnswer, theirSid, Next, over, weSay, theySay, ourTransfer, Course, isOurs, placesOf, ourProposed, oursOwed, theirsOwed, ourLine, ourUnit, whole, said, applied, withAfterCr}
 use Rattle.log.specs.Fed.{Fed, fedAll, outOfOrder}
 use Rattle.log.proofs.Said.{said-after}
 
@@ -77,39 +76,38 @@ abbrev part : Next → List ℕ → Bytes → Option (Course × Bytes)
 part n sent u = some (record { next = n; sent = sent }, u)
 
 -- where a line of ours is next
-line-spoken : (T : List Record) (md : Bool) (n : Next) (sent : List ℕ) → isOurs n ≡ true → ((u : Bytes) (b : ℕ) → whole T n u b ≡ eqb b CR)
-    → (ln u : Bytes) → Lacks CR ln → spoken T md (part n sent u) (withCr ln) ≡ some (ourUnit T md n sent (u ++ ln), [])
-line-spoken T md n sent o w [] u h =
-    spoken-cons T md (part n sent u) CR []
-    ∙ rw o (rw (w u CR) (spoken-nil T md (some (ourUnit T md n sent u, [])) ∙ rw (append-nil u)))
-line-spoken T md n sent o w (x ∷ ln) u h =
-    spoken-cons T md (part n sent u) x (withCr ln)
-    ∙ rw o (rw (w u x) (rw (h .0) (line-spoken T md n sent o w ln (u ++ (x ∷ [])) (h .1) ∙ rw (snoc-cons u ln x))))
+line-spoken : (T : List Record) (md : Bool) (n : Ours) (sent : List ℕ) (ln u : Bytes) → Lacks CR ln
+    → spoken T md (part (weSay n) sent u) (withCr ln) ≡ at (ourLine T md n (u ++ ln)) sent
+line-spoken T md n sent [] u h =
+    spoken-cons T md (part (weSay n) sent u) CR [] ∙ spoken-nil T md (at (ourLine T md n u) sent) ∙ rw (append-nil u)
+line-spoken T md n sent (x ∷ ln) u h =
+    spoken-cons T md (part (weSay n) sent u) x (withCr ln)
+    ∙ rw (h .0) (line-spoken T md n sent ln (u ++ (x ∷ [])) (h .1) ∙ rw (snoc-cons u ln x))
 
 -- FF and FQ of ours
-pub ff-spoken : (T : List Record) (md : Bool) (sent : List ℕ) → spoken T md (at (ourTurn false []) sent) (withCr (fixedText ourFF)) ≡ at (theirTurn true []) sent
+pub ff-spoken : (T : List Record) (md : Bool) (sent : List ℕ) → spoken T md (at (ourNewTurn false) sent) (withCr (fixedText ourFF)) ≡ at (theirNewTurn true) sent
 unfolding said
 ff-spoken T md sent =
-    line-spoken T md (ourTurn false []) sent refl (λ u b. refl) (fixedText ourFF) [] (good-line (fixedLine ourFF) tt .whole)
+    line-spoken T md (ourTurn false []) sent (fixedText ourFF) [] (good-line (fixedLine ourFF) tt .whole)
     ∙ rw (ff-read md)
 
-pub fq-spoken : (T : List Record) (md : Bool) (sent : List ℕ) → spoken T md (at (ourTurn true []) sent) (withCr (fixedText ourFQ)) ≡ at over sent
+pub fq-spoken : (T : List Record) (md : Bool) (sent : List ℕ) → spoken T md (at (ourNewTurn true) sent) (withCr (fixedText ourFQ)) ≡ at over sent
 unfolding said
 fq-spoken T md sent =
-    line-spoken T md (ourTurn true []) sent refl (λ u b. refl) (fixedText ourFQ) [] (good-line (fixedLine ourFQ) tt .whole)
+    line-spoken T md (ourTurn true []) sent (fixedText ourFQ) [] (good-line (fixedLine ourFQ) tt .whole)
     ∙ rw (fq-read md)
 
 -- our SID, alone and with the prompt
-pub sid-spoken : (T : List Record) (md : Bool) (sent : List ℕ) → spoken T md (at ourSidLine sent) (withCr (fixedText ourSid)) ≡ at (ourTurn false []) sent
-sid-spoken T md sent = line-spoken T md ourSidLine sent refl (λ u b. refl) (fixedText ourSid) [] (good-line (fixedLine ourSid) tt .whole)
+pub sid-spoken : (T : List Record) (md : Bool) (sent : List ℕ) → spoken T md (at (weSay ourSidLine) sent) (withCr (fixedText ourSid)) ≡ at (ourNewTurn false) sent
+sid-spoken T md sent = line-spoken T md ourSidLine sent (fixedText ourSid) [] (good-line (fixedLine ourSid) tt .whole)
 
 pub greeting-spoken : (T : List Record) (md : Bool) (sent : List ℕ)
-    → spoken T md (at ourGreeting sent) (withCr (fixedText ourSid) ++ withCr (fixedText ourPrompt)) ≡ at (theirSid false) sent
+    → spoken T md (at (weSay ourGreeting) sent) (withCr (fixedText ourSid) ++ withCr (fixedText ourPrompt)) ≡ at (theySay (theirSid false)) sent
 greeting-spoken T md sent =
-    spoken-append T md (at ourGreeting sent) (withCr (fixedText ourSid)) (withCr (fixedText ourPrompt))
+    spoken-append T md (at (weSay ourGreeting) sent) (withCr (fixedText ourSid)) (withCr (fixedText ourPrompt))
     ∙ ap (λ (o : Option (Course × Bytes)). spoken T md o (withCr (fixedText ourPrompt)))
-    (line-spoken T md ourGreeting sent refl (λ u b. refl) (fixedText ourSid) [] (good-line (fixedLine ourSid) tt .whole))
-    ∙ line-spoken T md ourFirstPrompt sent refl (λ u b. refl) (fixedText ourPrompt) [] (good-line (fixedLine ourPrompt) tt .whole)
+    (line-spoken T md ourGreeting sent (fixedText ourSid) [] (good-line (fixedLine ourSid) tt .whole))
+    ∙ line-spoken T md ourFirstPrompt sent (fixedText ourPrompt) [] (good-line (fixedLine ourPrompt) tt .whole)
 
 -- ---------------------------------------------------------------- a turn
 
@@ -126,43 +124,43 @@ map-snoc [] p = refl
 map-snoc (q ∷ qs) p = rw (map-snoc qs p)
 
 proposal-spoken : (T : List Record) (md ff : Bool) (qs : List Proposal) (p : Proposal) (sent : List ℕ) → Fit md p → length qs < 5
-    → spoken T md (at (ourTurn ff (map proposes qs)) sent) (withCr (proposalLine p)) ≡ at (ourTurn ff (map proposes (qs ++ (p ∷ [])))) sent
+    → spoken T md (at (weSay (ourTurn ff (map proposes qs))) sent) (withCr (proposalLine p)) ≡ at (weSay (ourTurn ff (map proposes (qs ++ (p ∷ []))))) sent
 proposal-spoken T md ff qs p sent f h =
-    line-spoken T md (ourTurn ff (map proposes qs)) sent refl (λ u b. refl) (proposalLine p) [] (good-line (ourProposal p) (f .0) .whole)
+    line-spoken T md (ourTurn ff (map proposes qs)) sent (proposalLine p) [] (good-line (ourProposal p) (f .0) .whole)
     ∙ rw (proposal-read md p (f .0) (f .1))
     (rw (said-after ff qs (proposes p ∷ []) (omega arith)) (rw (lt-ltb (length qs) 5 h) (rw (map-snoc qs p))))
 
 end-spoken : (T : List Record) (md ff : Bool) (q : Proposal) (qs : List Proposal) (sent : List ℕ) → length (q ∷ qs) ≤ 5
-    → spoken T md (at (ourTurn ff (map proposes (q ∷ qs))) sent) (withCr (fixedText ourEnd)) ≡ at (ourProposed (placesOf T (q ∷ qs))) sent
+    → spoken T md (at (weSay (ourTurn ff (map proposes (q ∷ qs)))) sent) (withCr (fixedText ourEnd)) ≡ at (ourProposed (placesOf T (q ∷ qs))) sent
 end-spoken T md ff q qs sent h =
-    line-spoken T md (ourTurn ff (map proposes (q ∷ qs))) sent refl (λ u b. refl) (fixedText ourEnd) [] (good-line (fixedLine ourEnd) tt .whole)
+    line-spoken T md (ourTurn ff (map proposes (q ∷ qs))) sent (fixedText ourEnd) [] (good-line (fixedLine ourEnd) tt .whole)
     ∙ rw (end-read md) (rw (said-after ff (q ∷ qs) (endsBlock ∷ []) h))
 
 -- the rest of a turn of ours, after q and qs
 rest-spoken : (T : List Record) (md ff : Bool) (ps : List Proposal) (q : Proposal) (qs : List Proposal) (sent : List ℕ) → AllFit md ps → length (q ∷ qs) + length ps ≤ 5
-    → spoken T md (at (ourTurn ff (map proposes (q ∷ qs))) sent) (proposalLines ps ++ withCr (fixedText ourEnd)) ≡ at (ourProposed (placesOf T ((q ∷ qs) ++ ps))) sent
+    → spoken T md (at (weSay (ourTurn ff (map proposes (q ∷ qs)))) sent) (proposalLines ps ++ withCr (fixedText ourEnd)) ≡ at (ourProposed (placesOf T ((q ∷ qs) ++ ps))) sent
 rest-spoken T md ff [] q qs sent f h = end-spoken T md ff q qs sent (omega arith) ∙ rw (append-nil qs)
 rest-spoken T md ff (p ∷ ps) q qs sent f h =
     rw (append-assoc (withCr (proposalLine p)) (proposalLines ps) (withCr (fixedText ourEnd)))
-    (rw (spoken-append T md (at (ourTurn ff (map proposes (q ∷ qs))) sent) (withCr (proposalLine p)) (proposalLines ps ++ withCr (fixedText ourEnd)))
+    (rw (spoken-append T md (at (weSay (ourTurn ff (map proposes (q ∷ qs)))) sent) (withCr (proposalLine p)) (proposalLines ps ++ withCr (fixedText ourEnd)))
     (rw (proposal-spoken T md ff (q ∷ qs) p sent (f .0) (omega arith))
     (rest-spoken T md ff ps q (qs ++ (p ∷ [])) sent (f .1) (simp length-append (omega arith)) ∙ rw (append-assoc qs (p ∷ []) ps))))
 
 -- a whole turn of ours
 pub turn-spoken : (T : List Record) (md ff : Bool) (p : Proposal) (ps : List Proposal) (sent : List ℕ) → AllFit md (p ∷ ps) → length (p ∷ ps) ≤ 5
-    → spoken T md (at (ourTurn ff []) sent) (turnText (p ∷ ps)) ≡ at (ourProposed (placesOf T (p ∷ ps))) sent
+    → spoken T md (at (ourNewTurn ff) sent) (turnText (p ∷ ps)) ≡ at (ourProposed (placesOf T (p ∷ ps))) sent
 unfolding turnText
 turn-spoken T md ff p ps sent f h =
     rw (append-assoc (withCr (proposalLine p)) (proposalLines ps) (withCr (fixedText ourEnd)))
-    (rw (spoken-append T md (at (ourTurn ff []) sent) (withCr (proposalLine p)) (proposalLines ps ++ withCr (fixedText ourEnd)))
+    (rw (spoken-append T md (at (ourNewTurn ff) sent) (withCr (proposalLine p)) (proposalLines ps ++ withCr (fixedText ourEnd)))
     (rw (proposal-spoken T md ff [] p sent (f .0) (omega arith)) (rest-spoken T md ff ps p [] sent (f .1) (omega arith))))
 
 -- ---------------------------------------------------------------- an answer
 
 pub fs-spoken : (T : List Record) (md : Bool) (ps : List Proposal) (ss : List Sign) (sent : List ℕ) → length ss ≡ length ps → 1 ≤ length ps → length ps ≤ 5
-    → spoken T md (at (ourAnswer ps) sent) (withCr (fsLine ss)) ≡ at (theirsOwed (accepted ss ps)) sent
+    → spoken T md (at (weSay (ourAnswer ps)) sent) (withCr (fsLine ss)) ≡ at (theirsOwed (accepted ss ps)) sent
 fs-spoken T md ps ss sent h k l =
-    line-spoken T md (ourAnswer ps) sent refl (λ u b. refl) (fsLine ss) [] (good-line (OurLine.ourAnswer ss) (omega arith, omega arith) .whole)
+    line-spoken T md (ourAnswer ps) sent (fsLine ss) [] (good-line (OurLine.ourAnswer ss) (omega arith, omega arith) .whole)
     ∙ rw (ap (λ (n : ℕ). readFs n (fsLine ss)) (sym h) ∙ fs-back ss)
 
 -- ---------------------------------------------------------------- transfers
@@ -203,9 +201,9 @@ transfer-spoken T md i is sent = go (transferOf (recordAt T i)) refl
 
 -- all that we owe
 pub transfers-spoken : (T : List Record) (md : Bool) (is sent : List ℕ)
-    → spoken T md (at (oursOwed is) sent) (transfersText T is) ≡ at (theirTurn false []) (sent ++ is)
+    → spoken T md (at (oursOwed is) sent) (transfersText T is) ≡ at (theirNewTurn false) (sent ++ is)
 unfolding transfersText
-transfers-spoken T md [] sent = spoken-nil T md (at (theirTurn false []) sent) ∙ rw (append-nil sent)
+transfers-spoken T md [] sent = spoken-nil T md (at (theirNewTurn false) sent) ∙ rw (append-nil sent)
 transfers-spoken T md (i ∷ is) sent =
     rw (spoken-append T md (at (ourTransfer i is) sent) (transferOf (recordAt T i)) (transfersText T is))
     (rw (transfer-spoken T md i is sent) (transfers-spoken T md is (sent ++ (i ∷ [])) ∙ rw (append-assoc sent (i ∷ []) is)))

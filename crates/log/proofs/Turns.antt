@@ -14,7 +14,7 @@ use Rattle.grammar.specs.Lines.{trim, isComment, lineLimit}
 use Rattle.grammar.specs.Turns.{Proposal, TurnLine, readTurnLine, withCr}
 use Rattle.grammar.proofs.Basics.{Lacks}
 use Rattle.mail.specs.Mail.{Record, turnText, marked}
-use Rattle.log.specs.Log.{Event, took, gave, theirTurn, ourTurn, Book, unfinished, turn, said, placesOf, ourProposed, Effect, withStates, afterTheirTurn, theirSaid, theirLine, log}
+use Rattle.log.specs.Log.{theirNewTurn, ourNewTurn, effect, theySay, Event, took, gave, theirTurn, Book, unfinished, turn, said, placesOf, ourProposed, Effect, withStates, afterTheirTurn, theirSaid, theirLine, log}
 use Rattle.log.specs.Fed.{Fed, fedByte, fedAll}
 use Rattle.log.proofs.Said.{said-before}
 use Rattle.log.proofs.Spoken.{AllFit, turn-spoken, gave-spoken}
@@ -73,11 +73,11 @@ linesSay md (c ∷ cs) = lineSays md (c .text) ++ linesSay md cs
 module _ (T : List Record) (ff : Bool) (sent : List ℕ) (k : Book) where
   -- where the partner's turn is next, u of a line has come, and the lines before it said ls
   abbrev pub amid : Bool → List TurnLine → Bytes → Fed
-  amid a ls u = record { log = owing a (theirTurn ff ls) sent k; raw = u }
+  amid a ls u = record { log = owing a (theySay (theirTurn ff ls)) sent k; raw = u }
 
   -- records sent, mode, states and messages kept are as before the turn
   abbrev Same : Fed → Type 0
-  Same f = Stays (f .log) (owing false (theirTurn ff []) sent k)
+  Same f = Stays (f .log) (owing false (theirNewTurn ff) sent k)
 
   same : (a : Bool) (ls : List TurnLine) (u : Bytes) → Same (amid a ls u)
   same a ls u = record { sent = refl; book = refl }
@@ -127,9 +127,9 @@ module _ (T : List Record) (ff : Bool) (sent : List ℕ) (k : Book) where
   effected e = record { log = record { afterCr = true; course = e .course; book = e .book }; raw = [] }
 
   -- a whole line, whether or not an LF would be dropped before it
-  line-judged : (a : Bool) (ls : List TurnLine) (ln : Bytes) → Proper ln → fedAll T (amid a ls []) (map took (withCr ln)) ≡ effected (theirLine (theirTurn ff ls) k sent (trim ln))
+  line-judged : (a : Bool) (ls : List TurnLine) (ln : Bytes) → Proper ln → fedAll T (amid a ls []) (map took (withCr ln)) ≡ effected (theirLine (theirTurn ff ls) k sent ln)
   line-judged a ls ln h =
-      no-lf a ln (h .noLf) ∙ line-fed T (owing false (theirTurn ff ls) sent k) ln refl refl (h .whole) ∙ rw (le-leb (length ln) lineLimit (h .short))
+      no-lf a ln (h .noLf) ∙ line-fed T (owing false (theySay (theirTurn ff ls)) sent k) ln refl refl (h .whole) ∙ rw (le-leb (length ln) lineLimit (h .short))
     where
       no-lf : (a : Bool) (ln : Bytes) → lfFirst ln ≡ false → fedAll T (amid a ls []) (map took (withCr ln)) ≡ fedAll T (amid false ls []) (map took (withCr ln))
       no-lf false ln e = refl
@@ -161,7 +161,7 @@ module _ (T : List Record) (ff : Bool) (sent : List ℕ) (k : Book) where
           read = readTurnLine (k .framed) (trim (c .text))
 
           go : (b : Bool) → (b ≡ false → said ff (ls ++ (read ∷ [])) ≡ unfinished)
-              → effected (cond b (record { book = k; course = record { next = theirTurn ff ls; sent = sent } }) (theirSaid ff (ls ++ (read ∷ [])) k sent (said ff (ls ++ (read ∷ [])))))
+              → effected (cond b (effect k sent (theySay (theirTurn ff ls))) (theirSaid ff (ls ++ (read ∷ [])) k sent (said ff (ls ++ (read ∷ [])))))
               ≡ amid true (ls ++ cond b [] (read ∷ [])) []
           go true i = rw (append-nil ls)
           go false i = rw (i refl)
@@ -216,7 +216,7 @@ module _ (T : List Record) (a ff : Bool) (sent : List ℕ) (k : Book) (cs : List
 
   -- AT ITS LAST CR: "its proposals replace the last .. The partner's makes every sent record 1."
   pub their-turn-fed :
-      fedAll T (record { log = owing a (theirTurn ff []) sent k; raw = [] }) (map took (bytesCame cs ++ withCr ln))
+      fedAll T (record { log = owing a (theirNewTurn ff) sent k; raw = [] }) (map took (bytesCame cs ++ withCr ln))
       ≡ record { log = owing true (afterTheirTurn ps) [] (withStates k (marked sent (k .states))); raw = [] }
   their-turn-fed =
       ap (fedAll T (amid T ff sent k a [] [])) (map-append took (bytesCame cs) (withCr ln))
@@ -227,13 +227,13 @@ module _ (T : List Record) (a ff : Bool) (sent : List ℕ) (k : Book) (cs : List
 
   -- BEFORE IT: after any beginning u of the turn's bytes but its last CR, the records sent, the states and the messages kept are as before the turn
   pub their-turn-part-fed : (u r : Bytes) → bytesCame cs ++ ln ≡ u ++ r
-      → Stays (fedAll T (record { log = owing a (theirTurn ff []) sent k; raw = [] }) (map took u) .log) (owing a (theirTurn ff []) sent k)
+      → Stays (fedAll T (record { log = owing a (theirNewTurn ff) sent k; raw = [] }) (map took u) .log) (owing a (theirNewTurn ff) sent k)
   their-turn-part-fed u r e = record { sent = so .sent; book = so .book }
     where
       begun : Fed
       begun = amid T ff sent k a [] []
 
-      so : Stays (fedAll T begun (map took u) .log) (owing false (theirTurn ff []) sent k)
+      so : Stays (fedAll T begun (map took u) .log) (owing false (theirNewTurn ff) sent k)
       so =
           untouched-part T ff sent k (map took u) (map took r) begun
           (subst (Untouched T ff sent k begun) (sym (map-append took (bytesCame cs) ln) ∙ ap (map took) e ∙ map-append took u r)
@@ -243,7 +243,7 @@ module _ (T : List Record) (a ff : Bool) (sent : List ℕ) (k : Book) (cs : List
 
   -- So of the log over whole units, after a trace es that left the partner's turn next
   pub their-turn-logged : (caller : Bool) (states : List ℕ) (es : List Event)
-      → fedAll T (fedOpened caller states) es ≡ record { log = owing a (theirTurn ff []) sent k; raw = [] }
+      → fedAll T (fedOpened caller states) es ≡ record { log = owing a (theirNewTurn ff) sent k; raw = [] }
       → Agrees (log T caller states (es ++ map took (bytesCame cs ++ withCr ln))) (owing true (afterTheirTurn ps) [] (withStates k (marked sent (k .states))))
   their-turn-logged caller states es e =
       subst (λ (f : Fed). Agrees (log T caller states (es ++ map took (bytesCame cs ++ withCr ln))) (f .log))
@@ -254,9 +254,9 @@ module _ (T : List Record) (a ff : Bool) (sent : List ℕ) (k : Book) (cs : List
 
 -- A WHOLE TURN OF OURS, as we write it: "ours are the records with those BIDs"; where one has no record the log has ended
 pub our-turn-fed : (T : List Record) (a ff : Bool) (p : Proposal) (ps : List Proposal) (sent : List ℕ) (k : Book) → AllFit (k .framed) (p ∷ ps) → length (p ∷ ps) ≤ 5
-    → fedAll T (record { log = owing a (ourTurn ff []) sent k; raw = [] }) (map gave (turnText (p ∷ ps)))
+    → fedAll T (record { log = owing a (ourNewTurn ff) sent k; raw = [] }) (map gave (turnText (p ∷ ps)))
     ≡ record { log = owing a (ourProposed (placesOf T (p ∷ ps))) sent k; raw = [] }
 our-turn-fed T a ff p ps sent k f h =
-    gave-spoken T (turnText (p ∷ ps)) (record { log = owing a (ourTurn ff []) sent k; raw = [] })
+    gave-spoken T (turnText (p ∷ ps)) (record { log = owing a (ourNewTurn ff) sent k; raw = [] })
     (record { next = ourProposed (placesOf T (p ∷ ps)); sent = sent }, [])
     (turn-spoken T (k .framed) ff p ps sent f h)

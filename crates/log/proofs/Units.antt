@@ -15,7 +15,7 @@ use Rattle.grammar.specs.Transfers.{Content, Parsed, parse, valid, readTransfer
 use Rattle.grammar.proofs.Basics.{Lacks, snoc-cons, and-false}
 use Rattle.grammar.proofs.Refusal.{no-longer}
 use Rattle.mail.specs.Mail.{Record, Message, messageOf, recordAt, transferOf}
-use Rattle.log.specs.Log.{Event, took, gave, Next, over, ourGreeting, ourFirstPrompt, ourSidLine, theirText, theirSid, theirTurn, ourTurn, theirAnswer, ourAnswer, theirTransfer, ourTransfer, Book, Log, isOurs, oursOwed, theirsOwed, isPlain, whole, applied, stopped, Cut, notWhole, outOfTurn, unit, cutUnit, withAfterCr, afterCut, logUnits, logOpened, log}
+use Rattle.log.specs.Log.{Event, took, gave, Next, over, weSay, theySay, theirTransfer, ourTransfer, Book, Log, isOurs, oursOwed, theirsOwed, isPlain, whole, applied, stopped, Cut, notWhole, outOfTurn, unit, cutUnit, withAfterCr, afterCut, logUnits, logOpened, log, withKept}
 use Rattle.log.specs.Fed.{Fed, unitByte, outOfOrder, fedByte, fedAll}
 use Rattle.log.proofs.Spoken.{same-prefix, transfer-spoken, gave-spoken}
 
@@ -177,29 +177,15 @@ unit-fed T l u b h k w =
 -- where a line is next
 abbrev pub isLine : Next → Bool
 isLine over = false
-isLine ourGreeting = true
-isLine ourFirstPrompt = true
-isLine ourSidLine = true
-isLine theirText = true
-isLine (theirSid c) = true
-isLine (theirTurn ff ls) = true
-isLine (ourTurn ff ls) = true
-isLine (theirAnswer is) = true
-isLine (ourAnswer ps) = true
+isLine (weSay n) = true
+isLine (theySay n) = true
 isLine (theirTransfer p ps) = false
 isLine (ourTransfer i is) = false
 
 line-whole : (T : List Record) (n : Next) (u : Bytes) (b : ℕ) → isLine n ≡ true → whole T n u b ≡ eqb b CR
 line-whole T over u b h = cc
-line-whole T ourGreeting u b h = refl
-line-whole T ourFirstPrompt u b h = refl
-line-whole T ourSidLine u b h = refl
-line-whole T theirText u b h = refl
-line-whole T (theirSid c) u b h = refl
-line-whole T (theirTurn ff ls) u b h = refl
-line-whole T (ourTurn ff ls) u b h = refl
-line-whole T (theirAnswer is) u b h = refl
-line-whole T (ourAnswer ps) u b h = refl
+line-whole T (weSay n) u b h = refl
+line-whole T (theySay n) u b h = refl
 line-whole T (theirTransfer p ps) u b h = cc
 line-whole T (ourTransfer i is) u b h = cc
 
@@ -260,7 +246,7 @@ abbrev pub owing : Bool → Next → List ℕ → Book → Log
 owing a n sent k = record { afterCr = a; course = record { next = n; sent = sent }; book = k }
 
 abbrev pub keeping : Book → Message → Book
-keeping k x = record { framed = k .framed; states = k .states; kept = k .kept ++ (x ∷ []) }
+keeping k x = withKept k (k .kept ++ (x ∷ []))
 
 -- the partner's: kept, at its last byte
 pub their-transfer-fed : (T : List Record) (p : Proposal) (ps : List Proposal) (sent : List ℕ) (k : Book) (u : Bytes) (b : ℕ) (c : Content)

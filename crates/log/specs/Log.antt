@@ -25,16 +25,33 @@ use Rattle.mail.specs.Mail.{Record, Message, messageOf, recordAt, transferOf, p
 pub data Event : Type 0 where
   took gave : ℕ → Event
 
--- Which unit the rules allow next, and of which side. A turn has the lines of it so far, and whether the turn just before it was FF; the
--- places or proposals are "last proposals", or "transfers owed" with the first of them apart. over: the log has ended.
+-- A line of ours, and one of the partner's. A turn has the lines of it so far, and whether the turn just before it was FF; the places or
+-- proposals are "last proposals".
+pub data Ours : Type 0 where
+  ourGreeting ourFirstPrompt ourSidLine : Ours
+  ourTurn : Bool → List TurnLine → Ours
+  ourAnswer : List Proposal → Ours
+
+pub data Theirs : Type 0 where
+  theirText : Theirs
+  theirSid : Bool → Theirs
+  theirTurn : Bool → List TurnLine → Theirs
+  theirAnswer : List ℕ → Theirs
+
+-- Which unit the rules allow next, and of which side: a line, or one of the "transfers owed", with the others. over: the log has ended.
 pub data Next : Type 0 where
-  over ourGreeting ourFirstPrompt ourSidLine theirText : Next
-  theirSid : Bool → Next
-  theirTurn ourTurn : Bool → List TurnLine → Next
-  theirAnswer : List ℕ → Next
-  ourAnswer : List Proposal → Next
+  over : Next
+  weSay : Ours → Next
+  theySay : Theirs → Next
   theirTransfer : Proposal → List Proposal → Next
   ourTransfer : ℕ → List ℕ → Next
+
+-- A turn begins; true: the turn just before it was FF
+abbrev pub ourNewTurn : Bool → Next
+ourNewTurn ff = weSay (ourTurn ff [])
+
+abbrev pub theirNewTurn : Bool → Next
+theirNewTurn ff = theySay (theirTurn ff [])
 
 -- What units of either side change: which unit is next, and the records sent.
 pub record Course : Type 0 where
@@ -56,15 +73,8 @@ pub record Log : Type 0 where
 -- The unit that is next is ours.
 abbrev pub isOurs : Next → Bool
 isOurs over = false
-isOurs ourGreeting = true
-isOurs ourFirstPrompt = true
-isOurs ourSidLine = true
-isOurs theirText = false
-isOurs (theirSid c) = false
-isOurs (theirTurn ff ls) = false
-isOurs (ourTurn ff ls) = true
-isOurs (theirAnswer is) = false
-isOurs (ourAnswer ps) = true
+isOurs (weSay n) = true
+isOurs (theySay n) = false
 isOurs (theirTransfer p ps) = false
 isOurs (ourTransfer i is) = true
 
@@ -117,24 +127,24 @@ placesOf T (p ∷ ps) = consO (placeFound T (p .bid)) (placesOf T ps)
 -- Our turn with these proposals. One whose BID no record has isn't ours to make: "What the rules forbid isn't valid".
 abbrev pub ourProposed : Option (List ℕ) → Next
 ourProposed none = over
-ourProposed (some is) = theirAnswer is
+ourProposed (some is) = theySay (theirAnswer is)
 
 -- "transfers owed": ours, of the records at these places; after the last the right to propose is the partner's, "whoever sent the FS"
 abbrev pub oursOwed : List ℕ → Next
-oursOwed [] = theirTurn false []
+oursOwed [] = theirNewTurn false
 oursOwed (i ∷ is) = ourTransfer i is
 
 -- and the partner's, of these proposals
 abbrev pub theirsOwed : List Proposal → Next
-theirsOwed [] = ourTurn false []
+theirsOwed [] = ourNewTurn false
 theirsOwed (p ∷ ps) = theirTransfer p ps
 
 -- "Turn, at its last CR", ours: FF is answered by a turn, proposals by an FS line; FQ ends the session
 abbrev pub ourSaid : List Record → Bool → List TurnLine → Said → Next
-ourSaid T ff ls unfinished = ourTurn ff ls
+ourSaid T ff ls unfinished = weSay (ourTurn ff ls)
 ourSaid T ff ls farewell = over
 ourSaid T ff ls wrong = over
-ourSaid T ff ls (turn []) = theirTurn true []
+ourSaid T ff ls (turn []) = theirNewTurn true
 ourSaid T ff ls (turn (p ∷ ps)) = ourProposed (placesOf T (p ∷ ps))
 
 -- "FS line, at its CR: the other side owes the accepted transfers in order."
@@ -143,33 +153,19 @@ ourAnswered ps none = over
 ourAnswered ps (some ss) = theirsOwed (accepted ss ps)
 
 -- A line of ours. "Lines under SID and opening only choose the mode."; "Called: we send it, CR, `>`, CR"
-abbrev pub ourLine : List Record → Bool → Next → Bytes → Next
-ourLine T md ourGreeting ln = cond (same ln (fixedText ourSid)) ourFirstPrompt over
-ourLine T md ourFirstPrompt ln = cond (same ln (fixedText ourPrompt)) (theirSid false) over
-ourLine T md ourSidLine ln = cond (same ln (fixedText ourSid)) (ourTurn false []) over
+abbrev pub ourLine : List Record → Bool → Ours → Bytes → Next
+ourLine T md ourGreeting ln = cond (same ln (fixedText ourSid)) (weSay ourFirstPrompt) over
+ourLine T md ourFirstPrompt ln = cond (same ln (fixedText ourPrompt)) (theySay (theirSid false)) over
+ourLine T md ourSidLine ln = cond (same ln (fixedText ourSid)) (ourNewTurn false) over
 ourLine T md (ourTurn ff ls) ln = ourSaid T ff (ls ++ (readTurnLine md ln ∷ [])) (said ff (ls ++ (readTurnLine md ln ∷ [])))
 ourLine T md (ourAnswer ps) ln = ourAnswered ps (readFs (length ps) ln)
-ourLine T md over ln = over
-ourLine T md theirText ln = over
-ourLine T md (theirSid c) ln = over
-ourLine T md (theirTurn ff ls) ln = over
-ourLine T md (theirAnswer is) ln = over
-ourLine T md (theirTransfer p ps) ln = over
-ourLine T md (ourTransfer i is) ln = over
 
 -- "Our owed transfer, as we write it, given whole: its record is sent."
 abbrev pub ourUnit : List Record → Bool → Next → List ℕ → Bytes → Course
+ourUnit T md (weSay n) sent u = record { next = ourLine T md n u; sent = sent }
 ourUnit T md (ourTransfer i is) sent u = record { next = oursOwed is; sent = sent ++ (i ∷ []) }
 ourUnit T md over sent u = record { next = over; sent = sent }
-ourUnit T md ourGreeting sent u = record { next = ourLine T md ourGreeting u; sent = sent }
-ourUnit T md ourFirstPrompt sent u = record { next = ourLine T md ourFirstPrompt u; sent = sent }
-ourUnit T md ourSidLine sent u = record { next = ourLine T md ourSidLine u; sent = sent }
-ourUnit T md theirText sent u = record { next = over; sent = sent }
-ourUnit T md (theirSid c) sent u = record { next = over; sent = sent }
-ourUnit T md (theirTurn ff ls) sent u = record { next = over; sent = sent }
-ourUnit T md (ourTurn ff ls) sent u = record { next = ourLine T md (ourTurn ff ls) u; sent = sent }
-ourUnit T md (theirAnswer is) sent u = record { next = over; sent = sent }
-ourUnit T md (ourAnswer ps) sent u = record { next = ourLine T md (ourAnswer ps) u; sent = sent }
+ourUnit T md (theySay n) sent u = record { next = over; sent = sent }
 ourUnit T md (theirTransfer p ps) sent u = record { next = over; sent = sent }
 
 -- ---------------------------------------------------------------- the effect of a whole unit of the partner's
@@ -183,19 +179,25 @@ pub record Effect : Type 0 where
 abbrev pub effect : Book → List ℕ → Next → Effect
 effect k sent n = record { book = k; course = record { next = n; sent = sent } }
 
--- The book with these states.
+-- The book with this mode, these states, these messages.
+abbrev pub withFramed : Book → Bool → Book
+withFramed k md = record { framed = md; states = k .states; kept = k .kept }
+
 abbrev pub withStates : Book → List ℕ → Book
 withStates k st = record { framed = k .framed; states = st; kept = k .kept }
 
+abbrev pub withKept : Book → List Message → Book
+withKept k ms = record { framed = k .framed; states = k .states; kept = ms }
+
 -- The partner's FF is answered by our turn, its proposals by our FS line.
 abbrev pub afterTheirTurn : List Proposal → Next
-afterTheirTurn [] = ourTurn true []
-afterTheirTurn (p ∷ ps) = ourAnswer (p ∷ ps)
+afterTheirTurn [] = ourNewTurn true
+afterTheirTurn (p ∷ ps) = weSay (ourAnswer (p ∷ ps))
 
 -- "Turn, at its last CR: its proposals replace the last .. The partner's makes every sent record 1." The records sent are then forgotten; 01
 -- does not say so, and it comes to the same: a state set to 1 stays 1, as we propose only waiting records.
 abbrev pub theirSaid : Bool → List TurnLine → Book → List ℕ → Said → Effect
-theirSaid ff ls k sent unfinished = effect k sent (theirTurn ff ls)
+theirSaid ff ls k sent unfinished = effect k sent (theySay (theirTurn ff ls))
 theirSaid ff ls k sent farewell = effect k sent over
 theirSaid ff ls k sent wrong = effect k sent over
 theirSaid ff ls k sent (turn ps) = effect (withStates k (marked sent (k .states))) [] (afterTheirTurn ps)
@@ -206,7 +208,7 @@ theirAnswered is k sent none = effect k sent over
 theirAnswered is k sent (some ss) = effect (withStates k (declined is ss (k .states))) sent (oursOwed (accepted ss is))
 
 -- "Caller: we await the SID, skip text lines until the prompt"; called, "then its first turn"
-abbrev pub afterTheirSid : Bool → Next
+abbrev pub afterTheirSid : Bool → Theirs
 afterTheirSid true = theirText
 afterTheirSid false = theirTurn false []
 
@@ -214,36 +216,28 @@ afterTheirSid false = theirTurn false []
 abbrev pub theirSidRead : Bool → Book → List ℕ → Option (List ℕ) → Effect
 theirSidRead c k sent none = effect k sent over
 theirSidRead c k sent (some fs) =
-    cond (hasFeature 5 fs)
-    (effect (record { framed = framed fs; states = k .states; kept = k .kept }) sent (afterTheirSid c))
-    (effect k sent over)
+    cond (hasFeature 5 fs) (effect (withFramed k (framed fs)) sent (theySay (afterTheirSid c))) (effect k sent over)
 
--- A line of the partner's: "A line that begins with `;` is ignored wherever a line is awaited"
-abbrev pub theirLine : Next → Book → List ℕ → Bytes → Effect
-theirLine (theirSid c) k sent ln = cond (isComment ln) (effect k sent (theirSid c)) (theirSidRead c k sent (readSid ln))
-theirLine theirText k sent ln = cond (isComment ln) (effect k sent theirText) (cond (isPrompt ln) (effect k sent ourSidLine) (effect k sent theirText))
-theirLine (theirTurn ff ls) k sent ln =
-    cond (isComment ln) (effect k sent (theirTurn ff ls))
-    (theirSaid ff (ls ++ (readTurnLine (k .framed) ln ∷ [])) k sent (said ff (ls ++ (readTurnLine (k .framed) ln ∷ []))))
-theirLine (theirAnswer is) k sent ln = cond (isComment ln) (effect k sent (theirAnswer is)) (theirAnswered is k sent (readFs (length is) ln))
-theirLine over k sent ln = effect k sent over
-theirLine ourGreeting k sent ln = effect k sent over
-theirLine ourFirstPrompt k sent ln = effect k sent over
-theirLine ourSidLine k sent ln = effect k sent over
-theirLine (ourTurn ff ls) k sent ln = effect k sent over
-theirLine (ourAnswer ps) k sent ln = effect k sent over
-theirLine (theirTransfer p ps) k sent ln = effect k sent over
-theirLine (ourTransfer i is) k sent ln = effect k sent over
+-- A line of the partner's that is no comment, as it came, without its CR: "Spaces at the end are removed before a line is judged."
+abbrev pub theirRead : Theirs → Book → List ℕ → Bytes → Effect
+theirRead theirText k sent ln = cond (isPrompt (trim ln)) (effect k sent (weSay ourSidLine)) (effect k sent (theySay theirText))
+theirRead (theirSid c) k sent ln = theirSidRead c k sent (readSid (trim ln))
+theirRead (theirTurn ff ls) k sent ln =
+    theirSaid ff (ls ++ (readTurnLine (k .framed) (trim ln) ∷ [])) k sent (said ff (ls ++ (readTurnLine (k .framed) (trim ln) ∷ [])))
+theirRead (theirAnswer is) k sent ln = theirAnswered is k sent (readFs (length is) (trim ln))
 
--- "Spaces at the end are removed before a line is judged."; a line of over 256 bytes is not valid
-abbrev pub judgedLine : Next → Book → List ℕ → Bytes → Effect
-judgedLine n k sent ln = cond (leb (length ln) lineLimit) (theirLine n k sent (trim ln)) (effect k sent over)
+-- "A line that begins with `;` is ignored wherever a line is awaited"
+abbrev pub theirLine : Theirs → Book → List ℕ → Bytes → Effect
+theirLine n k sent ln = cond (isComment (trim ln)) (effect k sent (theySay n)) (theirRead n k sent ln)
+
+-- a line of over 256 bytes is not valid
+abbrev pub judgedLine : Theirs → Book → List ℕ → Bytes → Effect
+judgedLine n k sent ln = cond (leb (length ln) lineLimit) (theirLine n k sent ln) (effect k sent over)
 
 -- "Partner's owed transfer, at its last byte: kept, with its proposal's form and fields as read, and its own heading and body."
 abbrev pub theirTransferred : Proposal → List Proposal → Book → List ℕ → Option Content → Effect
 theirTransferred p ps k sent none = effect k sent over
-theirTransferred p ps k sent (some c) =
-    effect (record { framed = k .framed; states = k .states; kept = k .kept ++ (messageOf p c ∷ []) }) sent (theirsOwed ps)
+theirTransferred p ps k sent (some c) = effect (withKept k (k .kept ++ (messageOf p c ∷ []))) sent (theirsOwed ps)
 
 -- ---------------------------------------------------------------- units
 
@@ -253,15 +247,8 @@ abbrev pub whole : List Record → Next → Bytes → ℕ → Bool
 whole T (theirTransfer p ps) u b = isSome (readTransfer (p .form) (u ++ (b ∷ [])))
 whole T (ourTransfer i is) u b = same (u ++ (b ∷ [])) (transferOf (recordAt T i))
 whole T over u b = false
-whole T ourGreeting u b = eqb b CR
-whole T ourFirstPrompt u b = eqb b CR
-whole T ourSidLine u b = eqb b CR
-whole T theirText u b = eqb b CR
-whole T (theirSid c) u b = eqb b CR
-whole T (theirTurn ff ls) u b = eqb b CR
-whole T (ourTurn ff ls) u b = eqb b CR
-whole T (theirAnswer is) u b = eqb b CR
-whole T (ourAnswer ps) u b = eqb b CR
+whole T (weSay n) u b = eqb b CR
+whole T (theySay n) u b = eqb b CR
 
 -- "Each has a form (0 plain text, ..)"
 abbrev pub isPlain : Form → Bool
@@ -274,30 +261,16 @@ isPlain file = false
 abbrev pub endsWithCr : Next → Bool
 endsWithCr (theirTransfer p ps) = isPlain (p .form)
 endsWithCr over = true
-endsWithCr ourGreeting = true
-endsWithCr ourFirstPrompt = true
-endsWithCr ourSidLine = true
-endsWithCr theirText = true
-endsWithCr (theirSid c) = true
-endsWithCr (theirTurn ff ls) = true
-endsWithCr (ourTurn ff ls) = true
-endsWithCr (theirAnswer is) = true
-endsWithCr (ourAnswer ps) = true
+endsWithCr (weSay n) = true
+endsWithCr (theySay n) = true
 endsWithCr (ourTransfer i is) = true
 
 -- The partner's whole unit u b of what is next: a transfer, "else lines".
 abbrev pub theirUnit : Next → Book → List ℕ → Bytes → ℕ → Effect
 theirUnit (theirTransfer p ps) k sent u b = theirTransferred p ps k sent (readTransfer (p .form) (u ++ (b ∷ [])))
+theirUnit (theySay n) k sent u b = judgedLine n k sent u
 theirUnit over k sent u b = effect k sent over
-theirUnit ourGreeting k sent u b = effect k sent over
-theirUnit ourFirstPrompt k sent u b = effect k sent over
-theirUnit ourSidLine k sent u b = effect k sent over
-theirUnit theirText k sent u b = judgedLine theirText k sent u
-theirUnit (theirSid c) k sent u b = judgedLine (theirSid c) k sent u
-theirUnit (theirTurn ff ls) k sent u b = judgedLine (theirTurn ff ls) k sent u
-theirUnit (ourTurn ff ls) k sent u b = effect k sent over
-theirUnit (theirAnswer is) k sent u b = judgedLine (theirAnswer is) k sent u
-theirUnit (ourAnswer ps) k sent u b = effect k sent over
+theirUnit (weSay n) k sent u b = effect k sent over
 theirUnit (ourTransfer i is) k sent u b = effect k sent over
 
 -- The log after the whole unit u b of what is next; a line is u, without its CR b.
@@ -356,7 +329,7 @@ abbrev pub logOpened : Bool → List ℕ → Log
 logOpened caller states =
     record {
       afterCr = false;
-      course = record { next = cond caller (theirSid true) ourGreeting; sent = [] };
+      course = record { next = cond caller (theySay (theirSid true)) (weSay ourGreeting); sent = [] };
       book = record { framed = false; states = states; kept = [] };
     }
 

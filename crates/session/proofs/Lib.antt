@@ -1,3 +1,4 @@
 -- Theorems about the session alone.
 pub mod Choices
 pub mod Sessions
+pub mod Ways

@@ -7,7 +7,7 @@ use lib.ListN.{take, drop}
 use Rattle.grammar.specs.Bytes.{Bytes}
 use Rattle.grammar.specs.Refusals.{sessionEnded}
 use Rattle.session.specs.Choices.{Shelf}
-use Rattle.session.specs.Session.{Session, Stepped, step, ended}
+use Rattle.session.specs.Session.{Session, withOut, Stepped, step, ended}
 
 -- The answer, how many bytes were consumed, and the session after it.
 pub record Received : Type 0 where
@@ -41,5 +41,4 @@ handedOut s room = take room (s .out)
 
 -- "Bytes count as taken by the link when give returns them."
 unfoldable pub give : Session → ℕ → Session
-give s room =
-    record { phase = s .phase; part = s .part; afterCr = s .afterCr; out = drop room (s .out); memory = s .memory }
+give s room = withOut (drop room (s .out)) s

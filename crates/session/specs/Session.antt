@@ -20,16 +20,25 @@ use Rattle.session.specs.Choices.{Shelf, chosen, answersTo, bodyBytes}
 
 -- ---------------------------------------------------------------- the state
 
--- What is awaited of the partner.
+-- Which line is awaited of the partner.
 -- awaitsSid: its SID (true: we are the caller). awaitsPrompt: text lines up to the prompt. awaitsTurn: the next line of its turn; whether
--- our turn just now was FF, and its proposals so far. awaitsAnswer: the FS line on our records at these places. awaitsTransfer: the
--- transfer of this proposal, then those of these, and where its reading stands. leaving: nothing more, our FQ is said. over: ended.
+-- our turn just now was FF, and its proposals so far. awaitsAnswer: the FS line on our records at these places.
+pub data Awaited : Type 0 where
+  awaitsSid : Bool → Awaited
+  awaitsPrompt : Awaited
+  awaitsTurn : Bool → List Proposal → Awaited
+  awaitsAnswer : List ℕ → Awaited
+
+-- aLine: a line is awaited. awaitsTransfer: the transfer of this proposal, then those of these, and where its reading stands. leaving: nothing
+-- more, our FQ is said. over: ended.
 pub data Phase : Type 0 where
-  awaitsSid : Bool → Phase
-  awaitsPrompt leaving over : Phase
-  awaitsTurn : Bool → List Proposal → Phase
-  awaitsAnswer : List ℕ → Phase
+  aLine : Awaited → Phase
   awaitsTransfer : Proposal → List Proposal → Scan → Phase
+  leaving over : Phase
+
+-- The partner's turn begins; true: our turn just now was FF
+abbrev pub newTurn : Bool → Phase
+newTurn ff = aLine (awaitsTurn ff [])
 
 -- The mode; each record's state; the places of the records that the partner accepted and whose state is not set yet; the messages kept;
 -- 64 flags, 1 where a record was deferred in this session.
@@ -48,6 +57,41 @@ pub record Session : Type 0 where
   pub out : Bytes
   pub memory : Memory
 
+-- All else is as it was.
+abbrev pub withFramed : Bool → Memory → Memory
+withFramed x m = record { framed = x; states = m .states; sending = m .sending; inbox = m .inbox; deferred = m .deferred }
+
+abbrev pub withStates : List ℕ → Memory → Memory
+withStates x m = record { framed = m .framed; states = x; sending = m .sending; inbox = m .inbox; deferred = m .deferred }
+
+abbrev pub withSending : List ℕ → Memory → Memory
+withSending x m = record { framed = m .framed; states = m .states; sending = x; inbox = m .inbox; deferred = m .deferred }
+
+abbrev pub withInbox : List Message → Memory → Memory
+withInbox x m = record { framed = m .framed; states = m .states; sending = m .sending; inbox = x; deferred = m .deferred }
+
+abbrev pub withDeferred : List ℕ → Memory → Memory
+withDeferred x m = record { framed = m .framed; states = m .states; sending = m .sending; inbox = m .inbox; deferred = x }
+
+abbrev pub withPhase : Phase → Session → Session
+withPhase x s = record { phase = x; part = s .part; afterCr = s .afterCr; out = s .out; memory = s .memory }
+
+abbrev pub withPart : Bytes → Session → Session
+withPart x s = record { phase = s .phase; part = x; afterCr = s .afterCr; out = s .out; memory = s .memory }
+
+abbrev pub withAfterCr : Bool → Session → Session
+withAfterCr x s = record { phase = s .phase; part = s .part; afterCr = x; out = s .out; memory = s .memory }
+
+abbrev pub withOut : Bytes → Session → Session
+withOut x s = record { phase = s .phase; part = s .part; afterCr = s .afterCr; out = x; memory = s .memory }
+
+abbrev pub withMemory : Memory → Session → Session
+withMemory x s = record { phase = s .phase; part = s .part; afterCr = s .afterCr; out = s .out; memory = x }
+
+-- No line is begun.
+abbrev pub between : Phase → Bool → Bytes → Memory → Session
+between p afterCr out m = record { phase = p; part = []; afterCr = afterCr; out = out; memory = m }
+
 -- What a whole line or transfer comes to: a refusal by its number, or the next phase with the memory and what we say now.
 pub data Outcome : Type 0 where
   refuses : ℕ → Outcome
@@ -58,9 +102,9 @@ pub data Outcome : Type 0 where
 -- "If none remains: FF, or FQ if the partner's turn just now was FF."; o is said before it
 abbrev pub speaking : Shelf → Bytes → Bool → List ℕ → Memory → Outcome
 speaking E o true [] m = goesOn leaving m (o ++ withCr (fixedText ourFQ))
-speaking E o false [] m = goesOn (awaitsTurn true []) m (o ++ withCr (fixedText ourFF))
+speaking E o false [] m = goesOn (newTurn true) m (o ++ withCr (fixedText ourFF))
 speaking E o ff (i ∷ is) m =
-    goesOn (awaitsAnswer (i ∷ is)) m (o ++ turnText (map (λ (k : ℕ). proposalOf (recordAt (E .table) k)) (i ∷ is)))
+    goesOn (aLine (awaitsAnswer (i ∷ is))) m (o ++ turnText (map (λ (k : ℕ). proposalOf (recordAt (E .table) k)) (i ∷ is)))
 
 abbrev pub ourTurn : Shelf → Bytes → Bool → Memory → Outcome
 ourTurn E o ff m = speaking E o ff (chosen (E .table) (m .framed) (m .states) (m .deferred)) m
@@ -69,8 +113,7 @@ ourTurn E o ff m = speaking E o ff (chosen (E .table) (m .framed) (m .states) (m
 
 -- "State 1 is set at the CR that ends the partner's next whole valid turn."
 abbrev pub turnMarks : Memory → Memory
-turnMarks m =
-    record { framed = m .framed; states = marked (m .sending) (m .states); sending = []; inbox = m .inbox; deferred = m .deferred }
+turnMarks m = withSending [] (withStates (marked (m .sending) (m .states)) m)
 
 -- "The right to propose passes to whoever sent the FS.": after the transfers that our FS line accepts, if there are any
 abbrev pub answering : Shelf → List Sign → List Proposal → Memory → Outcome
@@ -89,7 +132,7 @@ turnJudged E saysFQ ff (p ∷ ps) m = refuses lineNotAllowed
 turnJudged E endsBlock ff [] m = refuses proposalCount
 turnJudged E endsBlock ff (p ∷ ps) m = answered E (p ∷ ps) (turnMarks m)
 turnJudged E notAllowed ff ps m = refuses lineNotAllowed
-turnJudged E (proposes q) ff ps m = cond (ltb (length ps) 5) (goesOn (awaitsTurn ff (ps ++ (q ∷ []))) m []) (refuses proposalCount)
+turnJudged E (proposes q) ff ps m = cond (ltb (length ps) 5) (goesOn (aLine (awaitsTurn ff (ps ++ (q ∷ [])))) m []) (refuses proposalCount)
 
 -- ---------------------------------------------------------------- the partner's FS line
 
@@ -103,48 +146,39 @@ deferring (i ∷ is) (defer ∷ ss) fl = deferring is ss (set fl i 1)
 -- "`-` sets state 2 at the CR of a valid line. A deferred record stays 0. Accepted records are sent in order."
 abbrev pub answerMarks : List ℕ → List Sign → Memory → Memory
 answerMarks is ss m =
-    record {
-      framed = m .framed;
-      states = declined is ss (m .states);
-      sending = m .sending ++ accepted ss is;
-      inbox = m .inbox;
-      deferred = deferring is ss (m .deferred);
-    }
+    withStates (declined is ss (m .states)) (withSending (m .sending ++ accepted ss is) (withDeferred (deferring is ss (m .deferred)) m))
 
 abbrev pub answerJudged : Shelf → List ℕ → Memory → ℕ → Option (List Sign) → Outcome
 answerJudged E is m n none = refuses n
-answerJudged E is m n (some ss) = goesOn (awaitsTurn false []) (answerMarks is ss m) (transfersText (E .table) (accepted ss is))
+answerJudged E is m n (some ss) = goesOn (newTurn false) (answerMarks is ss m) (transfersText (E .table) (accepted ss is))
 
 -- ---------------------------------------------------------------- the opening
 
-abbrev pub inMode : Bool → Memory → Memory
-inMode md m = record { framed = md; states = m .states; sending = m .sending; inbox = m .inbox; deferred = m .deferred }
-
 abbrev pub afterSid : Bool → Phase
-afterSid true = awaitsPrompt
-afterSid false = awaitsTurn false []
+afterSid true = aLine awaitsPrompt
+afterSid false = newTurn false
 
 abbrev pub sidJudged : Bool → Memory → Option (List ℕ) → Outcome
 sidJudged caller m none = refuses notSid
-sidJudged caller m (some fs) = cond (hasFeature 5 fs) (goesOn (afterSid caller) (inMode (framed fs) m) []) (refuses noForwarding)
+sidJudged caller m (some fs) = cond (hasFeature 5 fs) (goesOn (afterSid caller) (withFramed (framed fs) m) []) (refuses noForwarding)
 
 -- "skip text lines until the prompt, then send SID and first turn"
 abbrev pub textJudged : Shelf → Bool → Memory → Outcome
 textJudged E true m = ourTurn E (withCr (fixedText ourSid)) false m
-textJudged E false m = goesOn awaitsPrompt m []
+textJudged E false m = goesOn (aLine awaitsPrompt) m []
 
 -- ---------------------------------------------------------------- a whole line
 
+-- The line as it came, without its CR: "Spaces at the end are removed before a line is judged."
+abbrev pub awaitedJudged : Shelf → Awaited → Memory → Bytes → Outcome
+awaitedJudged E (awaitsSid c) m ln = sidJudged c m (readSid (trim ln))
+awaitedJudged E awaitsPrompt m ln = textJudged E (isPrompt (trim ln)) m
+awaitedJudged E (awaitsTurn ff ps) m ln = turnJudged E (readTurnLine (m .framed) (trim ln)) ff ps m
+awaitedJudged E (awaitsAnswer is) m ln = answerJudged E is m (fsNumber (length is) (trim ln)) (readFs (length is) (trim ln))
+
 -- "A line that begins with `;` is ignored wherever a line is awaited"
-abbrev pub lineJudged : Shelf → Phase → Memory → Bytes → Outcome
-lineJudged E (awaitsSid c) m ln = cond (isComment ln) (goesOn (awaitsSid c) m []) (sidJudged c m (readSid ln))
-lineJudged E awaitsPrompt m ln = cond (isComment ln) (goesOn awaitsPrompt m []) (textJudged E (isPrompt ln) m)
-lineJudged E (awaitsTurn ff ps) m ln = cond (isComment ln) (goesOn (awaitsTurn ff ps) m []) (turnJudged E (readTurnLine (m .framed) ln) ff ps m)
-lineJudged E (awaitsAnswer is) m ln =
-    cond (isComment ln) (goesOn (awaitsAnswer is) m []) (answerJudged E is m (fsNumber (length is) ln) (readFs (length is) ln))
-lineJudged E (awaitsTransfer p ps sc) m ln = refuses lineNotAllowed
-lineJudged E leaving m ln = refuses lineNotAllowed
-lineJudged E over m ln = refuses lineNotAllowed
+abbrev pub lineJudged : Shelf → Awaited → Memory → Bytes → Outcome
+lineJudged E a m ln = cond (isComment (trim ln)) (goesOn (aLine a) m []) (awaitedJudged E a m ln)
 
 -- ---------------------------------------------------------------- a byte
 
@@ -154,7 +188,7 @@ pub record Stepped : Type 0 where
 
 -- "Besides ending the session": nothing more is said, and marks and kept messages stand as just before the refused byte
 abbrev pub refused : Session → ℕ → Stepped
-refused s n = record { answer = n; session = record { phase = over; part = []; afterCr = false; out = []; memory = s .memory } }
+refused s n = record { answer = n; session = between over false [] (s .memory) }
 
 abbrev pub moved : Session → Stepped
 moved s = record { answer = 0; session = s }
@@ -162,15 +196,14 @@ moved s = record { answer = 0; session = s }
 -- What the outcome of a whole line or transfer makes of the session; afterCr: it ended with a CR after which an LF is dropped.
 abbrev pub settled : Session → Bool → Outcome → Stepped
 settled s afterCr (refuses n) = refused s n
-settled s afterCr (goesOn p m o) = moved (record { phase = p; part = []; afterCr = afterCr; out = o; memory = m })
+settled s afterCr (goesOn p m o) = moved (between p afterCr o m)
 
 -- "A line ends with CR."; "a 257th byte of a line comes before CR"
-abbrev pub lineMoved : Shelf → Session → ℕ → LineByte → Stepped
-lineMoved E s b dropped = moved s
-lineMoved E s b ends = settled s true (lineJudged E (s .phase) (s .memory) (trim (s .part)))
-lineMoved E s b grows =
-    moved (record { phase = s .phase; part = s .part ++ (b ∷ []); afterCr = false; out = s .out; memory = s .memory })
-lineMoved E s b overruns = refused s lineTooLong
+abbrev pub lineMoved : Shelf → Awaited → Session → ℕ → LineByte → Stepped
+lineMoved E a s b dropped = moved s
+lineMoved E a s b ends = settled s true (lineJudged E a (s .memory) (s .part))
+lineMoved E a s b grows = moved (withPart (s .part ++ (b ∷ [])) (withAfterCr false s))
+lineMoved E a s b overruns = refused s lineTooLong
 
 abbrev pub isPlain : Form → Bool
 isPlain plain = true
@@ -178,8 +211,7 @@ isPlain message = false
 isPlain file = false
 
 abbrev pub keptIn : Memory → Message → Memory
-keptIn m x =
-    record { framed = m .framed; states = m .states; sending = m .sending; inbox = m .inbox ++ (x ∷ []); deferred = m .deferred }
+keptIn m x = withInbox (m .inbox ++ (x ∷ [])) m
 
 -- "A message is kept at its last byte."; then the next transfer is awaited, or it is our turn
 abbrev pub nextTransfer : Shelf → List Proposal → Memory → Outcome
@@ -188,8 +220,7 @@ nextTransfer E (p ∷ ps) m = goesOn (awaitsTransfer p ps (scanFrom (p .form))) 
 
 -- "One LF directly after .. the CR that closes a plain transfer, is dropped"
 abbrev pub transferMoved : Shelf → Proposal → List Proposal → Session → Scanned → Stepped
-transferMoved E p ps s (goes sc) =
-    moved (record { phase = awaitsTransfer p ps sc; part = s .part; afterCr = false; out = s .out; memory = s .memory })
+transferMoved E p ps s (goes sc) = moved (withPhase (awaitsTransfer p ps sc) (withAfterCr false s))
 transferMoved E p ps s (got h x) =
     settled s (isPlain (p .form)) (nextTransfer E ps (keptIn (s .memory) (messageOf p (record { heading = h; body = x }))))
 transferMoved E p ps s malformed = refused s badTransfer
@@ -200,14 +231,11 @@ transferMoved E p ps s noRoom = refused s storeFull
 abbrev pub roomFor : Shelf → Memory → ℕ
 roomFor E m = min 65535 (E .bytes - bodyBytes (m .inbox))
 
-abbrev pub lineStep : Shelf → Session → ℕ → Stepped
-lineStep E s b = lineMoved E s b (lineByte false (length (s .part)) b)
+abbrev pub lineStep : Shelf → Awaited → Session → ℕ → Stepped
+lineStep E a s b = lineMoved E a s b (lineByte false (length (s .part)) b)
 
 abbrev pub phaseStep : Shelf → Phase → Session → ℕ → Stepped
-phaseStep E (awaitsSid c) s b = lineStep E s b
-phaseStep E awaitsPrompt s b = lineStep E s b
-phaseStep E (awaitsTurn ff ps) s b = lineStep E s b
-phaseStep E (awaitsAnswer is) s b = lineStep E s b
+phaseStep E (aLine a) s b = lineStep E a s b
 phaseStep E (awaitsTransfer p ps sc) s b = transferMoved E p ps s (scanByte (roomFor E (s .memory)) sc b)
 phaseStep E leaving s b = refused s sessionEnded
 phaseStep E over s b = refused s sessionEnded
@@ -217,19 +245,13 @@ abbrev pub freeStep : Shelf → Bytes → Session → ℕ → Stepped
 freeStep E (x ∷ xs) s b = refused s bytesWait
 freeStep E [] s b = phaseStep E (s .phase) s b
 
-abbrev pub lfDropped : Session → Session
-lfDropped s = record { phase = s .phase; part = s .part; afterCr = false; out = s .out; memory = s .memory }
-
 -- "One LF .. is dropped, also while bytes wait for give."; "then 12, 11, 2, then the rule of the line or transfer"
 abbrev pub step : Shelf → Session → ℕ → Stepped
-step E s b = cond (s .afterCr && eqb b LF) (moved (lfDropped s)) (freeStep E (s .out) s b)
+step E s b = cond (s .afterCr && eqb b LF) (moved (withAfterCr false s)) (freeStep E (s .out) s b)
 
 -- "FQ received ends the session at its CR"; "Our FQ ends it when give has handed out its CR."
 abbrev pub endedIn : Phase → Bytes → Bool
-endedIn (awaitsSid c) o = false
-endedIn awaitsPrompt o = false
-endedIn (awaitsTurn ff ps) o = false
-endedIn (awaitsAnswer is) o = false
+endedIn (aLine a) o = false
 endedIn (awaitsTransfer p ps sc) o = false
 endedIn leaving o = null o
 endedIn over o = true
@@ -247,10 +269,5 @@ greeting false = withCr (fixedText ourSid) ++ withCr (fixedText ourPrompt)
 -- The session right after an accepted open: the role (true: caller) and the states that open found.
 abbrev pub opened : Bool → List ℕ → Session
 opened caller states =
-    record {
-      phase = awaitsSid caller;
-      part = [];
-      afterCr = false;
-      out = greeting caller;
-      memory = record { framed = false; states = states; sending = []; inbox = []; deferred = replicate 64 0 };
-    }
+    between (aLine (awaitsSid caller)) false (greeting caller)
+    (record { framed = false; states = states; sending = []; inbox = []; deferred = replicate 64 0 })

@@ -1,0 +1,192 @@
+-- THE WAYS OF A BYTE: all that a step can come to, each with the tests that lead there. Idea: the tests of the steps, in their order. A proof on every
+-- byte goes by these clauses; one that asks only what the session is afterwards has one clause for all refusals.
+use mathlib.Core.Path.{_≡_, refl, ap}
+use mathlib.Core.Bool.{Bool, true, false, cond, _&&_}
+use mathlib.Core.Option.{Option, none, some}
+use mathlib.Core.List.{List, [], _∷_, _++_}
+use Prim.Native.Nat.{ℕ}
+use lib.Dec.{eqb, ltb}
+use lib.ListN.{length}
+use Rattle.grammar.specs.Bytes.{Bytes, CR, LF, null}
+use Rattle.grammar.specs.Refusals.{lineTooLong, notSid, noForwarding, lineNotAllowed, proposalCount, badTransfer, badChecksum, storeFull, bytesWait, sessionEnded}
+use Rattle.grammar.specs.Lines.{ends, grows, overruns, trim, isComment, isPrompt}
+use Rattle.grammar.specs.Sid.{readSid, hasFeature, framed}
+use Rattle.grammar.specs.Turns.{Proposal, TurnLine, saysFF, saysFQ, endsBlock, notAllowed, proposes, readTurnLine, fixedText, ourSid, withCr}
+use Rattle.grammar.specs.Answers.{Sign, readFs, fsNumber, fsLine}
+use Rattle.grammar.specs.Scan.{Scan, Scanned, goes, got, malformed, wrongSum, noRoom, scanByte, scanFrom}
+use Rattle.mail.specs.Mail.{messageOf, transfersText, accepted}
+use Rattle.session.specs.Choices.{Shelf, chosen, answersTo}
+use Rattle.session.specs.Session.{Awaited, awaitsSid, awaitsPrompt, awaitsTurn, awaitsAnswer, Phase, aLine, newTurn, awaitsTransfer, leaving, over, Memory, Session, withFramed, withPhase, withPart, withAfterCr, between, Outcome, refuses, goesOn, speaking, ourTurn, turnMarks, answering, answered, turnJudged, answerMarks, answerJudged, afterSid, sidJudged, textJudged, awaitedJudged, lineJudged, Stepped, refused, moved, settled, lineMoved, isPlain, keptIn, nextTransfer, transferMoved, roomFor, phaseStep, freeStep, step}
+
+-- ---------------------------------------------------------------- what we say
+
+-- What follows when it is our turn, when we answer the partner's proposals, or when a transfer is whole; m: the memory then.
+pub data Passes (E : Shelf) (m : Memory) : Outcome → Type 0 where
+  toEnd : (o : Bytes) → Passes E m (goesOn leaving m o)
+  toTurn : (o : Bytes) → Passes E m (goesOn (newTurn true) m o)
+  toAnswer : (o : Bytes) (i : ℕ) (is : List ℕ) → chosen (E .table) (m .framed) (m .states) (m .deferred) ≡ i ∷ is
+      → Passes E m (goesOn (aLine (awaitsAnswer (i ∷ is))) m o)
+  toTransfer : (o : Bytes) (p : Proposal) (ps : List Proposal) → Passes E m (goesOn (awaitsTransfer p ps (scanFrom (p .form))) m o)
+
+pub our-turn : (E : Shelf) (o : Bytes) (ff : Bool) (m : Memory) → Passes E m (ourTurn E o ff m)
+our-turn E o ff m = go ff (chosen (E .table) (m .framed) (m .states) (m .deferred)) refl
+  where
+    go : (ff : Bool) (is : List ℕ) → chosen (E .table) (m .framed) (m .states) (m .deferred) ≡ is → Passes E m (speaking E o ff is m)
+    go true [] e = toEnd _
+    go false [] e = toTurn _
+    go true (i ∷ is) e = toAnswer _ i is e
+    go false (i ∷ is) e = toAnswer _ i is e
+
+pub our-answer : (E : Shelf) (ps : List Proposal) (m : Memory) → Passes E m (answered E ps m)
+our-answer E ps m = go (answersTo E (m .inbox) ps) (accepted (answersTo E (m .inbox) ps) ps)
+  where
+    go : (ss : List Sign) (qs : List Proposal) → Passes E m (answering E ss qs m)
+    go ss [] = our-turn E (withCr (fsLine ss)) false m
+    go ss (p ∷ qs) = toTransfer _ p qs
+
+pub next-transfer : (E : Shelf) (ps : List Proposal) (m : Memory) → Passes E m (nextTransfer E ps m)
+next-transfer E [] m = our-turn E [] false m
+next-transfer E (p ∷ ps) m = toTransfer [] p ps
+
+-- ---------------------------------------------------------------- a whole line
+
+-- Why a line is refused where this one is awaited, and the number. ln: the line as it came, without its CR
+pub data Wrong (m : Memory) (ln : Bytes) : Awaited → ℕ → Type 0 where
+  noSid : (c : Bool) → readSid (trim ln) ≡ none → Wrong m ln (awaitsSid c) notSid
+  noF : (c : Bool) (fs : List ℕ) → readSid (trim ln) ≡ some fs → hasFeature 5 fs ≡ false → Wrong m ln (awaitsSid c) noForwarding
+  noTurnLine : (ff : Bool) (ps : List Proposal) → readTurnLine (m .framed) (trim ln) ≡ notAllowed → Wrong m ln (awaitsTurn ff ps) lineNotAllowed
+  ffAfterFf : readTurnLine (m .framed) (trim ln) ≡ saysFF → Wrong m ln (awaitsTurn true []) lineNotAllowed
+  ffInBlock : (ff : Bool) (p : Proposal) (ps : List Proposal) → readTurnLine (m .framed) (trim ln) ≡ saysFF
+      → Wrong m ln (awaitsTurn ff (p ∷ ps)) lineNotAllowed
+  fqFirst : readTurnLine (m .framed) (trim ln) ≡ saysFQ → Wrong m ln (awaitsTurn false []) lineNotAllowed
+  fqInBlock : (ff : Bool) (p : Proposal) (ps : List Proposal) → readTurnLine (m .framed) (trim ln) ≡ saysFQ
+      → Wrong m ln (awaitsTurn ff (p ∷ ps)) lineNotAllowed
+  emptyBlock : (ff : Bool) → readTurnLine (m .framed) (trim ln) ≡ endsBlock → Wrong m ln (awaitsTurn ff []) proposalCount
+  tooMany : (ff : Bool) (ps : List Proposal) (q : Proposal) → readTurnLine (m .framed) (trim ln) ≡ proposes q → ltb (length ps) 5 ≡ false
+      → Wrong m ln (awaitsTurn ff ps) proposalCount
+  noAnswer : (is : List ℕ) → readFs (length is) (trim ln) ≡ none → Wrong m ln (awaitsAnswer is) (fsNumber (length is) (trim ln))
+
+-- What a line that is no comment comes to.
+pub data Judged (E : Shelf) (m : Memory) (ln : Bytes) : Awaited → Outcome → Type 0 where
+  isWrong : {a : Awaited} (n : ℕ) → Wrong m ln a n → Judged E m ln a (refuses n)
+  hearsSid : (c : Bool) (fs : List ℕ) → readSid (trim ln) ≡ some fs → hasFeature 5 fs ≡ true
+      → Judged E m ln (awaitsSid c) (goesOn (afterSid c) (withFramed (framed fs) m) [])
+  hearsText : isPrompt (trim ln) ≡ false → Judged E m ln awaitsPrompt (goesOn (aLine awaitsPrompt) m [])
+  hearsPrompt : isPrompt (trim ln) ≡ true → Judged E m ln awaitsPrompt (ourTurn E (withCr (fixedText ourSid)) false m)
+  hearsProposal : (ff : Bool) (ps : List Proposal) (q : Proposal) → readTurnLine (m .framed) (trim ln) ≡ proposes q → ltb (length ps) 5 ≡ true
+      → Judged E m ln (awaitsTurn ff ps) (goesOn (aLine (awaitsTurn ff (ps ++ (q ∷ [])))) m [])
+  hearsFF : readTurnLine (m .framed) (trim ln) ≡ saysFF → Judged E m ln (awaitsTurn false []) (ourTurn E [] true (turnMarks m))
+  hearsFQ : readTurnLine (m .framed) (trim ln) ≡ saysFQ → Judged E m ln (awaitsTurn true []) (goesOn over m [])
+  hearsEnd : (ff : Bool) (p : Proposal) (ps : List Proposal) → readTurnLine (m .framed) (trim ln) ≡ endsBlock
+      → Judged E m ln (awaitsTurn ff (p ∷ ps)) (answered E (p ∷ ps) (turnMarks m))
+  hearsFs : (is : List ℕ) (ss : List Sign) → readFs (length is) (trim ln) ≡ some ss
+      → Judged E m ln (awaitsAnswer is) (goesOn (newTurn false) (answerMarks is ss m) (transfersText (E .table) (accepted ss is)))
+
+module _ (E : Shelf) (m : Memory) (ln : Bytes) where
+  sid-way : (c : Bool) (o : Option (List ℕ)) → readSid (trim ln) ≡ o → Judged E m ln (awaitsSid c) (sidJudged c m o)
+  sid-way c none e = isWrong notSid (noSid c e)
+  sid-way c (some fs) e = go (hasFeature 5 fs) refl
+    where
+      go : (d : Bool) → hasFeature 5 fs ≡ d → Judged E m ln (awaitsSid c) (cond d (goesOn (afterSid c) (withFramed (framed fs) m) []) (refuses noForwarding))
+      go true f = hearsSid c fs e f
+      go false f = isWrong noForwarding (noF c fs e f)
+
+  text-way : (c : Bool) → isPrompt (trim ln) ≡ c → Judged E m ln awaitsPrompt (textJudged E c m)
+  text-way true e = hearsPrompt e
+  text-way false e = hearsText e
+
+  turn-way : (t : TurnLine) (ff : Bool) (ps : List Proposal) → readTurnLine (m .framed) (trim ln) ≡ t → Judged E m ln (awaitsTurn ff ps) (turnJudged E t ff ps m)
+  turn-way saysFF true [] e = isWrong lineNotAllowed (ffAfterFf e)
+  turn-way saysFF false [] e = hearsFF e
+  turn-way saysFF ff (p ∷ ps) e = isWrong lineNotAllowed (ffInBlock ff p ps e)
+  turn-way saysFQ true [] e = hearsFQ e
+  turn-way saysFQ false [] e = isWrong lineNotAllowed (fqFirst e)
+  turn-way saysFQ ff (p ∷ ps) e = isWrong lineNotAllowed (fqInBlock ff p ps e)
+  turn-way endsBlock ff [] e = isWrong proposalCount (emptyBlock ff e)
+  turn-way endsBlock ff (p ∷ ps) e = hearsEnd ff p ps e
+  turn-way notAllowed ff ps e = isWrong lineNotAllowed (noTurnLine ff ps e)
+  turn-way (proposes q) ff ps e = go (ltb (length ps) 5) refl
+    where
+      go : (c : Bool) → ltb (length ps) 5 ≡ c
+          → Judged E m ln (awaitsTurn ff ps) (cond c (goesOn (aLine (awaitsTurn ff (ps ++ (q ∷ [])))) m []) (refuses proposalCount))
+      go true f = hearsProposal ff ps q e f
+      go false f = isWrong proposalCount (tooMany ff ps q e f)
+
+  answer-way : (is : List ℕ) (o : Option (List Sign)) → readFs (length is) (trim ln) ≡ o
+      → Judged E m ln (awaitsAnswer is) (answerJudged E is m (fsNumber (length is) (trim ln)) o)
+  answer-way is none e = isWrong (fsNumber (length is) (trim ln)) (noAnswer is e)
+  answer-way is (some ss) e = hearsFs is ss e
+
+  -- ALL THAT A LINE COMES TO
+  pub judged : (a : Awaited) → Judged E m ln a (awaitedJudged E a m ln)
+  judged (awaitsSid c) = sid-way c (readSid (trim ln)) refl
+  judged awaitsPrompt = text-way (isPrompt (trim ln)) refl
+  judged (awaitsTurn ff ps) = turn-way (readTurnLine (m .framed) (trim ln)) ff ps refl
+  judged (awaitsAnswer is) = answer-way is (readFs (length is) (trim ln)) refl
+
+-- ---------------------------------------------------------------- a byte
+
+-- The rule of the phase decides: the byte is not dropped, and nothing waits for give.
+pub record At (s : Session) (b : ℕ) (p : Phase) : Type 0 where
+  pub kept : s .afterCr && eqb b LF ≡ false
+  pub silent : s .out ≡ []
+  pub awaited : s .phase ≡ p
+
+-- Why a byte is refused, but for what a whole line says, and the number.
+pub data Why (E : Shelf) (s : Session) (b : ℕ) : ℕ → Type 0 where
+  waits : s .afterCr && eqb b LF ≡ false → null (s .out) ≡ false → Why E s b bytesWait
+  hasLeft : At s b leaving → Why E s b sessionEnded
+  isOver : At s b over → Why E s b sessionEnded
+  tooLong : (a : Awaited) → At s b (aLine a) → eqb b CR ≡ false → ltb (length (s .part)) 256 ≡ false → Why E s b lineTooLong
+  unread : (p : Proposal) (ps : List Proposal) (sc : Scan) → At s b (awaitsTransfer p ps sc) → scanByte (roomFor E (s .memory)) sc b ≡ malformed → Why E s b badTransfer
+  unsummed : (p : Proposal) (ps : List Proposal) (sc : Scan) → At s b (awaitsTransfer p ps sc) → scanByte (roomFor E (s .memory)) sc b ≡ wrongSum → Why E s b badChecksum
+  unkept : (p : Proposal) (ps : List Proposal) (sc : Scan) → At s b (awaitsTransfer p ps sc) → scanByte (roomFor E (s .memory)) sc b ≡ noRoom → Why E s b storeFull
+
+-- What it comes to.
+pub data Way (E : Shelf) (s : Session) (b : ℕ) : Stepped → Type 0 where
+  isRefused : (n : ℕ) → s .afterCr && eqb b LF ≡ false → Why E s b n → Way E s b (refused s n)
+  dropsLf : s .afterCr && eqb b LF ≡ true → Way E s b (moved (withAfterCr false s))
+  growsLine : (a : Awaited) → At s b (aLine a) → eqb b CR ≡ false → ltb (length (s .part)) 256 ≡ true
+      → Way E s b (moved (withPart (s .part ++ (b ∷ [])) (withAfterCr false s)))
+  ignoresLine : (a : Awaited) → At s b (aLine a) → eqb b CR ≡ true → isComment (trim (s .part)) ≡ true → Way E s b (moved (between (aLine a) true [] (s .memory)))
+  hearsLine : (a : Awaited) → At s b (aLine a) → eqb b CR ≡ true → isComment (trim (s .part)) ≡ false
+      → (o : Outcome) → Judged E (s .memory) (s .part) a o → Way E s b (settled s true o)
+  readsOn : (p : Proposal) (ps : List Proposal) (sc on : Scan) → At s b (awaitsTransfer p ps sc) → scanByte (roomFor E (s .memory)) sc b ≡ goes on
+      → Way E s b (moved (withPhase (awaitsTransfer p ps on) (withAfterCr false s)))
+  readsLast : (p : Proposal) (ps : List Proposal) (sc : Scan) (h x : Bytes) → At s b (awaitsTransfer p ps sc) → scanByte (roomFor E (s .memory)) sc b ≡ got h x
+      → Way E s b (settled s (isPlain (p .form)) (nextTransfer E ps (keptIn (s .memory) (messageOf p (record { heading = h; body = x })))))
+
+module _ (E : Shelf) (s : Session) (b : ℕ) where
+  line-way : (a : Awaited) → At s b (aLine a) → (c d e : Bool) → eqb b CR ≡ c → ltb (length (s .part)) 256 ≡ d → isComment (trim (s .part)) ≡ e
+      → Way E s b
+      (lineMoved E a s b (cond c ends (cond d grows overruns)))
+  line-way a w true d e x y z = go e z
+    where
+      go : (e : Bool) → isComment (trim (s .part)) ≡ e → Way E s b (settled s true (lineJudged E a (s .memory) (s .part)))
+      go true z = rw z (ignoresLine a w x z)
+      go false z = rw z (hearsLine a w x z _ (judged E (s .memory) (s .part) a))
+  line-way a w false true e x y z = growsLine a w x y
+  line-way a w false false e x y z = isRefused lineTooLong (w .kept) (tooLong a w x y)
+
+  transfer-way : (p : Proposal) (ps : List Proposal) (sc : Scan) → At s b (awaitsTransfer p ps sc) → (r : Scanned) → scanByte (roomFor E (s .memory)) sc b ≡ r
+      → Way E s b (transferMoved E p ps s r)
+  transfer-way p ps sc w (goes on) e = readsOn p ps sc on w e
+  transfer-way p ps sc w (got h x) e = readsLast p ps sc h x w e
+  transfer-way p ps sc w malformed e = isRefused badTransfer (w .kept) (unread p ps sc w e)
+  transfer-way p ps sc w wrongSum e = isRefused badChecksum (w .kept) (unsummed p ps sc w e)
+  transfer-way p ps sc w noRoom e = isRefused storeFull (w .kept) (unkept p ps sc w e)
+
+  phase-way : (p : Phase) → At s b p → Way E s b (phaseStep E p s b)
+  phase-way (aLine a) w = line-way a w (eqb b CR) (ltb (length (s .part)) 256) (isComment (trim (s .part))) refl refl refl
+  phase-way (awaitsTransfer p ps sc) w = transfer-way p ps sc w (scanByte (roomFor E (s .memory)) sc b) refl
+  phase-way leaving w = isRefused sessionEnded (w .kept) (hasLeft w)
+  phase-way over w = isRefused sessionEnded (w .kept) (isOver w)
+
+  -- ALL THAT A BYTE COMES TO
+  pub way : Way E s b (step E s b)
+  way = go (s .afterCr && eqb b LF) (s .out) refl refl
+    where
+      go : (c : Bool) (o : Bytes) → s .afterCr && eqb b LF ≡ c → s .out ≡ o → Way E s b (cond c (moved (withAfterCr false s)) (freeStep E o s b))
+      go true o e f = dropsLf e
+      go false [] e f = phase-way (s .phase) (record { kept = e; silent = f; awaited = refl })
+      go false (x ∷ o) e f = isRefused bytesWait e (waits e (ap null f))
