@@ -16,8 +16,8 @@ use Rattle.mail.specs.Mail.{Record, noRecord}
 use Rattle.session.specs.Choices.{wanted, candidates, sizeAt, chosen}
 use Rattle.layout.specs.Layout.{byteAt, le4At, entryAt, recordOf, recordSize}
 use Rattle.layout.proofs.Laws.{le4-small}
-use Rattle.state.specs.State.{held, fiveOf}
-use Rattle.state.specs.declared.Five.{Five}
+use Rattle.session_memory.specs.State.{held, fiveOf}
+use Rattle.session_memory.specs.declared.Five.{Five}
 use Rattle.choice.specs.Decoded.{entriesFrom, entries, recordCount, recordsOf, statesOf}
 use Rattle.choice.specs.Choice.{chooseOf}
 use Rattle.choice.specs.Promises.{Filled}

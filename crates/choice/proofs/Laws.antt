@@ -12,9 +12,9 @@ use Rattle.grammar.specs.Bytes.{Bytes}
 use Rattle.grammar.specs.Fields.{sameBid}
 use Rattle.session.specs.Choices.{among, recordBids, messageBids, proposalBids, bodyBytes}
 use Rattle.layout.specs.Layout.{fieldIn, entryAt, recordOf, messageOf, recordSize, entrySize, proposalSize}
-use Rattle.state.specs.State.{held, fiveOf}
-use Rattle.state.specs.declared.Five.{Five}
-use Rattle.state.proofs.Laws.{held-five}
+use Rattle.session_memory.specs.State.{held, fiveOf}
+use Rattle.session_memory.specs.declared.Five.{Five}
+use Rattle.session_memory.proofs.Laws.{held-five}
 use Rattle.choice.specs.Decoded.{entriesFrom, entries}
 use Rattle.choice.specs.Promises.{Filled, proposalsAt}
 

@@ -16,8 +16,8 @@ use Rattle.grammar.proofs.Basics.{or2}
 use Rattle.mail.specs.Mail.{Message}
 use Rattle.session.specs.Choices.{Shelf, among, recordBids, messageBids, proposalBids, bodyBytes, announced, haveBid, noRoomFor, signFor, withAccepted, answersAfter, answersTo}
 use Rattle.layout.specs.Layout.{le4At, fieldIn, entryAt, recordOf, proposalOf, messageOf, recordSize, knownSize, entrySize, proposalSize}
-use Rattle.state.specs.State.{held, fiveOf}
-use Rattle.state.specs.declared.Five.{Five}
+use Rattle.session_memory.specs.State.{held, fiveOf}
+use Rattle.session_memory.specs.declared.Five.{Five}
 use Rattle.choice.specs.declared.Promised.{Promised}
 use Rattle.choice.specs.Decoded.{entriesFrom, entries, recordCount, knownCount, recordsOf, knownBids, headsOf, placeCount, proposalsOf}
 use Rattle.choice.specs.Choice.{shelfOf}

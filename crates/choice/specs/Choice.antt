@@ -5,10 +5,10 @@ use Prim.Native.Nat.{ℕ, _-_, min}
 use Rattle.grammar.specs.Bytes.{Bytes}
 use Rattle.grammar.specs.Answers.{writeSign}
 use Rattle.session.specs.Choices.{Shelf, chosen, answersTo}
-use Rattle.state.specs.State.{fiveOf}
-use Rattle.state.specs.declared.Five.{Five}
-use Rattle.state.specs.declared.Await.{Await}
-use Rattle.state.specs.declared.Keep.{Keep}
+use Rattle.session_memory.specs.State.{fiveOf}
+use Rattle.session_memory.specs.declared.Five.{Five}
+use Rattle.session_memory.specs.declared.Await.{Await}
+use Rattle.session_memory.specs.declared.Keep.{Keep}
 use Rattle.choice.specs.Decoded.{recordsOf, statesOf, knownBids, headsOf, proposalsOf, placeCount}
 
 -- The places of the records that we propose now.

@@ -8,8 +8,8 @@ use Rattle.grammar.specs.Bytes.{Bytes}
 use Rattle.grammar.specs.Turns.{Proposal}
 use Rattle.session.specs.Choices.{announced}
 use Rattle.layout.specs.Layout.{entryAt, proposalSize, proposalOf}
-use Rattle.state.specs.State.{held, fiveOf}
-use Rattle.state.specs.declared.Five.{Five}
+use Rattle.session_memory.specs.State.{held, fiveOf}
+use Rattle.session_memory.specs.declared.Five.{Five}
 use Rattle.choice.specs.declared.Promised.{Promised}
 
 -- Zeros after the numbers held.

@@ -4,8 +4,8 @@
 -- `exact-reached` of proofs/Reached; `twelve` of proofs/Ended.
 --
 -- No.  situation        No.  situation          No.  situation
---  1   crates/form,      5   LineNotAllowed      9   WrongChecksum
---      crates/opening    6   WrongCount         10   NoRoom
+--  1   crates/form_test,      5   LineNotAllowed      9   WrongChecksum
+--      crates/open    6   WrongCount         10   NoRoom
 --  2   LineTooLong       7   WrongAnswer        11   BytesWait
 --  3   NotSid            8   WrongTransfer      12   Exact12, below
 --  4   NoForwarding

@@ -6,8 +6,8 @@ use native.Mathlib.Omega.{arith}
 use native.Mathlib.Numerals.{add-one}
 use lib.ListN.{length, getD, drop, length-take, drop-of-length-le}
 use lib.Seq.{drop-cons, getD-take}
-use Rattle.state.specs.State.{held}
-use Rattle.state.specs.declared.Five.{Five}
+use Rattle.session_memory.specs.State.{held}
+use Rattle.session_memory.specs.declared.Five.{Five}
 
 -- a number that is held stands at its place
 held-at : (f : Five) (i : ℕ) → i < length (held f) → getD (held f) i 0 ≡ getD (f .items) i 0

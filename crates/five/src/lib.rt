@@ -1,9 +1,9 @@
 // Up to five numbers: places of a block, or signs.
-use state::Five;
+use session_memory::Five;
 ghost use mathlib.Core.Path.{_≡_};
 ghost use Prim.Native.Nat.{_≤_};
 ghost use lib.ListN.{length};
-ghost use Rattle.state.specs.State.{held, noFive};
+ghost use Rattle.session_memory.specs.State.{held, noFive};
 
 // No numbers.
 pub fn none() -> Five

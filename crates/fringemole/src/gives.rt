@@ -1,7 +1,7 @@
 // The call give.
-use giving::Reply;
+use give::Reply;
 ghost use mathlib.Core.Path.{_≡_};
-ghost use Rattle.giving.specs.Giving.{giveOf};
+ghost use Rattle.give.specs.Giving.{giveOf};
 
 // Hands out as many waiting bytes as fit into buf from place on.
 #[no_mangle]
@@ -19,7 +19,7 @@ pub extern "C" fn fringemole_give<'a>(
 ) -> Reply
     ensures { λ r. ⌜ record { reply = r; sm = now (session .exit); buf = now (buf .exit) } ≡ giveOf (now (session .entry)) (now (table .entry)) (now (titles .entry)) (now (names .entry)) (now (bodies .entry)) (now (known .entry)) (now (inbox .entry)) (now (store .entry)) (now (buf .entry)) place ⌝ }
 {
-    giving::give(
+    give::give(
         session,
         table,
         titles,

@@ -1,7 +1,7 @@
 // The call open.
-use giving::Reply;
+use give::Reply;
 ghost use mathlib.Core.Path.{_≡_};
-ghost use Rattle.opening.specs.Opening.{openOf};
+ghost use Rattle.open.specs.Opening.{openOf};
 
 // Opens a session. role: 0 called, 1 caller.
 #[no_mangle]
@@ -18,7 +18,7 @@ pub extern "C" fn fringemole_open(
 ) -> Reply
     ensures { λ r. ⌜ record { reply = r; sm = now (session .exit) } ≡ openOf role (now (session .entry)) (now (table .entry)) (now (titles .entry)) (now (names .entry)) (now (bodies .entry)) (now (known .entry)) (now (inbox .entry)) (now (store .entry)) ⌝ }
 {
-    opening::open(
+    open::open(
         role,
         session,
         table,

@@ -1,7 +1,7 @@
 // The call receive.
-use giving::Reply;
+use give::Reply;
 ghost use mathlib.Core.Path.{_≡_};
-ghost use Rattle.receiving.specs.Receiving.{receiveOf};
+ghost use Rattle.receive_defined.specs.Receiving.{receiveOf};
 
 // Takes bytes from the link.
 #[no_mangle]

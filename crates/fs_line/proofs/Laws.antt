@@ -1,161 +1,288 @@
--- Places by their signs, flags at places, and the FS line by what its reader answers.
+-- The FS line by places: FS by its two bytes, the signs by a test of every byte, since each sign stands for itself.
 use mathlib.Core.Path.{_≡_, refl, sym, ap, _∙_, subst}
-use mathlib.Core.Bool.{Bool, true, false, cond}
+use mathlib.Core.Bool.{Bool, true, false, cond, _&&_}
 use mathlib.Core.Option.{Option, none, some}
-use mathlib.Core.List.{List, [], _∷_, _++_, append-nil}
-use Prim.Native.Nat.{ℕ, _+_, _<_, _≤_}
+use mathlib.Core.List.{List, [], _∷_, _++_, map}
+use Prim.Native.Nat.{ℕ, zero, suc, _+_, _-_, _<_, _≤_}
 use native.Mathlib.Omega.{arith}
 use native.Mathlib.Numerals.{add-one}
-use lib.Dec.{eqb}
-use lib.ListN.{length, getD, set, drop, length-set}
-use lib.Seq.{drop-cons, append-snoc}
-use borrow.Author.Tests.{eq-eqb, ne-eqb, eqb-true, eqb-false}
-use Rattle.grammar.specs.Bytes.{Bytes}
-use Rattle.grammar.specs.Answers.{Sign, accept, decline, defer, signOf}
-use Rattle.answer.specs.Answers.{answerNumber, answerSigns}
-use Rattle.transfer_step.specs.declared.Reader.{Reader}
-use Rattle.state.specs.State.{held, fiveOf, noFive}
-use Rattle.state.specs.declared.Five.{Five}
-use Rattle.state.specs.declared.Await.{Await}
-use Rattle.state.specs.declared.Say.{Say}
-use Rattle.state.specs.declared.Keep.{Keep}
-use Rattle.choice.specs.Promises.{Filled}
-use Rattle.choice.proofs.Laws.{five-held, five-filled, five-more, five-count}
-use Rattle.judge.specs.declared.Judged.{Judged}
-use Rattle.judge.specs.Judge.{judged, refusal, toTurn, sends, picked, flagged, transfersAfter, answerTaken, answerLine}
-use Rattle.fs_line.specs.declared.Answered.{Answered}
-use Rattle.fs_line.specs.Signs.{withPlace, placed, answeredBy}
-use Rattle.five.proofs.Laws.{held-cons, held-end}
+use lib.Dec.{eqb, ltb}
+use lib.ListN.{length, getD, set, take, drop, replicate, length-map, List·getD-append}
+use lib.Seq.{take-at, take-suc, take-all, append-snoc, set-at, length-take-le}
+use borrow.Author.Tests.{eq-eqb, ne-eqb, lt-ltb, le-ltb, ltb-false, eqb-true}
+use Rattle.grammar.specs.Bytes.{Bytes, SP, all, isSome}
+use Rattle.grammar.specs.Ascii.{text}
+use Rattle.grammar.specs.Fields.{upper, after}
+use Rattle.grammar.specs.Refusals.{badAnswer, lineNotAllowed}
+use Rattle.grammar.specs.Turns.{blockLimit}
+use Rattle.grammar.specs.Answers.{Sign, accept, decline, defer, signOf, consO, readSigns, signsRead, readFs, writeSign, fsNumber}
+use Rattle.grammar.proofs.Basics.{and2}
+use Rattle.grammar.proofs.OurLines.{signs-back}
+use Rattle.byte.proofs.Laws.{all-more, all-stop, all-end}
+use Rattle.fs_line.specs.Answers.{answered, answerNumber, answerSigns, signBytes, zeroed, signsBy}
+use Rattle.fs_line.specs.declared.Answers.{Answers}
 
--- flags, place by place
-module _ (f : Five) (i n : ℕ) (e : n ≡ length (held f)) where
-  pub flag-more : (d : Bytes) → i < n → flagged (drop i (held f)) d ≡ flagged (drop (i + 1) (held f)) (set d (getD (f .items) i 0) 1)
-  flag-more d h = rw (held-cons f i n e h)
+-- ---------------------------------------------------------------- FS
 
-  pub flag-end : (d : Bytes) → n ≤ i → d ≡ flagged (drop i (held f)) d
-  flag-end d h = rw (held-end f i n e h)
+pub fs-short : (l : Bytes) → length l < 2 → false ≡ isSome (after (text "FS") l)
+fs-short [] h = refl
+fs-short (a ∷ []) h = go (eqb (upper a) 70)
+  where
+    go : (t : Bool) → false ≡ isSome (cond {A = Option Bytes} t none none)
+    go true = refl
+    go false = refl
+fs-short (a ∷ b ∷ l) h = let z : ⊥ = omega arith in absurd z
 
-pub flag-length : (d e : Bytes) (i : ℕ) → e ≡ set d i 1 → length d ≡ 64 → length e ≡ 64
-flag-length d e i f l = ap length f ∙ length-set d i 1 ∙ l
+-- where there are two bytes, they decide
+pub fs-two : (l : Bytes) → 2 ≤ length l → isSome (after (text "FS") l) ≡ (eqb (upper (getD l 0 0)) 70 && eqb (upper (getD l 1 0)) 83)
+fs-two [] h = let z : ⊥ = omega arith in absurd z
+fs-two (a ∷ []) h = let z : ⊥ = omega arith in absurd z
+fs-two (a ∷ b ∷ l) h = go (eqb (upper a) 70) (eqb (upper b) 83)
+  where
+    go : (s t : Bool) → isSome (cond s (cond t (some l) none) none) ≡ (s && t)
+    go true true = refl
+    go true false = refl
+    go false t = refl
 
--- the places with a sign: those picked so far are held, and the rest is picked from place i on
-pub record Picking (c : ℕ) (f : Five) (ss : List ℕ) (g : Five) (i : ℕ) : Type 0 where
-  pub filled : Filled g
-  pub few : g .count ≤ i
-  pub said : picked c (held f) ss ≡ held g ++ picked c (drop i (held f)) (drop i ss)
+-- ---------------------------------------------------------------- signs
 
-pub pick-start : (c : ℕ) (f : Five) (ss : List ℕ) (g : Five) → g ≡ noFive → Picking c f ss g 0
-pick-start c f ss g e =
-    record {
-      filled = five-filled g [] e;
-      few = omega (arith, five-count g [] e);
-      said = rw (five-held g [] e);
-    }
+-- the byte is a sign
+abbrev pub isSign : ℕ → Bool
+isSign b = isSome (signOf b)
 
-module _ (c : ℕ) (f : Five) (ss : List ℕ) (g : Five) (i n : ℕ) (e : n ≡ length (held f)) (p : Picking c f ss g i) where
-  pub pick-end : n ≤ i → g ≡ fiveOf (picked c (held f) ss)
-  pick-end h =
-      let q : picked c (held f) ss ≡ held g = p .said ∙ rw (held-end f i n e h, append-nil (held g)) in
-      p .filled ∙ ap fiveOf (sym q)
+-- a sign stands for itself
+abbrev SignFrom : ℕ → Option Sign → Type 0
+SignFrom b none = Unit {0}
+SignFrom b (some s) = writeSign s ≡ b
 
-  module _ (h : i < n) (l : i < length ss) where
-    signs-cons : drop i ss ≡ getD ss i 0 ∷ drop (i + 1) ss
-    signs-cons = rw (drop-cons ss i 0 l, add-one i)
+sign-from : (b : ℕ) → SignFrom b (signOf b)
+sign-from b = go (eqb b 43) (eqb b 45) (eqb b 61) refl refl refl
+  where
+    go : (p q r : Bool) → eqb b 43 ≡ p → eqb b 45 ≡ q → eqb b 61 ≡ r → SignFrom b (cond p (some accept) (cond q (some decline) (cond r (some defer) none)))
+    go true q r e f g = sym (eqb-true b 43 e)
+    go false true r e f g = sym (eqb-true b 45 f)
+    go false false true e f g = sym (eqb-true b 61 g)
+    go false false false e f g = tt
 
-    pub pick-skip : (getD ss i 0 ≡ c → ⊥) → Picking c f ss g (i + 1)
-    pick-skip k =
-        record {
-          filled = p .filled;
-          few = let a = p .few in omega arith;
-          said = p .said ∙ rw (held-cons f i n e h, signs-cons, ne-eqb _ _ k);
-        }
+-- what is read is some signs, and they stand for the bytes s
+abbrev pub ReadAs : Bytes → Option (List Sign) → Type 0
+ReadAs s o = (isSome o ≡ true) × (signBytes o ≡ s)
 
-    pub pick-take : g .count < 5 → getD ss i 0 ≡ c → Picking c f ss (withPlace g (getD (f .items) i 0)) (i + 1)
-    pick-take b k =
-        let x : ℕ = getD (f .items) i 0 in
-        let g' : Five = withPlace g x in
-        let q : g' ≡ fiveOf (held g ++ (x ∷ [])) = five-more g x (p .filled) b in
-        record {
-          filled = five-filled g' (held g ++ (x ∷ [])) q;
-          few = let a = p .few in omega arith;
-          said = p .said ∙ rw (held-cons f i n e h, signs-cons, eq-eqb _ _ k, five-held g' (held g ++ (x ∷ [])) q, append-snoc (held g) x (picked c (drop (i + 1) (held f)) (drop (i + 1) ss)));
-        }
+-- as many bytes as proposals, each a sign
+pub signs-read : (n : ℕ) (s : Bytes) → length s ≡ n → all isSign s ≡ true → ReadAs s (readSigns n s)
+signs-read zero [] h e = (refl, refl)
+signs-read zero (x ∷ s) h e = let z : ⊥ = omega arith in absurd z
+signs-read (suc n) [] h e = let z : ⊥ = omega arith in absurd z
+signs-read (suc n) (x ∷ s) h e =
+    let p = and2 (isSign x) (all isSign s) e in
+    go (signOf x) (readSigns n s) (p .0) (sign-from x) (signs-read n s (omega arith) (p .1))
+  where
+    go : (o : Option Sign) (t : Option (List Sign)) → isSome o ≡ true → SignFrom x o → ReadAs s t → ReadAs (x ∷ s) (consO o t)
+    go none t e f r = (e, cc)
+    go (some g) none e f r = let k = r .0 in (k, cc)
+    go (some g) (some gs) e f r = (refl, rw (f, r .1))
 
--- ---------------------------------------------------------------- each place by its sign
+-- another count, or a byte that is no sign
+pub signs-count : (n : ℕ) (s : Bytes) → (length s ≡ n → ⊥) → readSigns n s ≡ none
+signs-count zero [] h = absurd (h refl)
+signs-count zero (x ∷ s) h = refl
+signs-count (suc n) [] h = refl
+signs-count (suc n) (x ∷ s) h = rw (signs-count n s (λ e. h (ap (λ (k : ℕ). suc k) e))) (go (signOf x))
+  where
+    go : (o : Option Sign) → consO o none ≡ none
+    go none = refl
+    go (some s) = refl
 
--- what a byte says decides
-pub by-sign : (a : Answered) (b x : ℕ) {o : Option Sign} {r : Answered} → o ≡ signOf b → r ≡ placed a o x → r ≡ answeredBy a b x
-unfolding answeredBy
-by-sign a b x e f = f ∙ ap (λ (o : Option Sign). placed a o x) e
+pub signs-other : (n : ℕ) (s : Bytes) → all isSign s ≡ false → readSigns n s ≡ none
+signs-other zero [] e = cc
+signs-other zero (x ∷ s) e = refl
+signs-other (suc n) [] e = refl
+signs-other (suc n) (x ∷ s) e = go (signOf x) (signs-other n s) e
+  where
+    go : (o : Option Sign) → (all isSign s ≡ false → readSigns n s ≡ none) → (isSome o && all isSign s) ≡ false → consO o (readSigns n s) ≡ none
+    go none ih e = refl
+    go (some g) ih e = rw (ih e)
 
--- the places with each of the three signs
-abbrev pub Sorted : Five → List ℕ → Answered → ℕ → Type 0
-Sorted f ss a i = Picking 43 f ss (a .accepted) i × Picking 45 f ss (a .declined) i × Picking 61 f ss (a .deferred) i
+-- ---------------------------------------------------------------- the loop over the signs
 
-module _ (f : Five) (ss : List ℕ) (a : Answered) (i n : ℕ) (e : n ≡ length (held f)) (p : Sorted f ss a i) where
-  pub sort-end : n ≤ i
-      → (a .accepted ≡ fiveOf (picked 43 (held f) ss)) × (a .declined ≡ fiveOf (picked 45 (held f) ss)) × (a .deferred ≡ fiveOf (picked 61 (held f) ss))
-  sort-end h =
-      (pick-end 43 f ss (a .accepted) i n e (p .0) h, pick-end 45 f ss (a .declined) i n e (p .1) h, pick-end 61 f ss (a .deferred) i n e (p .2) h)
+-- the first i bytes are signs
+module _ (s : Bytes) (n i : ℕ) (m : length s ≡ n) (h : i < n) (a : all isSign s ≡ all isSign (drop i s)) where
+  pub signs-stop : isSign (getD s i 0) ≡ false → readSigns n s ≡ none
+  signs-stop e = signs-other n s (a ∙ sym (all-stop isSign s i (omega arith) e))
 
-  module _ (h : i < n) (l : i < length ss) (m : n ≤ 5) where
-    pub sort-room : (a .accepted .count < 5) × (a .declined .count < 5) × (a .deferred .count < 5)
-    sort-room = (omega (arith, p .0 .few), omega (arith, p .1 .few), omega (arith, p .2 .few))
+  pub signs-more : isSign (getD s i 0) ≡ true → all isSign s ≡ all isSign (drop (i + 1) s)
+  signs-more e = a ∙ all-more isSign s i (omega arith) e
 
-    pub sort-more : (b : Answered) → b ≡ answeredBy a (getD ss i 0) (getD (f .items) i 0) → Sorted f ss b (i + 1)
-    unfolding answeredBy
-    sort-more b q = subst (λ (o : Answered). Sorted f ss o (i + 1)) (sym q) (go (eqb s 43) (eqb s 45) (eqb s 61) refl refl refl)
-      where
-        s : ℕ
-        s = getD ss i 0
+-- they are copied, with zeros after them
+pub copy-more : (s g : Bytes) (n i : ℕ) → n ≤ 5 → length s ≡ n → i < n → g ≡ take i s ++ replicate (5 - i) 0
+    → set g i (getD s i 0) ≡ take (i + 1) s ++ replicate (5 - (i + 1)) 0
+copy-more s g n i k m h e =
+    let z : 5 - i ≡ suc (5 - (i + 1)) = omega arith in
+    let q : length (take i s) ≡ i = length-take-le i s (omega arith) in
+    rw (e, z, set-at (take i s) 0 (replicate (5 - (i + 1)) 0) (getD s i 0) i q, add-one i, take-suc s i 0 (omega arith))
+    (sym (append-snoc (take i s) (getD s i 0) (replicate (5 - suc i) 0)))
 
-        skip : (c : ℕ) (g : Five) → Picking c f ss g i → (s ≡ c → ⊥) → Picking c f ss g (i + 1)
-        skip c g o k = pick-skip c f ss g i n e o h l k
+-- all are signs, and all are copied
+pub signs-end : (s g : Bytes) (n i : ℕ) → length s ≡ n → n ≤ i → i ≤ n → g ≡ take i s ++ replicate (5 - i) 0 → all isSign s ≡ all isSign (drop i s)
+    → (0 ≡ cond (isSome (readSigns n s)) 0 badAnswer) × (g ≡ zeroed (signBytes (readSigns n s)))
+signs-end s g n i m h k e a =
+    let r = signs-read n s m (a ∙ sym (all-end isSign s i (omega arith))) in
+    let z : i ≡ length s = omega arith in
+    (rw (r .0), rw (r .1, e, z, take-all (length s) s (omega arith)))
 
-        take : (c : ℕ) (g : Five) → Picking c f ss g i → g .count < 5 → s ≡ c → Picking c f ss (withPlace g (getD (f .items) i 0)) (i + 1)
-        take c g o b k = pick-take c f ss g i n e o h l b k
+-- ---------------------------------------------------------------- the whole line
 
-        go : (u v w : Bool) → eqb s 43 ≡ u → eqb s 45 ≡ v → eqb s 61 ≡ w
-            → Sorted f ss (placed a (cond u (some accept) (cond v (some decline) (cond w (some defer) none))) (getD (f .items) i 0)) (i + 1)
-        go true v w x y z =
-            let k = eqb-true s 43 x in
-            (take 43 _ (p .0) (sort-room .0) k, skip 45 _ (p .1) (λ o. omega arith), skip 61 _ (p .2) (λ o. omega arith))
-        go false true w x y z =
-            let k = eqb-true s 45 y in
-            (skip 43 _ (p .0) (eqb-false s 43 x), take 45 _ (p .1) (sort-room .1) k, skip 61 _ (p .2) (λ o. omega arith))
-        go false false true x y z =
-            (skip 43 _ (p .0) (eqb-false s 43 x), skip 45 _ (p .1) (eqb-false s 45 y), take 61 _ (p .2) (sort-room .2) (eqb-true s 61 z))
-        go false false false x y z =
-            (skip 43 _ (p .0) (eqb-false s 43 x), skip 45 _ (p .1) (eqb-false s 45 y), skip 61 _ (p .2) (eqb-false s 61 z))
+-- a capital is no space
+upper-sp : (b : ℕ) → eqb (upper b) SP ≡ eqb b SP
+upper-sp b = go (ltb b 97) (ltb b 123) refl
+  where
+    go : (p q : Bool) → ltb b 97 ≡ p → eqb (cond p b (cond q (b - 32) b)) SP ≡ eqb b SP
+    go true q e = refl
+    go false false e = refl
+    go false true e = let h = ltb-false b 97 e in ne-eqb (b - 32) SP (λ k. omega arith) ∙ sym (ne-eqb b SP (λ k. omega arith))
 
--- ---------------------------------------------------------------- the FS line
+-- FS, a space and the signs, by places
+pub fs-after : (n : ℕ) (l : Bytes)
+    → readFs n l ≡ cond (ltb (length l) 3) none (cond (isSome (after (text "FS") l)) (cond (eqb (getD l 2 0) SP) (readSigns n (drop 3 l)) none) none)
+unfolding readFs
+fs-after n [] = refl
+fs-after n (a ∷ []) = go (eqb (upper a) 70)
+  where
+    go : (p : Bool) → signsRead n (cond p none none) ≡ none
+    go true = refl
+    go false = refl
+fs-after n (a ∷ b ∷ []) = go (eqb (upper a) 70) (eqb (upper b) 83)
+  where
+    go : (p q : Bool) → signsRead n (cond p (cond q none none) none) ≡ none
+    go true true = refl
+    go true false = refl
+    go false q = refl
+fs-after n (a ∷ b ∷ c ∷ l) = rw (le-ltb (length (a ∷ b ∷ c ∷ l)) 3 (omega arith), upper-sp c) (go (eqb (upper a) 70) (eqb (upper b) 83) (eqb c SP))
+  where
+    go : (p q r : Bool) → signsRead n (cond p (cond q (cond r (some l) none) none) none)
+        ≡ cond (isSome (cond p (cond q (some (c ∷ l)) none) none)) (cond r (readSigns n l) none) none
+    go true true true = refl
+    go true true false = refl
+    go true false r = refl
+    go false q r = refl
 
-module _ (w : Await) (y : Say) (k : Keep) (rd : Reader) where
-  -- the FS line
-  abbrev answerBy : ℕ → Bytes → Judged
-  answerBy n ss = cond (eqb n 0) (answerTaken ss w y k rd) (refusal n w y k rd)
+module _ (n : ℕ) (l : Bytes) where
+  fs-none : isSome (after (text "FS") l) ≡ false → readFs n l ≡ none
+  fs-none e = rw (fs-after n l, e) (go (ltb (length l) 3))
+    where
+      go : (t : Bool) → _≡_ {A = Option (List Sign)} (cond t none none) none
+      go true = refl
+      go false = refl
 
-  module _ (ln : Bytes) (j : Judged) (n : ℕ) (e : n ≡ answerNumber (w .ours .count) ln) where
-    answer-by : (ss : Bytes) → ss ≡ answerSigns (w .ours .count) ln → j ≡ answerBy n ss → j ≡ answerLine ln w y k rd
-    unfolding answerLine
-    answer-by ss q f = f ∙ ap (λ (m : ℕ). answerBy m ss) e ∙ ap (answerBy (answerNumber (w .ours .count) ln)) q
+  -- a line that does not begin with FS
+  pub fs-not : isSome (after (text "FS") l) ≡ false → (answerNumber n l ≡ lineNotAllowed) × (answerSigns n l ≡ zeroed [])
+  unfolding answerNumber answerSigns answered
+  fs-not e = rw (fs-none e, e) (go (ltb blockLimit n))
+    where
+      go : (t : Bool) → (cond t lineNotAllowed lineNotAllowed ≡ lineNotAllowed) × (zeroed (signBytes (cond t none none)) ≡ zeroed [])
+      go true = (refl, refl)
+      go false = (refl, refl)
 
-    pub answer-no : (n ≡ 0 → ⊥) → j ≡ refusal n w y k rd → j ≡ answerLine ln w y k rd
-    answer-no z f = answer-by (answerSigns (w .ours .count) ln) refl (rw (ne-eqb _ _ z) f)
+  -- one that does, and is wrong
+  pub fs-wrong : isSome (after (text "FS") l) ≡ true → answered n l ≡ none → (answerNumber n l ≡ badAnswer) × (answerSigns n l ≡ zeroed [])
+  unfolding answerNumber answerSigns answered
+  fs-wrong e f = rw (f, e) (go (ltb blockLimit n) (readFs n l) f, refl)
+    where
+      go : (t : Bool) (o : Option (List Sign)) → cond t none o ≡ none → cond t badAnswer (cond (isSome o) 0 badAnswer) ≡ badAnswer
+      go true o f = refl
+      go false o f = rw f
 
-    pub answer-yes : n ≡ 0 → (ss : Bytes) → ss ≡ answerSigns (w .ours .count) ln → j ≡ answerTaken ss w y k rd → j ≡ answerLine ln w y k rd
-    answer-yes z ss q f = answer-by ss q (rw (eq-eqb _ _ z) f)
+  pub over-five : blockLimit < n → answered n l ≡ none
+  unfolding answered
+  over-five h = rw (lt-ltb blockLimit n h)
 
--- the signs of a right FS line
-module _ (ss : Bytes) (w : Await) (y : Say) (k : Keep) (rd : Reader) where
-  abbrev taking : Five → Five → Bytes → Await → Say → Judged
-  taking declined sending flags v z = judged 0 0 (record { state = 2; places = declined }) v z (sends sending flags k) rd
+  module _ (k : n ≤ blockLimit) where
+    pub too-short : length l < 3 → answered n l ≡ none
+    unfolding answered
+    too-short h = rw (le-ltb blockLimit n k, fs-after n l, lt-ltb _ _ h)
 
-  pub taken : (d s u : Five) (flags : Bytes) (v : Await) (z : Say) → d ≡ fiveOf (picked 45 (held (w .ours)) ss) → s ≡ fiveOf (picked 43 (held (w .ours)) ss)
-      → u ≡ fiveOf (picked 61 (held (w .ours)) ss) → flags ≡ flagged (held u) (k .deferred) → v ≡ toTurn false w → z ≡ transfersAfter s y
-      → taking d s flags v z ≡ answerTaken ss w y k rd
-  taken d s u flags v z a b c e f g =
-      ap (λ (x : Five). taking x s flags v z) a ∙ ap (λ (x : Bytes). taking (fiveOf (picked 45 (held (w .ours)) ss)) s x v z) (e ∙ ap (λ (l : List ℕ). flagged l (k .deferred)) (five-held u (picked 61 (held (w .ours)) ss) c))
-      ∙ ap (λ (x : Await). taking (fiveOf (picked 45 (held (w .ours)) ss)) s (flagged (picked 61 (held (w .ours)) ss) (k .deferred)) x z) f
-      ∙ ap (λ (x : Say). taking (fiveOf (picked 45 (held (w .ours)) ss)) s (flagged (picked 61 (held (w .ours)) ss) (k .deferred)) (toTurn false w) x) g
-      ∙ ap (λ (x : Five). taking (fiveOf (picked 45 (held (w .ours)) ss)) x (flagged (picked 61 (held (w .ours)) ss) (k .deferred)) (toTurn false w) (transfersAfter x y)) b
+    module _ (h : 3 ≤ length l) (e : isSome (after (text "FS") l) ≡ true) where
+      pub no-space : (getD l 2 0 ≡ SP → ⊥) → answered n l ≡ none
+      unfolding answered
+      no-space q = rw (le-ltb blockLimit n k, fs-after n l, le-ltb _ _ h, e, ne-eqb _ _ q)
+
+      -- FS and a space: the signs decide
+      pub fs-signs : getD l 2 0 ≡ SP
+          → (answerNumber n l ≡ cond (isSome (readSigns n (drop 3 l))) 0 badAnswer) × (answerSigns n l ≡ zeroed (signBytes (readSigns n (drop 3 l))))
+      unfolding answerNumber answerSigns answered
+      fs-signs q =
+          let r : readFs n l ≡ readSigns n (drop 3 l) = rw (fs-after n l, le-ltb _ _ h, e, eq-eqb _ _ q) in
+          rw (le-ltb blockLimit n k, r, e) (refl, refl)
+
+-- ---------------------------------------------------------------- for callers
+
+-- up to five proposals the number is the grammar's
+pub answer-number : (n : ℕ) (l : Bytes) → n ≤ blockLimit → answerNumber n l ≡ fsNumber n l
+unfolding answerNumber
+answer-number n l k = rw (le-ltb blockLimit n k)
+
+-- a number that refuses is not 0
+refusal : (t : Bool) → cond t badAnswer lineNotAllowed ≡ 0 → ⊥
+refusal true e = omega arith
+refusal false e = omega arith
+
+-- as many signs as proposals
+abbrev pub Counted : ℕ → Option (List Sign) → Type 0
+Counted n none = Unit {0}
+Counted n (some ss) = length ss ≡ n
+
+signs-counted : (n : ℕ) (s : Bytes) → Counted n (readSigns n s)
+signs-counted zero [] = refl
+signs-counted zero (x ∷ s) = tt
+signs-counted (suc n) [] = tt
+signs-counted (suc n) (x ∷ s) = go (signOf x) (readSigns n s) (signs-counted n s)
+  where
+    go : (o : Option Sign) (t : Option (List Sign)) → Counted n t → Counted (suc n) (consO o t)
+    go none t h = tt
+    go (some g) none h = tt
+    go (some g) (some gs) h = ap (λ (k : ℕ). suc k) h
+
+fs-counted : (n : ℕ) (l : Bytes) → Counted n (readFs n l)
+unfolding readFs
+fs-counted n l = go (after (text "FS ") l)
+  where
+    go : (o : Option Bytes) → Counted n (signsRead n o)
+    go none = tt
+    go (some s) = signs-counted n s
+
+pub fs-length : (n : ℕ) (l : Bytes) (ss : List Sign) → readFs n l ≡ some ss → length ss ≡ n
+fs-length n l ss e = subst (Counted n) e (fs-counted n l)
+
+-- a sign that was written is read
+sign-back : (s : Sign) → signOf (writeSign s) ≡ some s
+sign-back accept = refl
+sign-back decline = refl
+sign-back defer = refl
+
+-- the signs of an answer are those that the line gives
+pub signs-by : (n : ℕ) (l : Bytes) (a : Answers) → n ≤ blockLimit → a .number ≡ answerNumber n l → a .signs ≡ answerSigns n l → signsBy n a ≡ readFs n l
+unfolding answerSigns answered
+signs-by n l a k e f = go (readFs n l) (fs-counted n l) (e ∙ answer-number n l k) (f ∙ h)
+  where
+    h : answerSigns n l ≡ zeroed (signBytes (readFs n l))
+    h = rw (le-ltb blockLimit n k)
+
+    go : (o : Option (List Sign)) → Counted n o → a .number ≡ cond (isSome o) 0 (cond (isSome (after (text "FS") l)) badAnswer lineNotAllowed)
+        → a .signs ≡ zeroed (signBytes o) → signsBy n a ≡ o
+    go none m e f = rw (ne-eqb (a .number) 0 (λ q. refusal (isSome (after (text "FS") l)) (sym e ∙ q)))
+    go (some ss) m e f =
+        rw (eq-eqb (a .number) 0 e, f, take-at (map writeSign ss) (replicate (5 - length (map writeSign ss)) 0) n (length-map ss writeSign ∙ m), ← m)
+        (signs-back ss)
+
+-- a sign of the answer, by its place
+pub sign-at : (n : ℕ) (l : Bytes) (ss : List Sign) (i : ℕ) → n ≤ blockLimit → readFs n l ≡ some ss → i < n → signOf (getD (answerSigns n l) i 0) ≡ some (getD ss i accept)
+unfolding answerSigns answered
+sign-at n l ss i k e h =
+    let m = fs-length n l ss e in
+    let q : i < length (map writeSign ss) = rw (length-map ss writeSign) (omega arith) in
+    rw (le-ltb blockLimit n k, e, List·getD-append (map writeSign ss) (replicate (5 - length (map writeSign ss)) 0) 0 i q) (go ss i (omega arith))
+  where
+    go : (ss : List Sign) (i : ℕ) → i < length ss → signOf (getD (map writeSign ss) i 0) ≡ some (getD ss i accept)
+    go [] i h = let z : ⊥ = omega arith in absurd z
+    go (s ∷ ss) zero h = sign-back s
+    go (s ∷ ss) (suc i) h = go ss i (omega arith)

@@ -1,2 +1,2 @@
--- Places by their signs.
-pub mod Signs
+-- What the code of this crate means in the words of the grammar.
+pub mod Answers

@@ -1,168 +1,135 @@
-// The FS line on our proposals: what is sent, what is declined, what is deferred.
-use answer::Sign;
-use answer::sign_of;
-use awaiting::to_turn;
-use five::count_of;
-use five::none;
-use judge::Judged;
-use judge::Marks;
-use judge::refusal;
-use state::Await;
-use state::Five;
-use state::Keep;
-use state::Say;
-use transfer_step::Reader;
+// The FS line: the partner's answers to the proposals of a block, one sign a proposal.
+use byte::upper_of;
 ghost use mathlib.Core.Path.{_≡_};
-ghost use Prim.Native.Nat.{_<_};
-ghost use lib.ListN.{set};
-ghost use Rattle.state.specs.State.{held, fiveOf};
-ghost use Rattle.fs_line.specs.Signs.{withPlace, answeredBy};
-ghost use Rattle.judge.specs.Judge.{picked, flagged, transfersAfter, answerTaken, answerLine};
+ghost use mathlib.Core.Bool.{cond};
+ghost use mathlib.Core.List.{[]};
+ghost use Prim.Native.Nat.{_≤_};
+ghost use lib.Dec.{eqb};
+ghost use Rattle.grammar.specs.Bytes.{isSome};
+ghost use Rattle.grammar.specs.Ascii.{text};
+ghost use Rattle.grammar.specs.Refusals.{badAnswer};
+ghost use Rattle.grammar.specs.Fields.{upper, after};
+ghost use Rattle.grammar.specs.Turns.{blockLimit};
+ghost use Rattle.grammar.specs.Answers.{signOf, readSigns};
+ghost use Rattle.fs_line.specs.Answers.{signIs, signBytes, zeroed, answerNumber, answerSigns};
 
-// The places of our records by the partner's answers to them, in order.
-struct Answered {
-    accepted: Five,
-    declined: Five,
-    deferred: Five,
+// 01's number of a line that is not allowed where FS is awaited.
+const LINE_NOT_ALLOWED: u8 = 5;
+
+// 01's number of an FS line that is wrong in form or count.
+const BAD_ANSWER: u8 = 7;
+
+// The most proposals of a block.
+const BLOCK_LIMIT: usize = 5;
+
+// What a byte says as the answer to a proposal; any other byte than `+`, `-`, `=` says nothing.
+pub enum Sign {
+    Accept,
+    Decline,
+    Defer,
+    Other,
 }
 
-// One place more; there are fewer than five.
-fn with_place(f: Five, place: u8) -> Five
-    requires { ⌜ f .count < 5 ⌝ }
-    ensures { λ r. ⌜ r ≡ withPlace f place ⌝ }
-{
-    let mut g = f;
-    let k = f.count as usize;
-    g.items[k] = place;
-    g.count += 1;
-    g
+// What an FS line says: 0 and its signs as they stood, one for each proposal and zeros after them; or 01's number and zeros.
+pub struct Answers {
+    pub number: u8,
+    pub signs: [u8; 5],
 }
 
-// A place more where its sign belongs: `+` accept, `-` decline, `=` defer; no other byte is a sign.
-fn answered_by(a: Answered, sign: u8, place: u8) -> Answered
-    requires { ⌜ (a .accepted .count < 5) × (a .declined .count < 5) × (a .deferred .count < 5) ⌝ }
-    ensures { λ r. ⌜ r ≡ answeredBy a sign place ⌝ }
+// The sign that a byte is.
+pub fn sign_of(b: u8) -> Sign
+    ensures { λ r. ⌜ signIs r ≡ signOf b ⌝ }
 {
-    let accepted = a.accepted;
-    let declined = a.declined;
-    let deferred = a.deferred;
-    let said = sign_of(sign);
-    match said {
-        Sign::Accept => Answered {
-            accepted: with_place(accepted, place),
-            declined: declined,
-            deferred: deferred,
-        },
-        Sign::Decline => Answered {
-            accepted: accepted,
-            declined: with_place(declined, place),
-            deferred: deferred,
-        },
-        Sign::Defer => Answered {
-            accepted: accepted,
-            declined: declined,
-            deferred: with_place(deferred, place),
-        },
-        Sign::Other => a,
+    match b {
+        b'+' => Sign::Accept,
+        b'-' => Sign::Decline,
+        b'=' => Sign::Defer,
+        _ => Sign::Other,
     }
 }
 
-// All places by their signs.
-fn by_signs(ours: Five, signs: [u8; 5]) -> Answered
-    ensures { λ r. ⌜ (r .accepted ≡ fiveOf (picked 43 (held ours) signs)) × (r .declined ≡ fiveOf (picked 45 (held ours) signs)) × (r .deferred ≡ fiveOf (picked 61 (held ours) signs)) ⌝ }
+// The byte is a sign.
+fn is_sign(b: u8) -> bool
+    ensures { λ r. ⌜ r ≡ isSome (signOf b) ⌝ }
 {
-    let n = count_of(ours);
-    let mut a = Answered {
-        accepted: none(),
-        declined: none(),
-        deferred: none(),
-    };
-    let mut i = 0usize;
+    let sign = sign_of(b);
+    match sign {
+        Sign::Accept => true,
+        Sign::Decline => true,
+        Sign::Defer => true,
+        Sign::Other => false,
+    }
+}
+
+// The byte is the letter, in either case.
+fn is_letter(b: u8, capital: u8) -> bool
+    ensures { λ r. ⌜ r ≡ eqb (upper b) capital ⌝ }
+{
+    upper_of(b) == capital
+}
+
+// The line begins with FS, in either case.
+fn begins_fs(line: &[u8]) -> bool
+    ensures { λ r. ⌜ r ≡ isSome (after (text "FS") (now (line .entry))) ⌝ }
+{
+    if line.len() < 2 {
+        return false;
+    }
+    if !is_letter(line[0], b'F') {
+        return false;
+    }
+    is_letter(line[1], b'S')
+}
+
+// A refusal: its number and no signs.
+fn refused(number: u8) -> Answers
+    ensures { λ r. ⌜ (r .number ≡ number) × (r .signs ≡ zeroed []) ⌝ }
+{
+    Answers {
+        number: number,
+        signs: [0u8; 5],
+    }
+}
+
+// What follows `FS `, as the answer to n proposals.
+fn read_signs(s: &[u8], n: usize) -> Answers
+    requires { ⌜ n ≤ blockLimit ⌝ }
+    ensures { λ r. ⌜ (r .number ≡ cond (isSome (readSigns n (now (s .entry)))) 0 badAnswer) × (r .signs ≡ zeroed (signBytes (readSigns n (now (s .entry))))) ⌝ }
+{
+    if s.len() != n {
+        return refused(BAD_ANSWER);
+    }
+    let mut signs = [0u8; 5];
+    let mut i = 0;
     while i < n {
-        let b = answered_by(a, signs[i], ours.items[i]);
-        a = b;
+        let b = s[i];
+        if !is_sign(b) {
+            return refused(BAD_ANSWER);
+        }
+        signs[i] = b;
         i += 1;
     }
-    a
-}
-
-// The flags with a 1 at a place.
-fn flag_at(deferred: [u8; 64], place: u8) -> [u8; 64]
-    ensures { λ r. ⌜ r ≡ set deferred place 1 ⌝ }
-{
-    if 64 <= place {
-        return deferred;
-    }
-    let mut d = deferred;
-    let p = place as usize;
-    d[p] = 1;
-    d
-}
-
-// The flags with a 1 at each of these places.
-fn deferring(deferred: [u8; 64], places: Five) -> [u8; 64]
-    ensures { λ r. ⌜ r ≡ flagged (held places) deferred ⌝ }
-{
-    let n = count_of(places);
-    let mut d = deferred;
-    let mut i = 0usize;
-    while i < n {
-        let e = flag_at(d, places.items[i]);
-        d = e;
-        i += 1;
-    }
-    d
-}
-
-// Our transfers are said where there are any.
-fn transfers_after(sending: Five, say: Say) -> Say
-    ensures { λ r. ⌜ r ≡ transfersAfter sending say ⌝ }
-{
-    if 0 < sending.count {
-        let mut y = say;
-        y.then = 4;
-        return y;
-    }
-    say
-}
-
-// The signs of a right FS line: accepted records are sent, declined ones marked, deferred ones flagged.
-fn answer_taken(signs: [u8; 5], awaited: Await, say: Say, keep: Keep, reader: Reader) -> Judged
-    ensures { λ r. ⌜ r ≡ answerTaken signs awaited say keep reader ⌝ }
-{
-    let ours = awaited.ours;
-    let a = by_signs(ours, signs);
-    let sending = a.accepted;
-    let declined = a.declined;
-    let waits = a.deferred;
-    let flags = keep.deferred;
-    let deferred = deferring(flags, waits);
-    let mut k = keep;
-    k.sending = sending;
-    k.deferred = deferred;
-    Judged {
-        answer: 0,
-        speaks: 0,
-        marks: Marks {
-            state: 2,
-            places: declined,
-        },
-        now: to_turn(awaited, false),
-        say: transfers_after(sending, say),
-        keep: k,
-        reader: reader,
+    Answers {
+        number: 0,
+        signs: signs,
     }
 }
 
-// The FS line on our proposals.
-pub fn answer_line(line: &[u8], awaited: Await, say: Say, keep: Keep, reader: Reader) -> Judged
-    ensures { λ r. ⌜ r ≡ answerLine (now (line .entry)) awaited say keep reader ⌝ }
+// The answer to n proposals, read from a line whose spaces at the end are removed; no line answers more than five.
+pub fn read_fs(line: &[u8], n: usize) -> Answers
+    ensures { λ r. ⌜ (r .number ≡ answerNumber n (now (line .entry))) × (r .signs ≡ answerSigns n (now (line .entry))) ⌝ }
 {
-    let ours = awaited.ours;
-    let r = answer::read_fs(line, ours.count as usize);
-    if r.number != 0 {
-        return refusal(r.number, awaited, say, keep, reader);
+    if !begins_fs(line) {
+        return refused(LINE_NOT_ALLOWED);
     }
-    let signs = r.signs;
-    answer_taken(signs, awaited, say, keep, reader)
+    if BLOCK_LIMIT < n {
+        return refused(BAD_ANSWER);
+    }
+    if line.len() < 3 {
+        return refused(BAD_ANSWER);
+    }
+    if line[2] != b' ' {
+        return refused(BAD_ANSWER);
+    }
+    read_signs(&line[3..], n)
 }

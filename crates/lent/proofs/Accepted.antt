@@ -23,7 +23,7 @@ use Rattle.layout.specs.Layout.{byteAt, le2At, le4At, fieldIn, entryAt, recordS
 use Rattle.choice.specs.Decoded.{entriesFrom, entries, recordCount, recordsOf}
 use Rattle.choice.proofs.Laws.{entries-length, entries-at}
 use Rattle.waiting.proofs.Short.{part-short, transfer-short, heading-short}
-use Rattle.opening.specs.Opening.{lengthOk, numbersOk, fieldsOk, within, headingOk, textsOk, recordOk, placeOk, faultFrom, tableFault}
+use Rattle.open.specs.Opening.{lengthOk, numbersOk, fieldsOk, within, headingOk, textsOk, recordOk, placeOk, faultFrom, tableFault}
 use Rattle.lent.proofs.Giving.{Short}
 
 -- ---------------------------------------------------------------- one record

@@ -18,19 +18,19 @@ use Rattle.mail.specs.Mail.{Record, accepted, transfersText}
 use Rattle.session.specs.Choices.{Shelf}
 use Rattle.session.specs.Session as on-lists
 use Rattle.session.specs.Session.{Memory, Outcome, goesOn}
-use Rattle.answer.specs.Answers.{answered, answerSigns, signBytes, zeroed}
-use Rattle.answer.proofs.Laws.{answer-number}
+use Rattle.fs_line.specs.Answers.{answered, answerSigns, signBytes, zeroed}
+use Rattle.fs_line.proofs.Laws.{answer-number}
 use Rattle.transfer_step.specs.declared.Reader.{Reader}
-use Rattle.state.specs.State.{held, fiveOf}
-use Rattle.state.specs.declared.Await.{Await}
-use Rattle.state.specs.declared.Say.{Say}
-use Rattle.state.specs.declared.Keep.{Keep}
-use Rattle.state.specs.declared.Session.{Session}
-use Rattle.state.proofs.Laws.{held-five}
-use Rattle.judge.specs.Judge.{refusal, toTurn, saysThen, picked, flagged, sends, transfersAfter, answerTaken, answerLine}
-use Rattle.judge.specs.declared.Judged.{Judged}
+use Rattle.session_memory.specs.State.{held, fiveOf}
+use Rattle.session_memory.specs.declared.Await.{Await}
+use Rattle.session_memory.specs.declared.Say.{Say}
+use Rattle.session_memory.specs.declared.Keep.{Keep}
+use Rattle.session_memory.specs.declared.Session.{Session}
+use Rattle.session_memory.proofs.Laws.{held-five}
+use Rattle.line_effect.specs.Judge.{refusal, toTurn, saysThen, picked, flagged, sends, transfersAfter, answerTaken, answerLine}
+use Rattle.line_effect.specs.declared.Judged.{Judged}
 use Rattle.waiting.specs.Waiting.{firstText, thenText, sendingText}
-use Rattle.receiving.specs.Receiving.{cs, unsaid, markAll}
+use Rattle.receive_defined.specs.Receiving.{cs, unsaid, markAll}
 use Rattle.lent.specs.Represents.{Fixed, Represents}
 use Rattle.lent.proofs.Table.{picked-accepted, zerosAfter}
 use Rattle.lent.proofs.Says.{first-nothing, then-nothing, waits-not, sending-text, some-transfers}

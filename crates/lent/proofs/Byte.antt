@@ -17,10 +17,10 @@ use Rattle.session.specs.Choices.{Shelf}
 use Rattle.session.specs.Session as on-lists
 use Rattle.session.specs.Session.{Phase}
 use Rattle.session.specs.Calls as calls
-use Rattle.state.specs.declared.Session.{Session}
+use Rattle.session_memory.specs.declared.Session.{Session}
 use Rattle.waiting.specs.Waiting.{waitingOf, thenText}
 use Rattle.pending.specs.Pending.{waits, overOf}
-use Rattle.receiving.specs.Receiving.{Cs, cs, Moved, moved, lfDropped, refusedOf, lineStepOf, lineByteOf, transferStepOf, byteOf, Run, run, stops, receiveFrom}
+use Rattle.receive_defined.specs.Receiving.{Cs, cs, Moved, moved, lfDropped, refusedOf, lineStepOf, lineByteOf, transferStepOf, byteOf, Run, run, stops, receiveFrom}
 use Rattle.lent.specs.Represents.{Fixed, Says, lineNumber, Awaits, Represents}
 use Rattle.lent.specs.Frame.{reachOf, Spared}
 use Rattle.lent.specs.Link.{Moving, Receiving}

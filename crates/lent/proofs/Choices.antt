@@ -20,9 +20,9 @@ use Rattle.choice.specs.Choice.{chooseOf, shelfOf, answersOf}
 use Rattle.choice.proofs.Block.{chosen-stores}
 use Rattle.choice.proofs.Signs.{bids-same, answers-same}
 use Rattle.choice.proofs.Laws.{entries-length, no-bodies}
-use Rattle.state.specs.State.{fiveOf}
-use Rattle.state.specs.declared.Await.{Await}
-use Rattle.state.specs.declared.Keep.{Keep}
+use Rattle.session_memory.specs.State.{fiveOf}
+use Rattle.session_memory.specs.declared.Await.{Await}
+use Rattle.session_memory.specs.declared.Keep.{Keep}
 use Rattle.lent.specs.Represents.{messagesFrom, messagesOf}
 
 -- the records that we propose

@@ -15,7 +15,7 @@ use Rattle.log.specs.Log.{Event, log}
 use Rattle.demand3.specs.Demand as on-lists-run
 use Rattle.demand3.proofs.Demand.{demand-3}
 use Rattle.choice.specs.Decoded.{statesOf}
-use Rattle.form.specs.Form.{formOf}
+use Rattle.form_test.specs.Form.{formOf}
 use Rattle.lent.specs.Laid.{entriesBytes, bodiesBytes}
 use Rattle.lent.specs.Represents.{Fixed, messagesOf}
 use Rattle.lent.specs.Frame.{withStates}

@@ -17,18 +17,18 @@ use Rattle.transfer_step.specs.declared.Outcome.{Outcome}
 use Rattle.transfer_step.specs.declared.Outcome.the-variants.{More, Whole, Malformed, WrongSum, NoRoom}
 use Rattle.transfer_step.specs.Step.{stepOf}
 use Rattle.transfer_read.specs.Feed.{roomOf}
-use Rattle.state.specs.State.{loadOf}
-use Rattle.state.specs.declared.Await.{Await}
-use Rattle.state.specs.declared.Say.{Say}
-use Rattle.state.specs.declared.Keep.{Keep}
-use Rattle.state.specs.declared.Session.{Session}
-use Rattle.judge.specs.Judge.{nextAccepted, judgeOf}
-use Rattle.judge.specs.declared.Judged.{Judged}
+use Rattle.session_memory.specs.State.{loadOf}
+use Rattle.session_memory.specs.declared.Await.{Await}
+use Rattle.session_memory.specs.declared.Say.{Say}
+use Rattle.session_memory.specs.declared.Keep.{Keep}
+use Rattle.session_memory.specs.declared.Session.{Session}
+use Rattle.line_effect.specs.Judge.{nextAccepted, judgeOf}
+use Rattle.line_effect.specs.declared.Judged.{Judged}
 use Rattle.waiting.specs.Waiting.{waitingOf}
 use Rattle.pending.specs.Pending.{waits, overOf, hasToGive}
-use Rattle.form.specs.Form.{formOf}
-use Rattle.receiving.specs.Receiving.{Cs, cs, Moved, Settled, settleOf, lineMoved, lineStepOf, keepOf, transferMoved, transferStep, transferStepOf, byteOf, Run, stops, receiveFrom, unchanged, saved, receiveOf}
-use Rattle.giving.specs.Giving.{reply, giveOf, handing, Given}
+use Rattle.form_test.specs.Form.{formOf}
+use Rattle.receive_defined.specs.Receiving.{Cs, cs, Moved, Settled, settleOf, lineMoved, lineStepOf, keepOf, transferMoved, transferStep, transferStepOf, byteOf, Run, stops, receiveFrom, unchanged, saved, receiveOf}
+use Rattle.give.specs.Giving.{reply, giveOf, handing, Given}
 use Rattle.lent.specs.Represents.{Fixed}
 use Rattle.lent.proofs.FormLaws.{Octets}
 use Rattle.lent.proofs.FormSaved.{InForm}

@@ -18,10 +18,10 @@ use Rattle.transfer_step.specs.declared.Outcome.the-variants.{More, Whole, Malf
 use Rattle.transfer_step.specs.Step.{stepOf}
 use Rattle.transfer_read.specs.Feed.{headingPut, roomOf}
 use Rattle.transfer_read.proofs.Room.{step-within}
-use Rattle.judge.specs.Judge.{judgeOf}
+use Rattle.line_effect.specs.Judge.{judgeOf}
 use Rattle.waiting.specs.Waiting.{waitingOf}
 use Rattle.pending.specs.Pending.{waits}
-use Rattle.receiving.specs.Receiving.{Cs, cs, moved, refusedOf, Settled, lineMoved, lineStepOf, reading, transferMoved, transferStep, transferStepOf, lfDropped, lineByteOf, byteOf, run, stops, receiveFrom}
+use Rattle.receive_defined.specs.Receiving.{Cs, cs, moved, refusedOf, Settled, lineMoved, lineStepOf, reading, transferMoved, transferStep, transferStepOf, lfDropped, lineByteOf, byteOf, run, stops, receiveFrom}
 use Rattle.lent.specs.Represents.{Fixed}
 use Rattle.lent.proofs.FormLaws.{Octets, octets-first, octets-rest, octets-set}
 use Rattle.lent.proofs.FormFacts.{ReaderOk, HeadingOk, LineOk, Box, Under, Lent, Good}

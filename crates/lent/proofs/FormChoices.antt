@@ -13,15 +13,15 @@ use Rattle.mail.specs.Mail.{Record, Message, accepted}
 use Rattle.session.specs.Choices.{chosen, answersTo, Shelf}
 use Rattle.session.proofs.Choices.{few, Places, chosen-places, one-sign-each}
 use Rattle.layout.specs.Layout.{recordOf, messageOf, proposalOf}
-use Rattle.state.specs.State.{held}
-use Rattle.state.specs.declared.Five.{Five}
-use Rattle.state.specs.declared.Await.{Await}
-use Rattle.state.specs.declared.Keep.{Keep}
-use Rattle.state.proofs.Laws.{held-five}
+use Rattle.session_memory.specs.State.{held}
+use Rattle.session_memory.specs.declared.Five.{Five}
+use Rattle.session_memory.specs.declared.Await.{Await}
+use Rattle.session_memory.specs.declared.Keep.{Keep}
+use Rattle.session_memory.proofs.Laws.{held-five}
 use Rattle.choice.specs.Choice.{chooseOf, shelfOf, answersOf}
 use Rattle.choice.specs.Decoded.{recordCount, recordsOf, statesOf, headsOf, proposalsOf, placeCount}
 use Rattle.choice.proofs.Laws.{entries-length}
-use Rattle.form.specs.Form.{pluses}
+use Rattle.form_test.specs.Form.{pluses}
 use Rattle.lent.proofs.FormLaws.{Octets, octets-nil, octets-cons, FiveOk, five-of, signs-octets}
 use Rattle.lent.proofs.Proposals.{signs-back, accepted-pluses}
 use Rattle.lent.proofs.Choices.{answers-fit}

@@ -15,18 +15,18 @@ use Rattle.grammar.proofs.Basics.{and2, no-both}
 use Rattle.buffer.specs.Put.{cut}
 use Rattle.layout.specs.Layout.{le8}
 use Rattle.layout.proofs.Laws.{octets}
-use Rattle.state.specs.State.{at, flag, loadOf, loadSizes, saveOf, sizesOut, saveSizes, freshOf}
-use Rattle.state.specs.declared.Session.{Session}
-use Rattle.state.specs.declared.Sizes.{Sizes}
-use Rattle.state.proofs.Laws.{sizes-length, Sized, sizes-saved, load-sizes}
+use Rattle.session_memory.specs.State.{at, flag, loadOf, loadSizes, saveOf, sizesOut, saveSizes, freshOf}
+use Rattle.session_memory.specs.declared.Session.{Session}
+use Rattle.session_memory.specs.declared.Sizes.{Sizes}
+use Rattle.session_memory.proofs.Laws.{sizes-length, Sized, sizes-saved, load-sizes}
 use Rattle.choice.specs.Decoded.{placeCount}
 use Rattle.waiting.specs.Waiting.{waitingOf}
 use Rattle.pending.specs.Pending.{waits, silentOf, overOf, hasToGive}
 use Rattle.waiting.proofs.Short.{record-short, waiting-short}
-use Rattle.form.specs.Form.{usedBy, markOk, sameSizes, lentSizes, formOf}
-use Rattle.giving.specs.Giving.{Given, reply, handedOf, handing, giveOf}
-use Rattle.opening.specs.Opening.{knownOk, entriesOk, sizesOk, tableFault, Opened, opened, openOf}
-use Rattle.receiving.specs.Receiving.{Cs, cs, receiveFrom, Received, unchanged, saved, receiveOf}
+use Rattle.form_test.specs.Form.{usedBy, markOk, sameSizes, lentSizes, formOf}
+use Rattle.give.specs.Giving.{Given, reply, handedOf, handing, giveOf}
+use Rattle.open.specs.Opening.{knownOk, entriesOk, sizesOk, tableFault, Opened, opened, openOf}
+use Rattle.receive_defined.specs.Receiving.{Cs, cs, receiveFrom, Received, unchanged, saved, receiveOf}
 use Rattle.lent.specs.Represents.{Fixed}
 use Rattle.lent.proofs.FormLaws.{Octets, octets-append, octets-put, octets-le8, octets-zeros}
 use Rattle.lent.proofs.FormWaiting.{waiting-some}

@@ -11,15 +11,15 @@ use Rattle.grammar.proofs.Basics.{no-both}
 use Rattle.layout.specs.Layout.{byteAt, entryAt, proposalSize}
 use Rattle.transfer_step.specs.declared.Reader.{Reader}
 use Rattle.transfer_step.specs.Step.{reader}
-use Rattle.state.specs.State.{noFive}
-use Rattle.state.specs.declared.Five.{Five}
-use Rattle.state.specs.declared.Await.{Await}
-use Rattle.state.specs.declared.Say.{Say}
-use Rattle.state.specs.declared.Keep.{Keep}
+use Rattle.session_memory.specs.State.{noFive}
+use Rattle.session_memory.specs.declared.Five.{Five}
+use Rattle.session_memory.specs.declared.Await.{Await}
+use Rattle.session_memory.specs.declared.Say.{Say}
+use Rattle.session_memory.specs.declared.Keep.{Keep}
 use Rattle.choice.specs.Decoded.{placeCount}
-use Rattle.judge.specs.Judge.{inPhase, toTurn, toAnswer, toTransfer, saysThen, sends, readerFor}
-use Rattle.judge.specs.declared.Judged.{Judged}
-use Rattle.form.specs.Form.{usedBy}
+use Rattle.line_effect.specs.Judge.{inPhase, toTurn, toAnswer, toTransfer, saysThen, sends, readerFor}
+use Rattle.line_effect.specs.declared.Judged.{Judged}
+use Rattle.form_test.specs.Form.{usedBy}
 use Rattle.lent.proofs.FormLaws.{Octets, octets-zeros, FiveOk}
 use Rattle.lent.proofs.FormFacts.{AwaitOk, SayOk, KeepOk, ReaderOk, Box, Awaited}
 

@@ -14,13 +14,13 @@ use Rattle.buffer.proofs.Laws.{put-length}
 use Rattle.layout.specs.Layout.{entryAt, proposalSize, entryOut, le2, le4}
 use Rattle.layout.proofs.Laws.{entry-length, length-back}
 use Rattle.layout.proofs.Places.{part-in}
-use Rattle.state.specs.State.{at, held}
-use Rattle.state.specs.declared.Session.{Session}
+use Rattle.session_memory.specs.State.{at, held}
+use Rattle.session_memory.specs.declared.Session.{Session}
 use Rattle.choice.specs.Decoded.{placeCount}
-use Rattle.judge.specs.Judge.{noMarks, judged, toTransfer, nextAccepted, readerFor}
-use Rattle.judge.specs.declared.Judged.{Judged}
-use Rattle.form.specs.Form.{usedBy, pluses}
-use Rattle.receiving.specs.Receiving.{cs, settleOf, keptKeep, keptInbox, isPlainAt, keepOf}
+use Rattle.line_effect.specs.Judge.{noMarks, judged, toTransfer, nextAccepted, readerFor}
+use Rattle.line_effect.specs.declared.Judged.{Judged}
+use Rattle.form_test.specs.Form.{usedBy, pluses}
+use Rattle.receive_defined.specs.Receiving.{cs, settleOf, keptKeep, keptInbox, isPlainAt, keepOf}
 use Rattle.lent.specs.Represents.{Fixed}
 use Rattle.lent.proofs.FormLaws.{Octets, octets-append, octets-take, octets-part, octets-put, octets-le2, octets-le4, octets-field, held-length, next-found, plus-here, used-more}
 use Rattle.lent.proofs.FormFacts.{AwaitOk, SayOk, KeepOk, ReaderOk, HeadingOk, LineOk, Box, Under, Lent, Good}

@@ -17,12 +17,12 @@ use Rattle.buffer.specs.Put.{putBytes, cut}
 use Rattle.buffer.specs.declared.Cursor.{Cursor}
 use Rattle.layout.specs.Layout.{le2, le4, le8, entryAt, entrySize, bodyLength, fieldOut}
 use Rattle.layout.proofs.Places.{entry-written, entry-kept}
-use Rattle.state.specs.State.{at, held, fiveOf}
-use Rattle.state.specs.declared.Five.{Five}
-use Rattle.state.proofs.Laws.{five-length}
-use Rattle.judge.specs.Judge.{plusFrom, nextAccepted, picked, flagged}
-use Rattle.form.specs.Form.{usedFrom, usedBy, pluses}
-use Rattle.receiving.specs.Receiving.{markAll}
+use Rattle.session_memory.specs.State.{at, held, fiveOf}
+use Rattle.session_memory.specs.declared.Five.{Five}
+use Rattle.session_memory.proofs.Laws.{five-length}
+use Rattle.line_effect.specs.Judge.{plusFrom, nextAccepted, picked, flagged}
+use Rattle.form_test.specs.Form.{usedFrom, usedBy, pluses}
+use Rattle.receive_defined.specs.Receiving.{markAll}
 
 -- ---------------------------------------------------------------- bytes stay bytes
 

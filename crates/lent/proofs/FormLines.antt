@@ -17,20 +17,20 @@ use Rattle.grammar.specs.Lines.{isComment, isPrompt}
 use Rattle.grammar.specs.Sid.{readSid, hasFeature, framed}
 use Rattle.grammar.specs.Turns.{Proposal, TurnLine, saysFF, saysFQ, endsBlock, notAllowed, proposes, readTurnLine}
 use Rattle.grammar.proofs.AsRead.{Proper, TurnOk, turn-read-ok}
-use Rattle.answer.specs.Answers.{answerNumber, answerSigns}
+use Rattle.fs_line.specs.Answers.{answerNumber, answerSigns}
 use Rattle.buffer.proofs.Laws.{put-length}
 use Rattle.layout.specs.Layout.{proposalOut}
 use Rattle.transfer_step.specs.declared.Reader.{Reader}
-use Rattle.state.specs.State.{at, held, fiveOf, noFive}
-use Rattle.state.specs.declared.Five.{Five}
-use Rattle.state.specs.declared.Await.{Await}
-use Rattle.state.specs.declared.Say.{Say}
-use Rattle.state.specs.declared.Keep.{Keep}
+use Rattle.session_memory.specs.State.{at, held, fiveOf, noFive}
+use Rattle.session_memory.specs.declared.Five.{Five}
+use Rattle.session_memory.specs.declared.Await.{Await}
+use Rattle.session_memory.specs.declared.Say.{Say}
+use Rattle.session_memory.specs.declared.Keep.{Keep}
 use Rattle.choice.specs.Choice.{answersOf}
 use Rattle.choice.specs.Decoded.{placeCount}
-use Rattle.judge.specs.Judge.{noMarks, judged, refusal, wentOn, inPhase, toTurn, toTransfer, saysFirst, saysThen, saysSigns, inMode, sends, afterSid, sidRead, sidLine, textLine, turnMarks, settledKeep, nextAccepted, readerFor, answered, endLine, withProposal, proposalLine, ffLine, fqLine, turnRead, turnLine, picked, flagged, transfersAfter, answerTaken, answerLine, lineIn, judgeOf}
-use Rattle.judge.specs.declared.Marks.{Marks}
-use Rattle.form.specs.Form.{pluses}
+use Rattle.line_effect.specs.Judge.{noMarks, judged, refusal, wentOn, inPhase, toTurn, toTransfer, saysFirst, saysThen, saysSigns, inMode, sends, afterSid, sidRead, sidLine, textLine, turnMarks, settledKeep, nextAccepted, readerFor, answered, endLine, withProposal, proposalLine, ffLine, fqLine, turnRead, turnLine, picked, flagged, transfersAfter, answerTaken, answerLine, lineIn, judgeOf}
+use Rattle.line_effect.specs.declared.Marks.{Marks}
+use Rattle.form_test.specs.Form.{pluses}
 use Rattle.lent.proofs.FormLaws.{octets-put, flag-octets, picked-octets, five-of, held-length, held-octets, next-found}
 use Rattle.lent.proofs.FormFacts.{AwaitOk, SayOk, KeepOk, ReaderOk, Box, Awaited}
 use Rattle.lent.proofs.FormProposals.{proposal-octets}

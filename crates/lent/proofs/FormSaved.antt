@@ -12,12 +12,12 @@ use Rattle.grammar.specs.Bytes.{Bytes}
 use Rattle.grammar.proofs.Basics.{and2, both}
 use Rattle.layout.specs.Layout.{byteAt}
 use Rattle.layout.proofs.Laws.{octets, le8-small}
-use Rattle.state.specs.State.{at, loadOf, loadSizes, saveOf, stateOut}
-use Rattle.state.specs.declared.Session.{Session}
-use Rattle.state.specs.declared.Sizes.{Sizes}
-use Rattle.state.proofs.Laws.{save-length, save-first, save-sizes-kept, load-save}
-use Rattle.form.specs.Form.{markOk, sameSizes, lentSizes, stateOk, formOf}
-use Rattle.receiving.specs.Receiving.{Cs, cs}
+use Rattle.session_memory.specs.State.{at, loadOf, loadSizes, saveOf, stateOut}
+use Rattle.session_memory.specs.declared.Session.{Session}
+use Rattle.session_memory.specs.declared.Sizes.{Sizes}
+use Rattle.session_memory.proofs.Laws.{save-length, save-first, save-sizes-kept, load-save}
+use Rattle.form_test.specs.Form.{markOk, sameSizes, lentSizes, stateOk, formOf}
+use Rattle.receive_defined.specs.Receiving.{Cs, cs}
 use Rattle.lent.specs.Represents.{Fixed}
 use Rattle.lent.proofs.FormLaws.{Octets, octets-put}
 use Rattle.lent.proofs.FormFacts.{Good}

@@ -8,17 +8,17 @@ use native.Mathlib.Omega.{arith}
 use lib.Dec.{eqb}
 use Rattle.grammar.specs.Bytes.{Bytes}
 use Rattle.transfer_step.specs.declared.Reader.{Reader}
-use Rattle.state.specs.State.{held}
-use Rattle.state.specs.declared.Await.{Await}
-use Rattle.state.specs.declared.Say.{Say}
-use Rattle.state.specs.declared.Keep.{Keep}
-use Rattle.state.specs.declared.Session.{Session}
+use Rattle.session_memory.specs.State.{held}
+use Rattle.session_memory.specs.declared.Await.{Await}
+use Rattle.session_memory.specs.declared.Say.{Say}
+use Rattle.session_memory.specs.declared.Keep.{Keep}
+use Rattle.session_memory.specs.declared.Session.{Session}
 use Rattle.choice.specs.Choice.{chooseOf}
-use Rattle.judge.specs.Judge.{inPhase, toTurn, toAnswer, saysThen, spoken, speakOf}
-use Rattle.judge.specs.declared.Judged.{Judged}
-use Rattle.judge.specs.declared.Spoken.{Spoken}
+use Rattle.line_effect.specs.Judge.{inPhase, toTurn, toAnswer, saysThen, spoken, speakOf}
+use Rattle.line_effect.specs.declared.Judged.{Judged}
+use Rattle.line_effect.specs.declared.Spoken.{Spoken}
 use Rattle.pending.specs.Pending.{waits}
-use Rattle.receiving.specs.Receiving.{cs, markAll, refusedOf, settledOf, spokenOf, Settled, settled, settleOf}
+use Rattle.receive_defined.specs.Receiving.{cs, markAll, refusedOf, settledOf, spokenOf, Settled, settled, settleOf}
 use Rattle.lent.specs.Represents.{Fixed}
 use Rattle.lent.proofs.FormLaws.{mark-octets}
 use Rattle.lent.proofs.FormWaiting.{waiting-some}

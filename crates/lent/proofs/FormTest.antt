@@ -12,15 +12,15 @@ use Rattle.grammar.specs.Transfers.{partOf}
 use Rattle.grammar.proofs.Basics.{and2, both, or-second}
 use Rattle.layout.specs.Layout.{byteAt, le2, le4, le8}
 use Rattle.layout.proofs.Laws.{octets}
-use Rattle.state.specs.State.{at, flag, held, fiveAt, arrayAt, fiveOut, loadAwait, loadSay, loadKeep, loadReading, loadLine, loadOf, smallOut, numbersOut, arraysOut, stateOut}
-use Rattle.state.specs.declared.Five.{Five}
-use Rattle.state.specs.declared.Session.{Session}
-use Rattle.state.proofs.Laws.{Shaped, load-shaped}
+use Rattle.session_memory.specs.State.{at, flag, held, fiveAt, arrayAt, fiveOut, loadAwait, loadSay, loadKeep, loadReading, loadLine, loadOf, smallOut, numbersOut, arraysOut, stateOut}
+use Rattle.session_memory.specs.declared.Five.{Five}
+use Rattle.session_memory.specs.declared.Session.{Session}
+use Rattle.session_memory.proofs.Laws.{Shaped, load-shaped}
 use Rattle.choice.specs.Decoded.{placeCount}
 use Rattle.waiting.specs.Waiting.{waitingOf}
 use Rattle.pending.specs.Pending.{waits}
-use Rattle.form.specs.Form.{countsOk, usedBy, inboxOk, waitingOk, pluses, transferOk, phaseOk, stateOk}
-use Rattle.receiving.specs.Receiving.{Cs, cs}
+use Rattle.form_test.specs.Form.{countsOk, usedBy, inboxOk, waitingOk, pluses, transferOk, phaseOk, stateOk}
+use Rattle.receive_defined.specs.Receiving.{Cs, cs}
 use Rattle.lent.specs.Represents.{Fixed}
 use Rattle.lent.proofs.FormLaws.{Octets, octets-nil, octets-cons, octets-append, octets-zeros, octets-part, octets-put, octets-le2, octets-le4, octets-le8, FiveOk}
 use Rattle.lent.proofs.FormFacts.{Box, Under, Awaited, Good}

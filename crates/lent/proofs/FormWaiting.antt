@@ -13,9 +13,9 @@ use Rattle.mail.specs.Mail as mail
 use Rattle.mail.specs.Mail.{Record}
 use Rattle.layout.specs.Layout.{entryAt, recordSize, recordOf}
 use Rattle.our_line.specs.Lines.{fsText}
-use Rattle.state.specs.State.{held}
-use Rattle.state.specs.declared.Five.{Five}
-use Rattle.state.specs.declared.Session.{Session}
+use Rattle.session_memory.specs.State.{held}
+use Rattle.session_memory.specs.declared.Five.{Five}
+use Rattle.session_memory.specs.declared.Session.{Session}
 use Rattle.waiting.specs.Waiting.{proposalAt, firstText, blockText, sendingText, thenText, waitingOf}
 use Rattle.pending.specs.Pending.{waits}
 use Rattle.lent.proofs.FormLaws.{FiveOk, held-length}

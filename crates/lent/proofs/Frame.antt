@@ -18,7 +18,7 @@ use Rattle.layout.specs.Layout.{byteAt, recordSize}
 use Rattle.transfer_read.specs.Meaning.{Kept}
 use Rattle.choice.specs.Decoded.{recordCount, statesOf}
 use Rattle.choice.proofs.Laws.{entries-length, entries-at}
-use Rattle.receiving.specs.Receiving.{markAll}
+use Rattle.receive_defined.specs.Receiving.{markAll}
 use Rattle.lent.specs.Frame.{withStatesFrom, withStates, StatesOnly}
 use Rattle.lent.proofs.Table.{Whole, entry-whole}
 

@@ -21,14 +21,14 @@ use Rattle.buffer.specs.Put.{wrote, putBytes}
 use Rattle.buffer.proofs.Laws.{wrote-nil}
 use Rattle.transfer_read.proofs.Untouched.{kept-same}
 use Rattle.layout.specs.Layout.{entryAt, recordSize, recordOf}
-use Rattle.state.specs.State.{loadOf, saveOf}
-use Rattle.state.specs.declared.Session.{Session}
-use Rattle.state.specs.declared.Sizes.{Sizes}
+use Rattle.session_memory.specs.State.{loadOf, saveOf}
+use Rattle.session_memory.specs.declared.Session.{Session}
+use Rattle.session_memory.specs.declared.Sizes.{Sizes}
 use Rattle.waiting.specs.Waiting.{waitingOf, firstText, thenText}
 use Rattle.pending.specs.Pending.{waits, overOf, hasToGive, silentOf}
 use Rattle.waiting.proofs.Short.{waiting-short}
-use Rattle.giving.specs.Giving.{Given, reply, handedOf, handing, giveOf}
-use Rattle.receiving.specs.Receiving.{Cs, cs}
+use Rattle.give.specs.Giving.{Given, reply, handedOf, handing, giveOf}
+use Rattle.receive_defined.specs.Receiving.{Cs, cs}
 use Rattle.lent.specs.Represents.{Fixed, Says, Awaits, Represents}
 use Rattle.lent.specs.Frame.{Spared}
 use Rattle.lent.specs.Calls.{Lent, withSession, given}

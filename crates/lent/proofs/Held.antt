@@ -10,12 +10,12 @@ use Rattle.grammar.specs.Bytes.{Bytes}
 use Rattle.session.specs.Choices.{Shelf}
 use Rattle.session.specs.Session as on-lists
 use Rattle.layout.specs.Layout.{byteAt}
-use Rattle.state.specs.State.{loadOf, loadSizes, saveOf}
-use Rattle.state.specs.declared.Session.{Session}
-use Rattle.state.specs.declared.Sizes.{Sizes}
-use Rattle.state.proofs.Laws.{Shaped, load-save, save-length, save-first, save-sizes-kept, same-sizes}
-use Rattle.form.specs.Form.{markOk, formOf}
-use Rattle.receiving.specs.Receiving.{Cs, cs}
+use Rattle.session_memory.specs.State.{loadOf, loadSizes, saveOf}
+use Rattle.session_memory.specs.declared.Session.{Session}
+use Rattle.session_memory.specs.declared.Sizes.{Sizes}
+use Rattle.session_memory.proofs.Laws.{Shaped, load-save, save-length, save-first, save-sizes-kept, same-sizes}
+use Rattle.form_test.specs.Form.{markOk, formOf}
+use Rattle.receive_defined.specs.Receiving.{Cs, cs}
 use Rattle.lent.specs.Represents.{Fixed, Represents}
 use Rattle.lent.specs.Frame.{Spared}
 use Rattle.lent.specs.Calls.{Lent, sizesOf}

@@ -15,13 +15,13 @@ use Rattle.grammar.proofs.Basics.{both, by-cond}
 use Rattle.session.specs.Choices.{Shelf}
 use Rattle.session.specs.Session as on-lists
 use Rattle.choice.specs.Decoded.{placeCount, proposalsOf}
-use Rattle.state.specs.State.{sessionSize, held, loadOf, loadSizes}
-use Rattle.state.specs.declared.Session.{Session}
-use Rattle.state.specs.declared.Sizes.{Sizes}
+use Rattle.session_memory.specs.State.{sessionSize, held, loadOf, loadSizes}
+use Rattle.session_memory.specs.declared.Session.{Session}
+use Rattle.session_memory.specs.declared.Sizes.{Sizes}
 use Rattle.waiting.specs.Waiting.{waitingOf}
 use Rattle.pending.specs.Pending.{waits}
-use Rattle.form.specs.Form.{markOk, sameSizes, countsOk, usedBy, inboxOk, waitingOk, pluses, transferOk, phaseOk, stateOk, lentSizes, formOf}
-use Rattle.receiving.specs.Receiving.{Cs, cs}
+use Rattle.form_test.specs.Form.{markOk, sameSizes, countsOk, usedBy, inboxOk, waitingOk, pluses, transferOk, phaseOk, stateOk, lentSizes, formOf}
+use Rattle.receive_defined.specs.Receiving.{Cs, cs}
 use Rattle.lent.specs.Represents.{Fixed, Arrays, Awaits, Represents, owed}
 use Rattle.lent.proofs.Proposals.{proposals-length, accepted-pluses}
 

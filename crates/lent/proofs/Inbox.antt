@@ -19,8 +19,8 @@ use Rattle.layout.specs.Layout.{le2, le4, fieldOut, fieldsOut, entryAt, entrySi
 use Rattle.layout.proofs.Places.{part-in, part-kept, part-here}
 use Rattle.layout.proofs.Laws.{withContent, entry-length, message-back, start-back, length-back, inbox-back, inbox-kept}
 use Rattle.choice.specs.Decoded.{placeCount}
-use Rattle.form.specs.Form.{usedFrom, usedBy}
-use Rattle.state.specs.State.{at}
+use Rattle.form_test.specs.Form.{usedFrom, usedBy}
+use Rattle.session_memory.specs.State.{at}
 use Rattle.lent.specs.Laid.{messageBytes, bodiesBytes}
 use Rattle.lent.specs.Represents.{messagesFrom, messagesOf, InRow, LaidFrom, Written}
 

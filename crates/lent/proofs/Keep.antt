@@ -21,14 +21,14 @@ use Rattle.layout.proofs.Places.{part-in}
 use Rattle.layout.proofs.Laws.{withContent, entry-length}
 use Rattle.transfer_read.specs.Feed.{roomOf}
 use Rattle.transfer_read.specs.Meaning.{Stands, Kept}
-use Rattle.state.specs.State.{at, held}
-use Rattle.state.specs.declared.Session.{Session}
+use Rattle.session_memory.specs.State.{at, held}
+use Rattle.session_memory.specs.declared.Session.{Session}
 use Rattle.choice.specs.Decoded.{proposalsOf}
-use Rattle.judge.specs.Judge.{noMarks, judged, toTransfer, plusFrom, nextAccepted, readerFor, speakOf}
-use Rattle.judge.specs.declared.Judged.{Judged}
+use Rattle.line_effect.specs.Judge.{noMarks, judged, toTransfer, plusFrom, nextAccepted, readerFor, speakOf}
+use Rattle.line_effect.specs.declared.Judged.{Judged}
 use Rattle.waiting.specs.Waiting.{thenText}
 use Rattle.pending.specs.Pending.{waits}
-use Rattle.receiving.specs.Receiving.{Cs, unsaid, keptKeep, nextJudged, isPlainAt, keepOf}
+use Rattle.receive_defined.specs.Receiving.{Cs, unsaid, keptKeep, nextJudged, isPlainAt, keepOf}
 use Rattle.lent.specs.Represents.{Fixed, Awaits, Represents, signsIn}
 use Rattle.lent.proofs.Proposals.{Found, owing, owed-now, next-found, plain-law, written-form}
 use Rattle.lent.proofs.Inbox.{Box, Fitting, box-more}

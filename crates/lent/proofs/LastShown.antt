@@ -14,10 +14,10 @@ use Rattle.grammar.proofs.Basics.{or2}
 use Rattle.session.specs.Choices.{Shelf}
 use Rattle.session.specs.Session as on-lists
 use Rattle.session.specs.Calls as calls
-use Rattle.state.specs.declared.Sizes.{Sizes}
+use Rattle.session_memory.specs.declared.Sizes.{Sizes}
 use Rattle.pending.specs.Pending.{hasToGive}
-use Rattle.giving.specs.Giving.{Given, reply, giveOf}
-use Rattle.receiving.specs.Receiving.{Cs, Moved, byteOf, Run, run, stops, receiveFrom, Received, unchanged, receiveOf}
+use Rattle.give.specs.Giving.{Given, reply, giveOf}
+use Rattle.receive_defined.specs.Receiving.{Cs, Moved, byteOf, Run, run, stops, receiveFrom, Received, unchanged, receiveOf}
 use Rattle.lent.specs.Represents.{Fixed, Represents}
 use Rattle.lent.specs.Frame.{Spared}
 use Rattle.lent.specs.Link.{Moving, callOf}

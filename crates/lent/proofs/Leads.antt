@@ -9,15 +9,15 @@ use Rattle.session.specs.Choices.{Shelf}
 use Rattle.session.specs.Session as on-lists
 use Rattle.session.specs.Session.{Outcome, refuses, goesOn}
 use Rattle.transfer_step.specs.declared.Reader.{Reader}
-use Rattle.state.specs.State.{held}
-use Rattle.state.specs.declared.Await.{Await}
-use Rattle.state.specs.declared.Say.{Say}
-use Rattle.state.specs.declared.Keep.{Keep}
-use Rattle.state.specs.declared.Session.{Session}
-use Rattle.judge.specs.Judge.{judged, speakOf}
-use Rattle.judge.specs.declared.Judged.{Judged}
-use Rattle.judge.specs.declared.Marks.{Marks}
-use Rattle.receiving.specs.Receiving.{cs, markAll, settledOf, spokenOf, Settled, settled, settleOf, refusedOf}
+use Rattle.session_memory.specs.State.{held}
+use Rattle.session_memory.specs.declared.Await.{Await}
+use Rattle.session_memory.specs.declared.Say.{Say}
+use Rattle.session_memory.specs.declared.Keep.{Keep}
+use Rattle.session_memory.specs.declared.Session.{Session}
+use Rattle.line_effect.specs.Judge.{judged, speakOf}
+use Rattle.line_effect.specs.declared.Judged.{Judged}
+use Rattle.line_effect.specs.declared.Marks.{Marks}
+use Rattle.receive_defined.specs.Receiving.{cs, markAll, settledOf, spokenOf, Settled, settled, settleOf, refusedOf}
 use Rattle.lent.specs.Represents.{Fixed, Represents}
 use Rattle.lent.specs.Frame.{StatesOnly}
 use Rattle.lent.proofs.Parts.{Rest}

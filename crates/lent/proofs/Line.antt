@@ -31,22 +31,22 @@ use Rattle.transfer_step.specs.declared.Reader.{Reader}
 use Rattle.transfer_step.specs.Step.{startOf}
 use Rattle.transfer_read.specs.Feed.{roomOf}
 use Rattle.transfer_read.specs.Meaning.{Stands, numbersOf}
-use Rattle.state.specs.State.{held, fiveOf, noFive}
-use Rattle.state.specs.declared.Five.{Five}
-use Rattle.state.specs.declared.Await.{Await}
-use Rattle.state.specs.declared.Say.{Say}
-use Rattle.state.specs.declared.Keep.{Keep}
-use Rattle.state.specs.declared.Session.{Session}
-use Rattle.state.proofs.Laws.{held-five}
+use Rattle.session_memory.specs.State.{held, fiveOf, noFive}
+use Rattle.session_memory.specs.declared.Five.{Five}
+use Rattle.session_memory.specs.declared.Await.{Await}
+use Rattle.session_memory.specs.declared.Say.{Say}
+use Rattle.session_memory.specs.declared.Keep.{Keep}
+use Rattle.session_memory.specs.declared.Session.{Session}
+use Rattle.session_memory.proofs.Laws.{held-five}
 use Rattle.choice.specs.Decoded.{proposalsOf, placeCount}
 use Rattle.choice.specs.Choice.{answersOf}
-use Rattle.judge.specs.Judge.{noMarks, judged, wentOn, refusal, inPhase, toTurn, toTransfer, saysFirst, saysSigns, sidRead, plusFrom, nextAccepted, readerFor, endLine, withProposal, proposalLine, ffLine, fqLine, turnRead, speakOf}
-use Rattle.judge.specs.Judge as judge
-use Rattle.judge.specs.declared.Judged.{Judged}
-use Rattle.judge.specs.declared.Marks.{Marks}
+use Rattle.line_effect.specs.Judge.{noMarks, judged, wentOn, refusal, inPhase, toTurn, toTransfer, saysFirst, saysSigns, sidRead, plusFrom, nextAccepted, readerFor, endLine, withProposal, proposalLine, ffLine, fqLine, turnRead, speakOf}
+use Rattle.line_effect.specs.Judge as judge
+use Rattle.line_effect.specs.declared.Judged.{Judged}
+use Rattle.line_effect.specs.declared.Marks.{Marks}
 use Rattle.waiting.specs.Waiting.{firstText, thenText}
 use Rattle.pending.specs.Pending.{waits}
-use Rattle.receiving.specs.Receiving.{cs, unsaid, markAll}
+use Rattle.receive_defined.specs.Receiving.{cs, unsaid, markAll}
 use Rattle.lent.specs.Represents.{Fixed, Awaits, signsIn}
 use Rattle.lent.proofs.Lists.{FiveOk, five-ok}
 use Rattle.lent.proofs.Choices.{answers-law, answers-fit}

@@ -19,13 +19,13 @@ use Rattle.grammar.proofs.AsRead.{turn-read-ok}
 use Rattle.session.specs.Choices.{Shelf}
 use Rattle.session.specs.Session as on-lists
 use Rattle.session.specs.Session.{Memory, Phase, Outcome, goesOn}
-use Rattle.state.specs.declared.Line.{Line}
-use Rattle.state.specs.declared.Session.{Session}
-use Rattle.judge.specs.Judge.{wentOn, judgeOf, lineIn, sidLine, textLine, turnLine}
-use Rattle.judge.specs.declared.Judged.{Judged}
+use Rattle.session_memory.specs.declared.Line.{Line}
+use Rattle.session_memory.specs.declared.Session.{Session}
+use Rattle.line_effect.specs.Judge.{wentOn, judgeOf, lineIn, sidLine, textLine, turnLine}
+use Rattle.line_effect.specs.declared.Judged.{Judged}
 use Rattle.waiting.specs.Waiting.{waitingOf}
 use Rattle.pending.specs.Pending.{waits}
-use Rattle.receiving.specs.Receiving.{Cs, cs, Settled, longer, lineMoved, lineStepOf, refusedOf}
+use Rattle.receive_defined.specs.Receiving.{Cs, cs, Settled, longer, lineMoved, lineStepOf, refusedOf}
 use Rattle.lent.specs.Represents.{Fixed, Says, lineNumber, Awaits, Represents}
 use Rattle.lent.proofs.Says.{waits-none}
 use Rattle.lent.proofs.Parts.{Ready, block-of, signs-of, rest-of, holds-of, represents, refuse-law}

@@ -15,16 +15,16 @@ use Rattle.grammar.specs.Sid.{readSid, hasFeature}
 use Rattle.grammar.specs.Turns.{TurnLine, saysFF, saysFQ, endsBlock, notAllowed, proposes, readTurnLine}
 use Rattle.grammar.specs.Answers.{readFs}
 use Rattle.grammar.proofs.Basics.{by-cond}
-use Rattle.answer.specs.Answers.{answerNumber}
+use Rattle.fs_line.specs.Answers.{answerNumber}
 use Rattle.transfer_step.specs.declared.Reader.{Reader}
-use Rattle.state.specs.declared.Five.{Five}
-use Rattle.state.specs.declared.Await.{Await}
-use Rattle.state.specs.declared.Say.{Say}
-use Rattle.state.specs.declared.Keep.{Keep}
+use Rattle.session_memory.specs.declared.Five.{Five}
+use Rattle.session_memory.specs.declared.Await.{Await}
+use Rattle.session_memory.specs.declared.Say.{Say}
+use Rattle.session_memory.specs.declared.Keep.{Keep}
 use Rattle.choice.specs.Choice.{answersOf}
-use Rattle.judge.specs.Judge.{judged, refusal, sidRead, sidLine, textLine, endLine, answered, nextAccepted, readerFor, proposalLine, ffLine, fqLine, turnRead, turnLine, answerLine, judgeOf}
-use Rattle.judge.specs.declared.Marks.{Marks}
-use Rattle.judge.specs.declared.Judged.{Judged}
+use Rattle.line_effect.specs.Judge.{judged, refusal, sidRead, sidLine, textLine, endLine, answered, nextAccepted, readerFor, proposalLine, ffLine, fqLine, turnRead, turnLine, answerLine, judgeOf}
+use Rattle.line_effect.specs.declared.Marks.{Marks}
+use Rattle.line_effect.specs.declared.Judged.{Judged}
 
 -- an FS line is refused with 5 or 7
 number-other : (n : ℕ) (ln : Bytes) → eqb (answerNumber n ln) 1 ≡ false

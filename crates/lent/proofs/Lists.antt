@@ -8,9 +8,9 @@ use lib.ListN.{length}
 use Rattle.grammar.specs.Bytes.{Bytes}
 use Rattle.layout.specs.Layout.{entryAt}
 use Rattle.choice.specs.Decoded.{entriesFrom, entries}
-use Rattle.state.specs.State.{fiveOf}
-use Rattle.state.specs.declared.Five.{Five}
-use Rattle.state.proofs.Laws.{five-length}
+use Rattle.session_memory.specs.State.{fiveOf}
+use Rattle.session_memory.specs.declared.Five.{Five}
+use Rattle.session_memory.proofs.Laws.{five-length}
 
 -- ---------------------------------------------------------------- entries
 

@@ -12,16 +12,16 @@ use Rattle.grammar.proofs.Basics.{and2, no-both}
 use Rattle.session.specs.Choices.{Shelf}
 use Rattle.session.specs.Session as on-lists
 use Rattle.demand3.specs.Demand.{Good}
-use Rattle.state.specs.State.{sessionSize, loadOf, saveOf, sizesOut, saveSizes, freshOf}
-use Rattle.state.specs.declared.Session.{Session}
-use Rattle.state.proofs.Laws.{Sized, load-save, load-sizes, save-length, sizes-length, sizes-saved, save-sizes-kept, fresh-shaped}
+use Rattle.session_memory.specs.State.{sessionSize, loadOf, saveOf, sizesOut, saveSizes, freshOf}
+use Rattle.session_memory.specs.declared.Session.{Session}
+use Rattle.session_memory.proofs.Laws.{Sized, load-save, load-sizes, save-length, sizes-length, sizes-saved, save-sizes-kept, fresh-shaped}
 use Rattle.choice.specs.Decoded.{recordsOf, statesOf, knownBids, placeCount, recordCount}
 use Rattle.waiting.specs.Waiting.{waitingOf, firstText, thenText}
 use Rattle.pending.specs.Pending.{waits}
-use Rattle.form.specs.Form.{markOk, usedBy}
-use Rattle.giving.specs.Giving.{reply}
-use Rattle.opening.specs.Opening.{Opened, opened, entriesOk, sizesOk, knownOk, tableFault, openOf}
-use Rattle.receiving.specs.Receiving.{Cs, cs}
+use Rattle.form_test.specs.Form.{markOk, usedBy}
+use Rattle.give.specs.Giving.{reply}
+use Rattle.open.specs.Opening.{Opened, opened, entriesOk, sizesOk, knownOk, tableFault, openOf}
+use Rattle.receive_defined.specs.Receiving.{Cs, cs}
 use Rattle.lent.specs.Represents.{Fixed, Says, Awaits, Represents, messagesOf}
 use Rattle.lent.specs.Frame.{Spared}
 use Rattle.lent.specs.Calls.{Lent, Memory, fixedIn, lentIn, openedOn, sizesOf, withSession}

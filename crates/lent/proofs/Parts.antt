@@ -12,15 +12,15 @@ use Rattle.session.specs.Session as on-lists
 use Rattle.session.specs.Session.{Memory}
 use Rattle.layout.specs.Layout.{entryAt, proposalSize}
 use Rattle.transfer_step.specs.declared.Reader.{Reader}
-use Rattle.state.specs.State.{held}
-use Rattle.state.specs.declared.Five.{Five}
-use Rattle.state.specs.declared.Await.{Await}
-use Rattle.state.specs.declared.Say.{Say}
-use Rattle.state.specs.declared.Keep.{Keep}
+use Rattle.session_memory.specs.State.{held}
+use Rattle.session_memory.specs.declared.Five.{Five}
+use Rattle.session_memory.specs.declared.Await.{Await}
+use Rattle.session_memory.specs.declared.Say.{Say}
+use Rattle.session_memory.specs.declared.Keep.{Keep}
 use Rattle.choice.specs.Decoded.{recordsOf, statesOf, knownBids, placeCount}
 use Rattle.waiting.specs.Waiting.{waitingOf, firstText, thenText}
 use Rattle.pending.specs.Pending.{waits}
-use Rattle.receiving.specs.Receiving.{Cs, cs, refusedOf}
+use Rattle.receive_defined.specs.Receiving.{Cs, cs, refusedOf}
 use Rattle.lent.specs.Represents.{Fixed, Written, Says, Awaits, Represents}
 use Rattle.lent.proofs.Lists.{FiveOk}
 use Rattle.lent.proofs.Table.{Whole}

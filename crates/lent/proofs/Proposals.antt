@@ -27,10 +27,10 @@ use Rattle.transfer_step.specs.Step.{startOf}
 use Rattle.transfer_read.specs.Meaning.{numbersOf, Stands}
 use Rattle.choice.specs.Decoded.{entries, proposalsOf}
 use Rattle.choice.proofs.Laws.{entries-length, entries-at}
-use Rattle.judge.specs.Judge.{plusFrom}
-use Rattle.state.specs.State.{at, held}
-use Rattle.state.specs.declared.Five.{Five}
-use Rattle.form.specs.Form.{pluses}
+use Rattle.line_effect.specs.Judge.{plusFrom}
+use Rattle.session_memory.specs.State.{at, held}
+use Rattle.session_memory.specs.declared.Five.{Five}
+use Rattle.form_test.specs.Form.{pluses}
 use Rattle.lent.specs.Represents.{Written, signsIn}
 use Rattle.lent.proofs.Lists.{FiveOk, entries-same, entries-snoc}
 

@@ -17,12 +17,12 @@ use Rattle.session.specs.Session as on-lists
 use Rattle.session.specs.Calls as on-lists-calls
 use Rattle.log.specs.Log.{Event, took, gave}
 use Rattle.demand3.specs.Demand as on-lists-run
-use Rattle.state.specs.State.{loadOf, loadSizes}
-use Rattle.state.specs.declared.Sizes.{Sizes}
+use Rattle.session_memory.specs.State.{loadOf, loadSizes}
+use Rattle.session_memory.specs.declared.Sizes.{Sizes}
 use Rattle.pending.specs.Pending.{overOf}
-use Rattle.form.specs.Form.{markOk, sameSizes, lentSizes, stateOk, formOf}
-use Rattle.giving.specs.Giving.{Given, reply}
-use Rattle.receiving.specs.Receiving.{Cs, cs, Run, Received, unchanged, saved, receiveFrom, receiveOf}
+use Rattle.form_test.specs.Form.{markOk, sameSizes, lentSizes, stateOk, formOf}
+use Rattle.give.specs.Giving.{Given, reply}
+use Rattle.receive_defined.specs.Receiving.{Cs, cs, Run, Received, unchanged, saved, receiveFrom, receiveOf}
 use Rattle.lent.specs.Represents.{Fixed}
 use Rattle.lent.specs.Link.{callOf}
 use Rattle.lent.specs.Calls.{Lent, Call, receives, gives, receivesOther, givesOther, Other, instead, received, given, leftBy, withSession, tookBy, gaveBy, run}

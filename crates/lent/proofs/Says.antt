@@ -13,8 +13,8 @@ use Rattle.grammar.specs.Turns.{Proposal}
 use Rattle.grammar.specs.Transfers.{writeTransfer}
 use Rattle.mail.specs.Mail.{Record, headingFor, proposalOf, recordAt, transferOf, turnText, transfersText}
 use Rattle.choice.specs.Decoded.{recordsOf}
-use Rattle.state.specs.declared.Five.{Five}
-use Rattle.state.specs.declared.Say.{Say}
+use Rattle.session_memory.specs.declared.Five.{Five}
+use Rattle.session_memory.specs.declared.Say.{Say}
 use Rattle.waiting.specs.Waiting.{proposalAt, blockText, sendingText, firstText, thenText}
 use Rattle.pending.specs.Pending.{waits}
 use Rattle.lent.proofs.Table.{Whole, record-at}

@@ -16,21 +16,21 @@ use Rattle.session.proofs.Choices.{few}
 use Rattle.session.specs.Session as on-lists
 use Rattle.session.specs.Session.{Memory, Phase, Outcome, refuses, goesOn}
 use Rattle.transfer_step.specs.declared.Reader.{Reader}
-use Rattle.state.specs.State.{held, fiveOf, noFive}
-use Rattle.state.specs.declared.Five.{Five}
-use Rattle.state.specs.declared.Await.{Await}
-use Rattle.state.specs.declared.Say.{Say}
-use Rattle.state.specs.declared.Keep.{Keep}
-use Rattle.state.specs.declared.Session.{Session}
-use Rattle.state.proofs.Laws.{held-five}
+use Rattle.session_memory.specs.State.{held, fiveOf, noFive}
+use Rattle.session_memory.specs.declared.Five.{Five}
+use Rattle.session_memory.specs.declared.Await.{Await}
+use Rattle.session_memory.specs.declared.Say.{Say}
+use Rattle.session_memory.specs.declared.Keep.{Keep}
+use Rattle.session_memory.specs.declared.Session.{Session}
+use Rattle.session_memory.proofs.Laws.{held-five}
 use Rattle.choice.specs.Decoded.{statesOf, proposalsOf}
 use Rattle.choice.specs.Choice.{chooseOf}
-use Rattle.judge.specs.Judge.{picked, flagged, settledKeep, sends, inPhase, toTurn, toAnswer, saysThen, spoken, speaking, speakOf}
-use Rattle.judge.specs.Judge as judge
-use Rattle.judge.specs.declared.Spoken.{Spoken}
+use Rattle.line_effect.specs.Judge.{picked, flagged, settledKeep, sends, inPhase, toTurn, toAnswer, saysThen, spoken, speaking, speakOf}
+use Rattle.line_effect.specs.Judge as judge
+use Rattle.line_effect.specs.declared.Spoken.{Spoken}
 use Rattle.waiting.specs.Waiting.{waitingOf, firstText, thenText, blockText}
 use Rattle.pending.specs.Pending.{waits}
-use Rattle.receiving.specs.Receiving.{cs, unsaid, markAll}
+use Rattle.receive_defined.specs.Receiving.{cs, unsaid, markAll}
 use Rattle.lent.specs.Represents.{Fixed, Awaits, Represents}
 use Rattle.lent.proofs.Lists.{FiveOk, five-ok}
 use Rattle.lent.proofs.Table.{records-mark, whole-mark, states-marked, states-declined, picked-accepted, picked-few, flags-deferred, length-flagged, zerosAfter}

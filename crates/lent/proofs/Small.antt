@@ -20,15 +20,15 @@ use Rattle.transfer_step.specs.declared.Outcome.the-variants.{More, Whole, Malf
 use Rattle.transfer_step.specs.Step.{stepOf, startOf, reader}
 use Rattle.transfer_step.proofs.Ways.{by-ways}
 use Rattle.transfer_read.specs.Feed.{roomOf, headingPut, storePut}
-use Rattle.state.specs.State.{held}
-use Rattle.state.specs.declared.Await.{Await}
-use Rattle.state.specs.declared.Say.{Say}
-use Rattle.state.specs.declared.Keep.{Keep}
-use Rattle.state.specs.declared.Session.{Session}
-use Rattle.judge.specs.Judge.{nextAccepted, readerFor, judgeOf}
-use Rattle.judge.specs.declared.Judged.{Judged}
+use Rattle.session_memory.specs.State.{held}
+use Rattle.session_memory.specs.declared.Await.{Await}
+use Rattle.session_memory.specs.declared.Say.{Say}
+use Rattle.session_memory.specs.declared.Keep.{Keep}
+use Rattle.session_memory.specs.declared.Session.{Session}
+use Rattle.line_effect.specs.Judge.{nextAccepted, readerFor, judgeOf}
+use Rattle.line_effect.specs.declared.Judged.{Judged}
 use Rattle.pending.specs.Pending.{waits}
-use Rattle.receiving.specs.Receiving.{Cs, Moved, markAll, refusedOf, spokenOf, Settled, settleOf, lineMoved, lineStepOf, nextJudged, keepOf, isPlainAt, reading, transferMoved, transferStepOf, byteOf, Run, stops, receiveFrom}
+use Rattle.receive_defined.specs.Receiving.{Cs, Moved, markAll, refusedOf, spokenOf, Settled, settleOf, lineMoved, lineStepOf, nextJudged, keepOf, isPlainAt, reading, transferMoved, transferStepOf, byteOf, Run, stops, receiveFrom}
 use Rattle.lent.proofs.LineWays.{by-line-ways}
 
 -- ---------------------------------------------------------------- the reading's numbers

@@ -15,9 +15,9 @@ use Rattle.transfer_step.specs.declared.Outcome.the-variants.{More, Whole, Malf
 use Rattle.transfer_step.specs.Step.{goesOn, stepOf}
 use Rattle.transfer_step.proofs.Ways.{by-ways}
 use Rattle.transfer_read.specs.Feed.{headingPut, storePut, roomOf}
-use Rattle.state.specs.declared.Session.{Session}
+use Rattle.session_memory.specs.declared.Session.{Session}
 use Rattle.pending.specs.Pending.{waits, overOf}
-use Rattle.receiving.specs.Receiving.{Cs, Moved, reading, transferMoved, transferStep, transferStepOf, lineByteOf, byteOf, stops}
+use Rattle.receive_defined.specs.Receiving.{Cs, Moved, reading, transferMoved, transferStep, transferStepOf, lineByteOf, byteOf, stops}
 
 -- only a byte at which the reading goes on is put anywhere
 put-none : (room : ℕ) (r : Reader) (b : ℕ) → goesOn (stepOf room r b .outcome) ≡ false → stepOf room r b .put ≡ 0

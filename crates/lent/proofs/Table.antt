@@ -18,9 +18,9 @@ use Rattle.layout.specs.Layout.{byteAt, entryAt, recordSize, recordOf}
 use Rattle.layout.proofs.Places.{part-in}
 use Rattle.choice.specs.Decoded.{entries, recordCount, recordsOf, statesOf}
 use Rattle.choice.proofs.Laws.{entries-length, entries-at}
-use Rattle.judge.specs.Judge.{picked, flagged}
+use Rattle.line_effect.specs.Judge.{picked, flagged}
 use Rattle.session.specs.Session.{deferring}
-use Rattle.receiving.specs.Receiving.{markAll}
+use Rattle.receive_defined.specs.Receiving.{markAll}
 use Rattle.lent.proofs.Lists.{entries-same}
 
 -- ---------------------------------------------------------------- one state byte

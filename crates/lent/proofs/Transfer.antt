@@ -21,10 +21,10 @@ use Rattle.transfer_read.specs.Feed.{Run, run, after, feedOf, headingPut, store
 use Rattle.transfer_read.specs.Meaning.{Stands, FedAs, Kept, Untouched}
 use Rattle.transfer_read.proofs.Follows.{feed-stands}
 use Rattle.transfer_read.proofs.Untouched.{feed-untouched}
-use Rattle.state.specs.declared.Session.{Session}
+use Rattle.session_memory.specs.declared.Session.{Session}
 use Rattle.waiting.specs.Waiting.{waitingOf, firstText, thenText}
 use Rattle.pending.specs.Pending.{waits}
-use Rattle.receiving.specs.Receiving.{Cs, cs, reading, refusedOf}
+use Rattle.receive_defined.specs.Receiving.{Cs, cs, reading, refusedOf}
 use Rattle.lent.specs.Represents.{Fixed, Awaits, Represents}
 use Rattle.lent.proofs.Inbox.{box-store}
 use Rattle.lent.proofs.Frame.{kept-behind}

@@ -17,9 +17,9 @@ use Rattle.transfer_step.specs.declared.Outcome.the-variants.{Whole, Malformed,
 use Rattle.transfer_read.specs.Feed.{roomOf}
 use Rattle.transfer_read.specs.Meaning.{FedAs, Stands, Kept}
 use Rattle.transfer_read.proofs.Untouched.{kept-same, kept-then}
-use Rattle.state.specs.declared.Session.{Session}
+use Rattle.session_memory.specs.declared.Session.{Session}
 use Rattle.pending.specs.Pending.{waits}
-use Rattle.receiving.specs.Receiving.{Cs, cs, Moved, moved, transferMoved, transferStepOf, keepOf, keptInbox, refusedOf}
+use Rattle.receive_defined.specs.Receiving.{Cs, cs, Moved, moved, transferMoved, transferStepOf, keepOf, keptInbox, refusedOf}
 use Rattle.lent.specs.Represents.{Fixed, Awaits, Represents}
 use Rattle.lent.specs.Frame.{reachOf}
 use Rattle.lent.specs.Link.{Moving}

@@ -15,8 +15,8 @@ use Rattle.grammar.proofs.Basics.{no-both}
 use Rattle.session.specs.Choices.{Shelf}
 use Rattle.session.specs.Session as on-lists
 use Rattle.session.specs.Session.{Phase}
-use Rattle.state.specs.declared.Session.{Session}
-use Rattle.receiving.specs.Receiving.{Cs}
+use Rattle.session_memory.specs.declared.Session.{Session}
+use Rattle.receive_defined.specs.Receiving.{Cs}
 use Rattle.lent.specs.Laid.{bodiesBytes}
 use Rattle.lent.specs.Represents.{Fixed, lineNumber, Awaits, Represents}
 use Rattle.lent.specs.Frame.{reachOf, Spared}

@@ -7,12 +7,12 @@ use lib.Dec.{ltb}
 use lib.ListN.{length, take, drop}
 use Rattle.grammar.specs.Bytes.{Bytes, all}
 use Rattle.log.specs.Log.{Event, took, gave}
-use Rattle.state.specs.State.{loadOf}
-use Rattle.state.specs.declared.Sizes.{Sizes}
-use Rattle.form.specs.Form.{sameSizes, lentSizes}
-use Rattle.giving.specs.Giving.{Given, giveOf}
-use Rattle.opening.specs.Opening.{Opened, openOf}
-use Rattle.receiving.specs.Receiving.{Received, receiveOf}
+use Rattle.session_memory.specs.State.{loadOf}
+use Rattle.session_memory.specs.declared.Sizes.{Sizes}
+use Rattle.form_test.specs.Form.{sameSizes, lentSizes}
+use Rattle.give.specs.Giving.{Given, giveOf}
+use Rattle.open.specs.Opening.{Opened, openOf}
+use Rattle.receive_defined.specs.Receiving.{Received, receiveOf}
 use Rattle.lent.specs.Represents.{Fixed}
 use Rattle.lent.specs.Frame.{reachOf}
 

@@ -8,9 +8,9 @@ use Rattle.log.specs.Log.{Event, Log, log}
 use Rattle.layout.specs.Layout.{entrySize}
 use Rattle.choice.specs.Decoded.{recordsOf, statesOf}
 use Rattle.grammar.specs.Refusals.{badMemory}
-use Rattle.giving.specs.Giving.{reply}
-use Rattle.opening.specs.Opening.{Opened}
-use Rattle.receiving.specs.Receiving.{unchanged}
+use Rattle.give.specs.Giving.{reply}
+use Rattle.open.specs.Opening.{Opened}
+use Rattle.receive_defined.specs.Receiving.{unchanged}
 use Rattle.lent.specs.Laid.{entriesBytes, bodiesBytes}
 use Rattle.lent.specs.Frame.{withStates}
 use Rattle.lent.specs.Calls.{Lent, Buffer, Memory, fixedIn, lentIn, Other, Call, openedOn, received, given, sizesOf, messageCount, storeReach, withSession, instead, run}

@@ -8,8 +8,8 @@ use lib.ListN.{length, set}
 use Rattle.grammar.specs.Bytes.{Bytes}
 use Rattle.layout.specs.Layout.{byteAt, recordSize, entrySize}
 use Rattle.transfer_read.specs.Meaning.{Kept}
-use Rattle.state.specs.declared.Session.{Session}
-use Rattle.receiving.specs.Receiving.{Cs}
+use Rattle.session_memory.specs.declared.Session.{Session}
+use Rattle.receive_defined.specs.Receiving.{Cs}
 
 -- ---------------------------------------------------------------- the table
 

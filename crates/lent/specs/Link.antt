@@ -6,8 +6,8 @@ use Rattle.session.specs.Choices.{Shelf}
 use Rattle.session.specs.Session as on-lists
 use Rattle.session.specs.Calls as on-lists-calls
 use Rattle.demand3.specs.Demand as on-lists-run
-use Rattle.state.specs.declared.Sizes.{Sizes}
-use Rattle.receiving.specs.Receiving.{Cs, Moved, Run}
+use Rattle.session_memory.specs.declared.Sizes.{Sizes}
+use Rattle.receive_defined.specs.Receiving.{Cs, Moved, Run}
 use Rattle.lent.specs.Represents.{Fixed, Represents}
 use Rattle.lent.specs.Frame.{Spared}
 use Rattle.lent.specs.Calls.{Call, receives, gives, receivesOther, givesOther}

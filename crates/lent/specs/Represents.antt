@@ -1,4 +1,4 @@
--- Lent memory and the state in it (Cs of crates/receiving) represent a session on lists (crates/session). One relation holds both what the
+-- Lent memory and the state in it (Cs of crates/receive_defined) represent a session on lists (crates/session). One relation holds both what the
 -- bytes mean and what keeps them in order.
 use mathlib.Core.Path.{_≡_}
 use mathlib.Core.Bool.{true, false, cond}
@@ -16,15 +16,15 @@ use Rattle.session.specs.Session as on-lists
 use Rattle.layout.specs.Layout.{entryAt, recordSize, entrySize, proposalSize, proposalOf, messageOf, bodyStart, bodyLength}
 use Rattle.transfer_read.specs.Feed.{roomOf}
 use Rattle.transfer_read.specs.Meaning.{Stands}
-use Rattle.state.specs.State.{held}
-use Rattle.state.specs.declared.Five.{Five}
-use Rattle.state.specs.declared.Await.{Await}
-use Rattle.state.specs.declared.Session.{Session}
+use Rattle.session_memory.specs.State.{held}
+use Rattle.session_memory.specs.declared.Five.{Five}
+use Rattle.session_memory.specs.declared.Await.{Await}
+use Rattle.session_memory.specs.declared.Session.{Session}
 use Rattle.choice.specs.Decoded.{recordsOf, statesOf, knownBids, proposalsOf, placeCount, recordCount}
 use Rattle.waiting.specs.Waiting.{waitingOf}
 use Rattle.pending.specs.Pending.{waits}
-use Rattle.form.specs.Form.{usedBy}
-use Rattle.receiving.specs.Receiving.{Cs}
+use Rattle.form_test.specs.Form.{usedBy}
+use Rattle.receive_defined.specs.Receiving.{Cs}
 use Rattle.lent.specs.Laid.{proposalBytes, messageBytes, bodiesBytes}
 
 -- The lent bytes that no call changes.

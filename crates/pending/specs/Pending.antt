@@ -1,8 +1,8 @@
 -- Whether bytes wait for give, and whether the session has ended, as session memory says it.
 use mathlib.Core.Bool.{Bool, true, false, cond, not}
 use lib.Dec.{eqb, ltb}
-use Rattle.state.specs.declared.Say.{Say}
-use Rattle.state.specs.declared.Session.{Session}
+use Rattle.session_memory.specs.declared.Say.{Say}
+use Rattle.session_memory.specs.declared.Session.{Session}
 
 -- Something waits.
 unfoldable pub waits : Say → Bool

@@ -1,6 +1,6 @@
 // Whether bytes wait for give, and whether the session has ended: two facts, not one.
-use state::Say;
-use state::Session;
+use session_memory::Say;
+use session_memory::Session;
 ghost use mathlib.Core.Path.{_≡_};
 ghost use Rattle.pending.specs.Pending.{waits, overOf, hasToGive, silentOf};
 

@@ -9,13 +9,13 @@ use lib.Seq.{take-all, drop-cons, drop-drop}
 use borrow.Author.Tests.{eq-eqb, ne-eqb}
 use Rattle.grammar.specs.Bytes.{Bytes}
 use Rattle.layout.specs.Layout.{byteAt}
-use Rattle.state.specs.State.{loadOf, saveOf}
-use Rattle.state.specs.declared.Session.{Session}
+use Rattle.session_memory.specs.State.{loadOf, saveOf}
+use Rattle.session_memory.specs.declared.Session.{Session}
 use Rattle.pending.specs.Pending.{overOf}
-use Rattle.form.specs.Form.{formOf}
-use Rattle.giving.specs.Giving.{reply}
-use Rattle.receiving.specs.Receiving.{Cs, cs, moved, Run, run, stops, receiveFrom, Received, receiveOf}
-use Rattle.portion.specs.Portion.{portionOf, Roomy}
+use Rattle.form_test.specs.Form.{formOf}
+use Rattle.give.specs.Giving.{reply}
+use Rattle.receive_defined.specs.Receiving.{Cs, cs, moved, Run, run, stops, receiveFrom, Received, receiveOf}
+use Rattle.receive_step.specs.Portion.{portionOf, Roomy}
 use Rattle.lent.specs.Represents.{Fixed}
 use Rattle.lent.proofs.FormLaws.{Octets, octets-nil, octets-cons, octets-drop}
 use Rattle.lent.proofs.FormFacts.{Good}

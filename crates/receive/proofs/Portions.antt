@@ -20,10 +20,10 @@ use Rattle.transfer_step.specs.declared.Outcome.the-variants.{More, Whole, Malf
 use Rattle.transfer_step.specs.Step.{goesOn, stepOf}
 use Rattle.transfer_read.specs.Feed as transfer
 use Rattle.transfer_read.specs.Feed.{after, headingPut, storePut, roomOf, feedOf}
-use Rattle.state.specs.declared.Session.{Session}
+use Rattle.session_memory.specs.declared.Session.{Session}
 use Rattle.pending.specs.Pending.{waits, overOf}
-use Rattle.receiving.specs.Receiving.{Cs, Moved, cs, moved, reading, transferMoved, transferStepOf, byteOf, Run, run, stops, receiveFrom}
-use Rattle.portion.specs.Portion.{roomLeft, transferPortionOf, ofTransfer, counted, portionOf, Roomy}
+use Rattle.receive_defined.specs.Receiving.{Cs, Moved, cs, moved, reading, transferMoved, transferStepOf, byteOf, Run, run, stops, receiveFrom}
+use Rattle.receive_step.specs.Portion.{roomLeft, transferPortionOf, ofTransfer, counted, portionOf, Roomy}
 use Rattle.lent.specs.Represents.{Fixed}
 use Rattle.lent.proofs.FormLaws.{Octets, octets-first, octets-rest}
 use Rattle.lent.proofs.FormFacts.{Good}

@@ -1,6 +1,6 @@
 -- The facts of the form test hold of a state and the lent bytes, whatever the sizes and the stores that no call changes.
 use Prim.Native.Nat.{ℕ}
-use Rattle.receiving.specs.Receiving.{Cs}
+use Rattle.receive_defined.specs.Receiving.{Cs}
 use Rattle.lent.specs.Represents.{Fixed}
 use Rattle.lent.proofs.FormFacts.{Good}
 

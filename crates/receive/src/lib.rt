@@ -1,9 +1,9 @@
 // The call receive.
-use giving::Reply;
-use portion::Taken;
-use state::Session;
+use give::Reply;
+use receive_step::Taken;
+use session_memory::Session;
 ghost use mathlib.Core.Path.{_≡_};
-ghost use Rattle.receiving.specs.Receiving.{cs, run, receiveFrom, receiveOf};
+ghost use Rattle.receive_defined.specs.Receiving.{cs, run, receiveFrom, receiveOf};
 ghost use Rattle.receive.specs.Sound.{Sound};
 
 // Takes bytes portion after portion, until one is refused, the session is over or they end.
@@ -21,7 +21,7 @@ fn take_bytes(
     let mut t = s;
     let mut i = 0usize;
     while i < bytes.len() {
-        let r = portion::portion(t, &bytes[i..], table, known, inbox, store);
+        let r = receive_step::portion(t, &bytes[i..], table, known, inbox, store);
         let end = i + r.count;
         t = r.session;
         if r.answer != 0 {
@@ -61,14 +61,14 @@ pub fn receive<'a>(
 ) -> Reply
     ensures { λ r. ⌜ record { reply = r; sm = now (sm .exit); table = now (table .exit); inbox = now (inbox .exit); store = now (store .exit) } ≡ receiveOf (now (sm .entry)) (now (table .entry)) (now (titles .entry)) (now (names .entry)) (now (bodies .entry)) (now (known .entry)) (now (inbox .entry)) (now (store .entry)) (now (bytes .entry)) ⌝ }
 {
-    if !form::form(sm, table, titles, names, bodies, known, inbox, store) {
+    if !form_test::form(sm, table, titles, names, bodies, known, inbox, store) {
         return Reply {
             answer: 1,
             place: 255,
             count: 0,
         };
     }
-    let s = state::load(sm);
+    let s = session_memory::load(sm);
     if pending::is_over(s) {
         return Reply {
             answer: 12,

@@ -11,12 +11,12 @@ use Rattle.grammar.specs.Bytes.{Bytes}
 use Rattle.buffer.specs.Put.{putBytes}
 use Rattle.buffer.specs.declared.Cursor.{Cursor}
 use Rattle.layout.specs.Layout.{entryOut}
-use Rattle.state.specs.State.{held}
-use Rattle.state.specs.declared.Five.{Five}
-use Rattle.state.specs.declared.Session.{Session}
-use Rattle.judge.specs.declared.Judged.{Judged}
+use Rattle.session_memory.specs.State.{held}
+use Rattle.session_memory.specs.declared.Five.{Five}
+use Rattle.session_memory.specs.declared.Session.{Session}
+use Rattle.line_effect.specs.declared.Judged.{Judged}
 use Rattle.five.proofs.Laws.{held-cons, held-end}
-use Rattle.receiving.specs.Receiving.{markAll, refusedOf, spokenOf, settled, settleOf}
+use Rattle.receive_defined.specs.Receiving.{markAll, refusedOf, spokenOf, settled, settleOf}
 
 -- ---------------------------------------------------------------- marks
 

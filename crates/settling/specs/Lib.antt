@@ -1,1 +1,1 @@
--- The definitions are those of crates/receiving.
+-- The definitions are those of crates/receive_defined.

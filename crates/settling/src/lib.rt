@@ -1,22 +1,22 @@
 // What a whole line or message leaves: marks in the table, our turn, an entry in the inbox.
 use buffer::Cursor;
 use five::count_of;
-use judge::Judged;
 use layout::entry;
+use line_effect::Judged;
 use part::at_most;
-use state::Await;
-use state::Five;
-use state::Keep;
-use state::Reading;
-use state::Say;
-use state::Session;
+use session_memory::Await;
+use session_memory::Five;
+use session_memory::Keep;
+use session_memory::Reading;
+use session_memory::Say;
+use session_memory::Session;
 ghost use mathlib.Core.Path.{_≡_};
 ghost use Prim.Native.Nat.{_*_};
 ghost use lib.ListN.{set, take};
 ghost use Rattle.buffer.specs.Put.{putBytes};
 ghost use Rattle.layout.specs.Layout.{entryAt, entryOut};
-ghost use Rattle.state.specs.State.{at, held};
-ghost use Rattle.receiving.specs.Receiving.{markAll, refusedOf, settledOf, spokenOf, settled, settleOf, keptInbox};
+ghost use Rattle.session_memory.specs.State.{at, held};
+ghost use Rattle.receive_defined.specs.Receiving.{markAll, refusedOf, settledOf, spokenOf, settled, settleOf, keptInbox};
 
 // 01's number, and the session after it.
 pub struct Left {
@@ -93,7 +93,7 @@ fn spoken(s: Session, j: Judged, after_cr: bool, table: &[u8]) -> Session
         return settled_as(s, j, after_cr, awaited, say);
     }
     let keep = j.keep;
-    let r = judging::speak(awaited, say, keep, table, j.speaks == 2);
+    let r = awaited_line::speak(awaited, say, keep, table, j.speaks == 2);
     let next = r.now;
     let said = r.say;
     settled_as(s, j, after_cr, next, said)

@@ -3,15 +3,15 @@ use buffer::Cursor;
 use number_write::bytes2;
 use number_write::bytes4;
 use number_write::bytes8;
-use state::Five;
-use state::Session;
-use state::Sizes;
+use session_memory::Five;
+use session_memory::Session;
+use session_memory::Sizes;
 ghost use mathlib.Core.Path.{_≡_};
 ghost use mathlib.Core.Bool.{cond};
 ghost use mathlib.Core.List.{_++_};
 ghost use Rattle.buffer.specs.Put.{Puts};
 ghost use Rattle.layout.specs.Layout.{le2, le4, le8};
-ghost use Rattle.state.specs.State.{flag, fiveOut, smallOut, numbersOut, arraysOut, saveOf, saveSizes};
+ghost use Rattle.session_memory.specs.State.{flag, fiveOut, smallOut, numbersOut, arraysOut, saveOf, saveSizes};
 
 // 1 for yes, 0 for no.
 fn flag(b: bool) -> u8

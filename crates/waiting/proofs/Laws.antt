@@ -19,8 +19,8 @@ use Rattle.buffer.specs.Put.{Puts, putBytes, putCursor}
 use Rattle.buffer.specs.declared.Cursor.{Cursor}
 use Rattle.buffer.proofs.Laws.{cursor, after-cursor, after-bytes, puts-as}
 use Rattle.our_line.specs.Lines.{fsText}
-use Rattle.state.specs.State.{held}
-use Rattle.state.specs.declared.Five.{Five}
+use Rattle.session_memory.specs.State.{held}
+use Rattle.session_memory.specs.declared.Five.{Five}
 use Rattle.waiting.specs.Waiting.{proposalAt, headingPlace, firstText, blockText, sendingText, thenText}
 
 -- ---------------------------------------------------------------- up to five numbers

@@ -19,9 +19,9 @@ use Rattle.mail.specs.Mail.{Record, headingFor, transferOf, proposalLines, turn
 use Rattle.layout.specs.Layout.{byteAt, le2At, le4At, fieldIn, entryAt, recordSize, recordOf}
 use Rattle.layout.proofs.Laws.{le2-small}
 use Rattle.our_line.specs.Lines.{fsText}
-use Rattle.state.specs.State.{held}
-use Rattle.state.specs.declared.Five.{Five}
-use Rattle.state.specs.declared.Session.{Session}
+use Rattle.session_memory.specs.State.{held}
+use Rattle.session_memory.specs.declared.Five.{Five}
+use Rattle.session_memory.specs.declared.Session.{Session}
 use Rattle.waiting.specs.Waiting.{proposalAt, firstText, blockText, sendingText, thenText, waitingOf}
 
 -- ---------------------------------------------------------------- parts, fields and lists of five

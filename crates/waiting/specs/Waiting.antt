@@ -10,9 +10,9 @@ use Rattle.mail.specs.Mail as mail
 use Rattle.mail.specs.Mail.{turnText}
 use Rattle.layout.specs.Layout.{entryAt, recordSize, recordOf}
 use Rattle.our_line.specs.Lines.{fsText}
-use Rattle.state.specs.State.{held}
-use Rattle.state.specs.declared.Five.{Five}
-use Rattle.state.specs.declared.Session.{Session}
+use Rattle.session_memory.specs.State.{held}
+use Rattle.session_memory.specs.declared.Five.{Five}
+use Rattle.session_memory.specs.declared.Session.{Session}
 
 -- The proposal of the record at a place of the table.
 abbrev pub proposalAt : Bytes → ℕ → Proposal

@@ -7,8 +7,8 @@ use number_read::number2;
 use number_read::number4;
 use our_line::Fixed;
 use part::part;
-use state::Five;
-use state::Session;
+use session_memory::Five;
+use session_memory::Session;
 ghost use mathlib.Core.Path.{_≡_};
 ghost use mathlib.Core.List.{[]};
 ghost use Prim.Native.Nat.{_+_, min};
@@ -19,7 +19,7 @@ ghost use Rattle.grammar.specs.Transfers.{headingOf};
 ghost use Rattle.mail.specs.Mail.{proposalOf, transferOf};
 ghost use Rattle.layout.specs.Layout.{byteAt, le4At, recordOf};
 ghost use Rattle.buffer.specs.Put.{Puts};
-ghost use Rattle.state.specs.State.{held};
+ghost use Rattle.session_memory.specs.State.{held};
 ghost use Rattle.waiting.specs.Waiting.{headingPlace, firstText, blockText, sendingText, thenText, waitingOf};
 
 // How many of up to five numbers are in use.

@@ -9,7 +9,7 @@ ghost use Rattle.grammar.specs.Lines.{trim, lineByte};
 ghost use Rattle.grammar.specs.Sid.{readSid, sidNumber};
 ghost use Rattle.grammar.specs.Turns.{readTurnLine};
 ghost use Rattle.line.specs.Byte.{lineByteIs};
-ghost use Rattle.answer.specs.Answers.{answerNumber, answerSigns};
+ghost use Rattle.fs_line.specs.Answers.{answerNumber, answerSigns};
 ghost use Rattle.words_read.specs.Numbers.{holds, lineByteCode, sidLevels, turnLineCode, NumbersOf, proposalNumbers, toldNumbers, toldCode};
 
 // How many bytes of a line are judged: all but the spaces at its end.
@@ -112,7 +112,7 @@ pub extern "C" fn words_read_turn_line(line: &[u8], framed: u8, out: &mut [u64; 
 pub extern "C" fn words_read_fs(line: &[u8], proposals: usize, signs: &mut [u8; 5]) -> u8
     ensures { λ r. ⌜ (r ≡ answerNumber proposals (now (line .entry))) × (now (signs .exit) ≡ answerSigns proposals (now (line .entry))) ⌝ }
 {
-    let answers = answer::read_fs(line, proposals);
+    let answers = fs_line::read_fs(line, proposals);
     let bytes = answers.signs;
     *signs = bytes;
     answers.number

@@ -2,7 +2,7 @@
 use mathlib.Core.Path.{sym, _∙_}
 use borrow.Author.Needs.{needs}
 use Rattle.choice.specs.Promises.{proposalsAt}
-use Rattle.state.specs.State.{held}
+use Rattle.session_memory.specs.State.{held}
 use Rattle.choice.proofs.Signs.{has-in-table, has-known, has-kept, has-promised}
 use Rattle.choice.proofs.have_bid.Statement.{statement}
 use Rattle.choice.proofs.have_bid.Tie as tie

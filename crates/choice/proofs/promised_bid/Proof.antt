@@ -4,7 +4,7 @@ use Prim.Native.Nat.{_≤_, _-_}
 use lib.ListN.{drop}
 use borrow.Author.Needs.{needs}
 use Rattle.session.specs.Choices.{among, proposalBids}
-use Rattle.state.specs.State.{held}
+use Rattle.session_memory.specs.State.{held}
 use Rattle.choice.specs.Promises.{proposalsAt}
 use Rattle.choice.proofs.Laws.{promised-more, promised-found, promised-end}
 use Rattle.choice.proofs.promised_bid.Statement.{statement}

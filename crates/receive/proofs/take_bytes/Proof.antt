@@ -4,7 +4,7 @@ use mathlib.Core.Path.{_≡_, refl}
 use Prim.Native.Nat.{_-_, _≤_}
 use native.Mathlib.Omega.{arith}
 use lib.ListN.{length}
-use Rattle.receiving.specs.Receiving.{cs}
+use Rattle.receive_defined.specs.Receiving.{cs}
 use Rattle.receive.proofs.Laws.{octets-of, sound-roomy, Taking, take-starts, take-ends, count-least, count-most, take-refused, take-over, take-more}
 use borrow.Author.Needs.{needs}
 use Rattle.receive.proofs.take_bytes.Statement.{statement}

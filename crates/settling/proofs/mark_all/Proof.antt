@@ -2,8 +2,8 @@
 use mathlib.Core.Path.{_≡_, refl, sym, ap, _∙_}
 use Prim.Native.Nat.{_+_, _*_, _-_}
 use lib.ListN.{length, getD, drop}
-use Rattle.state.specs.State.{held}
-use Rattle.receiving.specs.Receiving.{markAll}
+use Rattle.session_memory.specs.State.{held}
+use Rattle.receive_defined.specs.Receiving.{markAll}
 use Rattle.settling.proofs.Laws.{mark-more, mark-end, mark-length}
 use borrow.Author.Needs.{needs}
 use Rattle.settling.proofs.mark_all.Statement.{statement}

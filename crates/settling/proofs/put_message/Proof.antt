@@ -1,5 +1,5 @@
 -- The parts of the session.
-use Rattle.receiving.specs.Receiving.{keptInbox}
+use Rattle.receive_defined.specs.Receiving.{keptInbox}
 use borrow.Author.Needs.{needs}
 use Rattle.settling.proofs.put_message.Statement.{statement}
 use Rattle.settling.proofs.put_message.Tie as tie

@@ -1,6 +1,6 @@
 -- Field by field.
 use mathlib.Core.Path.{refl}
-use Rattle.receiving.specs.Receiving.{refusedOf}
+use Rattle.receive_defined.specs.Receiving.{refusedOf}
 use Rattle.settling.proofs.refused.Statement.{statement}
 use Rattle.settling.proofs.refused.Tie as tie
 

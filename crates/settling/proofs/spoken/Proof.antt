@@ -1,8 +1,8 @@
 -- Whether it is our turn.
 use mathlib.Core.Path.{ap, _∙_}
 use borrow.Author.Tests.{eq-eqb, ne-eqb}
-use Rattle.judge.specs.declared.Spoken.{Spoken}
-use Rattle.receiving.specs.Receiving.{settledOf}
+use Rattle.line_effect.specs.declared.Spoken.{Spoken}
+use Rattle.receive_defined.specs.Receiving.{settledOf}
 use borrow.Author.Needs.{needs}
 use Rattle.settling.proofs.spoken.Statement.{statement}
 use Rattle.settling.proofs.spoken.Tie as tie

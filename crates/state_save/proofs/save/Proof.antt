@@ -1,6 +1,6 @@
 -- Bytes, numbers, arrays: three texts put as one from byte 60 on.
 use Rattle.buffer.proofs.Laws.{puts-then}
-use Rattle.state.specs.State.{saveOf}
+use Rattle.session_memory.specs.State.{saveOf}
 use borrow.Author.Needs.{needs}
 use Rattle.state_save.proofs.save.Statement.{statement}
 use Rattle.state_save.proofs.save.Tie as tie

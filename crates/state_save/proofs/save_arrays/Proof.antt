@@ -1,6 +1,6 @@
 -- Four arrays: texts put as one.
 use Rattle.buffer.proofs.Laws.{puts-then}
-use Rattle.state.specs.State.{arraysOut}
+use Rattle.session_memory.specs.State.{arraysOut}
 use borrow.Author.Needs.{needs}
 use Rattle.state_save.proofs.save_arrays.Statement.{statement}
 use Rattle.state_save.proofs.save_arrays.Tie as tie

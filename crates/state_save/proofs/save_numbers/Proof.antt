@@ -1,6 +1,6 @@
 -- Five numbers: texts put as one.
 use Rattle.buffer.proofs.Laws.{puts-then}
-use Rattle.state.specs.State.{numbersOut}
+use Rattle.session_memory.specs.State.{numbersOut}
 use borrow.Author.Needs.{needs}
 use Rattle.state_save.proofs.save_numbers.Statement.{statement}
 use Rattle.state_save.proofs.save_numbers.Tie as tie

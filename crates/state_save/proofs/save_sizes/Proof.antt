@@ -1,6 +1,6 @@
 -- The mark and seven numbers: texts put as one from the start.
 use Rattle.buffer.proofs.Laws.{puts-then}
-use Rattle.state.specs.State.{sizesOut, saveSizes}
+use Rattle.session_memory.specs.State.{sizesOut, saveSizes}
 use borrow.Author.Needs.{needs}
 use Rattle.state_save.proofs.save_sizes.Statement.{statement}
 use Rattle.state_save.proofs.save_sizes.Tie as tie

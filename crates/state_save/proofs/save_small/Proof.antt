@@ -1,6 +1,6 @@
 -- Nine bytes, three groups of six, five bytes: texts put as one.
 use Rattle.buffer.proofs.Laws.{puts-then}
-use Rattle.state.specs.State.{smallOut}
+use Rattle.session_memory.specs.State.{smallOut}
 use borrow.Author.Needs.{needs}
 use Rattle.state_save.proofs.save_small.Statement.{statement}
 use Rattle.state_save.proofs.save_small.Tie as tie

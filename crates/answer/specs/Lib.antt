@@ -1,2 +1,0 @@
--- What the code of this crate means in the words of the grammar.
-pub mod Answers

@@ -1,0 +1,28 @@
+-- One test, the prompt.
+use mathlib.Core.Path.{sym, ap, _∙_}
+use Rattle.line_effect.specs.declared.Marks.{Marks}
+use Rattle.line_effect.specs.Judge.{judged, saysFirst, textLine}
+use borrow.Author.Needs.{needs}
+use Rattle.awaited_line.proofs.text_line.Statement.{statement}
+use Rattle.awaited_line.proofs.text_line.Tie as tie
+
+is-prompt-requires : tie.Need-is-prompt-requires
+is-prompt-requires c κs = search needs
+
+unmarked-requires : tie.Need-unmarked-requires
+unmarked-requires c κs = search needs
+
+returns : tie.Need-returns
+unfolding textLine
+returns c = let a = c .before .before .before .before .args in rw (sym (c .before .before .is-prompt .ensures) ∙ c .before .if1 .taken) (ap (λ (m : Marks). judged 0 1 m (a .awaited) (saysFirst 2 (a .say)) (a .keep) (a .reader)) (c .unmarked .ensures))
+
+went-requires : tie.Need-went-requires
+went-requires c κs = search needs
+
+returns-2 : tie.Need-returns-2
+unfolding textLine
+returns-2 c = rw (sym (c .before .before .is-prompt .ensures) ∙ c .before .if1 .left) (c .went .ensures)
+
+pub text-line-spec : {M : Type 1} → statement M
+text-line-spec =
+    tie.close (tie.spec is-prompt-requires unmarked-requires returns went-requires returns-2)

@@ -1,0 +1,40 @@
+-- The definition's tests are the code's.
+use borrow.Author.Tests.{eq-eqb, ne-eqb, lt-ltb, le-ltb}
+use Rattle.form_test.specs.Form.{phaseOk}
+use borrow.Author.Needs.{needs}
+use Rattle.form_test.proofs.phase_ok.Statement.{statement}
+use Rattle.form_test.proofs.phase_ok.Tie as tie
+
+returns : tie.Need-returns
+unfolding phaseOk
+returns c = rw (eq-eqb _ _ (c .if1 .taken))
+
+returns-2 : tie.Need-returns-2
+unfolding phaseOk
+returns-2 c = rw (ne-eqb _ _ (c .before .if1 .left), lt-ltb _ _ (c .if2 .taken))
+
+returns-3 : tie.Need-returns-3
+unfolding phaseOk
+returns-3 c = rw (ne-eqb _ _ (c .before .before .before .if1 .left), le-ltb _ _ (c .before .before .if2 .left), ne-eqb _ _ (c .if3 .taken))
+
+transfer-ok-requires : tie.Need-transfer-ok-requires
+transfer-ok-requires c κs = search needs
+
+returns-4 : tie.Need-returns-4
+unfolding phaseOk
+returns-4 c = rw (ne-eqb _ _ (c .before .before .before .before .before .if1 .left), le-ltb _ _ (c .before .before .before .before .if2 .left), eq-eqb _ _ (c .before .before .if3 .left), eq-eqb _ _ (c .before .if4 .taken)) (c .transfer-ok .ensures)
+
+returns-5 : tie.Need-returns-5
+unfolding phaseOk
+returns-5 c = rw (ne-eqb _ _ (c .before .before .before .before .if1 .left), le-ltb _ _ (c .before .before .before .if2 .left), eq-eqb _ _ (c .before .if3 .left), ne-eqb _ _ (c .if4 .left))
+
+pub phase-ok-spec : {M : Type 1} → statement M
+phase-ok-spec =
+    tie.close
+    (tie.spec
+    returns
+    returns-2
+    returns-3
+    transfer-ok-requires
+    returns-4
+    returns-5)

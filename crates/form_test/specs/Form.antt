@@ -1,0 +1,83 @@
+-- 01, "Receive and give answer 1 .. exactly if a lent size isn't the one open kept in session memory or the lent memory fails a form test.
+-- The test is listed in docs/": here it is, in the order of docs/MEMORY.md.
+use mathlib.Core.Bool.{Bool, true, cond, not, _&&_, _||_}
+use mathlib.Core.List.{List, [], _∷_}
+use Prim.Native.Nat.{ℕ, zero, suc, _+_}
+use lib.Dec.{eqb, ltb, leb}
+use lib.ListN.{length, getD, drop}
+use Rattle.grammar.specs.Bytes.{Bytes}
+use Rattle.layout.specs.Layout.{byteAt, entryAt, entrySize, bodyLength}
+use Rattle.session_memory.specs.State.{sessionSize, held, loadOf, loadSizes}
+use Rattle.session_memory.specs.declared.Session.{Session}
+use Rattle.session_memory.specs.declared.Sizes.{Sizes}
+use Rattle.choice.specs.Decoded.{placeCount}
+use Rattle.waiting.specs.Waiting.{waitingOf}
+use Rattle.pending.specs.Pending.{waits}
+
+-- The mark that open leaves.
+abbrev pub markOk : Bytes → Bool
+markOk sm = eqb (byteAt sm 0) 70 && (eqb (byteAt sm 1) 77 && (eqb (byteAt sm 2) 48 && eqb (byteAt sm 3) 49))
+
+unfoldable pub sameSizes : Sizes → Sizes → Bool
+sameSizes a b =
+    eqb (a .table) (b .table) && (eqb (a .titles) (b .titles) && (eqb (a .names) (b .names) && (eqb (a .bodies) (b .bodies)
+    && (eqb (a .known) (b .known) && (eqb (a .inbox) (b .inbox) && eqb (a .store) (b .store))))))
+
+-- Counts within their arrays.
+unfoldable pub countsOk : Session → Bool
+countsOk s =
+    leb (s .line .len) 256 && (leb (s .now .ours .count) 5 && (leb (s .say .signs .count) 5 && (leb (s .keep .sending .count) 5
+    && (leb (s .now .proposals) 5 && leb (s .reading .reader .head) 80))))
+
+-- How many store bytes the first n messages of the inbox use, from message i on.
+abbrev pub usedFrom : Bytes → ℕ → ℕ → ℕ
+usedFrom inbox i zero = 0
+usedFrom inbox i (suc n) = bodyLength (entryAt entrySize inbox i) + usedFrom inbox (suc i) n
+
+unfoldable pub usedBy : Bytes → ℕ → ℕ
+usedBy inbox n = usedFrom inbox 0 n
+
+-- "up to 64 messages": the messages kept have their places, and their bodies' bytes are those that the session counts.
+unfoldable pub inboxOk : Session → Bytes → Bytes → Bool
+inboxOk s inbox store =
+    leb (placeCount inbox) 64 && (leb (s .keep .kept) (placeCount inbox)
+    && (eqb (usedBy inbox (s .keep .kept)) (s .keep .used) && leb (s .keep .used) (length store)))
+
+-- Where something waits, not all of it is given.
+unfoldable pub waitingOk : Session → Bytes → Bytes → Bytes → Bytes → Bool
+waitingOk s table titles names bodies = not (waits (s .say)) || ltb (s .say .pos) (length (waitingOf s table titles names bodies))
+
+-- How many `+` are among the sign bytes.
+abbrev pub pluses : List ℕ → ℕ
+pluses [] = 0
+pluses (x ∷ xs) = cond (eqb x 43) (suc (pluses xs)) (pluses xs)
+
+-- A transfer under way is that of an accepted proposal, and it and those after it have their places and room.
+unfoldable pub transferOk : Session → Bytes → Bytes → Bool
+transferOk s inbox store =
+    ltb (s .now .current) (s .now .proposals) && (eqb (s .say .signs .count) (s .now .proposals)
+    && (eqb (getD (s .say .signs .items) (s .now .current) 0) 43
+    && (leb (s .keep .kept + pluses (drop (s .now .current) (held (s .say .signs)))) (placeCount inbox)
+    && (leb (s .reading .reader .body) 65535 && leb (s .keep .used + s .reading .reader .body) (length store)))))
+
+-- Records are being sent only while the partner's turn, our leaving or nothing is awaited; phase 5 is a transfer under way.
+unfoldable pub phaseOk : Session → Bytes → Bytes → Bool
+phaseOk s inbox store =
+    cond (eqb (s .now .phase) 3) true
+    (cond (ltb 5 (s .now .phase)) true
+    (eqb (s .keep .sending .count) 0 && cond (eqb (s .now .phase) 5) (transferOk s inbox store) true))
+
+-- The state, read from session memory.
+unfoldable pub stateOk : Session → Bytes → Bytes → Bytes → Bytes → Bytes → Bytes → Bool
+stateOk s table titles names bodies inbox store =
+    countsOk s && (inboxOk s inbox store && (phaseOk s inbox store && waitingOk s table titles names bodies))
+
+abbrev pub lentSizes : Bytes → Bytes → Bytes → Bytes → Bytes → Bytes → Bytes → Sizes
+lentSizes table titles names bodies known inbox store =
+    record { table = length table; titles = length titles; names = length names; bodies = length bodies; known = length known; inbox = length inbox; store = length store }
+
+-- THE FORM TEST
+unfoldable pub formOf : Bytes → Bytes → Bytes → Bytes → Bytes → Bytes → Bytes → Bytes → Bool
+formOf sm table titles names bodies known inbox store =
+    eqb (length sm) sessionSize && (markOk sm && (sameSizes (loadSizes sm) (lentSizes table titles names bodies known inbox store)
+    && stateOk (loadOf sm) table titles names bodies inbox store))

@@ -1,0 +1,161 @@
+-- Places by their signs, flags at places, and the FS line by what its reader answers.
+use mathlib.Core.Path.{_≡_, refl, sym, ap, _∙_, subst}
+use mathlib.Core.Bool.{Bool, true, false, cond}
+use mathlib.Core.Option.{Option, none, some}
+use mathlib.Core.List.{List, [], _∷_, _++_, append-nil}
+use Prim.Native.Nat.{ℕ, _+_, _<_, _≤_}
+use native.Mathlib.Omega.{arith}
+use native.Mathlib.Numerals.{add-one}
+use lib.Dec.{eqb}
+use lib.ListN.{length, getD, set, drop, length-set}
+use lib.Seq.{drop-cons, append-snoc}
+use borrow.Author.Tests.{eq-eqb, ne-eqb, eqb-true, eqb-false}
+use Rattle.grammar.specs.Bytes.{Bytes}
+use Rattle.grammar.specs.Answers.{Sign, accept, decline, defer, signOf}
+use Rattle.fs_line.specs.Answers.{answerNumber, answerSigns}
+use Rattle.transfer_step.specs.declared.Reader.{Reader}
+use Rattle.session_memory.specs.State.{held, fiveOf, noFive}
+use Rattle.session_memory.specs.declared.Five.{Five}
+use Rattle.session_memory.specs.declared.Await.{Await}
+use Rattle.session_memory.specs.declared.Say.{Say}
+use Rattle.session_memory.specs.declared.Keep.{Keep}
+use Rattle.choice.specs.Promises.{Filled}
+use Rattle.choice.proofs.Laws.{five-held, five-filled, five-more, five-count}
+use Rattle.line_effect.specs.declared.Judged.{Judged}
+use Rattle.line_effect.specs.Judge.{judged, refusal, toTurn, sends, picked, flagged, transfersAfter, answerTaken, answerLine}
+use Rattle.fs_effect.specs.declared.Answered.{Answered}
+use Rattle.fs_effect.specs.Signs.{withPlace, placed, answeredBy}
+use Rattle.five.proofs.Laws.{held-cons, held-end}
+
+-- flags, place by place
+module _ (f : Five) (i n : ℕ) (e : n ≡ length (held f)) where
+  pub flag-more : (d : Bytes) → i < n → flagged (drop i (held f)) d ≡ flagged (drop (i + 1) (held f)) (set d (getD (f .items) i 0) 1)
+  flag-more d h = rw (held-cons f i n e h)
+
+  pub flag-end : (d : Bytes) → n ≤ i → d ≡ flagged (drop i (held f)) d
+  flag-end d h = rw (held-end f i n e h)
+
+pub flag-length : (d e : Bytes) (i : ℕ) → e ≡ set d i 1 → length d ≡ 64 → length e ≡ 64
+flag-length d e i f l = ap length f ∙ length-set d i 1 ∙ l
+
+-- the places with a sign: those picked so far are held, and the rest is picked from place i on
+pub record Picking (c : ℕ) (f : Five) (ss : List ℕ) (g : Five) (i : ℕ) : Type 0 where
+  pub filled : Filled g
+  pub few : g .count ≤ i
+  pub said : picked c (held f) ss ≡ held g ++ picked c (drop i (held f)) (drop i ss)
+
+pub pick-start : (c : ℕ) (f : Five) (ss : List ℕ) (g : Five) → g ≡ noFive → Picking c f ss g 0
+pick-start c f ss g e =
+    record {
+      filled = five-filled g [] e;
+      few = omega (arith, five-count g [] e);
+      said = rw (five-held g [] e);
+    }
+
+module _ (c : ℕ) (f : Five) (ss : List ℕ) (g : Five) (i n : ℕ) (e : n ≡ length (held f)) (p : Picking c f ss g i) where
+  pub pick-end : n ≤ i → g ≡ fiveOf (picked c (held f) ss)
+  pick-end h =
+      let q : picked c (held f) ss ≡ held g = p .said ∙ rw (held-end f i n e h, append-nil (held g)) in
+      p .filled ∙ ap fiveOf (sym q)
+
+  module _ (h : i < n) (l : i < length ss) where
+    signs-cons : drop i ss ≡ getD ss i 0 ∷ drop (i + 1) ss
+    signs-cons = rw (drop-cons ss i 0 l, add-one i)
+
+    pub pick-skip : (getD ss i 0 ≡ c → ⊥) → Picking c f ss g (i + 1)
+    pick-skip k =
+        record {
+          filled = p .filled;
+          few = let a = p .few in omega arith;
+          said = p .said ∙ rw (held-cons f i n e h, signs-cons, ne-eqb _ _ k);
+        }
+
+    pub pick-take : g .count < 5 → getD ss i 0 ≡ c → Picking c f ss (withPlace g (getD (f .items) i 0)) (i + 1)
+    pick-take b k =
+        let x : ℕ = getD (f .items) i 0 in
+        let g' : Five = withPlace g x in
+        let q : g' ≡ fiveOf (held g ++ (x ∷ [])) = five-more g x (p .filled) b in
+        record {
+          filled = five-filled g' (held g ++ (x ∷ [])) q;
+          few = let a = p .few in omega arith;
+          said = p .said ∙ rw (held-cons f i n e h, signs-cons, eq-eqb _ _ k, five-held g' (held g ++ (x ∷ [])) q, append-snoc (held g) x (picked c (drop (i + 1) (held f)) (drop (i + 1) ss)));
+        }
+
+-- ---------------------------------------------------------------- each place by its sign
+
+-- what a byte says decides
+pub by-sign : (a : Answered) (b x : ℕ) {o : Option Sign} {r : Answered} → o ≡ signOf b → r ≡ placed a o x → r ≡ answeredBy a b x
+unfolding answeredBy
+by-sign a b x e f = f ∙ ap (λ (o : Option Sign). placed a o x) e
+
+-- the places with each of the three signs
+abbrev pub Sorted : Five → List ℕ → Answered → ℕ → Type 0
+Sorted f ss a i = Picking 43 f ss (a .accepted) i × Picking 45 f ss (a .declined) i × Picking 61 f ss (a .deferred) i
+
+module _ (f : Five) (ss : List ℕ) (a : Answered) (i n : ℕ) (e : n ≡ length (held f)) (p : Sorted f ss a i) where
+  pub sort-end : n ≤ i
+      → (a .accepted ≡ fiveOf (picked 43 (held f) ss)) × (a .declined ≡ fiveOf (picked 45 (held f) ss)) × (a .deferred ≡ fiveOf (picked 61 (held f) ss))
+  sort-end h =
+      (pick-end 43 f ss (a .accepted) i n e (p .0) h, pick-end 45 f ss (a .declined) i n e (p .1) h, pick-end 61 f ss (a .deferred) i n e (p .2) h)
+
+  module _ (h : i < n) (l : i < length ss) (m : n ≤ 5) where
+    pub sort-room : (a .accepted .count < 5) × (a .declined .count < 5) × (a .deferred .count < 5)
+    sort-room = (omega (arith, p .0 .few), omega (arith, p .1 .few), omega (arith, p .2 .few))
+
+    pub sort-more : (b : Answered) → b ≡ answeredBy a (getD ss i 0) (getD (f .items) i 0) → Sorted f ss b (i + 1)
+    unfolding answeredBy
+    sort-more b q = subst (λ (o : Answered). Sorted f ss o (i + 1)) (sym q) (go (eqb s 43) (eqb s 45) (eqb s 61) refl refl refl)
+      where
+        s : ℕ
+        s = getD ss i 0
+
+        skip : (c : ℕ) (g : Five) → Picking c f ss g i → (s ≡ c → ⊥) → Picking c f ss g (i + 1)
+        skip c g o k = pick-skip c f ss g i n e o h l k
+
+        take : (c : ℕ) (g : Five) → Picking c f ss g i → g .count < 5 → s ≡ c → Picking c f ss (withPlace g (getD (f .items) i 0)) (i + 1)
+        take c g o b k = pick-take c f ss g i n e o h l b k
+
+        go : (u v w : Bool) → eqb s 43 ≡ u → eqb s 45 ≡ v → eqb s 61 ≡ w
+            → Sorted f ss (placed a (cond u (some accept) (cond v (some decline) (cond w (some defer) none))) (getD (f .items) i 0)) (i + 1)
+        go true v w x y z =
+            let k = eqb-true s 43 x in
+            (take 43 _ (p .0) (sort-room .0) k, skip 45 _ (p .1) (λ o. omega arith), skip 61 _ (p .2) (λ o. omega arith))
+        go false true w x y z =
+            let k = eqb-true s 45 y in
+            (skip 43 _ (p .0) (eqb-false s 43 x), take 45 _ (p .1) (sort-room .1) k, skip 61 _ (p .2) (λ o. omega arith))
+        go false false true x y z =
+            (skip 43 _ (p .0) (eqb-false s 43 x), skip 45 _ (p .1) (eqb-false s 45 y), take 61 _ (p .2) (sort-room .2) (eqb-true s 61 z))
+        go false false false x y z =
+            (skip 43 _ (p .0) (eqb-false s 43 x), skip 45 _ (p .1) (eqb-false s 45 y), skip 61 _ (p .2) (eqb-false s 61 z))
+
+-- ---------------------------------------------------------------- the FS line
+
+module _ (w : Await) (y : Say) (k : Keep) (rd : Reader) where
+  -- the FS line
+  abbrev answerBy : ℕ → Bytes → Judged
+  answerBy n ss = cond (eqb n 0) (answerTaken ss w y k rd) (refusal n w y k rd)
+
+  module _ (ln : Bytes) (j : Judged) (n : ℕ) (e : n ≡ answerNumber (w .ours .count) ln) where
+    answer-by : (ss : Bytes) → ss ≡ answerSigns (w .ours .count) ln → j ≡ answerBy n ss → j ≡ answerLine ln w y k rd
+    unfolding answerLine
+    answer-by ss q f = f ∙ ap (λ (m : ℕ). answerBy m ss) e ∙ ap (answerBy (answerNumber (w .ours .count) ln)) q
+
+    pub answer-no : (n ≡ 0 → ⊥) → j ≡ refusal n w y k rd → j ≡ answerLine ln w y k rd
+    answer-no z f = answer-by (answerSigns (w .ours .count) ln) refl (rw (ne-eqb _ _ z) f)
+
+    pub answer-yes : n ≡ 0 → (ss : Bytes) → ss ≡ answerSigns (w .ours .count) ln → j ≡ answerTaken ss w y k rd → j ≡ answerLine ln w y k rd
+    answer-yes z ss q f = answer-by ss q (rw (eq-eqb _ _ z) f)
+
+-- the signs of a right FS line
+module _ (ss : Bytes) (w : Await) (y : Say) (k : Keep) (rd : Reader) where
+  abbrev taking : Five → Five → Bytes → Await → Say → Judged
+  taking declined sending flags v z = judged 0 0 (record { state = 2; places = declined }) v z (sends sending flags k) rd
+
+  pub taken : (d s u : Five) (flags : Bytes) (v : Await) (z : Say) → d ≡ fiveOf (picked 45 (held (w .ours)) ss) → s ≡ fiveOf (picked 43 (held (w .ours)) ss)
+      → u ≡ fiveOf (picked 61 (held (w .ours)) ss) → flags ≡ flagged (held u) (k .deferred) → v ≡ toTurn false w → z ≡ transfersAfter s y
+      → taking d s flags v z ≡ answerTaken ss w y k rd
+  taken d s u flags v z a b c e f g =
+      ap (λ (x : Five). taking x s flags v z) a ∙ ap (λ (x : Bytes). taking (fiveOf (picked 45 (held (w .ours)) ss)) s x v z) (e ∙ ap (λ (l : List ℕ). flagged l (k .deferred)) (five-held u (picked 61 (held (w .ours)) ss) c))
+      ∙ ap (λ (x : Await). taking (fiveOf (picked 45 (held (w .ours)) ss)) s (flagged (picked 61 (held (w .ours)) ss) (k .deferred)) x z) f
+      ∙ ap (λ (x : Say). taking (fiveOf (picked 45 (held (w .ours)) ss)) s (flagged (picked 61 (held (w .ours)) ss) (k .deferred)) (toTurn false w) x) g
+      ∙ ap (λ (x : Five). taking (fiveOf (picked 45 (held (w .ours)) ss)) x (flagged (picked 61 (held (w .ours)) ss) (k .deferred)) (toTurn false w) (transfersAfter x y)) b

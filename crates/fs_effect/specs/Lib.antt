@@ -1,0 +1,2 @@
+-- Places by their signs.
+pub mod Signs

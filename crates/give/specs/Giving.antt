@@ -1,0 +1,64 @@
+-- 01, "give (bytes the link will now take)": the answer and the lent memory after it, for any memory.
+use mathlib.Core.Path.{_≡_}
+use mathlib.Core.Bool.{cond}
+use Prim.Native.Nat.{ℕ, _+_, _-_}
+use lib.Dec.{ltb}
+use lib.ListN.{length}
+use Rattle.grammar.specs.Bytes.{Bytes}
+use Rattle.grammar.specs.Refusals.{badMemory}
+use Rattle.buffer.specs.Put.{putBytes, cut}
+use Rattle.session_memory.specs.State.{loadOf, saveOf}
+use Rattle.session_memory.specs.declared.Session.{Session}
+use Rattle.waiting.specs.Waiting.{waitingOf}
+use Rattle.pending.specs.Pending.{hasToGive, silentOf}
+use Rattle.form_test.specs.Form.{formOf}
+use Rattle.give.specs.declared.Reply.{Reply}
+use Rattle.give.specs.declared.Handout.{Handout}
+
+-- The reply, session memory and the buffer after a give.
+pub record Given : Type 0 where
+  pub reply : Reply
+  pub sm : Bytes
+  pub buf : Bytes
+
+abbrev pub reply : ℕ → ℕ → ℕ → Reply
+reply answer place count = record { answer = answer; place = place; count = count }
+
+-- n bytes more are given; all of them: nothing waits
+unfoldable pub handedOf : Session → ℕ → ℕ → Session
+handedOf s n total =
+    cond (ltb (s .say .pos + n) total)
+    (record {
+      now = s .now;
+      say = record { first = s .say .first; then = s .say .then; pos = s .say .pos + n; signs = s .say .signs };
+      keep = s .keep;
+      reading = s .reading;
+      line = s .line;
+    })
+    (silentOf s)
+
+-- w: what waits, given bytes included; place and the room after it in the buffer
+abbrev pub handing : Session → Bytes → Bytes → Bytes → ℕ → Given
+handing s w sm buf place =
+    record {
+      reply = reply 0 0 (length (cut (length buf - place) (s .say .pos) w));
+      sm = saveOf sm (handedOf s (length (cut (length buf - place) (s .say .pos) w)) (length w));
+      buf = putBytes buf (record { at = place; skip = s .say .pos }) w;
+    }
+
+-- How a state and a buffer are left when what waits is handed out: the count, the state after it, the buffer e.
+abbrev pub Hands : Session → Bytes → Bytes → ℕ → Handout → Bytes → Type 0
+Hands s w buf place r e =
+    (r .count ≡ length (cut (length buf - place) (s .say .pos) w)) × (r .state ≡ handedOf s (r .count) (length w))
+    × (e ≡ putBytes buf (record { at = place; skip = s .say .pos }) w)
+
+-- "a place beyond the end writes nothing and reports 0"; "Give on an ended session writes nothing and answers 0 with count 0."
+unfoldable pub giveOf : Bytes → Bytes → Bytes → Bytes → Bytes → Bytes → Bytes → Bytes → Bytes → ℕ → Given
+giveOf sm table titles names bodies known inbox store buf place =
+    cond (formOf sm table titles names bodies known inbox store)
+    (cond (hasToGive (loadOf sm))
+    (cond (ltb place (length buf))
+    (handing (loadOf sm) (waitingOf (loadOf sm) table titles names bodies) sm buf place)
+    (record { reply = reply 0 0 0; sm = sm; buf = buf }))
+    (record { reply = reply 0 0 0; sm = sm; buf = buf }))
+    (record { reply = reply badMemory 255 0; sm = sm; buf = buf })

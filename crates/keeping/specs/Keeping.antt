@@ -1,7 +1,0 @@
--- When a message can be kept; what keeping it leaves is defined in crates/receiving.
-use Prim.Native.Nat.{_+_, _≤_, _<_}
-use Rattle.state.specs.declared.Session.{Session}
-
--- One message more can be counted in its byte, and its body's bytes with those used.
-abbrev pub Keepable : Session → Type 0
-Keepable s = (s .keep .kept ≤ 64) × (s .keep .used + s .reading .reader .body < 18446744073709551616)

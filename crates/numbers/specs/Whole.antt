@@ -1,0 +1,86 @@
+-- A session is its numbers, which the code holds, and four arrays, which stay in session memory: m is its last 760 bytes.
+use mathlib.Core.List.{[], _++_}
+use Prim.Native.Nat.{ℕ}
+use lib.Dec.{eqb}
+use Rattle.grammar.specs.Bytes.{Bytes}
+use Rattle.layout.specs.Layout.{byteAt, le2At, le4At, le8At}
+use Rattle.transfer_step.specs.declared.Reader.{Reader}
+use Rattle.session_memory.specs.State.{fiveAt, smallOut, numbersOut}
+use Rattle.session_memory.specs.declared.Await.{Await}
+use Rattle.session_memory.specs.declared.Say.{Say}
+use Rattle.session_memory.specs.declared.Keep.{Keep}
+use Rattle.session_memory.specs.declared.Session.{Session}
+use Rattle.region.specs.Region.{region}
+use Rattle.numbers.specs.declared.AwaitNumbers.{AwaitNumbers}
+use Rattle.numbers.specs.declared.KeepNumbers.{KeepNumbers}
+use Rattle.numbers.specs.declared.LineNumbers.{LineNumbers}
+use Rattle.numbers.specs.declared.Numbers.{Numbers}
+
+-- where the arrays stand in m
+abbrev pub deferredIn : Bytes → Bytes
+deferredIn m = region 0 64 m
+
+abbrev pub headingIn : Bytes → Bytes
+headingIn m = region 64 80 m
+
+abbrev pub lineIn : Bytes → Bytes
+lineIn m = region 144 256 m
+
+abbrev pub blockIn : Bytes → Bytes
+blockIn m = region 400 360 m
+
+abbrev pub awaitOf : AwaitNumbers → Bytes → Await
+awaitOf w block = record { phase = w .phase; ff = w .ff; current = w .current; proposals = w .proposals; ours = w .ours; block = block }
+
+abbrev pub keepOf : KeepNumbers → Bytes → Keep
+keepOf k deferred = record { framed = k .framed; kept = k .kept; used = k .used; sending = k .sending; deferred = deferred }
+
+-- from its numbers and four arrays
+abbrev pub sessionOf : Numbers → Bytes → Bytes → Bytes → Bytes → Session
+sessionOf h deferred heading line block =
+    record {
+      now = awaitOf (h .now) block;
+      say = h .say;
+      keep = keepOf (h .keep) deferred;
+      reading = record { reader = h .reader; heading = heading };
+      line = record { «after_cr» = h .line .«after_cr»; len = h .line .len; bytes = line };
+    }
+
+-- THE WHOLE SESSION: its numbers, and the arrays where they stand
+unfoldable pub wholeOf : Numbers → Bytes → Session
+wholeOf h m = sessionOf h (deferredIn m) (headingIn m) (lineIn m) (blockIn m)
+
+-- ---------------------------------------------------------------- read
+
+unfoldable pub awaitNumbers : Bytes → AwaitNumbers
+awaitNumbers sm = record { phase = byteAt sm 60; ff = eqb (byteAt sm 61) 1; current = byteAt sm 67; proposals = byteAt sm 68; ours = fiveAt sm 69 }
+
+unfoldable pub sayNumbers : Bytes → Say
+sayNumbers sm = record { first = byteAt sm 64; then = byteAt sm 65; pos = le8At sm 100; signs = fiveAt sm 81 }
+
+unfoldable pub keepNumbers : Bytes → KeepNumbers
+keepNumbers sm = record { framed = eqb (byteAt sm 62) 1; kept = byteAt sm 66; used = le8At sm 108; sending = fiveAt sm 75 }
+
+unfoldable pub readerNumbers : Bytes → Reader
+readerNumbers sm =
+    record {
+      place = byteAt sm 87;
+      len = byteAt sm 88;
+      head = byteAt sm 89;
+      off = byteAt sm 90;
+      left = le2At sm 94;
+      sum = byteAt sm 91;
+      body = le4At sm 96;
+    }
+
+unfoldable pub lineNumbers : Bytes → LineNumbers
+lineNumbers sm = record { «after_cr» = eqb (byteAt sm 63) 1; len = le2At sm 92 }
+
+unfoldable pub numbersAt : Bytes → Numbers
+numbersAt sm = record { now = awaitNumbers sm; say = sayNumbers sm; keep = keepNumbers sm; reader = readerNumbers sm; line = lineNumbers sm }
+
+-- ---------------------------------------------------------------- written
+
+-- the first two parts of what a save writes; they don't look at the arrays
+unfoldable pub numberBytes : Numbers → Bytes
+numberBytes h = smallOut (sessionOf h [] [] [] []) ++ numbersOut (sessionOf h [] [] [] [])

@@ -1,0 +1,271 @@
+// The numbers of a session's state; its four arrays stay in session memory, from byte 116 on.
+use buffer::Cursor;
+use number_write::bytes2;
+use number_write::bytes4;
+use number_write::bytes8;
+use session_memory::Five;
+use session_memory::Say;
+use transfer_step::Reader;
+ghost use mathlib.Core.Path.{_≡_};
+ghost use Prim.Native.Nat.{_+_, _<_, _≤_};
+ghost use lib.ListN.{length};
+ghost use Rattle.buffer.specs.Put.{putBytes};
+ghost use Rattle.layout.specs.Layout.{byteAt, le2At, le4At, le8At};
+ghost use Rattle.session_memory.specs.State.{at, flag, fiveAt};
+ghost use Rattle.numbers.specs.Whole.{awaitNumbers, sayNumbers, keepNumbers, readerNumbers, lineNumbers, numbersAt, numberBytes};
+
+pub struct AwaitNumbers {
+    pub phase: u8,
+    pub ff: bool,
+    pub current: u8,
+    pub proposals: u8,
+    pub ours: Five,
+}
+
+pub struct KeepNumbers {
+    pub framed: bool,
+    pub kept: u8,
+    pub used: usize,
+    pub sending: Five,
+}
+
+pub struct LineNumbers {
+    pub after_cr: bool,
+    pub len: u16,
+}
+
+pub struct Numbers {
+    pub now: AwaitNumbers,
+    pub say: Say,
+    pub keep: KeepNumbers,
+    pub reader: Reader,
+    pub line: LineNumbers,
+}
+
+// The byte at a place within.
+fn byte(s: &[u8], i: usize) -> u8
+    requires { ⌜ i < length (now s) ⌝ }
+    ensures { λ r. ⌜ r ≡ byteAt (now (s .entry)) i ⌝ }
+{
+    s[i]
+}
+
+// A byte as a number.
+fn wide(b: u8) -> usize
+    ensures { λ r. ⌜ (r ≡ b) × (r < 256) ⌝ }
+{
+    b as usize
+}
+
+// A number of two bytes.
+fn two(s: &[u8], i: usize) -> u16
+    requires { ⌜ (i + 2 ≤ length (now s)) × (i < 65536) ⌝ }
+    ensures { λ r. ⌜ r ≡ le2At (now (s .entry)) i ⌝ }
+{
+    (wide(byte(s, i)) + 256 * wide(byte(s, i + 1))) as u16
+}
+
+// A number of four bytes.
+fn four(s: &[u8], i: usize) -> u32
+    requires { ⌜ (i + 4 ≤ length (now s)) × (i < 65540) ⌝ }
+    ensures { λ r. ⌜ r ≡ le4At (now (s .entry)) i ⌝ }
+{
+    (wide(byte(s, i))
+        + 256 * wide(byte(s, i + 1))
+        + 65536 * wide(byte(s, i + 2))
+        + 16777216 * wide(byte(s, i + 3))) as u32
+}
+
+// A number of eight bytes.
+fn eight(s: &[u8], i: usize) -> usize
+    requires { ⌜ (i + 8 ≤ length (now s)) × (i < 65536) ⌝ }
+    ensures { λ r. ⌜ r ≡ le8At (now (s .entry)) i ⌝ }
+{
+    (four(s, i) as usize) + 4294967296 * (four(s, i + 4) as usize)
+}
+
+// Up to five numbers.
+fn five(s: &[u8], i: usize) -> Five
+    requires { ⌜ (i + 6 ≤ length (now s)) × (i < 65536) ⌝ }
+    ensures { λ r. ⌜ r ≡ fiveAt (now (s .entry)) i ⌝ }
+{
+    Five {
+        count: byte(s, i),
+        items: [
+            byte(s, i + 1),
+            byte(s, i + 2),
+            byte(s, i + 3),
+            byte(s, i + 4),
+            byte(s, i + 5),
+        ],
+    }
+}
+
+// What is awaited.
+fn load_await(sm: &[u8]) -> AwaitNumbers
+    requires { ⌜ length (now sm) ≡ 876 ⌝ }
+    ensures { λ r. ⌜ r ≡ awaitNumbers (now (sm .entry)) ⌝ }
+{
+    AwaitNumbers {
+        phase: byte(sm, 60),
+        ff: byte(sm, 61) == 1,
+        current: byte(sm, 67),
+        proposals: byte(sm, 68),
+        ours: five(sm, 69),
+    }
+}
+
+// What waits for give.
+fn load_say(sm: &[u8]) -> Say
+    requires { ⌜ length (now sm) ≡ 876 ⌝ }
+    ensures { λ r. ⌜ r ≡ sayNumbers (now (sm .entry)) ⌝ }
+{
+    Say {
+        first: byte(sm, 64),
+        then: byte(sm, 65),
+        pos: eight(sm, 100),
+        signs: five(sm, 81),
+    }
+}
+
+// What is kept and sent.
+fn load_keep(sm: &[u8]) -> KeepNumbers
+    requires { ⌜ length (now sm) ≡ 876 ⌝ }
+    ensures { λ r. ⌜ r ≡ keepNumbers (now (sm .entry)) ⌝ }
+{
+    KeepNumbers {
+        framed: byte(sm, 62) == 1,
+        kept: byte(sm, 66),
+        used: eight(sm, 108),
+        sending: five(sm, 75),
+    }
+}
+
+// The transfer under way.
+fn load_reader(sm: &[u8]) -> Reader
+    requires { ⌜ length (now sm) ≡ 876 ⌝ }
+    ensures { λ r. ⌜ r ≡ readerNumbers (now (sm .entry)) ⌝ }
+{
+    Reader {
+        place: byte(sm, 87),
+        len: byte(sm, 88),
+        head: byte(sm, 89),
+        off: byte(sm, 90),
+        left: two(sm, 94),
+        sum: byte(sm, 91),
+        body: four(sm, 96),
+    }
+}
+
+// The line under way.
+fn load_line(sm: &[u8]) -> LineNumbers
+    requires { ⌜ length (now sm) ≡ 876 ⌝ }
+    ensures { λ r. ⌜ r ≡ lineNumbers (now (sm .entry)) ⌝ }
+{
+    LineNumbers {
+        after_cr: byte(sm, 63) == 1,
+        len: two(sm, 92),
+    }
+}
+
+// The numbers in session memory.
+pub fn load(sm: &[u8]) -> Numbers
+    requires { ⌜ length (now sm) ≡ 876 ⌝ }
+    ensures { λ r. ⌜ r ≡ numbersAt (now (sm .entry)) ⌝ }
+{
+    Numbers {
+        now: load_await(sm),
+        say: load_say(sm),
+        keep: load_keep(sm),
+        reader: load_reader(sm),
+        line: load_line(sm),
+    }
+}
+
+// 1 for yes, 0 for no.
+fn flag(b: bool) -> u8
+    ensures { λ r. ⌜ r ≡ flag b ⌝ }
+{
+    if b { 1 } else { 0 }
+}
+
+// The numbers as they stand in session memory.
+fn as_bytes(h: Numbers) -> [u8; 56]
+    ensures { λ r. ⌜ r ≡ numberBytes h ⌝ }
+{
+    let o = h.now.ours;
+    let d = h.keep.sending;
+    let g = h.say.signs;
+    let r = h.reader;
+    let l = bytes2(h.line.len as usize);
+    let f = bytes2(r.left as usize);
+    let b = bytes4(r.body as usize);
+    let p = bytes8(h.say.pos);
+    let u = bytes8(h.keep.used);
+    [
+        h.now.phase,
+        flag(h.now.ff),
+        flag(h.keep.framed),
+        flag(h.line.after_cr),
+        h.say.first,
+        h.say.then,
+        h.keep.kept,
+        h.now.current,
+        h.now.proposals,
+        o.count,
+        o.items[0],
+        o.items[1],
+        o.items[2],
+        o.items[3],
+        o.items[4],
+        d.count,
+        d.items[0],
+        d.items[1],
+        d.items[2],
+        d.items[3],
+        d.items[4],
+        g.count,
+        g.items[0],
+        g.items[1],
+        g.items[2],
+        g.items[3],
+        g.items[4],
+        r.place,
+        r.len,
+        r.head,
+        r.off,
+        r.sum,
+        l[0],
+        l[1],
+        f[0],
+        f[1],
+        b[0],
+        b[1],
+        b[2],
+        b[3],
+        p[0],
+        p[1],
+        p[2],
+        p[3],
+        p[4],
+        p[5],
+        p[6],
+        p[7],
+        u[0],
+        u[1],
+        u[2],
+        u[3],
+        u[4],
+        u[5],
+        u[6],
+        u[7],
+    ]
+}
+
+// The numbers into session memory.
+pub fn save(sm: &mut [u8], h: Numbers)
+    ensures { λ _. ⌜ now (sm .exit) ≡ putBytes (now (sm .entry)) (at 60) (numberBytes h) ⌝ }
+{
+    let a = as_bytes(h);
+    let _c = buffer::put(sm, Cursor { at: 60, skip: 0 }, &a);
+}

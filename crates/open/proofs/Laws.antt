@@ -1,0 +1,139 @@
+-- The call open and its tests one by one: a body in its store, a record at its place, the known BIDs and the records from a place on.
+use mathlib.Core.Path.{_≡_, sym, ap, _∙_}
+use mathlib.Core.Bool.{Bool, true, false, cond, not, _&&_}
+use Prim.Native.Nat.{ℕ, suc, _+_, _-_, _<_, _≤_}
+use native.Mathlib.Omega.{arith}
+use native.Mathlib.Numerals.{add-one}
+use lib.Dec.{eqb}
+use borrow.Author.Tests.{le-leb, lt-leb, eq-eqb, ne-eqb}
+use Rattle.grammar.specs.Bytes.{Bytes}
+use Rattle.grammar.specs.Fields.{Form, isBid, isBody}
+use Rattle.grammar.specs.Transfers.{partOf}
+use Rattle.grammar.specs.Refusals.{badMemory}
+use Rattle.grammar.proofs.Basics.{told, told-not}
+use Rattle.session.specs.Choices.{among}
+use Rattle.layout.specs.Layout.{fieldIn, entryAt, recordSize, knownSize}
+use Rattle.session_memory.specs.State.{saveOf, saveSizes, freshOf}
+use Rattle.session_memory.specs.declared.Session.{Session}
+use Rattle.choice.specs.Decoded.{entries}
+use Rattle.form_test.specs.Form.{lentSizes}
+use Rattle.give.specs.Giving.{reply}
+use Rattle.give.specs.declared.Reply.{Reply}
+use Rattle.open.specs.Opening.{lengthOk, within, recordOk, placeOk, faultFrom, tableFault, bidsOk, knownOk, sizesOk, Opened, opened, openOf}
+
+-- ---------------------------------------------------------------- the body
+
+module _ (bodies : Bytes) (form : Form) (start len S L : ℕ) (a : start ≡ S) (b : len ≡ L) {t : Bool} (e : t ≡ within bodies start len) where
+  lies : t ≡ within bodies S L
+  lies = e ∙ ap (λ (x : ℕ). within bodies x len) a ∙ ap (λ (x : ℕ). within bodies S x) b
+
+  pub body-outside : not t ≡ true → false ≡ (within bodies S L && isBody form (partOf bodies S L))
+  body-outside h = sym (ap (λ (x : Bool). x && isBody form (partOf bodies S L)) (told-not lies h))
+
+  pub body-read : {r : Bool} → not t ≡ false → r ≡ isBody form (partOf bodies start len)
+      → r ≡ (within bodies S L && isBody form (partOf bodies S L))
+  body-read h f =
+      f ∙ ap (λ (x : ℕ). isBody form (partOf bodies x len)) a ∙ ap (λ (x : ℕ). isBody form (partOf bodies S x)) b
+      ∙ sym (ap (λ (x : Bool). x && isBody form (partOf bodies S L)) (told lies h))
+
+-- ---------------------------------------------------------------- a record at its place
+
+module _ (table titles names bodies : Bytes) (i : ℕ) (c : Bytes) (e : c ≡ entryAt recordSize table i) {t : Bool} (f : t ≡ recordOk c titles names bodies) where
+  abbrev others : Bool
+  others = not (among (fieldIn 12 56 (entryAt recordSize table i)) (entries (fieldIn 12 56) recordSize table i))
+
+  there : t ≡ recordOk (entryAt recordSize table i) titles names bodies
+  there = f ∙ ap (λ (x : Bytes). recordOk x titles names bodies) e
+
+  pub place-bad : not t ≡ true → false ≡ placeOk table titles names bodies i
+  unfolding placeOk
+  place-bad h = sym (ap (λ (x : Bool). x && others) (told-not there h))
+
+  pub place-new : not t ≡ false → (b : Bytes) → b ≡ fieldIn 12 56 c → {u : Bool} → u ≡ among b (entries (fieldIn 12 56) recordSize table i)
+      → not u ≡ placeOk table titles names bodies i
+  unfolding placeOk
+  place-new h b g k =
+      ap not (k ∙ ap (λ (x : Bytes). among x (entries (fieldIn 12 56) recordSize table i)) (g ∙ ap (fieldIn 12 56) e))
+      ∙ sym (ap (λ (x : Bool). x && others) (told there h))
+
+-- ---------------------------------------------------------------- the known BIDs from place i on
+
+abbrev bidOk : Bytes → Bool
+bidOk c = lengthOk c 0 12 && isBid (fieldIn 12 0 c)
+
+module _ (known : Bytes) (i n : ℕ) where
+  bids-next : i < n → bidsOk known i (n - i) ≡ (bidOk (entryAt knownSize known i) && bidsOk known (i + 1) (n - (i + 1)))
+  bids-next h =
+      let e : n - i ≡ suc (n - (i + 1)) = omega arith in
+      rw (e, add-one i)
+
+  pub bids-more : i < n → (c : Bytes) → c ≡ entryAt knownSize known i → {t : Bool} → t ≡ bidOk c → not t ≡ false
+      → bidsOk known i (n - i) ≡ bidsOk known (i + 1) (n - (i + 1))
+  bids-more h c e f g =
+      bids-next h ∙ ap (λ (x : Bool). x && bidsOk known (i + 1) (n - (i + 1))) (told (f ∙ ap bidOk e) g)
+
+  pub bids-stop : i < n → (c : Bytes) → c ≡ entryAt knownSize known i → {t : Bool} → t ≡ bidOk c → not t ≡ true → false ≡ bidsOk known i (n - i)
+  bids-stop h c e f g =
+      sym (bids-next h ∙ ap (λ (x : Bool). x && bidsOk known (i + 1) (n - (i + 1))) (told-not (f ∙ ap bidOk e) g))
+
+  pub bids-end : n ≤ i → true ≡ bidsOk known i (n - i)
+  bids-end h =
+      let e : n - i ≡ 0 = omega arith in
+      rw e
+
+-- ---------------------------------------------------------------- the records from place i on
+
+module _ (table titles names bodies : Bytes) (i n : ℕ) where
+  abbrev left : ℕ → ℕ
+  left k = faultFrom table titles names bodies k (n - k)
+
+  fault-next : i < n → left i ≡ cond (placeOk table titles names bodies i) (left (i + 1)) i
+  fault-next h =
+      let e : n - i ≡ suc (n - (i + 1)) = omega arith in
+      rw (e, add-one i)
+
+  pub fault-more : i < n → {t : Bool} → t ≡ placeOk table titles names bodies i → not t ≡ false → left i ≡ left (i + 1)
+  fault-more h f g = fault-next h ∙ ap (λ (x : Bool). cond x (left (i + 1)) i) (told f g)
+
+  pub fault-stop : i < n → {t : Bool} → t ≡ placeOk table titles names bodies i → not t ≡ true → i ≡ left i
+  fault-stop h f g = sym (fault-next h ∙ ap (λ (x : Bool). cond x (left (i + 1)) i) (told-not f g))
+
+  pub fault-end : n ≤ i → 255 ≡ left i
+  fault-end h =
+      let e : n - i ≡ 0 = omega arith in
+      rw e
+
+-- ---------------------------------------------------------------- the call
+
+module _ (role : ℕ) (sm table titles names bodies known inbox store : Bytes) where
+  abbrev answer : Opened
+  answer = openOf role sm table titles names bodies known inbox store
+
+  pub open-role : (r : Reply) → r ≡ reply badMemory 255 0 → 1 < role → opened r sm ≡ answer
+  unfolding openOf
+  open-role r e h = rw (lt-leb role 1 h) (ap (λ (x : Reply). opened x sm) e)
+
+  module _ (h : role ≤ 1) {t : Bool} (f : t ≡ sizesOk sm table known inbox) where
+    pub open-sizes : not t ≡ true → (r : Reply) → r ≡ reply badMemory 255 0 → opened r sm ≡ answer
+    unfolding openOf
+    open-sizes g r e = rw (le-leb role 1 h, told-not f g) (ap (λ (x : Reply). opened x sm) e)
+
+    module _ (g : not t ≡ false) {u : Bool} (k : u ≡ knownOk known) where
+      pub open-known : not u ≡ true → (r : Reply) → r ≡ reply badMemory 255 0 → opened r sm ≡ answer
+      unfolding openOf
+      open-known l r e = rw (le-leb role 1 h, told f g, told-not k l) (ap (λ (x : Reply). opened x sm) e)
+
+      module _ (l : not u ≡ false) (place : ℕ) (q : place ≡ tableFault table titles names bodies) where
+        pub open-fault : (place ≡ 255 → ⊥) → (r : Reply) → r ≡ reply badMemory place 0 → opened r sm ≡ answer
+        unfolding openOf
+        open-fault n r e =
+            rw (le-leb role 1 h, told f g, told k l, ne-eqb (tableFault table titles names bodies) 255 (λ x. n (q ∙ x)))
+            (ap (λ (x : Reply). opened x sm) (e ∙ ap (λ (p : ℕ). reply badMemory p 0) q))
+
+        pub open-good : place ≡ 255 → (m : Bytes) → m ≡ saveSizes sm (lentSizes table titles names bodies known inbox store)
+            → (s : Session) → s ≡ freshOf (eqb role 1) → (n : Bytes) → n ≡ saveOf m s → opened (reply 0 0 0) n ≡ answer
+        unfolding openOf
+        open-good p m v s w n z =
+            rw (le-leb role 1 h, told f g, told k l, eq-eqb (tableFault table titles names bodies) 255 (sym q ∙ p))
+            (ap (λ (x : Bytes). opened (reply 0 0 0) x)
+            (z ∙ ap (λ (x : Bytes). saveOf x s) v ∙ ap (λ (x : Session). saveOf (saveSizes sm (lentSizes table titles names bodies known inbox store)) x) w))

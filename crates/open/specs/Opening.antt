@@ -1,0 +1,107 @@
+-- 01, "Open checks role (0 called, 1 caller), sizes and known BIDs first, then records in order; of two records with one BID the later is
+-- bad."
+use mathlib.Core.Bool.{Bool, true, cond, not, _&&_}
+use Prim.Native.Nat.{ℕ, zero, suc, _-_, _/_, _%_}
+use lib.Dec.{eqb, leb}
+use lib.ListN.{length}
+use Rattle.grammar.specs.Bytes.{Bytes}
+use Rattle.grammar.specs.Refusals.{badMemory}
+use Rattle.grammar.specs.Fields.{formIs, isCall, isAt, isBid, isHeading, isBody}
+use Rattle.grammar.specs.Turns.{isType}
+use Rattle.grammar.specs.Transfers.{partOf}
+use Rattle.session.specs.Choices.{among}
+use Rattle.layout.specs.Layout.{byteAt, le2At, le4At, fieldIn, entryAt, recordSize, knownSize, entrySize}
+use Rattle.session_memory.specs.State.{sessionSize, saveOf, saveSizes, freshOf}
+use Rattle.choice.specs.Decoded.{entries, recordCount, knownCount}
+use Rattle.form_test.specs.Form.{lentSizes}
+use Rattle.give.specs.Giving.{reply}
+use Rattle.give.specs.declared.Reply.{Reply}
+
+-- ---------------------------------------------------------------- a record
+
+-- The field's length fits its place.
+abbrev pub lengthOk : Bytes → ℕ → ℕ → Bool
+lengthOk c at n = leb (byteAt c at) n
+
+-- "a state (0 waiting, 1 forwarded, 2 declined)", "a form (0 .., 1 .., 2 ..)", "a type (P or B)", "announced size 0 to 999,999"
+unfoldable pub numbersOk : Bytes → Bool
+numbersOk c = leb (byteAt c 0) 2 && (leb (byteAt c 1) 2 && (isType (byteAt c 2) && leb (le4At c 69) 999999))
+
+-- "from, at, to, BID"
+unfoldable pub fieldsOk : Bytes → Bool
+fieldsOk c =
+    (lengthOk c 3 6 && isCall (fieldIn 6 3 c)) && ((lengthOk c 10 38 && isAt (fieldIn 38 10 c))
+    && ((lengthOk c 49 6 && isCall (fieldIn 6 49 c)) && (lengthOk c 56 12 && isBid (fieldIn 12 56 c))))
+
+-- "Title, name and body are a start and a length in three lent stores."
+unfoldable pub within : Bytes → ℕ → ℕ → Bool
+within s start len = leb start (length s) && leb len (length s - start)
+
+-- "Forms 0 and 1 need a title, form 2 a name; the unused one may be empty, else the same bytes and length hold."
+unfoldable pub headingOk : Bytes → ℕ → ℕ → Bool → Bool
+headingOk s start len needed = within s start len && cond (eqb len 0) (not needed) (isHeading (partOf s start len))
+
+unfoldable pub textsOk : Bytes → Bytes → Bytes → Bytes → Bool
+textsOk c titles names bodies =
+    headingOk titles (le4At c 73) (byteAt c 77) (not (eqb (byteAt c 1) 2)) && (headingOk names (le4At c 78) (byteAt c 82) (eqb (byteAt c 1) 2)
+    && (within bodies (le4At c 83) (le2At c 87) && isBody (formIs (byteAt c 1)) (partOf bodies (le4At c 83) (le2At c 87))))
+
+unfoldable pub recordOk : Bytes → Bytes → Bytes → Bytes → Bool
+recordOk c titles names bodies = numbersOk c && (fieldsOk c && textsOk c titles names bodies)
+
+-- The record at this place is good, and no earlier one has its BID.
+unfoldable pub placeOk : Bytes → Bytes → Bytes → Bytes → ℕ → Bool
+placeOk table titles names bodies i =
+    recordOk (entryAt recordSize table i) titles names bodies
+    && not (among (fieldIn 12 56 (entryAt recordSize table i)) (entries (fieldIn 12 56) recordSize table i))
+
+-- The first bad one of n records from place i on; 255 where there is none.
+abbrev pub faultFrom : Bytes → Bytes → Bytes → Bytes → ℕ → ℕ → ℕ
+faultFrom table titles names bodies i zero = 255
+faultFrom table titles names bodies i (suc n) =
+    cond (placeOk table titles names bodies i) (faultFrom table titles names bodies (suc i) n) i
+
+unfoldable pub tableFault : Bytes → Bytes → Bytes → Bytes → ℕ
+tableFault table titles names bodies = faultFrom table titles names bodies 0 (recordCount table)
+
+-- ---------------------------------------------------------------- sizes and known BIDs
+
+-- "one outside the BID rule below is a bad buffer"
+abbrev pub bidsOk : Bytes → ℕ → ℕ → Bool
+bidsOk known i zero = true
+bidsOk known i (suc n) =
+    (lengthOk (entryAt knownSize known i) 0 12 && isBid (fieldIn 12 0 (entryAt knownSize known i))) && bidsOk known (suc i) n
+
+unfoldable pub knownOk : Bytes → Bool
+knownOk known = bidsOk known 0 (knownCount known)
+
+-- "Sizes are bad exactly if a limit above is passed, a buffer of entries holds no whole number of them, or session memory hasn't its fixed
+-- size"
+abbrev pub entriesOk : ℕ → ℕ → ℕ → Bool
+entriesOk len size most = eqb (len % size) 0 && leb (len / size) most
+
+unfoldable pub sizesOk : Bytes → Bytes → Bytes → Bytes → Bool
+sizesOk sm table known inbox =
+    eqb (length sm) sessionSize && (entriesOk (length table) recordSize 64 && (entriesOk (length known) knownSize 1024 && entriesOk (length inbox) entrySize 64))
+
+-- ---------------------------------------------------------------- the call
+
+-- The reply, and session memory after an open; nothing else changes.
+pub record Opened : Type 0 where
+  pub reply : Reply
+  pub sm : Bytes
+
+abbrev pub opened : Reply → Bytes → Opened
+opened r sm = record { reply = r; sm = sm }
+
+unfoldable pub openOf : ℕ → Bytes → Bytes → Bytes → Bytes → Bytes → Bytes → Bytes → Bytes → Opened
+openOf role sm table titles names bodies known inbox store =
+    cond (leb role 1)
+    (cond (sizesOk sm table known inbox)
+    (cond (knownOk known)
+    (cond (eqb (tableFault table titles names bodies) 255)
+    (opened (reply 0 0 0) (saveOf (saveSizes sm (lentSizes table titles names bodies known inbox store)) (freshOf (eqb role 1))))
+    (opened (reply badMemory (tableFault table titles names bodies) 0) sm))
+    (opened (reply badMemory 255 0) sm))
+    (opened (reply badMemory 255 0) sm))
+    (opened (reply badMemory 255 0) sm)

@@ -1,0 +1,27 @@
+-- A block without proposals is refused; else the answers are ours.
+use borrow.Author.Tests.{eq-eqb}
+use Rattle.line_effect.specs.Judge.{endLine}
+use Rattle.partner_turn.proofs.Laws.{end-by}
+use borrow.Author.Needs.{needs}
+use Rattle.partner_turn.proofs.end_line.Statement.{statement}
+use Rattle.partner_turn.proofs.end_line.Tie as tie
+
+refusal-requires : tie.Need-refusal-requires
+refusal-requires c κs = search needs
+
+returns : tie.Need-returns
+unfolding endLine
+returns c = rw (eq-eqb _ _ (c .before .if1 .taken)) (c .refusal .ensures)
+
+answers-requires : tie.Need-answers-requires
+answers-requires c κs = search needs
+
+answered-requires : tie.Need-answered-requires
+answered-requires c κs = search needs
+
+returns-2 : tie.Need-returns-2
+returns-2 c = let a = c .before .before .before .before .before .before .before .args in end-by (a .awaited) (a .say) (a .keep) (a .reader) (a .table .now) (a .known .now) (a .inbox .now) (a .store) _ _ (c .before .answers .ensures) (c .before .before .if1 .left) (c .answered .ensures)
+
+pub end-line-spec : {M : Type 1} → statement M
+end-line-spec =
+    tie.close (tie.spec refusal-requires returns answers-requires answered-requires returns-2)

@@ -1,0 +1,45 @@
+-- A sixth is refused; else the block gets it, its form by its number.
+use borrow.Author.Tests.{le-ltb}
+use Rattle.line_effect.specs.Judge.{proposalLine}
+use Rattle.partner_turn.proofs.Laws.{proposed}
+use borrow.Author.Needs.{needs}
+use Rattle.partner_turn.proofs.proposal_line.Statement.{statement}
+use Rattle.partner_turn.proofs.proposal_line.Tie as tie
+
+refusal-requires : tie.Need-refusal-requires
+refusal-requires c κs = search needs
+
+returns : tie.Need-returns
+unfolding proposalLine
+returns c = rw (le-ltb _ _ (c .before .if1 .taken)) (c .refusal .ensures)
+
+cast-n : tie.Need-cast-n
+cast-n c = search needs
+
+mul-with-proposal : tie.Need-mul-with-proposal
+mul-with-proposal c = search needs
+
+with-proposal-requires : tie.Need-with-proposal-requires
+with-proposal-requires c κs = search needs
+
+add-t : tie.Need-add-t
+add-t c = search needs
+
+went-requires : tie.Need-went-requires
+went-requires c κs = search needs
+
+returns-2 : tie.Need-returns-2
+returns-2 c = let a = c .before .before .before .before .before .before .before .before .args in proposed (a .awaited) (a .say) (a .keep) (a .reader) (a .line .now) (a .p) _ _ (c .before .before .before .before .before .before .before .before .pre .form) (c .before .before .before .before .before .if1 .left) (c .before .before .with-proposal .ensures) (c .went .ensures)
+
+pub proposal-line-spec : {M : Type 1} → statement M
+proposal-line-spec =
+    tie.close
+    (tie.spec
+    refusal-requires
+    returns
+    cast-n
+    mul-with-proposal
+    with-proposal-requires
+    add-t
+    went-requires
+    returns-2)

@@ -1,0 +1,76 @@
+-- Each case of what the line says.
+use Rattle.proposal.specs.declared.TurnLine.{TurnLine}
+use Rattle.proposal.proofs.Laws.{lies-as}
+use Rattle.partner_turn.proofs.Laws.{turn-by}
+use borrow.Author.Needs.{needs}
+use Rattle.partner_turn.proofs.turn_line.Statement.{statement}
+use Rattle.partner_turn.proofs.turn_line.Tie as tie
+
+read-turn-line-requires : tie.Need-read-turn-line-requires
+read-turn-line-requires c κs = search needs
+
+enum-told : tie.Need-enum-told
+enum-told c = search needs
+
+ff-line-requires : tie.Need-ff-line-requires
+ff-line-requires c κs = search needs
+
+enum-told-2 : tie.Need-enum-told-2
+enum-told-2 c = search needs
+
+fq-line-requires : tie.Need-fq-line-requires
+fq-line-requires c κs = search needs
+
+enum-told-3 : tie.Need-enum-told-3
+enum-told-3 c = search needs
+
+end-line-requires : tie.Need-end-line-requires
+end-line-requires c κs = search needs
+
+enum-told-4 : tie.Need-enum-told-4
+enum-told-4 c = search needs
+
+refusal-requires : tie.Need-refusal-requires
+refusal-requires c κs = search needs
+
+enum-known-r : tie.Need-enum-known-r
+enum-known-r c = search needs
+
+proposal-line-requires : tie.Need-proposal-line-requires
+proposal-line-requires c κs = lies-as (c .before .before .before .before .before .before .before .before .args .line .now) _ _ (c .before .r .given .1) (c .before .before .before .read-turn-line .ensures .1)
+
+returns : tie.Need-returns
+returns c = let a = c .before .before .before .before .before .before .before .before .args in turn-by (a .awaited) (a .say) (a .keep) (a .reader) (a .line .now) (a .table .now) (a .known .now) (a .inbox .now) (a .store) _ _ TurnLine.FF (c .before .enum-told .given .1) (c .before .before .before .read-turn-line .ensures .0) (c .ff-line .ensures)
+
+returns-2 : tie.Need-returns-2
+returns-2 c = let a = c .before .before .before .before .before .before .before .before .args in turn-by (a .awaited) (a .say) (a .keep) (a .reader) (a .line .now) (a .table .now) (a .known .now) (a .inbox .now) (a .store) _ _ TurnLine.FQ (c .before .enum-told2 .given .1) (c .before .before .before .read-turn-line .ensures .0) (c .fq-line .ensures)
+
+returns-3 : tie.Need-returns-3
+returns-3 c = let a = c .before .before .before .before .before .before .before .before .args in turn-by (a .awaited) (a .say) (a .keep) (a .reader) (a .line .now) (a .table .now) (a .known .now) (a .inbox .now) (a .store) _ _ TurnLine.End (c .before .enum-told3 .given .1) (c .before .before .before .read-turn-line .ensures .0) (c .end-line .ensures)
+
+returns-4 : tie.Need-returns-4
+returns-4 c = let a = c .before .before .before .before .before .before .before .before .args in turn-by (a .awaited) (a .say) (a .keep) (a .reader) (a .line .now) (a .table .now) (a .known .now) (a .inbox .now) (a .store) _ _ TurnLine.NotAllowed (c .before .enum-told4 .given .1) (c .before .before .before .read-turn-line .ensures .0) (c .refusal .ensures)
+
+returns-5 : tie.Need-returns-5
+returns-5 c = let a = c .before .before .before .before .before .before .before .before .before .args in turn-by (a .awaited) (a .say) (a .keep) (a .reader) (a .line .now) (a .table .now) (a .known .now) (a .inbox .now) (a .store) _ _ _ (c .before .before .r .given .1) (c .before .before .before .before .read-turn-line .ensures .0) (c .proposal-line .ensures)
+
+pub turn-line-spec : {M : Type 1} → statement M
+turn-line-spec =
+    tie.close
+    (tie.spec
+    read-turn-line-requires
+    enum-told
+    ff-line-requires
+    enum-told-2
+    fq-line-requires
+    enum-told-3
+    end-line-requires
+    enum-told-4
+    refusal-requires
+    enum-known-r
+    proposal-line-requires
+    returns
+    returns-2
+    returns-3
+    returns-4
+    returns-5)

@@ -1,0 +1,2 @@
+-- What is awaited and what is said, by number.
+pub mod Phase

@@ -1,0 +1,89 @@
+-- What a session awaits and what waits for give, by number, as session memory holds them (docs/MEMORY.md).
+use Prim.Native.Nat.{ℕ}
+
+-- ---------------------------------------------------------------- what is awaited; from `phaseOver` on the session has ended
+
+abbrev pub phaseCalledSid : ℕ
+phaseCalledSid = 0
+
+abbrev pub phaseCallerSid : ℕ
+phaseCallerSid = 1
+
+abbrev pub phasePrompt : ℕ
+phasePrompt = 2
+
+abbrev pub phaseTurn : ℕ
+phaseTurn = 3
+
+abbrev pub phaseFs : ℕ
+phaseFs = 4
+
+abbrev pub phaseTransfer : ℕ
+phaseTransfer = 5
+
+abbrev pub phaseLeaving : ℕ
+phaseLeaving = 6
+
+abbrev pub phaseOver : ℕ
+phaseOver = 7
+
+-- ---------------------------------------------------------------- what is said first
+
+abbrev pub pieceNone : ℕ
+pieceNone = 0
+
+abbrev pub pieceSidAndPrompt : ℕ
+pieceSidAndPrompt = 1
+
+abbrev pub pieceSid : ℕ
+pieceSid = 2
+
+abbrev pub pieceSigns : ℕ
+pieceSigns = 3
+
+-- ---------------------------------------------------------------- what is said after it; `pieceNone` here too
+
+abbrev pub pieceFF : ℕ
+pieceFF = 1
+
+abbrev pub pieceFQ : ℕ
+pieceFQ = 2
+
+abbrev pub pieceBlock : ℕ
+pieceBlock = 3
+
+abbrev pub pieceTransfers : ℕ
+pieceTransfers = 4
+
+-- ---------------------------------------------------------------- after a judged line
+
+abbrev pub notOurTurn : ℕ
+notOurTurn = 0
+
+abbrev pub ourTurn : ℕ
+ourTurn = 1
+
+-- the partner's turn just now was FF
+abbrev pub ourTurnAfterFF : ℕ
+ourTurnAfterFF = 2
+
+-- ---------------------------------------------------------------- a record's state, 01, "Lent memory"
+
+abbrev pub stateWaiting : ℕ
+stateWaiting = 0
+
+abbrev pub stateForwarded : ℕ
+stateForwarded = 1
+
+abbrev pub stateDeclined : ℕ
+stateDeclined = 2
+
+-- ---------------------------------------------------------------- a block
+
+-- "up to five messages before the direction turns"
+abbrev pub blockLimit : ℕ
+blockLimit = 5
+
+-- No proposal of a block: the place after its last.
+abbrev pub noProposal : ℕ
+noProposal = 5

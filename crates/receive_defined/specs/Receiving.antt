@@ -1,0 +1,255 @@
+-- 01, "receive (bytes from the link)": a byte at a time on the state as session memory holds it and on the lent bytes, then the call, for
+-- any memory. That this is what crates/session says, on lists, is proved in crates/lent.
+use mathlib.Core.Bool.{Bool, true, false, cond, not, _&&_, _||_}
+use mathlib.Core.List.{List, [], _∷_, _++_}
+use Prim.Native.Nat.{ℕ, suc, _+_, _*_}
+use lib.Dec.{eqb}
+use lib.ListN.{length, set, take, drop}
+use Rattle.grammar.specs.Bytes.{Bytes, LF}
+use Rattle.grammar.specs.Refusals.{badMemory, lineTooLong, badTransfer, badChecksum, storeFull, bytesWait, sessionEnded}
+use Rattle.grammar.specs.Lines.{LineByte, dropped, ends, grows, overruns, lineByte, trim}
+use Rattle.buffer.specs.Put.{putBytes}
+use Rattle.layout.specs.Layout.{byteAt, entryAt, recordSize, entrySize, proposalSize, entryOut}
+use Rattle.transfer_step.specs.declared.Reader.{Reader}
+use Rattle.transfer_step.specs.declared.Stepped.{Stepped}
+use Rattle.transfer_step.specs.declared.Outcome.{Outcome}
+use Rattle.transfer_step.specs.declared.Outcome.the-variants.{More, Whole, Malformed, WrongSum, NoRoom}
+use Rattle.transfer_step.specs.Step.{stepOf}
+use Rattle.transfer_read.specs.Feed.{headingPut, storePut, roomOf}
+use Rattle.session_memory.specs.State.{at, held, loadOf, saveOf}
+use Rattle.session_memory.specs.declared.Await.{Await}
+use Rattle.session_memory.specs.declared.Say.{Say}
+use Rattle.session_memory.specs.declared.Keep.{Keep}
+use Rattle.session_memory.specs.declared.Session.{Session}
+use Rattle.line_effect.specs.Judge.{noMarks, judged, inPhase, toTransfer, nextAccepted, readerFor, judgeOf, speakOf}
+use Rattle.line_effect.specs.declared.Judged.{Judged}
+use Rattle.pending.specs.Pending.{waits, overOf}
+use Rattle.form_test.specs.Form.{formOf}
+use Rattle.give.specs.Giving.{reply}
+use Rattle.give.specs.declared.Reply.{Reply}
+
+-- The state with the lent bytes that a receive may change.
+pub record Cs : Type 0 where
+  pub session : Session
+  pub table : Bytes
+  pub inbox : Bytes
+  pub store : Bytes
+
+pub record Moved : Type 0 where
+  pub answer : ℕ
+  pub cs : Cs
+
+abbrev pub cs : Session → Bytes → Bytes → Bytes → Cs
+cs s table inbox store = record { session = s; table = table; inbox = inbox; store = store }
+
+abbrev pub moved : ℕ → Cs → Moved
+moved n c = record { answer = n; cs = c }
+
+-- ---------------------------------------------------------------- marks
+
+-- The records at these places get this state; "Nothing else in the table changes."
+abbrev pub markAll : List ℕ → ℕ → Bytes → Bytes
+markAll [] v table = table
+markAll (i ∷ is) v table = markAll is v (set table (i * recordSize) v)
+
+-- ---------------------------------------------------------------- what a whole line or transfer leaves
+
+-- "After a refusal nothing more is sent": the session is over, nothing waits, and what is kept stands
+unfoldable pub refusedOf : Session → Session
+refusedOf s =
+    record {
+      now = inPhase 7 (s .now);
+      say = record { first = 0; then = 0; pos = 0; signs = s .say .signs };
+      keep = s .keep;
+      reading = s .reading;
+      line = record { «after_cr» = false; len = 0; bytes = s .line .bytes };
+    }
+
+-- What is said is not given yet.
+abbrev pub unsaid : Say → Say
+unsaid y = record { first = y .first; then = y .then; pos = 0; signs = y .signs }
+
+abbrev pub settledOf : Session → Judged → Bool → Await → Say → Session
+settledOf s j afterCr w y =
+    record {
+      now = w;
+      say = unsaid y;
+      keep = j .keep;
+      reading = record { reader = j .reader; heading = s .reading .heading };
+      line = record { «after_cr» = afterCr; len = 0; bytes = s .line .bytes };
+    }
+
+-- our turn, if it is
+abbrev pub spokenOf : Session → Judged → Bool → Bytes → Session
+spokenOf s j afterCr table =
+    cond (eqb (j .speaks) 0) (settledOf s j afterCr (j .now) (j .say))
+    (settledOf s j afterCr (speakOf (j .now) (j .say) (j .keep) table (eqb (j .speaks) 2) .now) (speakOf (j .now) (j .say) (j .keep) table (eqb (j .speaks) 2) .say))
+
+pub record Settled : Type 0 where
+  pub answer : ℕ
+  pub session : Session
+  pub table : Bytes
+
+abbrev pub settled : ℕ → Session → Bytes → Settled
+settled n s table = record { answer = n; session = s; table = table }
+
+-- Marks first, then our turn.
+unfoldable pub settleOf : Session → Judged → Bool → Bytes → Settled
+settleOf s j afterCr table =
+    cond (eqb (j .answer) 0)
+    (settled 0 (spokenOf s j afterCr (markAll (held (j .marks .places)) (j .marks .state) table)) (markAll (held (j .marks .places)) (j .marks .state) table))
+    (settled (j .answer) (refusedOf s) table)
+
+-- ---------------------------------------------------------------- a byte of a line
+
+abbrev pub longer : Session → ℕ → Session
+longer s b =
+    record {
+      now = s .now;
+      say = s .say;
+      keep = s .keep;
+      reading = s .reading;
+      line = record { «after_cr» = false; len = s .line .len + 1; bytes = set (s .line .bytes) (s .line .len) b };
+    }
+
+abbrev pub lineMoved : LineByte → Session → ℕ → Bytes → Bytes → Bytes → ℕ → Settled
+lineMoved dropped s b table known inbox store = settled 0 s table
+lineMoved ends s b table known inbox store =
+    settleOf s (judgeOf (trim (take (s .line .len) (s .line .bytes))) (s .now) (s .say) (s .keep) (s .reading .reader) table known inbox store) true table
+lineMoved grows s b table known inbox store = settled 0 (longer s b) table
+lineMoved overruns s b table known inbox store = settled lineTooLong (refusedOf s) table
+
+unfoldable pub lineStepOf : Session → ℕ → Bytes → Bytes → Bytes → ℕ → Settled
+lineStepOf s b table known inbox store = lineMoved (lineByte false (s .line .len) b) s b table known inbox store
+
+-- ---------------------------------------------------------------- a whole transfer
+
+abbrev pub keptKeep : Session → Keep
+keptKeep s =
+    record {
+      framed = s .keep .framed;
+      kept = s .keep .kept + 1;
+      used = s .keep .used + s .reading .reader .body;
+      sending = s .keep .sending;
+      deferred = s .keep .deferred;
+    }
+
+-- the next accepted proposal's transfer, or our turn
+abbrev pub nextJudged : Session → ℕ → Judged
+nextJudged s i =
+    cond (eqb i 5)
+    (judged 0 1 noMarks (s .now) (s .say) (keptKeep s) (s .reading .reader))
+    (judged 0 0 noMarks (toTransfer i (s .now)) (s .say) (keptKeep s) (readerFor (s .now) i))
+
+-- "A message is kept at its last byte.": its entry in the inbox
+unfoldable pub keptInbox : Session → Bytes → Bytes
+keptInbox s inbox =
+    putBytes inbox (at (s .keep .kept * entrySize))
+    (entryOut (entryAt proposalSize (s .now .block) (s .now .current)) (take (s .reading .reader .head) (s .reading .heading)) (s .keep .used) (s .reading .reader .body))
+
+abbrev pub isPlainAt : Session → Bool
+isPlainAt s = eqb (byteAt (entryAt proposalSize (s .now .block) (s .now .current)) 0) 0
+
+unfoldable pub keepOf : Session → Bytes → Settled
+keepOf s table = settleOf s (nextJudged s (nextAccepted (s .say .signs) (s .now .current + 1))) (isPlainAt s) table
+
+-- ---------------------------------------------------------------- a byte of a transfer
+
+-- the reading goes on
+abbrev pub reading : Session → Reader → Bytes → Session
+reading s r heading =
+    record {
+      now = s .now;
+      say = s .say;
+      keep = s .keep;
+      reading = record { reader = r; heading = heading };
+      line = record { «after_cr» = false; len = s .line .len; bytes = s .line .bytes };
+    }
+
+-- s: the session with the reading after the byte
+abbrev pub transferMoved : Outcome → Session → Bytes → Bytes → Bytes → Moved
+transferMoved More s table inbox store = moved 0 (cs s table inbox store)
+transferMoved Whole s table inbox store = moved (keepOf s table .answer) (cs (keepOf s table .session) (keepOf s table .table) (keptInbox s inbox) store)
+transferMoved Malformed s table inbox store = moved badTransfer (cs (refusedOf s) table inbox store)
+transferMoved WrongSum s table inbox store = moved badChecksum (cs (refusedOf s) table inbox store)
+transferMoved NoRoom s table inbox store = moved storeFull (cs (refusedOf s) table inbox store)
+
+-- The message under way lies in the store after the bytes that kept messages use.
+abbrev pub transferStep : Cs → ℕ → Stepped → Moved
+transferStep c b t =
+    transferMoved (t .outcome)
+    (reading (c .session) (t .reader) (headingPut (t .put) (c .session .reading .reader) b (c .session .reading .heading)))
+    (c .table) (c .inbox)
+    (take (c .session .keep .used) (c .store) ++ storePut (t .put) (c .session .reading .reader) b (drop (c .session .keep .used) (c .store)))
+
+unfoldable pub transferStepOf : Cs → ℕ → Moved
+transferStepOf c b = transferStep c b (stepOf (roomOf (drop (c .session .keep .used) (c .store))) (c .session .reading .reader) b)
+
+-- ---------------------------------------------------------------- a byte
+
+abbrev pub lfDropped : Session → Session
+lfDropped s =
+    record {
+      now = s .now;
+      say = s .say;
+      keep = s .keep;
+      reading = s .reading;
+      line = record { «after_cr» = false; len = s .line .len; bytes = s .line .bytes };
+    }
+
+abbrev pub lineByteOf : Bytes → Cs → ℕ → Moved
+lineByteOf known c b =
+    let t = lineStepOf (c .session) b (c .table) known (c .inbox) (length (c .store)) in
+    moved (t .answer) (cs (t .session) (t .table) (c .inbox) (c .store))
+
+-- "One LF .. is dropped, also while bytes wait for give."; "then 12, 11, 2, then the rule of the line or transfer"
+unfoldable pub byteOf : Bytes → Cs → ℕ → Moved
+byteOf known c b =
+    cond (c .session .line .«after_cr» && eqb b LF) (moved 0 (cs (lfDropped (c .session)) (c .table) (c .inbox) (c .store)))
+    (cond (waits (c .session .say)) (moved bytesWait (cs (refusedOf (c .session)) (c .table) (c .inbox) (c .store)))
+    (cond (eqb (c .session .now .phase) 5) (transferStepOf c b) (lineByteOf known c b)))
+
+-- ---------------------------------------------------------------- the call
+
+pub record Run : Type 0 where
+  pub answer : ℕ
+  pub count : ℕ
+  pub cs : Cs
+
+abbrev pub run : ℕ → ℕ → Cs → Run
+run answer count c = record { answer = answer; count = count; cs = c }
+
+abbrev pub stops : Moved → Bool
+stops m = not (eqb (m .answer) 0) || overOf (m .cs .session)
+
+-- n bytes are consumed; "the refused byte is the last one counted"
+unfoldable pub receiveFrom : Bytes → Cs → ℕ → Bytes → Run
+receiveFrom known c n [] = run 0 n c
+receiveFrom known c n (b ∷ bs) =
+    let m = byteOf known c b in
+    let r = receiveFrom known (m .cs) (suc n) bs in
+    cond (stops m) (run (m .answer) (suc n) (m .cs)) r
+
+-- The reply and the lent memory after a receive.
+pub record Received : Type 0 where
+  pub reply : Reply
+  pub sm : Bytes
+  pub table : Bytes
+  pub inbox : Bytes
+  pub store : Bytes
+
+abbrev pub unchanged : Reply → Bytes → Bytes → Bytes → Bytes → Received
+unchanged r sm table inbox store = record { reply = r; sm = sm; table = table; inbox = inbox; store = store }
+
+abbrev pub saved : Bytes → Run → Received
+saved sm r =
+    record { reply = reply (r .answer) 0 (r .count); sm = saveOf sm (r .cs .session); table = r .cs .table; inbox = r .cs .inbox; store = r .cs .store }
+
+-- "Receiving no bytes on a live session answers 0 and changes nothing."
+unfoldable pub receiveOf : Bytes → Bytes → Bytes → Bytes → Bytes → Bytes → Bytes → Bytes → Bytes → Received
+receiveOf sm table titles names bodies known inbox store bs =
+    cond (formOf sm table titles names bodies known inbox store)
+    (cond (overOf (loadOf sm)) (unchanged (reply sessionEnded 0 0) sm table inbox store)
+    (cond (eqb (length bs) 0) (unchanged (reply 0 0 0) sm table inbox store)
+    (saved sm (receiveFrom known (cs (loadOf sm) table inbox store) 0 bs))))
+    (unchanged (reply badMemory 255 0) sm table inbox store)

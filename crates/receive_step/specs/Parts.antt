@@ -1,0 +1,27 @@
+-- What the parts of a transfer's run leave.
+use mathlib.Core.Path.{_≡_}
+use mathlib.Core.List.{_++_}
+use Prim.Native.Nat.{ℕ}
+use lib.ListN.{take}
+use Rattle.grammar.specs.Bytes.{Bytes}
+use Rattle.transfer_step.specs.declared.Outcome.{Outcome}
+use Rattle.session_memory.specs.declared.Session.{Session}
+use Rattle.settling.specs.declared.Left.{Left}
+use Rattle.receive_defined.specs.Receiving.{Cs, cs, moved, reading, transferMoved}
+use Rattle.receive_step.specs.declared.Taken.{Taken}
+use Rattle.receive_step.specs.declared.Reached.{Reached}
+use Rattle.receive_step.specs.Portion.{fed}
+
+abbrev pub taken : ℕ → ℕ → Session → Taken
+taken answer count s = record { answer = answer; count = count; session = s }
+
+-- The bytes are read, and the store is st then.
+pub record ReadOn (c : Cs) (bs : Bytes) (r : Reached) (st : Bytes) : Type 0 where
+  pub outcome : r .outcome ≡ fed c bs .fed .outcome
+  pub count : r .count ≡ fed c bs .fed .count
+  pub session : r .session ≡ reading (c .session) (fed c bs .fed .reader) (fed c bs .heading)
+  pub store : st ≡ take (c .session .keep .used) (c .store) ++ fed c bs .store
+
+-- The session, table and inbox after what they came to; the store does not matter.
+abbrev pub Leaves : Outcome → Session → Bytes → Bytes → Left → Bytes → Bytes → Type 0
+Leaves o s table inbox r table′ inbox′ = (st : Bytes) → moved (r .answer) (cs (r .session) table′ inbox′ st) ≡ transferMoved o s table inbox st

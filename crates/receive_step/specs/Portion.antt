@@ -1,0 +1,47 @@
+-- What receive takes at once: one byte, or the run of a transfer's bytes up to its end or the input's. That this is byte after byte as
+-- crates/receive_defined has it is proved in crates/receive; the run is there for speed.
+use mathlib.Core.Path.{_≡_}
+use mathlib.Core.Bool.{Bool, cond, not, _&&_}
+use mathlib.Core.List.{[], _∷_, _++_}
+use Prim.Native.Nat.{ℕ, _≤_}
+use lib.Dec.{eqb}
+use lib.ListN.{length, take, drop}
+use Rattle.grammar.specs.Bytes.{Bytes, LF}
+use Rattle.transfer_read.specs.Feed as transfer
+use Rattle.transfer_read.specs.Feed.{roomOf, feedOf}
+use Rattle.pending.specs.Pending.{waits}
+use Rattle.receive_defined.specs.Receiving.{Cs, Moved, Run, run, reading, transferMoved, byteOf}
+
+-- The room that the message under way has in the store: what kept messages leave, 65,535 bytes at most.
+abbrev pub roomLeft : Cs → ℕ
+roomLeft c = roomOf (drop (c .session .keep .used) (c .store))
+
+-- The bytes of a transfer, read to its end or theirs.
+abbrev pub fed : Cs → Bytes → transfer.Run
+fed c bs = feedOf (roomLeft c) (c .session .reading .reader) bs (c .session .reading .heading) (drop (c .session .keep .used) (c .store))
+
+-- What they leave.
+abbrev pub transferLeft : Cs → transfer.Run → Moved
+transferLeft c u =
+    transferMoved (u .fed .outcome) (reading (c .session) (u .fed .reader) (u .heading)) (c .table) (c .inbox)
+    (take (c .session .keep .used) (c .store) ++ u .store)
+
+abbrev pub counted : ℕ → Moved → Run
+counted n m = run (m .answer) n (m .cs)
+
+unfoldable pub transferPortionOf : Cs → Bytes → Run
+transferPortionOf c bs = counted (fed c bs .fed .count) (transferLeft c (fed c bs))
+
+-- The byte is a transfer's.
+abbrev pub ofTransfer : Cs → ℕ → Bool
+ofTransfer c b = not (c .session .line .«after_cr» && eqb b LF) && (not (waits (c .session .say)) && eqb (c .session .now .phase) 5)
+
+unfoldable pub portionOf : Bytes → Cs → Bytes → Run
+portionOf known c [] = run 0 0 c
+portionOf known c (b ∷ bs) = cond (ofTransfer c b) (transferPortionOf c (b ∷ bs)) (counted 1 (byteOf known c b))
+
+-- What the form test gives, of the numbers that grow when a message is kept: they stay within their bytes.
+pub record Roomy (c : Cs) : Type 0 where
+  pub kept : c .session .keep .kept ≤ 64
+  pub used : c .session .keep .used ≤ length (c .store)
+  pub body : c .session .now .phase ≡ 5 → c .session .reading .reader .body ≤ roomLeft c
