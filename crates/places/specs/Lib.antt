@@ -1,0 +1,2 @@
+-- Where things lie in lent memory.
+pub mod Places

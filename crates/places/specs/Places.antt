@@ -1,0 +1,227 @@
+-- Where each thing lies in lent memory, and how long it is (docs/MEMORY.md has the same as tables).
+use Prim.Native.Nat.{ℕ, _+_}
+
+-- ---------------------------------------------------------------- The fields of a message, from where they begin; a proposal and an inbox entry begin with them, a record after its state
+
+abbrev pub formAt : ℕ
+formAt = 0
+
+abbrev pub typeAt : ℕ
+typeAt = 1
+
+abbrev pub fromAt : ℕ
+fromAt = 2
+
+abbrev pub atAt : ℕ
+atAt = 9
+
+abbrev pub toAt : ℕ
+toAt = 48
+
+abbrev pub bidAt : ℕ
+bidAt = 55
+
+abbrev pub fieldsSize : ℕ
+fieldsSize = 68
+
+-- ---------------------------------------------------------------- The longest field of each kind; 01, "Fields"
+
+abbrev pub callMax : ℕ
+callMax = 6
+
+abbrev pub atMax : ℕ
+atMax = 38
+
+abbrev pub bidMax : ℕ
+bidMax = 12
+
+abbrev pub headingMax : ℕ
+headingMax = 80
+
+-- ---------------------------------------------------------------- A proposal in session memory: the fields, the announced size
+
+abbrev pub proposalSizeAt : ℕ
+proposalSizeAt = fieldsSize
+
+abbrev pub proposalLen : ℕ
+proposalLen = proposalSizeAt + 4
+
+-- ---------------------------------------------------------------- A record of the table: its state, then a proposal's parts, then where title, name and body lie, each a start of 4 bytes and a length
+
+abbrev pub statesLen : ℕ
+statesLen = 1
+
+abbrev pub recordForm : ℕ
+recordForm = statesLen + formAt
+
+abbrev pub recordType : ℕ
+recordType = statesLen + typeAt
+
+abbrev pub recordFrom : ℕ
+recordFrom = statesLen + fromAt
+
+abbrev pub recordAt : ℕ
+recordAt = statesLen + atAt
+
+abbrev pub recordTo : ℕ
+recordTo = statesLen + toAt
+
+abbrev pub recordBid : ℕ
+recordBid = statesLen + bidAt
+
+abbrev pub recordSizeAt : ℕ
+recordSizeAt = statesLen + proposalSizeAt
+
+abbrev pub recordTitle : ℕ
+recordTitle = statesLen + proposalLen
+
+abbrev pub recordName : ℕ
+recordName = recordTitle + 5
+
+abbrev pub recordBody : ℕ
+recordBody = recordName + 5
+
+abbrev pub recordLen : ℕ
+recordLen = recordBody + 6
+
+-- ---------------------------------------------------------------- A known BID
+
+abbrev pub knownLen : ℕ
+knownLen = bidMax + 1
+
+-- ---------------------------------------------------------------- A message of the inbox: the fields, the heading, the body's start and length
+
+abbrev pub entryHeading : ℕ
+entryHeading = fieldsSize
+
+abbrev pub entryBody : ℕ
+entryBody = entryHeading + 81
+
+abbrev pub entryLen : ℕ
+entryLen = entryBody + 6
+
+-- ---------------------------------------------------------------- Session memory: the mark, the sizes that open kept
+
+abbrev pub markAt : ℕ
+markAt = 0
+
+abbrev pub sizeTable : ℕ
+sizeTable = 4
+
+abbrev pub sizeTitles : ℕ
+sizeTitles = 12
+
+abbrev pub sizeNames : ℕ
+sizeNames = 20
+
+abbrev pub sizeBodies : ℕ
+sizeBodies = 28
+
+abbrev pub sizeKnown : ℕ
+sizeKnown = 36
+
+abbrev pub sizeInbox : ℕ
+sizeInbox = 44
+
+abbrev pub sizeStore : ℕ
+sizeStore = 52
+
+-- ---------------------------------------------------------------- Session memory: the numbers of the state
+
+abbrev pub numbersAt : ℕ
+numbersAt = 60
+
+abbrev pub phaseAt : ℕ
+phaseAt = 60
+
+abbrev pub ffAt : ℕ
+ffAt = 61
+
+abbrev pub framedAt : ℕ
+framedAt = 62
+
+abbrev pub afterCrAt : ℕ
+afterCrAt = 63
+
+abbrev pub firstAt : ℕ
+firstAt = 64
+
+abbrev pub thenAt : ℕ
+thenAt = 65
+
+abbrev pub keptAt : ℕ
+keptAt = 66
+
+abbrev pub currentAt : ℕ
+currentAt = 67
+
+abbrev pub proposalsAt : ℕ
+proposalsAt = 68
+
+abbrev pub oursAt : ℕ
+oursAt = 69
+
+abbrev pub sendingAt : ℕ
+sendingAt = 75
+
+abbrev pub signsAt : ℕ
+signsAt = 81
+
+abbrev pub placeAt : ℕ
+placeAt = 87
+
+abbrev pub lengthAt : ℕ
+lengthAt = 88
+
+abbrev pub headAt : ℕ
+headAt = 89
+
+abbrev pub offsetAt : ℕ
+offsetAt = 90
+
+abbrev pub sumAt : ℕ
+sumAt = 91
+
+abbrev pub lineLengthAt : ℕ
+lineLengthAt = 92
+
+abbrev pub leftAt : ℕ
+leftAt = 94
+
+abbrev pub bodyAt : ℕ
+bodyAt = 96
+
+abbrev pub posAt : ℕ
+posAt = 100
+
+abbrev pub usedAt : ℕ
+usedAt = 108
+
+abbrev pub numbersEnd : ℕ
+numbersEnd = 116
+
+-- ---------------------------------------------------------------- Session memory: the arrays of the state, which stay there; where each begins among them, and how long it is
+
+abbrev pub arraysAt : ℕ
+arraysAt = 116
+
+abbrev pub deferredAt : ℕ
+deferredAt = 0
+
+abbrev pub headingAt : ℕ
+headingAt = 64
+
+abbrev pub lineAt : ℕ
+lineAt = 144
+
+abbrev pub blockAt : ℕ
+blockAt = 400
+
+abbrev pub arraysLen : ℕ
+arraysLen = 760
+
+abbrev pub arraysEnd : ℕ
+arraysEnd = arraysAt + arraysLen
+
+abbrev pub sessionLen : ℕ
+sessionLen = 876
