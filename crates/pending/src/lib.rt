@@ -1,28 +1,30 @@
 // Whether bytes wait for give, and whether the session has ended: two facts, not one.
+use numbers::Numbers;
 use session_memory::Say;
-use session_memory::Session;
 ghost use mathlib.Core.Path.{_≡_};
-ghost use Rattle.pending.specs.Pending.{waits, overOf, hasToGive, silentOf};
+ghost use Rattle.grammar.specs.Bytes.{Bytes};
+ghost use Rattle.numbers.specs.Whole.{wholeOf};
+ghost use Rattle.pending.specs.Pending.{waits, overOf, hasToGive};
 
 // Something waits.
 pub fn is_waiting(say: Say) -> bool
     ensures { λ r. ⌜ r ≡ waits say ⌝ }
 {
-    if say.first != 0 {
+    if say.first != phase::PIECE_NONE {
         return true;
     }
-    say.then != 0
+    say.then != phase::PIECE_NONE
 }
 
 // The session has ended.
-pub fn is_over(s: Session) -> bool
-    ensures { λ r. ⌜ r ≡ overOf s ⌝ }
+pub fn is_over(s: Numbers) -> bool
+    ensures { λ r. ⌜ ((m : Bytes) → r ≡ overOf (wholeOf s m)) ⌝ }
 {
-    let phase = s.now.phase;
-    if phase < 6 {
+    let awaited = s.now.phase;
+    if awaited < phase::LEAVING {
         return false;
     }
-    if phase == 6 {
+    if awaited == phase::LEAVING {
         let say = s.say;
         return !is_waiting(say);
     }
@@ -30,23 +32,12 @@ pub fn is_over(s: Session) -> bool
 }
 
 // Something is to be given: it waits, and the session has not ended.
-pub fn has_to_give(s: Session) -> bool
-    ensures { λ r. ⌜ r ≡ hasToGive s ⌝ }
+pub fn has_to_give(s: Numbers) -> bool
+    ensures { λ r. ⌜ ((m : Bytes) → r ≡ hasToGive (wholeOf s m)) ⌝ }
 {
     if is_over(s) {
         return false;
     }
     let say = s.say;
     is_waiting(say)
-}
-
-// The session with nothing waiting.
-pub fn silent(s: Session) -> Session
-    ensures { λ r. ⌜ r ≡ silentOf s ⌝ }
-{
-    let mut t = s;
-    t.say.first = 0;
-    t.say.then = 0;
-    t.say.pos = 0;
-    t
 }

@@ -1,24 +1,25 @@
 -- The definition's tests are the code's.
 use borrow.Author.Tests.{eq-eqb, ne-eqb, lt-ltb, le-ltb}
+use Rattle.numbers.specs.Whole.{wholeOf}
 use Rattle.pending.specs.Pending.{overOf}
 use borrow.Author.Needs.{needs}
 use Rattle.pending.proofs.is_over.Statement.{statement}
 use Rattle.pending.proofs.is_over.Tie as tie
 
 returns : tie.Need-returns
-unfolding overOf
-returns c = search (lt-ltb, le-ltb)
+unfolding overOf wholeOf
+returns c = λ m. search (lt-ltb, le-ltb)
 
 is-waiting-requires : tie.Need-is-waiting-requires
 is-waiting-requires c κs = search needs
 
 returns-2 : tie.Need-returns-2
-unfolding overOf
-returns-2 c = rw (le-ltb _ _ (c .before .before .before .if1 .left), eq-eqb _ _ (c .before .before .if2 .taken), c .is-waiting .ensures)
+unfolding overOf wholeOf
+returns-2 c = λ m. rw (le-ltb _ _ (c .before .before .before .if1 .left), eq-eqb _ _ (c .before .before .if2 .taken), c .is-waiting .ensures)
 
 returns-3 : tie.Need-returns-3
-unfolding overOf
-returns-3 c = search (lt-ltb, le-ltb, eq-eqb, ne-eqb)
+unfolding overOf wholeOf
+returns-3 c = λ m. search (lt-ltb, le-ltb, eq-eqb, ne-eqb)
 
 pub is-over-spec : {M : Type 1} → statement M
 is-over-spec = tie.close (tie.spec returns is-waiting-requires returns-2 returns-3)
