@@ -140,7 +140,7 @@ fn carry(r: Reader, bytes: &[u8], store: &mut [u8]) -> Reader
 }
 
 // Reads a portion, up to its end or an outcome. The heading goes to `heading`, the body to `store`, of which it takes 65,535 bytes at most.
-pub fn feed(r: Reader, input: &[u8], heading: &mut [u8; 80], store: &mut [u8]) -> Fed
+pub fn feed(r: Reader, input: &[u8], heading: &mut [u8], store: &mut [u8]) -> Fed
     ensures { λ f. ⌜ run f (now (heading .exit)) (now (store .exit)) ≡ feedOf (roomOf (now (store .entry))) r (now (input .entry)) (now (heading .entry)) (now (store .entry)) ⌝ }
 {
     let room = room_of(store.len());
