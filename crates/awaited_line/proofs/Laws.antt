@@ -18,8 +18,8 @@ use Rattle.session_memory.specs.declared.Await.{Await}
 use Rattle.session_memory.specs.declared.Say.{Say}
 use Rattle.session_memory.specs.declared.Keep.{Keep}
 use Rattle.choice.specs.Choice.{chooseOf}
-use Rattle.line_effect.specs.declared.Judged.{Judged}
-use Rattle.line_effect.specs.declared.Spoken.{Spoken}
+use Rattle.line_effect.specs.Judged.{Judged}
+use Rattle.line_effect.specs.Judged.{Spoken}
 use Rattle.line_effect.specs.Judge.{refusal, wentOn, inPhase, toTurn, inMode, afterSid, sidRead, lineIn, judgeOf, speaking, speakOf}
 
 module _ (w : Await) (y : Say) (k : Keep) (rd : Reader) where

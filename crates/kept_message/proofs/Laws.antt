@@ -8,7 +8,7 @@ use Rattle.transfer_step.specs.declared.Reader.{Reader}
 use Rattle.session_memory.specs.declared.Await.{Await}
 use Rattle.session_memory.specs.declared.Keep.{Keep}
 use Rattle.session_memory.specs.declared.Session.{Session}
-use Rattle.line_effect.specs.declared.Judged.{Judged}
+use Rattle.line_effect.specs.Judged.{Judged}
 use Rattle.line_effect.specs.Judge.{noMarks, judged, toTransfer, nextAccepted, readerFor}
 use Rattle.receive_defined.specs.Receiving.{Settled, settleOf, keptKeep, nextJudged, isPlainAt, keepOf}
 

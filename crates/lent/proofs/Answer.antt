@@ -28,7 +28,7 @@ use Rattle.session_memory.specs.declared.Keep.{Keep}
 use Rattle.session_memory.specs.declared.Session.{Session}
 use Rattle.session_memory.proofs.Laws.{held-five}
 use Rattle.line_effect.specs.Judge.{refusal, toTurn, saysThen, picked, flagged, sends, transfersAfter, answerTaken, answerLine}
-use Rattle.line_effect.specs.declared.Judged.{Judged}
+use Rattle.line_effect.specs.Judged.{Judged}
 use Rattle.waiting.specs.Waiting.{firstText, thenText, sendingText}
 use Rattle.receive_defined.specs.Receiving.{cs, unsaid, markAll}
 use Rattle.lent.specs.Represents.{Fixed, Represents}

@@ -18,7 +18,7 @@ use Rattle.session_memory.specs.declared.Say.{Say}
 use Rattle.session_memory.specs.declared.Keep.{Keep}
 use Rattle.choice.specs.Decoded.{placeCount}
 use Rattle.line_effect.specs.Judge.{inPhase, toTurn, toAnswer, toTransfer, saysThen, sends, readerFor}
-use Rattle.line_effect.specs.declared.Judged.{Judged}
+use Rattle.line_effect.specs.Judged.{Judged}
 use Rattle.form_test.specs.Form.{usedBy}
 use Rattle.lent.proofs.FormLaws.{Octets, octets-zeros, FiveOk}
 use Rattle.lent.proofs.FormFacts.{AwaitOk, SayOk, KeepOk, ReaderOk, Box, Awaited}

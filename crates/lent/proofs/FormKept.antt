@@ -18,7 +18,7 @@ use Rattle.session_memory.specs.State.{at, held}
 use Rattle.session_memory.specs.declared.Session.{Session}
 use Rattle.choice.specs.Decoded.{placeCount}
 use Rattle.line_effect.specs.Judge.{noMarks, judged, toTransfer, nextAccepted, readerFor}
-use Rattle.line_effect.specs.declared.Judged.{Judged}
+use Rattle.line_effect.specs.Judged.{Judged}
 use Rattle.form_test.specs.Form.{usedBy, pluses}
 use Rattle.receive_defined.specs.Receiving.{cs, settleOf, keptKeep, keptInbox, isPlainAt, keepOf}
 use Rattle.lent.specs.Represents.{Fixed}

@@ -25,7 +25,7 @@ use Rattle.session_memory.specs.State.{at, held}
 use Rattle.session_memory.specs.declared.Session.{Session}
 use Rattle.choice.specs.Decoded.{proposalsOf}
 use Rattle.line_effect.specs.Judge.{noMarks, judged, toTransfer, plusFrom, nextAccepted, readerFor, speakOf}
-use Rattle.line_effect.specs.declared.Judged.{Judged}
+use Rattle.line_effect.specs.Judged.{Judged}
 use Rattle.waiting.specs.Waiting.{thenText}
 use Rattle.pending.specs.Pending.{waits}
 use Rattle.receive_defined.specs.Receiving.{Cs, unsaid, keptKeep, nextJudged, isPlainAt, keepOf}

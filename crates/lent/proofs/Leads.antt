@@ -15,7 +15,7 @@ use Rattle.session_memory.specs.declared.Say.{Say}
 use Rattle.session_memory.specs.declared.Keep.{Keep}
 use Rattle.session_memory.specs.declared.Session.{Session}
 use Rattle.line_effect.specs.Judge.{judged, speakOf}
-use Rattle.line_effect.specs.declared.Judged.{Judged}
+use Rattle.line_effect.specs.Judged.{Judged}
 use Rattle.line_effect.specs.declared.Marks.{Marks}
 use Rattle.receive_defined.specs.Receiving.{cs, markAll, settledOf, spokenOf, Settled, settled, settleOf, refusedOf}
 use Rattle.lent.specs.Represents.{Fixed, Represents}

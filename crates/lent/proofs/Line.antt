@@ -42,7 +42,7 @@ use Rattle.choice.specs.Decoded.{proposalsOf, placeCount}
 use Rattle.choice.specs.Choice.{answersOf}
 use Rattle.line_effect.specs.Judge.{noMarks, judged, wentOn, refusal, inPhase, toTurn, toTransfer, saysFirst, saysSigns, sidRead, plusFrom, nextAccepted, readerFor, endLine, withProposal, proposalLine, ffLine, fqLine, turnRead, speakOf}
 use Rattle.line_effect.specs.Judge as judge
-use Rattle.line_effect.specs.declared.Judged.{Judged}
+use Rattle.line_effect.specs.Judged.{Judged}
 use Rattle.line_effect.specs.declared.Marks.{Marks}
 use Rattle.waiting.specs.Waiting.{firstText, thenText}
 use Rattle.pending.specs.Pending.{waits}

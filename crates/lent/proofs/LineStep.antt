@@ -22,7 +22,7 @@ use Rattle.session.specs.Session.{Memory, Phase, Outcome, goesOn}
 use Rattle.session_memory.specs.declared.Line.{Line}
 use Rattle.session_memory.specs.declared.Session.{Session}
 use Rattle.line_effect.specs.Judge.{wentOn, judgeOf, lineIn, sidLine, textLine, turnLine}
-use Rattle.line_effect.specs.declared.Judged.{Judged}
+use Rattle.line_effect.specs.Judged.{Judged}
 use Rattle.waiting.specs.Waiting.{waitingOf}
 use Rattle.pending.specs.Pending.{waits}
 use Rattle.receive_defined.specs.Receiving.{Cs, cs, Settled, longer, lineMoved, lineStepOf, refusedOf}

@@ -24,7 +24,7 @@ use Rattle.session_memory.specs.declared.Keep.{Keep}
 use Rattle.choice.specs.Choice.{answersOf}
 use Rattle.line_effect.specs.Judge.{judged, refusal, sidRead, sidLine, textLine, endLine, answered, nextAccepted, readerFor, proposalLine, ffLine, fqLine, turnRead, turnLine, answerLine, judgeOf}
 use Rattle.line_effect.specs.declared.Marks.{Marks}
-use Rattle.line_effect.specs.declared.Judged.{Judged}
+use Rattle.line_effect.specs.Judged.{Judged}
 
 -- an FS line is refused with 5 or 7
 number-other : (n : ℕ) (ln : Bytes) → eqb (answerNumber n ln) 1 ≡ false

@@ -27,7 +27,7 @@ use Rattle.choice.specs.Decoded.{statesOf, proposalsOf}
 use Rattle.choice.specs.Choice.{chooseOf}
 use Rattle.line_effect.specs.Judge.{picked, flagged, settledKeep, sends, inPhase, toTurn, toAnswer, saysThen, spoken, speaking, speakOf}
 use Rattle.line_effect.specs.Judge as judge
-use Rattle.line_effect.specs.declared.Spoken.{Spoken}
+use Rattle.line_effect.specs.Judged.{Spoken}
 use Rattle.waiting.specs.Waiting.{waitingOf, firstText, thenText, blockText}
 use Rattle.pending.specs.Pending.{waits}
 use Rattle.receive_defined.specs.Receiving.{cs, unsaid, markAll}

@@ -26,7 +26,7 @@ use Rattle.session_memory.specs.declared.Say.{Say}
 use Rattle.session_memory.specs.declared.Keep.{Keep}
 use Rattle.session_memory.specs.declared.Session.{Session}
 use Rattle.line_effect.specs.Judge.{nextAccepted, readerFor, judgeOf}
-use Rattle.line_effect.specs.declared.Judged.{Judged}
+use Rattle.line_effect.specs.Judged.{Judged}
 use Rattle.pending.specs.Pending.{waits}
 use Rattle.receive_defined.specs.Receiving.{Cs, Moved, markAll, refusedOf, spokenOf, Settled, settleOf, lineMoved, lineStepOf, nextJudged, keepOf, isPlainAt, reading, transferMoved, transferStepOf, byteOf, Run, stops, receiveFrom}
 use Rattle.lent.proofs.LineWays.{by-line-ways}

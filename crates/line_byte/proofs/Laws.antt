@@ -14,7 +14,7 @@ use Rattle.session_memory.specs.declared.Say.{Say}
 use Rattle.session_memory.specs.declared.Keep.{Keep}
 use Rattle.session_memory.specs.declared.Session.{Session}
 use Rattle.transfer_step.specs.declared.Reader.{Reader}
-use Rattle.line_effect.specs.declared.Judged.{Judged}
+use Rattle.line_effect.specs.Judged.{Judged}
 use Rattle.line_effect.specs.Judge.{judgeOf}
 use Rattle.receive_defined.specs.Receiving.{Settled, lineMoved, lineStepOf}
 

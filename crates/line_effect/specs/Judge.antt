@@ -12,6 +12,7 @@ use Rattle.grammar.specs.Fields.{formNumber}
 use Rattle.grammar.specs.Lines.{isComment, isPrompt}
 use Rattle.grammar.specs.Sid.{readSid, hasFeature, framed}
 use Rattle.grammar.specs.Turns.{Proposal, TurnLine, saysFF, saysFQ, endsBlock, notAllowed, proposes, readTurnLine}
+use Rattle.grammar.specs.Answers.{accept, decline, defer, writeSign}
 use Rattle.fs_line.specs.Answers.{answerNumber, answerSigns}
 use Rattle.buffer.specs.Put.{putBytes}
 use Rattle.layout.specs.Layout.{byteAt, entryAt, proposalSize, proposalOut}
@@ -22,39 +23,40 @@ use Rattle.session_memory.specs.declared.Five.{Five}
 use Rattle.session_memory.specs.declared.Await.{Await}
 use Rattle.session_memory.specs.declared.Say.{Say}
 use Rattle.session_memory.specs.declared.Keep.{Keep}
+use Rattle.phase.specs.Phase.{phaseCalledSid, phaseCallerSid, phasePrompt, phaseTurn, phaseFs, phaseTransfer, phaseLeaving, phaseOver, pieceSid, pieceSigns, pieceFF, pieceFQ, pieceBlock, pieceTransfers, notOurTurn, ourTurn, ourTurnAfterFF, stateWaiting, stateForwarded, stateDeclined, blockLimit, noProposal}
+use Rattle.places.specs.Places.{formAt}
 use Rattle.choice.specs.Choice.{chooseOf, answersOf}
 use Rattle.line_effect.specs.declared.Marks.{Marks}
-use Rattle.line_effect.specs.declared.Judged.{Judged}
-use Rattle.line_effect.specs.declared.Spoken.{Spoken}
+use Rattle.line_effect.specs.Judged.{Judged, Spoken}
 
 -- ---------------------------------------------------------------- changes of the state
 
 abbrev pub noMarks : Marks
-noMarks = record { state = 0; places = noFive }
+noMarks = record { state = stateWaiting; places = noFive }
 
 abbrev pub judged : ℕ → ℕ → Marks → Await → Say → Keep → Reader → Judged
 judged answer speaks m w y k r = record { answer = answer; speaks = speaks; marks = m; now = w; say = y; keep = k; reader = r }
 
 abbrev pub refusal : ℕ → Await → Say → Keep → Reader → Judged
-refusal n w y k r = judged n 0 noMarks w y k r
+refusal n w y k r = judged n notOurTurn noMarks w y k r
 
 abbrev pub wentOn : Await → Say → Keep → Reader → Judged
-wentOn w y k r = judged 0 0 noMarks w y k r
+wentOn w y k r = judged 0 notOurTurn noMarks w y k r
 
 abbrev pub inPhase : ℕ → Await → Await
 inPhase p w = record { phase = p; ff = w .ff; current = w .current; proposals = w .proposals; ours = w .ours; block = w .block }
 
 -- The partner's turn is awaited, with no line of it yet; ff: our turn just now was FF.
 abbrev pub toTurn : Bool → Await → Await
-toTurn ff w = record { phase = 3; ff = ff; current = w .current; proposals = 0; ours = w .ours; block = w .block }
+toTurn ff w = record { phase = phaseTurn; ff = ff; current = w .current; proposals = 0; ours = w .ours; block = w .block }
 
 -- The FS line on our records at these places is awaited.
 abbrev pub toAnswer : Five → Await → Await
-toAnswer places w = record { phase = 4; ff = w .ff; current = w .current; proposals = w .proposals; ours = places; block = w .block }
+toAnswer places w = record { phase = phaseFs; ff = w .ff; current = w .current; proposals = w .proposals; ours = places; block = w .block }
 
 -- The transfer of the proposal at this place of the block is awaited.
 abbrev pub toTransfer : ℕ → Await → Await
-toTransfer i w = record { phase = 5; ff = w .ff; current = i; proposals = w .proposals; ours = w .ours; block = w .block }
+toTransfer i w = record { phase = phaseTransfer; ff = w .ff; current = i; proposals = w .proposals; ours = w .ours; block = w .block }
 
 abbrev pub saysFirst : ℕ → Say → Say
 saysFirst n y = record { first = n; then = y .then; pos = y .pos; signs = y .signs }
@@ -63,7 +65,7 @@ abbrev pub saysThen : ℕ → Say → Say
 saysThen n y = record { first = y .first; then = n; pos = y .pos; signs = y .signs }
 
 abbrev pub saysSigns : Five → Say → Say
-saysSigns f y = record { first = 3; then = y .then; pos = y .pos; signs = f }
+saysSigns f y = record { first = pieceSigns; then = y .then; pos = y .pos; signs = f }
 
 abbrev pub inMode : Bool → Keep → Keep
 inMode md k = record { framed = md; kept = k .kept; used = k .used; sending = k .sending; deferred = k .deferred }
@@ -74,7 +76,7 @@ sends f flags k = record { framed = k .framed; kept = k .kept; used = k .used; s
 -- ---------------------------------------------------------------- SID and text lines
 
 abbrev pub afterSid : Await → Await
-afterSid w = cond (eqb (w .phase) 1) (inPhase 2 w) (toTurn false w)
+afterSid w = cond (eqb (w .phase) phaseCallerSid) (inPhase phasePrompt w) (toTurn false w)
 
 abbrev pub sidRead : Option (List ℕ) → Await → Say → Keep → Reader → Judged
 sidRead none w y k r = refusal notSid w y k r
@@ -84,33 +86,33 @@ unfoldable pub sidLine : Bytes → Await → Say → Keep → Reader → Judged
 sidLine ln w y k r = sidRead (readSid ln) w y k r
 
 unfoldable pub textLine : Bytes → Await → Say → Keep → Reader → Judged
-textLine ln w y k r = cond (isPrompt ln) (judged 0 1 noMarks w (saysFirst 2 y) k r) (wentOn w y k r)
+textLine ln w y k r = cond (isPrompt ln) (judged 0 ourTurn noMarks w (saysFirst pieceSid y) k r) (wentOn w y k r)
 
 -- ---------------------------------------------------------------- lines of a turn
 
 -- At the end of a turn what was being sent is forwarded.
 abbrev pub turnMarks : Keep → Marks
-turnMarks k = record { state = 1; places = k .sending }
+turnMarks k = record { state = stateForwarded; places = k .sending }
 
 abbrev pub settledKeep : Keep → Keep
 settledKeep k = sends noFive (k .deferred) k
 
--- The first `+` from place i on, where the list begins; 5 where there is none.
+-- The first `+` from place i on, where the list begins.
 abbrev pub plusFrom : ℕ → List ℕ → ℕ
-plusFrom i [] = 5
-plusFrom i (x ∷ xs) = cond (eqb x 43) i (plusFrom (suc i) xs)
+plusFrom i [] = noProposal
+plusFrom i (x ∷ xs) = cond (eqb x (writeSign accept)) i (plusFrom (suc i) xs)
 
 unfoldable pub nextAccepted : Five → ℕ → ℕ
 nextAccepted signs i = plusFrom i (drop i (held signs))
 
 unfoldable pub readerFor : Await → ℕ → Reader
-readerFor w i = startOf (byteAt (entryAt proposalSize (w .block) i) 0)
+readerFor w i = startOf (byteAt (entryAt proposalSize (w .block) i) formAt)
 
 abbrev pub answered : Five → ℕ → Await → Say → Keep → Reader → Judged
 answered signs i w y k r =
-    cond (eqb i 5)
-    (judged 0 1 (turnMarks k) w (saysSigns signs y) (settledKeep k) r)
-    (judged 0 0 (turnMarks k) (toTransfer i w) (saysSigns signs y) (settledKeep k) (readerFor w i))
+    cond (eqb i noProposal)
+    (judged 0 ourTurn (turnMarks k) w (saysSigns signs y) (settledKeep k) r)
+    (judged 0 notOurTurn (turnMarks k) (toTransfer i w) (saysSigns signs y) (settledKeep k) (readerFor w i))
 
 unfoldable pub endLine : Await → Say → Keep → Reader → Bytes → Bytes → Bytes → ℕ → Judged
 endLine w y k r table known inbox store =
@@ -129,18 +131,18 @@ withProposal q w =
     }
 
 unfoldable pub proposalLine : Proposal → Await → Say → Keep → Reader → Judged
-proposalLine q w y k r = cond (ltb (w .proposals) 5) (wentOn (withProposal q w) y k r) (refusal proposalCount w y k r)
+proposalLine q w y k r = cond (ltb (w .proposals) blockLimit) (wentOn (withProposal q w) y k r) (refusal proposalCount w y k r)
 
 unfoldable pub ffLine : Await → Say → Keep → Reader → Judged
 ffLine w y k r =
     cond (eqb (w .proposals) 0)
-    (cond (w .ff) (refusal lineNotAllowed w y k r) (judged 0 2 (turnMarks k) w y (settledKeep k) r))
+    (cond (w .ff) (refusal lineNotAllowed w y k r) (judged 0 ourTurnAfterFF (turnMarks k) w y (settledKeep k) r))
     (refusal lineNotAllowed w y k r)
 
 unfoldable pub fqLine : Await → Say → Keep → Reader → Judged
 fqLine w y k r =
     cond (eqb (w .proposals) 0)
-    (cond (w .ff) (wentOn (inPhase 7 w) y k r) (refusal lineNotAllowed w y k r))
+    (cond (w .ff) (wentOn (inPhase phaseOver w) y k r) (refusal lineNotAllowed w y k r))
     (refusal lineNotAllowed w y k r)
 
 abbrev pub turnRead : TurnLine → Await → Say → Keep → Reader → Bytes → Bytes → Bytes → ℕ → Judged
@@ -167,14 +169,14 @@ flagged [] flags = flags
 flagged (i ∷ is) flags = flagged is (set flags i 1)
 
 abbrev pub transfersAfter : Five → Say → Say
-transfersAfter f y = cond (ltb 0 (f .count)) (saysThen 4 y) y
+transfersAfter f y = cond (ltb 0 (f .count)) (saysThen pieceTransfers y) y
 
 abbrev pub answerTaken : Bytes → Await → Say → Keep → Reader → Judged
 answerTaken ss w y k r =
-    judged 0 0 (record { state = 2; places = fiveOf (picked 45 (held (w .ours)) ss) })
+    judged 0 notOurTurn (record { state = stateDeclined; places = fiveOf (picked (writeSign decline) (held (w .ours)) ss) })
     (toTurn false w)
-    (transfersAfter (fiveOf (picked 43 (held (w .ours)) ss)) y)
-    (sends (fiveOf (picked 43 (held (w .ours)) ss)) (flagged (picked 61 (held (w .ours)) ss) (k .deferred)) k)
+    (transfersAfter (fiveOf (picked (writeSign accept) (held (w .ours)) ss)) y)
+    (sends (fiveOf (picked (writeSign accept) (held (w .ours)) ss)) (flagged (picked (writeSign defer) (held (w .ours)) ss) (k .deferred)) k)
     r
 
 unfoldable pub answerLine : Bytes → Await → Say → Keep → Reader → Judged
@@ -187,11 +189,11 @@ answerLine ln w y k r =
 
 abbrev pub lineIn : ℕ → Bytes → Await → Say → Keep → Reader → Bytes → Bytes → Bytes → ℕ → Judged
 lineIn p ln w y k r table known inbox store =
-    cond (eqb p 0) (sidLine ln w y k r)
-    (cond (eqb p 1) (sidLine ln w y k r)
-    (cond (eqb p 2) (textLine ln w y k r)
-    (cond (eqb p 3) (turnLine ln w y k r table known inbox store)
-    (cond (eqb p 4) (answerLine ln w y k r)
+    cond (eqb p phaseCalledSid) (sidLine ln w y k r)
+    (cond (eqb p phaseCallerSid) (sidLine ln w y k r)
+    (cond (eqb p phasePrompt) (textLine ln w y k r)
+    (cond (eqb p phaseTurn) (turnLine ln w y k r table known inbox store)
+    (cond (eqb p phaseFs) (answerLine ln w y k r)
     (refusal lineNotAllowed w y k r)))))
 
 -- A line without the spaces at its end; the slices are the table, the known BIDs and the inbox, store is the inbox store's size.
@@ -208,8 +210,8 @@ spoken w y = record { now = w; say = y }
 abbrev pub speaking : Five → Bool → Await → Say → Spoken
 speaking places ff w y =
     cond (eqb (places .count) 0)
-    (cond ff (spoken (inPhase 6 w) (saysThen 2 y)) (spoken (toTurn true w) (saysThen 1 y)))
-    (spoken (toAnswer places w) (saysThen 3 y))
+    (cond ff (spoken (inPhase phaseLeaving w) (saysThen pieceFQ y)) (spoken (toTurn true w) (saysThen pieceFF y)))
+    (spoken (toAnswer places w) (saysThen pieceBlock y))
 
 -- ff: the partner's turn just now was FF
 unfoldable pub speakOf : Await → Say → Keep → Bytes → Bool → Spoken

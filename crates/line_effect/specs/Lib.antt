@@ -1,2 +1,4 @@
 -- What a whole line comes to, on the session's state.
+pub mod Judged
 pub mod Judge
+pub mod Verdict

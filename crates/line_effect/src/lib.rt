@@ -1,12 +1,13 @@
 // What a line comes to: its answer, the marks to set, and the state after it.
 use five::none;
-use session_memory::Await;
+use numbers::KeepNumbers;
+use numbers::Numbers;
 use session_memory::Five;
-use session_memory::Keep;
-use session_memory::Say;
-use transfer_step::Reader;
 ghost use mathlib.Core.Path.{_≡_};
+ghost use Rattle.grammar.specs.Bytes.{Bytes};
+ghost use Rattle.numbers.specs.Whole.{awaitOf, keepOf};
 ghost use Rattle.line_effect.specs.Judge.{noMarks, refusal, wentOn, turnMarks, settledKeep};
+ghost use Rattle.line_effect.specs.Verdict.{judgedOf};
 
 // The records at these places get this state.
 pub struct Marks {
@@ -14,22 +15,13 @@ pub struct Marks {
     pub places: Five,
 }
 
-// What a line comes to: 01's number, or 0 with the state after it, the marks to set, and whether it is then our turn (0 no, 1 yes, 2 yes,
-// and the partner's turn just now was FF).
-pub struct Judged {
+// What a line comes to: 01's number, or 0 with the numbers after it, the marks to set, and whether it is then our turn (phase::OUR_TURN and
+// its like). The numbers of the line under way are in it as they were.
+pub struct Verdict {
     pub answer: u8,
     pub speaks: u8,
     pub marks: Marks,
-    pub now: Await,
-    pub say: Say,
-    pub keep: Keep,
-    pub reader: Reader,
-}
-
-// What we await after our turn, and what we say in it.
-pub struct Spoken {
-    pub now: Await,
-    pub say: Say,
+    pub next: Numbers,
 }
 
 // Nothing is marked.
@@ -37,55 +29,49 @@ pub fn unmarked() -> Marks
     ensures { λ r. ⌜ r ≡ noMarks ⌝ }
 {
     Marks {
-        state: 0,
+        state: phase::STATE_WAITING,
         places: none(),
     }
 }
 
 // The line is refused: 01's number, and the state as it was.
-pub fn refusal(answer: u8, awaited: Await, say: Say, keep: Keep, reader: Reader) -> Judged
-    ensures { λ r. ⌜ r ≡ refusal answer awaited say keep reader ⌝ }
+pub fn refusal(answer: u8, s: Numbers) -> Verdict
+    ensures { λ r. ⌜ ((block deferred : Bytes) → judgedOf r block deferred ≡ refusal answer (awaitOf (s .now) block) (s .say) (keepOf (s .keep) deferred) (s .reader)) ⌝ }
 {
-    Judged {
+    Verdict {
         answer: answer,
-        speaks: 0,
+        speaks: phase::NOT_OUR_TURN,
         marks: unmarked(),
-        now: awaited,
-        say: say,
-        keep: keep,
-        reader: reader,
+        next: s,
     }
 }
 
 // The line is taken, and nothing else comes of it.
-pub fn went(awaited: Await, say: Say, keep: Keep, reader: Reader) -> Judged
-    ensures { λ r. ⌜ r ≡ wentOn awaited say keep reader ⌝ }
+pub fn went(s: Numbers) -> Verdict
+    ensures { λ r. ⌜ ((block deferred : Bytes) → judgedOf r block deferred ≡ wentOn (awaitOf (s .now) block) (s .say) (keepOf (s .keep) deferred) (s .reader)) ⌝ }
 {
-    Judged {
-        answer: 0,
-        speaks: 0,
+    Verdict {
+        answer: refusal::NONE,
+        speaks: phase::NOT_OUR_TURN,
         marks: unmarked(),
-        now: awaited,
-        say: say,
-        keep: keep,
-        reader: reader,
+        next: s,
     }
 }
 
 // The turn is whole: what was being sent is forwarded.
-pub fn marks_of(keep: Keep) -> Marks
-    ensures { λ r. ⌜ r ≡ turnMarks keep ⌝ }
+pub fn marks_of(keep: KeepNumbers) -> Marks
+    ensures { λ r. ⌜ ((deferred : Bytes) → r ≡ turnMarks (keepOf keep deferred)) ⌝ }
 {
     let s = keep.sending;
     Marks {
-        state: 1,
+        state: phase::STATE_FORWARDED,
         places: s,
     }
 }
 
 // Nothing is being sent any more.
-pub fn marked(keep: Keep) -> Keep
-    ensures { λ r. ⌜ r ≡ settledKeep keep ⌝ }
+pub fn marked(keep: KeepNumbers) -> KeepNumbers
+    ensures { λ r. ⌜ ((deferred : Bytes) → keepOf r deferred ≡ settledKeep (keepOf keep deferred)) ⌝ }
 {
     let mut k = keep;
     k.sending = none();

@@ -2,24 +2,27 @@
 use five::count_of;
 use layout::byte_at;
 use layout::entry;
-use session_memory::Await;
+use numbers::AwaitNumbers;
 use session_memory::Five;
 use transfer_step::Reader;
 ghost use mathlib.Core.Path.{_≡_};
+ghost use Rattle.grammar.specs.Bytes.{Bytes};
+ghost use Rattle.numbers.specs.Whole.{awaitOf};
+ghost use Rattle.numbers.specs.declared.AwaitNumbers.{AwaitNumbers};
 ghost use Rattle.line_effect.specs.Judge.{toTurn, toTransfer, nextAccepted, readerFor};
 
 // The partner's turn is awaited, with no line of it yet.
-pub fn to_turn(awaited: Await, ff: bool) -> Await
-    ensures { λ r. ⌜ r ≡ toTurn ff awaited ⌝ }
+pub fn to_turn(awaited: AwaitNumbers, ff: bool) -> AwaitNumbers
+    ensures { λ r. ⌜ ((block : Bytes) → awaitOf r block ≡ toTurn ff (awaitOf awaited block)) ⌝ }
 {
     let mut t = awaited;
-    t.phase = 3;
+    t.phase = phase::TURN;
     t.ff = ff;
     t.proposals = 0;
     t
 }
 
-// The first accepted proposal from a place on; 5 where there is none.
+// The first accepted proposal from a place on, or NO_PROPOSAL.
 pub fn next_accepted(signs: Five, from: usize) -> u8
     ensures { λ r. ⌜ r ≡ nextAccepted signs from ⌝ }
 {
@@ -31,24 +34,26 @@ pub fn next_accepted(signs: Five, from: usize) -> u8
         }
         i += 1;
     }
-    5
+    phase::NO_PROPOSAL
 }
 
 // The transfer of the proposal at this place is awaited.
-pub fn to_transfer(awaited: Await, i: u8) -> Await
-    ensures { λ r. ⌜ r ≡ toTransfer i awaited ⌝ }
+pub fn to_transfer(awaited: AwaitNumbers, i: u8) -> AwaitNumbers
+    ensures { λ r. ⌜ ((block : Bytes) → awaitOf r block ≡ toTransfer i (awaitOf awaited block)) ⌝ }
 {
     let mut t = awaited;
-    t.phase = 5;
+    t.phase = phase::TRANSFER;
     t.current = i;
     t
 }
 
-// The reader at the start of that transfer.
-pub fn reader_for(awaited: Await, i: u8) -> Reader
-    ensures { λ r. ⌜ r ≡ readerFor awaited i ⌝ }
+// The reader at the start of that transfer: the proposal's form decides, which stands first in it.
+pub fn reader_for(block: &[u8], i: u8) -> Reader
+    ensures { λ r. ⌜ ((w : AwaitNumbers) → r ≡ readerFor (awaitOf w (now (block .entry))) i) ⌝ }
 {
-    let block = awaited.block;
-    let form = byte_at(entry(layout::PROPOSAL, &block, i as u16), 0);
+    let form = byte_at(
+        entry(places::PROPOSAL, block, i as u16),
+        places::FORM as usize,
+    );
     transfer_step::start(form)
 }

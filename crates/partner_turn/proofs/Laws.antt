@@ -22,7 +22,7 @@ use Rattle.session_memory.specs.declared.Await.{Await}
 use Rattle.session_memory.specs.declared.Say.{Say}
 use Rattle.session_memory.specs.declared.Keep.{Keep}
 use Rattle.choice.specs.Choice.{answersOf}
-use Rattle.line_effect.specs.declared.Judged.{Judged}
+use Rattle.line_effect.specs.Judged.{Judged}
 use Rattle.line_effect.specs.declared.Marks.{Marks}
 use Rattle.line_effect.specs.Judge.{judged, refusal, wentOn, inPhase, toTransfer, saysSigns, readerFor, turnMarks, settledKeep, ffLine, fqLine, nextAccepted, answered, endLine, proposalLine, turnRead, turnLine}
 

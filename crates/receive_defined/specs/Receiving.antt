@@ -22,7 +22,7 @@ use Rattle.session_memory.specs.declared.Say.{Say}
 use Rattle.session_memory.specs.declared.Keep.{Keep}
 use Rattle.session_memory.specs.declared.Session.{Session}
 use Rattle.line_effect.specs.Judge.{noMarks, judged, inPhase, toTransfer, nextAccepted, readerFor, judgeOf, speakOf}
-use Rattle.line_effect.specs.declared.Judged.{Judged}
+use Rattle.line_effect.specs.Judged.{Judged}
 use Rattle.pending.specs.Pending.{waits, overOf}
 use Rattle.form_test.specs.Form.{formOf}
 use Rattle.give.specs.Giving.{reply}

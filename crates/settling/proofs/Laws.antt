@@ -14,7 +14,7 @@ use Rattle.layout.specs.Layout.{entryOut}
 use Rattle.session_memory.specs.State.{held}
 use Rattle.session_memory.specs.declared.Five.{Five}
 use Rattle.session_memory.specs.declared.Session.{Session}
-use Rattle.line_effect.specs.declared.Judged.{Judged}
+use Rattle.line_effect.specs.Judged.{Judged}
 use Rattle.five.proofs.Laws.{held-cons, held-end}
 use Rattle.receive_defined.specs.Receiving.{markAll, refusedOf, spokenOf, settled, settleOf}
 

@@ -1,7 +1,7 @@
 -- What the line comes to is settled.
 use mathlib.Core.Path.{ap, _∙_}
 use mathlib.Core.Bool.{true}
-use Rattle.line_effect.specs.declared.Judged.{Judged}
+use Rattle.line_effect.specs.Judged.{Judged}
 use Rattle.receive_defined.specs.Receiving.{settleOf}
 use borrow.Author.Needs.{needs}
 use Rattle.line_byte.proofs.ends.Statement.{statement}

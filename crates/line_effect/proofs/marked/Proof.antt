@@ -1,7 +1,4 @@
 -- No places are being sent.
-use mathlib.Core.Path.{ap}
-use Rattle.session_memory.specs.declared.Five.{Five}
-use Rattle.line_effect.specs.Judge.{sends}
 use borrow.Author.Needs.{needs}
 use Rattle.line_effect.proofs.marked.Statement.{statement}
 use Rattle.line_effect.proofs.marked.Tie as tie
@@ -10,7 +7,7 @@ none-requires : tie.Need-none-requires
 none-requires c κs = search needs
 
 returns : tie.Need-returns
-returns c = ap (λ (f : Five). sends f (c .before .args .keep .deferred) (c .before .args .keep)) (c .none .ensures)
+returns c = λ deferred. rw (c .none .ensures)
 
 pub marked-spec : {M : Type 1} → statement M
 marked-spec = tie.close (tie.spec none-requires returns)
