@@ -1,5 +1,15 @@
 -- What a line comes to, from its numbers and the two arrays that a line may change.
+use mathlib.Core.Path.{_≡_}
+use Prim.Native.Nat.{_+_}
 use Rattle.grammar.specs.Bytes.{Bytes}
+use Rattle.grammar.specs.Lines.{lineLimit}
+use Rattle.transfer_step.specs.declared.Reader.{Reader}
+use Rattle.session_memory.specs.declared.Await.{Await}
+use Rattle.session_memory.specs.declared.Say.{Say}
+use Rattle.session_memory.specs.declared.Keep.{Keep}
+use Rattle.places.specs.Places.{headingAt, headingMax}
+use Rattle.region.specs.Region.{region}
+use Rattle.numbers.specs.declared.Numbers.{Numbers}
 use Rattle.numbers.specs.Whole.{awaitOf, keepOf, deferredIn, blockIn}
 use Rattle.line_effect.specs.declared.Verdict.{Verdict}
 use Rattle.line_effect.specs.Judged.{Judged}
@@ -19,3 +29,11 @@ judgedOf v block deferred =
 -- m: the arrays' part of session memory
 abbrev pub judgedIn : Verdict → Bytes → Judged
 judgedIn v m = judgedOf v (blockIn m) (deferredIn m)
+
+-- Heading and line stand between the flags and the block; no judged line changes them.
+abbrev pub betweenIn : Bytes → Bytes
+betweenIn m = region headingAt (headingMax + lineLimit) m
+
+-- A line judged by f on the arrays where they stand, m before and e after it: what it comes to, and that heading and line stay.
+abbrev pub Judges : Numbers → Bytes → Verdict → Bytes → (Await → Say → Keep → Reader → Judged) → Type 0
+Judges s m v e f = (judgedIn v e ≡ f (awaitOf (s .now) (blockIn m)) (s .say) (keepOf (s .keep) (deferredIn m)) (s .reader)) × (betweenIn e ≡ betweenIn m)
