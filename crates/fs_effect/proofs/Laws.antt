@@ -7,7 +7,7 @@ use Prim.Native.Nat.{ℕ, _+_, _<_, _≤_}
 use native.Mathlib.Omega.{arith}
 use native.Mathlib.Numerals.{add-one}
 use lib.Dec.{eqb}
-use lib.ListN.{length, getD, set, drop, length-set}
+use lib.ListN.{length, getD, set, drop}
 use lib.Seq.{drop-cons, append-snoc}
 use borrow.Author.Tests.{eq-eqb, ne-eqb, eqb-true, eqb-false}
 use Rattle.grammar.specs.Bytes.{Bytes}
@@ -34,9 +34,6 @@ module _ (f : Five) (i n : ℕ) (e : n ≡ length (held f)) where
 
   pub flag-end : (d : Bytes) → n ≤ i → d ≡ flagged (drop i (held f)) d
   flag-end d h = rw (held-end f i n e h)
-
-pub flag-length : (d e : Bytes) (i : ℕ) → e ≡ set d i 1 → length d ≡ 64 → length e ≡ 64
-flag-length d e i f l = ap length f ∙ length-set d i 1 ∙ l
 
 -- the places with a sign: those picked so far are held, and the rest is picked from place i on
 pub record Picking (c : ℕ) (f : Five) (ss : List ℕ) (g : Five) (i : ℕ) : Type 0 where

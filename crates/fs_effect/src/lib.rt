@@ -3,21 +3,23 @@ use five::count_of;
 use five::none;
 use fs_line::Sign;
 use fs_line::sign_of;
-use line_effect::Judged;
 use line_effect::Marks;
-use line_effect::refusal;
+use line_effect::Verdict;
 use next_awaited::to_turn;
-use session_memory::Await;
+use numbers::Numbers;
 use session_memory::Five;
-use session_memory::Keep;
 use session_memory::Say;
-use transfer_step::Reader;
 ghost use mathlib.Core.Path.{_≡_};
 ghost use Prim.Native.Nat.{_<_};
 ghost use lib.ListN.{set};
+ghost use Rattle.grammar.specs.Bytes.{Bytes};
+ghost use Rattle.grammar.specs.Answers.{accept, decline, defer, writeSign};
+ghost use Rattle.phase.specs.Phase.{blockLimit};
+ghost use Rattle.numbers.specs.Whole.{awaitOf, keepOf};
 ghost use Rattle.session_memory.specs.State.{held, fiveOf};
 ghost use Rattle.fs_effect.specs.Signs.{withPlace, answeredBy};
 ghost use Rattle.line_effect.specs.Judge.{picked, flagged, transfersAfter, answerTaken, answerLine};
+ghost use Rattle.line_effect.specs.Verdict.{judgedOf};
 
 // The places of our records by the partner's answers to them, in order.
 struct Answered {
@@ -26,9 +28,9 @@ struct Answered {
     deferred: Five,
 }
 
-// One place more; there are fewer than five.
+// One place more; there is room for it.
 fn with_place(f: Five, place: u8) -> Five
-    requires { ⌜ f .count < 5 ⌝ }
+    requires { ⌜ f .count < blockLimit ⌝ }
     ensures { λ r. ⌜ r ≡ withPlace f place ⌝ }
 {
     let mut g = f;
@@ -40,7 +42,7 @@ fn with_place(f: Five, place: u8) -> Five
 
 // A place more where its sign belongs: `+` accept, `-` decline, `=` defer; no other byte is a sign.
 fn answered_by(a: Answered, sign: u8, place: u8) -> Answered
-    requires { ⌜ (a .accepted .count < 5) × (a .declined .count < 5) × (a .deferred .count < 5) ⌝ }
+    requires { ⌜ (a .accepted .count < blockLimit) × (a .declined .count < blockLimit) × (a .deferred .count < blockLimit) ⌝ }
     ensures { λ r. ⌜ r ≡ answeredBy a sign place ⌝ }
 {
     let accepted = a.accepted;
@@ -69,7 +71,7 @@ fn answered_by(a: Answered, sign: u8, place: u8) -> Answered
 
 // All places by their signs.
 fn by_signs(ours: Five, signs: [u8; 5]) -> Answered
-    ensures { λ r. ⌜ (r .accepted ≡ fiveOf (picked 43 (held ours) signs)) × (r .declined ≡ fiveOf (picked 45 (held ours) signs)) × (r .deferred ≡ fiveOf (picked 61 (held ours) signs)) ⌝ }
+    ensures { λ r. ⌜ (r .accepted ≡ fiveOf (picked (writeSign accept) (held ours) signs)) × (r .declined ≡ fiveOf (picked (writeSign decline) (held ours) signs)) × (r .deferred ≡ fiveOf (picked (writeSign defer) (held ours) signs)) ⌝ }
 {
     let n = count_of(ours);
     let mut a = Answered {
@@ -86,32 +88,27 @@ fn by_signs(ours: Five, signs: [u8; 5]) -> Answered
     a
 }
 
-// The flags with a 1 at a place.
-fn flag_at(deferred: [u8; 64], place: u8) -> [u8; 64]
-    ensures { λ r. ⌜ r ≡ set deferred place 1 ⌝ }
+// A record is flagged as deferred; a place past the flags has none.
+fn flag_at(deferred: &mut [u8], place: u8)
+    ensures { λ _. ⌜ now (deferred .exit) ≡ set (now (deferred .entry)) place 1 ⌝ }
 {
-    if 64 <= place {
-        return deferred;
-    }
-    let mut d = deferred;
     let p = place as usize;
-    d[p] = 1;
-    d
+    if deferred.len() <= p {
+        return;
+    }
+    deferred[p] = 1;
 }
 
-// The flags with a 1 at each of these places.
-fn deferring(deferred: [u8; 64], places: Five) -> [u8; 64]
-    ensures { λ r. ⌜ r ≡ flagged (held places) deferred ⌝ }
+// The records at these places are flagged as deferred.
+fn deferring(deferred: &mut [u8], places: Five)
+    ensures { λ _. ⌜ now (deferred .exit) ≡ flagged (held places) (now (deferred .entry)) ⌝ }
 {
     let n = count_of(places);
-    let mut d = deferred;
     let mut i = 0usize;
     while i < n {
-        let e = flag_at(d, places.items[i]);
-        d = e;
+        flag_at(deferred, places.items[i]);
         i += 1;
     }
-    d
 }
 
 // Our transfers are said where there are any.
@@ -120,49 +117,50 @@ fn transfers_after(sending: Five, say: Say) -> Say
 {
     if 0 < sending.count {
         let mut y = say;
-        y.then = 4;
+        y.then = phase::PIECE_TRANSFERS;
         return y;
     }
     say
 }
 
 // The signs of a right FS line: accepted records are sent, declined ones marked, deferred ones flagged.
-fn answer_taken(signs: [u8; 5], awaited: Await, say: Say, keep: Keep, reader: Reader) -> Judged
-    ensures { λ r. ⌜ r ≡ answerTaken signs awaited say keep reader ⌝ }
+fn answer_taken(signs: [u8; 5], s: Numbers, deferred: &mut [u8]) -> Verdict
+    ensures { λ r. ⌜ ((block : Bytes) → judgedOf r block (now (deferred .exit)) ≡ answerTaken signs (awaitOf (s .now) block) (s .say) (keepOf (s .keep) (now (deferred .entry))) (s .reader)) ⌝ }
 {
+    let awaited = s.now;
     let ours = awaited.ours;
+    let say = s.say;
     let a = by_signs(ours, signs);
     let sending = a.accepted;
     let declined = a.declined;
     let waits = a.deferred;
-    let flags = keep.deferred;
-    let deferred = deferring(flags, waits);
-    let mut k = keep;
-    k.sending = sending;
-    k.deferred = deferred;
-    Judged {
-        answer: 0,
-        speaks: 0,
+    deferring(deferred, waits);
+    let mut keep = s.keep;
+    keep.sending = sending;
+    let mut t = s;
+    t.now = to_turn(awaited, false);
+    t.say = transfers_after(sending, say);
+    t.keep = keep;
+    Verdict {
+        answer: refusal::NONE,
+        speaks: phase::NOT_OUR_TURN,
         marks: Marks {
-            state: 2,
+            state: phase::STATE_DECLINED,
             places: declined,
         },
-        now: to_turn(awaited, false),
-        say: transfers_after(sending, say),
-        keep: k,
-        reader: reader,
+        next: t,
     }
 }
 
-// The FS line on our proposals.
-pub fn answer_line(line: &[u8], awaited: Await, say: Say, keep: Keep, reader: Reader) -> Judged
-    ensures { λ r. ⌜ r ≡ answerLine (now (line .entry)) awaited say keep reader ⌝ }
+// The FS line on our proposals; deferred are the flags of deferred records.
+pub fn answer_line(line: &[u8], s: Numbers, deferred: &mut [u8]) -> Verdict
+    ensures { λ r. ⌜ ((block : Bytes) → judgedOf r block (now (deferred .exit)) ≡ answerLine (now (line .entry)) (awaitOf (s .now) block) (s .say) (keepOf (s .keep) (now (deferred .entry))) (s .reader)) ⌝ }
 {
-    let ours = awaited.ours;
+    let ours = s.now.ours;
     let r = fs_line::read_fs(line, ours.count as usize);
-    if r.number != 0 {
-        return refusal(r.number, awaited, say, keep, reader);
+    if r.number != refusal::NONE {
+        return line_effect::refusal(r.number, s);
     }
     let signs = r.signs;
-    answer_taken(signs, awaited, say, keep, reader)
+    answer_taken(signs, s, deferred)
 }

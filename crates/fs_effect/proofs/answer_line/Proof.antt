@@ -1,5 +1,6 @@
 -- Whether the reader gives a number.
 use Rattle.fs_effect.proofs.Laws.{answer-no, answer-yes}
+use Rattle.numbers.specs.Whole.{awaitOf, keepOf}
 use borrow.Author.Needs.{needs}
 use Rattle.fs_effect.proofs.answer_line.Statement.{statement}
 use Rattle.fs_effect.proofs.answer_line.Tie as tie
@@ -14,13 +15,20 @@ refusal-requires : tie.Need-refusal-requires
 refusal-requires c κs = search needs
 
 returns : tie.Need-returns
-returns c = let a = c .before .before .before .before .before .before .before .args in answer-no (a .awaited) (a .say) (a .keep) (a .reader) (a .line .now) _ _ (c .before .before .before .read-fs .ensures .0) (c .before .if1 .taken) (c .refusal .ensures)
+returns c = λ block.
+    let a = c .before .before .before .before .before .before .before .before .args in
+    answer-no (awaitOf (a .s .now) block) (a .s .say) (keepOf (a .s .keep) (a .deferred .now)) (a .s .reader) (a .line .now) _ _ (c .before .before .before .read-fs .ensures .0) (c .before .if1 .taken) (c .refusal .ensures block (a .deferred .now))
 
 answer-taken-requires : tie.Need-answer-taken-requires
 answer-taken-requires c κs = search needs
 
+same-length : tie.Need-same-length
+same-length c = search needs
+
 returns-2 : tie.Need-returns-2
-returns-2 c = let a = c .before .before .before .before .before .before .before .before .args in answer-yes (a .awaited) (a .say) (a .keep) (a .reader) (a .line .now) _ _ (c .before .before .before .before .read-fs .ensures .0) (c .before .before .if1 .left) _ (c .before .before .before .before .read-fs .ensures .1) (c .answer-taken .ensures)
+returns-2 c = λ block.
+    let a = c .before .before .before .before .before .before .before .before .before .before .before .before .args in
+    answer-yes (awaitOf (a .s .now) block) (a .s .say) (keepOf (a .s .keep) (a .deferred .now)) (a .s .reader) (a .line .now) _ _ (c .before .before .before .before .before .before .before .read-fs .ensures .0) (c .before .before .before .before .before .if1 .left) _ (c .before .before .before .before .before .before .before .read-fs .ensures .1) (c .before .before .answer-taken .ensures block)
 
 pub answer-line-spec : {M : Type 1} → statement M
 answer-line-spec =
@@ -31,4 +39,5 @@ answer-line-spec =
     refusal-requires
     returns
     answer-taken-requires
+    same-length
     returns-2)

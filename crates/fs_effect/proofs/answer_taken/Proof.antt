@@ -1,5 +1,6 @@
--- Each call is a part of the definition.
+-- Each call is a part of the definition, whatever the block is.
 use Rattle.fs_effect.proofs.Laws.{taken}
+use Rattle.numbers.specs.Whole.{awaitOf, keepOf}
 use borrow.Author.Needs.{needs}
 use Rattle.fs_effect.proofs.answer_taken.Statement.{statement}
 use Rattle.fs_effect.proofs.answer_taken.Tie as tie
@@ -16,11 +17,14 @@ to-turn-requires c κs = search needs
 transfers-after-requires : tie.Need-transfers-after-requires
 transfers-after-requires c κs = search needs
 
+same-length : tie.Need-same-length
+same-length c = search needs
+
 returns : tie.Need-returns
-returns c =
-    let a = c .before .before .before .before .before .before .before .before .before .args in
-    let g = c .before .before .before .before .before .before .before .by-signs .ensures in
-    taken (a .signs) (a .awaited) (a .say) (a .keep) (a .reader) _ _ _ _ _ _ (g .1) (g .0) (g .2) (c .before .before .deferring .ensures) (c .before .to-turn .ensures) (c .transfers-after .ensures)
+returns c = λ block.
+    let a = c .before .before .before .before .before .before .before .before .before .before .before .before .before .before .before .args in
+    let g = c .before .before .before .before .before .before .before .before .before .before .by-signs .ensures in
+    taken (a .signs) (awaitOf (a .s .now) block) (a .s .say) (keepOf (a .s .keep) (a .deferred .now)) (a .s .reader) _ _ _ _ _ _ (g .1) (g .0) (g .2) (c .before .before .before .before .before .deferring .ensures) (c .before .to-turn .ensures block) (c .transfers-after .ensures)
 
 pub answer-taken-spec : {M : Type 1} → statement M
 answer-taken-spec =
@@ -30,4 +34,5 @@ answer-taken-spec =
     deferring-requires
     to-turn-requires
     transfers-after-requires
+    same-length
     returns)
