@@ -1,0 +1,1 @@
+-- The definition is keptInbox of crates/receive_defined.
