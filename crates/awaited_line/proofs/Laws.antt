@@ -1,4 +1,4 @@
--- The SID by what its reader answers, any line by the phase, and our turn.
+-- The SID by what its reader answers, and any line by the phase.
 use mathlib.Core.Path.{_≡_, refl, sym, ap, _∙_}
 use mathlib.Core.Bool.{Bool, true, false, cond}
 use mathlib.Core.Option.{Option, none, some}
@@ -13,14 +13,11 @@ use Rattle.grammar.specs.Sid.{hasFeature, framed}
 use Rattle.sid.specs.declared.Sid.{Sid}
 use Rattle.sid.specs.Meaning.{sidOf}
 use Rattle.transfer_step.specs.declared.Reader.{Reader}
-use Rattle.session_memory.specs.declared.Five.{Five}
 use Rattle.session_memory.specs.declared.Await.{Await}
 use Rattle.session_memory.specs.declared.Say.{Say}
 use Rattle.session_memory.specs.declared.Keep.{Keep}
-use Rattle.choice.specs.Choice.{chooseOf}
 use Rattle.line_effect.specs.Judged.{Judged}
-use Rattle.line_effect.specs.Judged.{Spoken}
-use Rattle.line_effect.specs.Judge.{refusal, wentOn, inPhase, toTurn, inMode, afterSid, sidRead, lineIn, judgeOf, speaking, speakOf}
+use Rattle.line_effect.specs.Judge.{refusal, wentOn, inPhase, toTurn, inMode, afterSid, sidRead, lineIn, judgeOf}
 
 module _ (w : Await) (y : Say) (k : Keep) (rd : Reader) where
   -- a SID
@@ -58,9 +55,3 @@ module _ (w : Await) (y : Say) (k : Keep) (rd : Reader) where
     pub line-in : (p : ℕ) (b : Bool) → w .phase ≡ p → b ≡ isComment ln → b ≡ false → j ≡ lineIn p ln w y k rd table known inbox store → j ≡ judgeOf ln w y k rd table known inbox store
     unfolding judgeOf
     line-in p b e c n f = rw (sym c ∙ n) (f ∙ ap (λ (q : ℕ). lineIn q ln w y k rd table known inbox store) (sym e))
-
--- our turn
-pub speak-by : (w : Await) (y : Say) (k : Keep) (table : Bytes) (ff : Bool) (places : Five) (s : Spoken) → places ≡ chooseOf table (k .framed) (k .deferred)
-    → s ≡ speaking places ff w y → s ≡ speakOf w y k table ff
-unfolding speakOf
-speak-by w y k table ff places s e f = f ∙ ap (λ (p : Five). speaking p ff w y) e

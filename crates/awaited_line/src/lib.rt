@@ -1,6 +1,5 @@
-// A whole line, judged by what is awaited, and what we say in our turn.
+// A whole line, judged by what is awaited.
 use line_effect::Judged;
-use line_effect::Spoken;
 use line_effect::refusal;
 use line_effect::unmarked;
 use line_effect::went;
@@ -10,7 +9,7 @@ use session_memory::Keep;
 use session_memory::Say;
 use transfer_step::Reader;
 ghost use mathlib.Core.Path.{_≡_};
-ghost use Rattle.line_effect.specs.Judge.{sidLine, textLine, judgeOf, speakOf};
+ghost use Rattle.line_effect.specs.Judge.{sidLine, textLine, judgeOf};
 
 // The partner's SID.
 fn sid_line(line: &[u8], awaited: Await, say: Say, keep: Keep, reader: Reader) -> Judged
@@ -76,31 +75,4 @@ pub fn judge(
         4 => fs_effect::answer_line(line, awaited, say, keep, reader),
         _ => refusal(5, awaited, say, keep, reader),
     }
-}
-
-// Our turn: what we propose, or FF, or FQ where the partner's turn just now was FF.
-pub fn speak(awaited: Await, say: Say, keep: Keep, table: &[u8], ff: bool) -> Spoken
-    ensures { λ r. ⌜ r ≡ speakOf awaited say keep (now (table .entry)) ff ⌝ }
-{
-    let deferred = keep.deferred;
-    let places = choice::choose(table, keep.framed, deferred);
-    let mut y = say;
-    if places.count == 0 {
-        if ff {
-            let mut t = awaited;
-            t.phase = 6;
-            y.then = 2;
-            return Spoken { now: t, say: y };
-        }
-        y.then = 1;
-        return Spoken {
-            now: to_turn(awaited, true),
-            say: y,
-        };
-    }
-    let mut t = awaited;
-    t.phase = 4;
-    t.ours = places;
-    y.then = 3;
-    Spoken { now: t, say: y }
 }

@@ -1,4 +1,4 @@
--- The field rules as the code tests them: parts of an at by their points, two BIDs byte by byte, bodies by their form.
+-- The field rules as the code tests them: parts of an at by their points, bodies by their form.
 use mathlib.Core.Path.{_≡_, refl, sym, ap, _∙_}
 use mathlib.Core.Bool.{Bool, true, false, cond, not, _&&_}
 use mathlib.Core.List.{[], _∷_}
@@ -10,7 +10,7 @@ use lib.ListN.{length, getD, take, drop, length-drop, drop-of-length-le}
 use lib.Seq.{drop-cons, drop-drop, take-all}
 use borrow.Author.Tests.{eq-eqb, ne-eqb, lt-ltb, le-ltb, ltb-true, ltb-false, le-leb, lt-leb, leb-true, leb-false, not-true, not-false}
 use Rattle.grammar.specs.Bytes.{Bytes, all, same}
-use Rattle.grammar.specs.Fields.{parts, toFirst, afterDot, allCalls, isCall, isAt, sameBid, isBody, formIs}
+use Rattle.grammar.specs.Fields.{parts, toFirst, afterDot, allCalls, isCall, isAt, isBody, formIs}
 use Rattle.grammar.proofs.Basics.{suc-ltb}
 use Rattle.byte.specs.Classes.{classOf}
 use Rattle.byte.specs.declared.Class.{Class}
@@ -92,30 +92,6 @@ module _ (s : Bytes) (r : Bool) (i : r ≡ allCalls (parts s)) where
       go : (t : Bool) → leb (length s) (d + 32) ≡ t → t ≡ leb (length (drop (suc (upto 46 s)) s)) 31
       go true q = let z = leb-true (length s) (d + 32) q in sym (le-leb (length (drop (suc (upto 46 s)) s)) 31 (omega (arith, n, e, z)))
       go false q = let z = leb-false (length s) (d + 32) q in sym (lt-leb (length (drop (suc (upto 46 s)) s)) 31 (omega (arith, n, e, z)))
-
--- ---------------------------------------------------------------- the same bytes
-
--- lists of different lengths differ
-pub same-length : (a b : Bytes) → (length a ≡ length b → ⊥) → false ≡ sameBid a b
-unfolding sameBid
-same-length [] [] n = absurd (n refl)
-same-length [] (y ∷ b) n = refl
-same-length (x ∷ a) [] n = refl
-same-length (x ∷ a) (y ∷ b) n = go (eqb x y) (same-length a b (λ e. n (ap suc e)))
-  where
-    go : (c : Bool) → false ≡ same a b → false ≡ (c && same a b)
-    go true e = e
-    go false e = refl
-
-module _ (a b : Bytes) (i : ℕ) (h : i < length a) (k : i < length b) where
-  pub same-more : getD a i 0 ≡ getD b i 0 → same (drop i a) (drop i b) ≡ same (drop (i + 1) a) (drop (i + 1) b)
-  same-more e = rw (drop-cons a i 0 h, drop-cons b i 0 k, eq-eqb _ _ e, add-one i)
-
-  pub same-stop : (getD a i 0 ≡ getD b i 0 → ⊥) → false ≡ same (drop i a) (drop i b)
-  same-stop e = rw (drop-cons a i 0 h, drop-cons b i 0 k, ne-eqb _ _ e)
-
-pub same-end : (a b : Bytes) (i : ℕ) → length a ≤ i → length b ≤ i → true ≡ same (drop i a) (drop i b)
-same-end a b i h k = rw (drop-of-length-le a {i = i} h, drop-of-length-le b {i = i} k)
 
 -- ---------------------------------------------------------------- bodies
 

@@ -1,10 +1,10 @@
-// Fields: 1 to n bytes of a class, the rules for from, to, at, BID, heading and body; BIDs compared.
+// Fields: 1 to n bytes of a class, the rules for from, to, at, BID, heading and body.
 use byte::Class;
 use byte::all_of;
 use span::find;
 use span::find_from;
 ghost use mathlib.Core.Path.{_≡_};
-ghost use Rattle.grammar.specs.Fields.{field, isCall, isBid, isHeading, isAt, isBody, allCalls, parts, formIs, sameBid};
+ghost use Rattle.grammar.specs.Fields.{field, isCall, isBid, isHeading, isAt, isBody, allCalls, parts, formIs};
 ghost use Rattle.byte.specs.Classes.{classOf};
 
 // 1 to n bytes of the class.
@@ -86,21 +86,4 @@ pub fn is_at(s: &[u8]) -> bool
     }
     let d = find(s, b'.');
     s.len() <= d + 32
-}
-
-// The two BIDs are the same, byte by byte.
-pub fn same_bid(a: &[u8], b: &[u8]) -> bool
-    ensures { λ r. ⌜ r ≡ sameBid (now (a .entry)) (now (b .entry)) ⌝ }
-{
-    if a.len() != b.len() {
-        return false;
-    }
-    let mut i = 0;
-    while i < a.len() {
-        if a[i] != b[i] {
-            return false;
-        }
-        i += 1;
-    }
-    true
 }

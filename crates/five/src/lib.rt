@@ -1,9 +1,11 @@
 // Up to five numbers: places of a block, or signs.
 use session_memory::Five;
 ghost use mathlib.Core.Path.{_≡_};
-ghost use Prim.Native.Nat.{_≤_};
+ghost use mathlib.Core.List.{[], _∷_, _++_};
+ghost use Prim.Native.Nat.{_≤_, _<_};
 ghost use lib.ListN.{length};
-ghost use Rattle.session_memory.specs.State.{held, noFive};
+ghost use Rattle.session_memory.specs.State.{held, fiveOf, noFive};
+ghost use Rattle.five.specs.Filled.{Filled};
 
 // No numbers.
 pub fn none() -> Five
@@ -23,4 +25,16 @@ pub fn count_of(f: Five) -> usize
         return 5;
     }
     f.count as usize
+}
+
+// These numbers and one more.
+pub fn add(f: Five, x: u8) -> Five
+    requires { ⌜ Filled f × (f .count < 5) ⌝ }
+    ensures { λ r. ⌜ r ≡ fiveOf (held f ++ (x ∷ [])) ⌝ }
+{
+    let mut g = f;
+    let n = f.count as usize;
+    g.items[n] = x;
+    g.count = f.count + 1;
+    g
 }

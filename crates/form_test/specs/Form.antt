@@ -10,7 +10,7 @@ use Rattle.layout.specs.Layout.{byteAt, entryAt, entrySize, bodyLength}
 use Rattle.session_memory.specs.State.{sessionSize, held, loadOf, loadSizes}
 use Rattle.session_memory.specs.declared.Session.{Session}
 use Rattle.session_memory.specs.declared.Sizes.{Sizes}
-use Rattle.choice.specs.Decoded.{placeCount}
+use Rattle.entries.specs.Decoded.{placeCount}
 use Rattle.waiting.specs.Waiting.{waitingOf}
 use Rattle.pending.specs.Pending.{waits}
 

@@ -19,8 +19,8 @@ use Rattle.session_memory.specs.declared.Five.{Five}
 use Rattle.session_memory.specs.declared.Await.{Await}
 use Rattle.session_memory.specs.declared.Say.{Say}
 use Rattle.session_memory.specs.declared.Keep.{Keep}
-use Rattle.choice.specs.Promises.{Filled}
-use Rattle.choice.proofs.Laws.{five-held, five-filled, five-more, five-count}
+use Rattle.five.specs.Filled.{Filled}
+use Rattle.five.proofs.Laws.{five-held, five-filled, five-more, five-count}
 use Rattle.line_effect.specs.Judged.{Judged}
 use Rattle.line_effect.specs.Judge.{judged, refusal, toTurn, sends, picked, flagged, transfersAfter, answerTaken, answerLine}
 use Rattle.fs_effect.specs.declared.Answered.{Answered}

@@ -20,8 +20,8 @@ use Rattle.demand2.proofs.ReadBack as read-back
 use Rattle.demand2.proofs.ReadBack.{reads-back}
 use Rattle.demand3.specs.Demand.{Good, allProposable, noneWith, distinctBids}
 use Rattle.layout.specs.Layout.{byteAt, le2At, le4At, fieldIn, entryAt, recordSize, recordOf}
-use Rattle.choice.specs.Decoded.{entriesFrom, entries, recordCount, recordsOf}
-use Rattle.choice.proofs.Laws.{entries-length, entries-at}
+use Rattle.entries.specs.Decoded.{entriesFrom, entries, recordCount, recordsOf}
+use Rattle.entries.proofs.Laws.{entries-length, entries-at}
 use Rattle.waiting.proofs.Short.{part-short, transfer-short, heading-short}
 use Rattle.open.specs.Opening.{lengthOk, numbersOk, fieldsOk, within, headingOk, textsOk, recordOk, placeOk, faultFrom, tableFault}
 use Rattle.lent.proofs.Giving.{Short}

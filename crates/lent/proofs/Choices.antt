@@ -15,11 +15,12 @@ use Rattle.grammar.proofs.Basics.{or2}
 use Rattle.mail.specs.Mail.{Message, accepted}
 use Rattle.session.specs.Choices.{Shelf, chosen, recordBids, messageBids, bodyBytes, announced, haveBid, noRoomFor, withAccepted, answersAfter, answersTo}
 use Rattle.layout.specs.Layout.{entryAt, entrySize, messageOf}
-use Rattle.choice.specs.Decoded.{entriesFrom, recordCount, recordsOf, statesOf, knownBids, headsOf, proposalsOf, placeCount}
-use Rattle.choice.specs.Choice.{chooseOf, shelfOf, answersOf}
-use Rattle.choice.proofs.Block.{chosen-stores}
-use Rattle.choice.proofs.Signs.{bids-same, answers-same}
-use Rattle.choice.proofs.Laws.{entries-length, no-bodies}
+use Rattle.entries.specs.Decoded.{entriesFrom, recordCount, recordsOf, statesOf, knownBids, headsOf, proposalsOf, placeCount}
+use Rattle.our_turn.specs.Turn.{chooseOf}
+use Rattle.our_answer.specs.Answers.{shelfOf, answersOf}
+use Rattle.our_turn.proofs.Block.{chosen-stores}
+use Rattle.our_answer.proofs.Signs.{bids-same, answers-same}
+use Rattle.entries.proofs.Laws.{entries-length, no-bodies}
 use Rattle.session_memory.specs.State.{fiveOf}
 use Rattle.session_memory.specs.declared.Await.{Await}
 use Rattle.session_memory.specs.declared.Keep.{Keep}

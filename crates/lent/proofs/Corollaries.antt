@@ -6,7 +6,7 @@ use Prim.Native.Nat.{ℕ, _<_}
 use lib.Dec.{eqb}
 use Rattle.mail.specs.Mail.{Message}
 use Rattle.layout.specs.Layout.{stateOf}
-use Rattle.choice.specs.Decoded.{recordCount}
+use Rattle.entries.specs.Decoded.{recordCount}
 use Rattle.lent.specs.Represents.{messagesOf}
 use Rattle.lent.specs.Frame.{StatesOnly}
 use Rattle.lent.specs.Calls.{Memory, messageCount}

@@ -12,7 +12,7 @@ use Rattle.demand2.specs.Reached.{Reached, atOpen}
 use Rattle.demand2.specs.Reached as reached
 use Rattle.demand2.proofs.Reached.{reached-portion}
 use Rattle.demand3.specs.Demand as on-lists-run
-use Rattle.choice.specs.Decoded.{statesOf}
+use Rattle.entries.specs.Decoded.{statesOf}
 use Rattle.lent.specs.Calls.{Lent, Buffer, Memory, fixedIn, lentIn, sizesOf, received, given}
 use Rattle.lent.specs.Demand3.{CallsOn, openedBy, finally}
 use Rattle.lent.specs.Link.{callOf}

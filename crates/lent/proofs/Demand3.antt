@@ -14,7 +14,7 @@ use Rattle.session.specs.Session as on-lists
 use Rattle.log.specs.Log.{Event, log}
 use Rattle.demand3.specs.Demand as on-lists-run
 use Rattle.demand3.proofs.Demand.{demand-3}
-use Rattle.choice.specs.Decoded.{statesOf}
+use Rattle.entries.specs.Decoded.{statesOf}
 use Rattle.form_test.specs.Form.{formOf}
 use Rattle.lent.specs.Laid.{entriesBytes, bodiesBytes}
 use Rattle.lent.specs.Represents.{Fixed, messagesOf}

@@ -18,9 +18,10 @@ use Rattle.session_memory.specs.declared.Five.{Five}
 use Rattle.session_memory.specs.declared.Await.{Await}
 use Rattle.session_memory.specs.declared.Keep.{Keep}
 use Rattle.session_memory.proofs.Laws.{held-five}
-use Rattle.choice.specs.Choice.{chooseOf, shelfOf, answersOf}
-use Rattle.choice.specs.Decoded.{recordCount, recordsOf, statesOf, headsOf, proposalsOf, placeCount}
-use Rattle.choice.proofs.Laws.{entries-length}
+use Rattle.our_turn.specs.Turn.{chooseOf}
+use Rattle.our_answer.specs.Answers.{shelfOf, answersOf}
+use Rattle.entries.specs.Decoded.{recordCount, recordsOf, statesOf, headsOf, proposalsOf, placeCount}
+use Rattle.entries.proofs.Laws.{entries-length}
 use Rattle.form_test.specs.Form.{pluses}
 use Rattle.lent.proofs.FormLaws.{Octets, octets-nil, octets-cons, FiveOk, five-of, signs-octets}
 use Rattle.lent.proofs.Proposals.{signs-back, accepted-pluses}

@@ -19,7 +19,7 @@ use Rattle.session_memory.specs.State.{at, flag, loadOf, loadSizes, saveOf, siz
 use Rattle.session_memory.specs.declared.Session.{Session}
 use Rattle.session_memory.specs.declared.Sizes.{Sizes}
 use Rattle.session_memory.proofs.Laws.{sizes-length, Sized, sizes-saved, load-sizes}
-use Rattle.choice.specs.Decoded.{placeCount}
+use Rattle.entries.specs.Decoded.{placeCount}
 use Rattle.waiting.specs.Waiting.{waitingOf}
 use Rattle.pending.specs.Pending.{waits, silentOf, overOf, hasToGive}
 use Rattle.waiting.proofs.Short.{record-short, waiting-short}

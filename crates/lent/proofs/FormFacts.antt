@@ -11,7 +11,7 @@ use Rattle.session_memory.specs.declared.Await.{Await}
 use Rattle.session_memory.specs.declared.Say.{Say}
 use Rattle.session_memory.specs.declared.Keep.{Keep}
 use Rattle.session_memory.specs.declared.Line.{Line}
-use Rattle.choice.specs.Decoded.{placeCount}
+use Rattle.entries.specs.Decoded.{placeCount}
 use Rattle.waiting.specs.Waiting.{waitingOf}
 use Rattle.pending.specs.Pending.{waits}
 use Rattle.form_test.specs.Form.{usedBy, pluses}

@@ -16,7 +16,7 @@ use Rattle.session_memory.specs.declared.Five.{Five}
 use Rattle.session_memory.specs.declared.Await.{Await}
 use Rattle.session_memory.specs.declared.Say.{Say}
 use Rattle.session_memory.specs.declared.Keep.{Keep}
-use Rattle.choice.specs.Decoded.{placeCount}
+use Rattle.entries.specs.Decoded.{placeCount}
 use Rattle.line_effect.specs.Judge.{inPhase, toTurn, toAnswer, toTransfer, saysThen, sends, readerFor}
 use Rattle.line_effect.specs.Judged.{Judged}
 use Rattle.form_test.specs.Form.{usedBy}

@@ -26,8 +26,8 @@ use Rattle.session_memory.specs.declared.Five.{Five}
 use Rattle.session_memory.specs.declared.Await.{Await}
 use Rattle.session_memory.specs.declared.Say.{Say}
 use Rattle.session_memory.specs.declared.Keep.{Keep}
-use Rattle.choice.specs.Choice.{answersOf}
-use Rattle.choice.specs.Decoded.{placeCount}
+use Rattle.our_answer.specs.Answers.{answersOf}
+use Rattle.entries.specs.Decoded.{placeCount}
 use Rattle.line_effect.specs.Judge.{noMarks, judged, refusal, wentOn, inPhase, toTurn, toTransfer, saysFirst, saysThen, saysSigns, inMode, sends, afterSid, sidRead, sidLine, textLine, turnMarks, settledKeep, nextAccepted, readerFor, answered, endLine, withProposal, proposalLine, ffLine, fqLine, turnRead, turnLine, picked, flagged, transfersAfter, answerTaken, answerLine, lineIn, judgeOf}
 use Rattle.line_effect.specs.declared.Marks.{Marks}
 use Rattle.form_test.specs.Form.{pluses}

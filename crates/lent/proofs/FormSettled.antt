@@ -13,10 +13,11 @@ use Rattle.session_memory.specs.declared.Await.{Await}
 use Rattle.session_memory.specs.declared.Say.{Say}
 use Rattle.session_memory.specs.declared.Keep.{Keep}
 use Rattle.session_memory.specs.declared.Session.{Session}
-use Rattle.choice.specs.Choice.{chooseOf}
-use Rattle.line_effect.specs.Judge.{inPhase, toTurn, toAnswer, saysThen, spoken, speakOf}
+use Rattle.our_turn.specs.Turn.{chooseOf}
+use Rattle.line_effect.specs.Judge.{inPhase, toTurn, toAnswer, saysThen}
+use Rattle.our_turn.specs.Turn.{spoken, speakOf}
 use Rattle.line_effect.specs.Judged.{Judged}
-use Rattle.line_effect.specs.Judged.{Spoken}
+use Rattle.our_turn.specs.Turn.{Spoken}
 use Rattle.pending.specs.Pending.{waits}
 use Rattle.receive_defined.specs.Receiving.{cs, markAll, refusedOf, settledOf, spokenOf, Settled, settled, settleOf}
 use Rattle.lent.specs.Represents.{Fixed}

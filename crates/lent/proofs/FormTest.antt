@@ -16,7 +16,7 @@ use Rattle.session_memory.specs.State.{at, flag, held, fiveAt, arrayAt, fiveOut
 use Rattle.session_memory.specs.declared.Five.{Five}
 use Rattle.session_memory.specs.declared.Session.{Session}
 use Rattle.session_memory.proofs.Laws.{Shaped, load-shaped}
-use Rattle.choice.specs.Decoded.{placeCount}
+use Rattle.entries.specs.Decoded.{placeCount}
 use Rattle.waiting.specs.Waiting.{waitingOf}
 use Rattle.pending.specs.Pending.{waits}
 use Rattle.form_test.specs.Form.{countsOk, usedBy, inboxOk, waitingOk, pluses, transferOk, phaseOk, stateOk}

@@ -16,8 +16,8 @@ use Rattle.buffer.proofs.Laws.{cursor, put-length}
 use Rattle.layout.proofs.Places.{put-fits}
 use Rattle.layout.specs.Layout.{byteAt, recordSize}
 use Rattle.transfer_read.specs.Meaning.{Kept}
-use Rattle.choice.specs.Decoded.{recordCount, statesOf}
-use Rattle.choice.proofs.Laws.{entries-length, entries-at}
+use Rattle.entries.specs.Decoded.{recordCount, statesOf}
+use Rattle.entries.proofs.Laws.{entries-length, entries-at}
 use Rattle.receive_defined.specs.Receiving.{markAll}
 use Rattle.lent.specs.Frame.{withStatesFrom, withStates, StatesOnly}
 use Rattle.lent.proofs.Table.{Whole, entry-whole}

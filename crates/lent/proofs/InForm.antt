@@ -14,7 +14,7 @@ use Rattle.grammar.specs.Scan.{Scan}
 use Rattle.grammar.proofs.Basics.{both, by-cond}
 use Rattle.session.specs.Choices.{Shelf}
 use Rattle.session.specs.Session as on-lists
-use Rattle.choice.specs.Decoded.{placeCount, proposalsOf}
+use Rattle.entries.specs.Decoded.{placeCount, proposalsOf}
 use Rattle.session_memory.specs.State.{sessionSize, held, loadOf, loadSizes}
 use Rattle.session_memory.specs.declared.Session.{Session}
 use Rattle.session_memory.specs.declared.Sizes.{Sizes}

@@ -11,7 +11,7 @@ use Rattle.log.specs.Log.{Event, log}
 use Rattle.demand3.specs.Demand as on-lists-run
 use Rattle.demand3.specs.Demand.{Good}
 use Rattle.layout.specs.Layout.{stateOf}
-use Rattle.choice.specs.Decoded.{recordCount, statesOf}
+use Rattle.entries.specs.Decoded.{recordCount, statesOf}
 use Rattle.lent.specs.Represents.{Fixed}
 use Rattle.lent.specs.Calls.{Lent, fixedIn, lentIn}
 use Rattle.lent.specs.Demand3.{finally, traced, logged}

@@ -18,7 +18,7 @@ use Rattle.buffer.proofs.Laws.{put-length}
 use Rattle.layout.specs.Layout.{le2, le4, fieldOut, fieldsOut, entryAt, entrySize, messageOf, proposalOf, bodyStart, bodyLength, entryOut}
 use Rattle.layout.proofs.Places.{part-in, part-kept, part-here}
 use Rattle.layout.proofs.Laws.{withContent, entry-length, message-back, start-back, length-back, inbox-back, inbox-kept}
-use Rattle.choice.specs.Decoded.{placeCount}
+use Rattle.entries.specs.Decoded.{placeCount}
 use Rattle.form_test.specs.Form.{usedFrom, usedBy}
 use Rattle.session_memory.specs.State.{at}
 use Rattle.lent.specs.Laid.{messageBytes, bodiesBytes}

@@ -23,8 +23,9 @@ use Rattle.transfer_read.specs.Feed.{roomOf}
 use Rattle.transfer_read.specs.Meaning.{Stands, Kept}
 use Rattle.session_memory.specs.State.{at, held}
 use Rattle.session_memory.specs.declared.Session.{Session}
-use Rattle.choice.specs.Decoded.{proposalsOf}
-use Rattle.line_effect.specs.Judge.{noMarks, judged, toTransfer, plusFrom, nextAccepted, readerFor, speakOf}
+use Rattle.entries.specs.Decoded.{proposalsOf}
+use Rattle.line_effect.specs.Judge.{noMarks, judged, toTransfer, plusFrom, nextAccepted, readerFor}
+use Rattle.our_turn.specs.Turn.{speakOf}
 use Rattle.line_effect.specs.Judged.{Judged}
 use Rattle.waiting.specs.Waiting.{thenText}
 use Rattle.pending.specs.Pending.{waits}

@@ -14,7 +14,8 @@ use Rattle.session_memory.specs.declared.Await.{Await}
 use Rattle.session_memory.specs.declared.Say.{Say}
 use Rattle.session_memory.specs.declared.Keep.{Keep}
 use Rattle.session_memory.specs.declared.Session.{Session}
-use Rattle.line_effect.specs.Judge.{judged, speakOf}
+use Rattle.line_effect.specs.Judge.{judged}
+use Rattle.our_turn.specs.Turn.{speakOf}
 use Rattle.line_effect.specs.Judged.{Judged}
 use Rattle.line_effect.specs.declared.Marks.{Marks}
 use Rattle.receive_defined.specs.Receiving.{cs, markAll, settledOf, spokenOf, Settled, settled, settleOf, refusedOf}

@@ -38,9 +38,10 @@ use Rattle.session_memory.specs.declared.Say.{Say}
 use Rattle.session_memory.specs.declared.Keep.{Keep}
 use Rattle.session_memory.specs.declared.Session.{Session}
 use Rattle.session_memory.proofs.Laws.{held-five}
-use Rattle.choice.specs.Decoded.{proposalsOf, placeCount}
-use Rattle.choice.specs.Choice.{answersOf}
-use Rattle.line_effect.specs.Judge.{noMarks, judged, wentOn, refusal, inPhase, toTurn, toTransfer, saysFirst, saysSigns, sidRead, plusFrom, nextAccepted, readerFor, endLine, withProposal, proposalLine, ffLine, fqLine, turnRead, speakOf}
+use Rattle.entries.specs.Decoded.{proposalsOf, placeCount}
+use Rattle.our_answer.specs.Answers.{answersOf}
+use Rattle.line_effect.specs.Judge.{noMarks, judged, wentOn, refusal, inPhase, toTurn, toTransfer, saysFirst, saysSigns, sidRead, plusFrom, nextAccepted, readerFor, endLine, withProposal, proposalLine, ffLine, fqLine, turnRead}
+use Rattle.our_turn.specs.Turn.{speakOf}
 use Rattle.line_effect.specs.Judge as judge
 use Rattle.line_effect.specs.Judged.{Judged}
 use Rattle.line_effect.specs.declared.Marks.{Marks}

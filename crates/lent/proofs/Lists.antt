@@ -7,7 +7,7 @@ use native.Mathlib.Nat.{add-zero, zero-add}
 use lib.ListN.{length}
 use Rattle.grammar.specs.Bytes.{Bytes}
 use Rattle.layout.specs.Layout.{entryAt}
-use Rattle.choice.specs.Decoded.{entriesFrom, entries}
+use Rattle.entries.specs.Decoded.{entriesFrom, entries}
 use Rattle.session_memory.specs.State.{fiveOf}
 use Rattle.session_memory.specs.declared.Five.{Five}
 use Rattle.session_memory.proofs.Laws.{five-length}

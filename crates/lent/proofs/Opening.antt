@@ -15,7 +15,7 @@ use Rattle.demand3.specs.Demand.{Good}
 use Rattle.session_memory.specs.State.{sessionSize, loadOf, saveOf, sizesOut, saveSizes, freshOf}
 use Rattle.session_memory.specs.declared.Session.{Session}
 use Rattle.session_memory.proofs.Laws.{Sized, load-save, load-sizes, save-length, sizes-length, sizes-saved, save-sizes-kept, fresh-shaped}
-use Rattle.choice.specs.Decoded.{recordsOf, statesOf, knownBids, placeCount, recordCount}
+use Rattle.entries.specs.Decoded.{recordsOf, statesOf, knownBids, placeCount, recordCount}
 use Rattle.waiting.specs.Waiting.{waitingOf, firstText, thenText}
 use Rattle.pending.specs.Pending.{waits}
 use Rattle.form_test.specs.Form.{markOk, usedBy}

@@ -17,7 +17,7 @@ use Rattle.session_memory.specs.declared.Five.{Five}
 use Rattle.session_memory.specs.declared.Await.{Await}
 use Rattle.session_memory.specs.declared.Say.{Say}
 use Rattle.session_memory.specs.declared.Keep.{Keep}
-use Rattle.choice.specs.Decoded.{recordsOf, statesOf, knownBids, placeCount}
+use Rattle.entries.specs.Decoded.{recordsOf, statesOf, knownBids, placeCount}
 use Rattle.waiting.specs.Waiting.{waitingOf, firstText, thenText}
 use Rattle.pending.specs.Pending.{waits}
 use Rattle.receive_defined.specs.Receiving.{Cs, cs, refusedOf}

@@ -25,8 +25,8 @@ use Rattle.layout.proofs.Places.{entry-written}
 use Rattle.layout.proofs.Laws.{Fits, written, proposal-length, proposal-back, block-kept}
 use Rattle.transfer_step.specs.Step.{startOf}
 use Rattle.transfer_read.specs.Meaning.{numbersOf, Stands}
-use Rattle.choice.specs.Decoded.{entries, proposalsOf}
-use Rattle.choice.proofs.Laws.{entries-length, entries-at}
+use Rattle.entries.specs.Decoded.{entries, proposalsOf}
+use Rattle.entries.proofs.Laws.{entries-length, entries-at}
 use Rattle.line_effect.specs.Judge.{plusFrom}
 use Rattle.session_memory.specs.State.{at, held}
 use Rattle.session_memory.specs.declared.Five.{Five}

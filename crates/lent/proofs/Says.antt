@@ -12,7 +12,7 @@ use Rattle.grammar.specs.Fields.{Form, plain, message, file}
 use Rattle.grammar.specs.Turns.{Proposal}
 use Rattle.grammar.specs.Transfers.{writeTransfer}
 use Rattle.mail.specs.Mail.{Record, headingFor, proposalOf, recordAt, transferOf, turnText, transfersText}
-use Rattle.choice.specs.Decoded.{recordsOf}
+use Rattle.entries.specs.Decoded.{recordsOf}
 use Rattle.session_memory.specs.declared.Five.{Five}
 use Rattle.session_memory.specs.declared.Say.{Say}
 use Rattle.waiting.specs.Waiting.{proposalAt, blockText, sendingText, firstText, thenText}

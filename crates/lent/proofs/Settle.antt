@@ -23,11 +23,12 @@ use Rattle.session_memory.specs.declared.Say.{Say}
 use Rattle.session_memory.specs.declared.Keep.{Keep}
 use Rattle.session_memory.specs.declared.Session.{Session}
 use Rattle.session_memory.proofs.Laws.{held-five}
-use Rattle.choice.specs.Decoded.{statesOf, proposalsOf}
-use Rattle.choice.specs.Choice.{chooseOf}
-use Rattle.line_effect.specs.Judge.{picked, flagged, settledKeep, sends, inPhase, toTurn, toAnswer, saysThen, spoken, speaking, speakOf}
+use Rattle.entries.specs.Decoded.{statesOf, proposalsOf}
+use Rattle.our_turn.specs.Turn.{chooseOf}
+use Rattle.line_effect.specs.Judge.{picked, flagged, settledKeep, sends, inPhase, toTurn, toAnswer, saysThen}
+use Rattle.our_turn.specs.Turn.{spoken, speaking, speakOf}
 use Rattle.line_effect.specs.Judge as judge
-use Rattle.line_effect.specs.Judged.{Spoken}
+use Rattle.our_turn.specs.Turn.{Spoken}
 use Rattle.waiting.specs.Waiting.{waitingOf, firstText, thenText, blockText}
 use Rattle.pending.specs.Pending.{waits}
 use Rattle.receive_defined.specs.Receiving.{cs, unsaid, markAll}

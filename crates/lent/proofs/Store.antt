@@ -7,7 +7,7 @@ use lib.Dec.{eqb}
 use Rattle.session.specs.Choices.{Shelf}
 use Rattle.session.specs.Session as on-lists
 use Rattle.demand2.specs.Reached.{atOpen}
-use Rattle.choice.specs.Decoded.{statesOf}
+use Rattle.entries.specs.Decoded.{statesOf}
 use Rattle.lent.specs.Represents.{Fixed}
 use Rattle.lent.specs.Link.{callOf}
 use Rattle.lent.specs.Calls.{fixedIn, lentIn, sizesOf, withSession}

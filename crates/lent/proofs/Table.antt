@@ -16,8 +16,8 @@ use Rattle.grammar.specs.Transfers.{partOf}
 use Rattle.mail.specs.Mail.{recordAt, noRecord, marked, declined, accepted}
 use Rattle.layout.specs.Layout.{byteAt, entryAt, recordSize, recordOf}
 use Rattle.layout.proofs.Places.{part-in}
-use Rattle.choice.specs.Decoded.{entries, recordCount, recordsOf, statesOf}
-use Rattle.choice.proofs.Laws.{entries-length, entries-at}
+use Rattle.entries.specs.Decoded.{entries, recordCount, recordsOf, statesOf}
+use Rattle.entries.proofs.Laws.{entries-length, entries-at}
 use Rattle.line_effect.specs.Judge.{picked, flagged}
 use Rattle.session.specs.Session.{deferring}
 use Rattle.receive_defined.specs.Receiving.{markAll}

@@ -15,7 +15,7 @@ use Rattle.demand2.specs.Reached.{Reached}
 use Rattle.demand2.specs.ReadBack.{ReadsBack}
 use Rattle.demand3.specs.Demand as on-lists-run
 use Rattle.buffer.specs.Put.{wrote}
-use Rattle.choice.specs.Decoded.{recordCount, recordsOf, statesOf, knownBids, placeCount}
+use Rattle.entries.specs.Decoded.{recordCount, recordsOf, statesOf, knownBids, placeCount}
 use Rattle.lent.specs.Represents.{messagesOf}
 use Rattle.lent.specs.Link.{callOf}
 use Rattle.lent.specs.Calls.{Buffer, Memory, fixedIn, messageCount, received, given}

@@ -6,7 +6,7 @@ use lib.Dec.{eqb}
 use lib.ListN.{length, take, drop}
 use Rattle.log.specs.Log.{Event, Log, log}
 use Rattle.layout.specs.Layout.{entrySize}
-use Rattle.choice.specs.Decoded.{recordsOf, statesOf}
+use Rattle.entries.specs.Decoded.{recordsOf, statesOf}
 use Rattle.grammar.specs.Refusals.{badMemory}
 use Rattle.give.specs.Giving.{reply}
 use Rattle.open.specs.Opening.{Opened}

@@ -4,7 +4,7 @@ use mathlib.Core.List.{List, []}
 use Prim.Native.Nat.{ℕ, _<_}
 use lib.Dec.{eqb}
 use Rattle.layout.specs.Layout.{stateOf}
-use Rattle.choice.specs.Decoded.{recordCount, recordsOf, statesOf}
+use Rattle.entries.specs.Decoded.{recordCount, recordsOf, statesOf}
 use Rattle.lent.specs.Represents.{messagesOf}
 use Rattle.lent.specs.Frame.{StatesOnly}
 use Rattle.lent.specs.Calls.{Memory, messageCount}

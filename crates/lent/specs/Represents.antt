@@ -20,7 +20,7 @@ use Rattle.session_memory.specs.State.{held}
 use Rattle.session_memory.specs.declared.Five.{Five}
 use Rattle.session_memory.specs.declared.Await.{Await}
 use Rattle.session_memory.specs.declared.Session.{Session}
-use Rattle.choice.specs.Decoded.{recordsOf, statesOf, knownBids, proposalsOf, placeCount, recordCount}
+use Rattle.entries.specs.Decoded.{recordsOf, statesOf, knownBids, proposalsOf, placeCount, recordCount}
 use Rattle.waiting.specs.Waiting.{waitingOf}
 use Rattle.pending.specs.Pending.{waits}
 use Rattle.form_test.specs.Form.{usedBy}

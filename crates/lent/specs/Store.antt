@@ -13,7 +13,7 @@ use Rattle.session.specs.Session.{Phase, aLine, awaitsTransfer, leaving, over, 
 use Rattle.session.specs.Calls.{stops, receive, give}
 use Rattle.demand2.specs.Reached.{Reached}
 use Rattle.demand3.specs.Demand as on-lists-run
-use Rattle.choice.specs.Decoded.{statesOf}
+use Rattle.entries.specs.Decoded.{statesOf}
 use Rattle.lent.specs.Laid.{bodiesBytes}
 use Rattle.lent.specs.Represents.{messagesOf}
 use Rattle.lent.specs.Link.{callOf}

@@ -15,7 +15,7 @@ use Rattle.session_memory.specs.declared.Await.{Await}
 use Rattle.session_memory.specs.declared.Say.{Say}
 use Rattle.session_memory.specs.declared.Keep.{Keep}
 use Rattle.phase.specs.Phase.{phaseCalledSid, phaseCallerSid, phasePrompt, phaseTurn, phaseFs, blockLimit, noProposal}
-use Rattle.choice.specs.Choice.{answersOf}
+use Rattle.our_answer.specs.Answers.{answersOf}
 use Rattle.line_effect.specs.Judged.{Judged}
 use Rattle.line_effect.specs.Judge.{refusal, sidRead, sidLine, textLine, nextAccepted, endLine, proposalLine, ffLine, fqLine, turnRead, turnLine, answerLine, judgeOf}
 

@@ -23,11 +23,11 @@ use Rattle.session_memory.specs.declared.Five.{Five}
 use Rattle.session_memory.specs.declared.Await.{Await}
 use Rattle.session_memory.specs.declared.Say.{Say}
 use Rattle.session_memory.specs.declared.Keep.{Keep}
-use Rattle.phase.specs.Phase.{phaseCalledSid, phaseCallerSid, phasePrompt, phaseTurn, phaseFs, phaseTransfer, phaseLeaving, phaseOver, pieceSid, pieceSigns, pieceFF, pieceFQ, pieceBlock, pieceTransfers, notOurTurn, ourTurn, ourTurnAfterFF, stateWaiting, stateForwarded, stateDeclined, blockLimit, noProposal}
+use Rattle.phase.specs.Phase.{phaseCalledSid, phaseCallerSid, phasePrompt, phaseTurn, phaseFs, phaseTransfer, phaseOver, pieceSid, pieceSigns, pieceTransfers, notOurTurn, ourTurn, ourTurnAfterFF, stateWaiting, stateForwarded, stateDeclined, blockLimit, noProposal}
 use Rattle.places.specs.Places.{formAt}
-use Rattle.choice.specs.Choice.{chooseOf, answersOf}
+use Rattle.our_answer.specs.Answers.{answersOf}
 use Rattle.line_effect.specs.declared.Marks.{Marks}
-use Rattle.line_effect.specs.Judged.{Judged, Spoken}
+use Rattle.line_effect.specs.Judged.{Judged}
 
 -- ---------------------------------------------------------------- changes of the state
 
@@ -200,19 +200,3 @@ lineIn p ln w y k r table known inbox store =
 unfoldable pub judgeOf : Bytes → Await → Say → Keep → Reader → Bytes → Bytes → Bytes → ℕ → Judged
 judgeOf ln w y k r table known inbox store =
     cond (isComment ln) (wentOn w y k r) (lineIn (w .phase) ln w y k r table known inbox store)
-
--- ---------------------------------------------------------------- our turn
-
--- what we await then, and what we say
-abbrev pub spoken : Await → Say → Spoken
-spoken w y = record { now = w; say = y }
-
-abbrev pub speaking : Five → Bool → Await → Say → Spoken
-speaking places ff w y =
-    cond (eqb (places .count) 0)
-    (cond ff (spoken (inPhase phaseLeaving w) (saysThen pieceFQ y)) (spoken (toTurn true w) (saysThen pieceFF y)))
-    (spoken (toAnswer places w) (saysThen pieceBlock y))
-
--- ff: the partner's turn just now was FF
-unfoldable pub speakOf : Await → Say → Keep → Bytes → Bool → Spoken
-speakOf w y k table ff = speaking (chooseOf table (k .framed) (k .deferred)) ff w y

@@ -1,4 +1,4 @@
--- What a line comes to, and what our turn comes to, with the arrays that a line may change.
+-- What a line comes to, with the arrays that a line may change.
 use Prim.Native.Nat.{ℕ}
 use Rattle.transfer_step.specs.declared.Reader.{Reader}
 use Rattle.session_memory.specs.declared.Await.{Await}
@@ -15,8 +15,3 @@ pub record Judged : Type 0 where
   pub say : Say
   pub keep : Keep
   pub reader : Reader
-
--- what we await after our turn, and what we say in it
-pub record Spoken : Type 0 where
-  pub now : Await
-  pub say : Say

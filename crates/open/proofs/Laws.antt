@@ -15,7 +15,7 @@ use Rattle.session.specs.Choices.{among}
 use Rattle.layout.specs.Layout.{fieldIn, entryAt, recordSize, knownSize}
 use Rattle.session_memory.specs.State.{saveOf, saveSizes, freshOf}
 use Rattle.session_memory.specs.declared.Session.{Session}
-use Rattle.choice.specs.Decoded.{entries}
+use Rattle.entries.specs.Decoded.{entries}
 use Rattle.form_test.specs.Form.{lentSizes}
 use Rattle.give.specs.Giving.{reply}
 use Rattle.give.specs.declared.Reply.{Reply}

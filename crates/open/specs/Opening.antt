@@ -12,7 +12,7 @@ use Rattle.grammar.specs.Transfers.{partOf}
 use Rattle.session.specs.Choices.{among}
 use Rattle.layout.specs.Layout.{byteAt, le2At, le4At, fieldIn, entryAt, recordSize, knownSize, entrySize}
 use Rattle.session_memory.specs.State.{sessionSize, saveOf, saveSizes, freshOf}
-use Rattle.choice.specs.Decoded.{entries, recordCount, knownCount}
+use Rattle.entries.specs.Decoded.{entries, recordCount, knownCount}
 use Rattle.form_test.specs.Form.{lentSizes}
 use Rattle.give.specs.Giving.{reply}
 use Rattle.give.specs.declared.Reply.{Reply}

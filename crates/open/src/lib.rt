@@ -16,7 +16,7 @@ ghost use Rattle.grammar.specs.Transfers.{partOf};
 ghost use Rattle.grammar.specs.Refusals.{badMemory};
 ghost use Rattle.layout.specs.Layout.{byteAt, le2At, le4At, fieldIn, recordSize, knownSize, entrySize};
 ghost use Rattle.session_memory.specs.State.{sessionSize};
-ghost use Rattle.choice.specs.Decoded.{recordCount, knownCount};
+ghost use Rattle.entries.specs.Decoded.{recordCount, knownCount};
 ghost use Rattle.give.specs.Giving.{reply};
 ghost use Rattle.open.specs.Opening.{lengthOk, numbersOk, fieldsOk, within, headingOk, textsOk, recordOk, placeOk, tableFault, knownOk, entriesOk, sizesOk, openOf, Opened};
 
@@ -193,7 +193,7 @@ fn place_ok(table: &[u8], titles: &[u8], names: &[u8], bodies: &[u8], i: u16) ->
     if !record_ok(c, titles, names, bodies) {
         return false;
     }
-    !choice::has_bid(layout::RECORD, table, i, 56, layout::field(c, 56, 12))
+    !bid::has_bid(layout::RECORD, table, i, 56, layout::field(c, 56, 12))
 }
 
 // How many records the table has, 64 at most.

@@ -21,7 +21,7 @@ use Rattle.session_memory.specs.declared.Five.{Five}
 use Rattle.session_memory.specs.declared.Await.{Await}
 use Rattle.session_memory.specs.declared.Say.{Say}
 use Rattle.session_memory.specs.declared.Keep.{Keep}
-use Rattle.choice.specs.Choice.{answersOf}
+use Rattle.our_answer.specs.Answers.{answersOf}
 use Rattle.line_effect.specs.Judged.{Judged}
 use Rattle.line_effect.specs.declared.Marks.{Marks}
 use Rattle.line_effect.specs.Judge.{judged, refusal, wentOn, inPhase, toTransfer, saysSigns, readerFor, turnMarks, settledKeep, ffLine, fqLine, nextAccepted, answered, endLine, proposalLine, turnRead, turnLine}

@@ -69,7 +69,7 @@ fn end_line(
     if awaited.proposals == 0 {
         return refusal(6, awaited, say, keep, reader);
     }
-    let signs = choice::answers(awaited, keep, table, known, inbox, store);
+    let signs = our_answer::answers(awaited, keep, table, known, inbox, store);
     answered(signs, awaited, say, keep, reader)
 }
 

@@ -10,33 +10,38 @@ use lib.Dec.{eqb}
 use lib.ListN.{length, getD, set, take, drop, length-set, length-append, length-map, drop-of-length-le}
 use lib.Seq.{drop-cons, take-all, take-suc-set, length-take-le}
 use borrow.Author.Tests.{eq-eqb, ne-eqb, lt-ltb, le-ltb, not-true, not-false}
-use Rattle.grammar.specs.Bytes.{Bytes, SP, same}
-use Rattle.grammar.specs.Fields.{formIs, upper, words, starts, isCall, isAt, isBid, isSize, readFrom, readSize, sameBid}
+use Rattle.grammar.specs.Bytes.{Bytes, SP}
+use Rattle.grammar.specs.Fields.{formIs, upper, words, starts, isCall, isAt, isBid, isSize, readFrom, readSize}
 use Rattle.grammar.specs.Turns as turns
 use Rattle.span.specs.declared.Span.{Span}
 use Rattle.size.specs.declared.Size.{Size}
 use Rattle.span.specs.Places.{part, wordsBy}
 use Rattle.size.specs.Meaning.{sizeIs}
-use Rattle.field.proofs.Laws.{same-length}
 use Rattle.proposal.specs.declared.TurnLine.{TurnLine}
 use Rattle.proposal.specs.declared.Seven.{Seven}
 use Rattle.proposal.specs.declared.Split.{Split}
-use Rattle.proposal.specs.Meaning.{turnLineIs, LiesIn, Within, SevenLie, wordsOf, SplitIs, formBy, typeBy, fieldsHold, sevenBy}
+use Rattle.proposal.specs.Meaning.{isWord, turnLineIs, LiesIn, Within, SevenLie, wordsOf, SplitIs, formBy, typeBy, fieldsHold, sevenBy}
 
 -- ---------------------------------------------------------------- a word in either case
 
-pub word-length : (s w : Bytes) → (length s ≡ length w → ⊥) → false ≡ same (map upper s) w
-unfolding sameBid
-word-length s w n = same-length (map upper s) w (λ e. n (sym (length-map s upper) ∙ e))
+pub word-length : (s w : Bytes) → (length s ≡ length w → ⊥) → false ≡ isWord w s
+word-length [] [] n = absurd (n refl)
+word-length [] (y ∷ w) n = refl
+word-length (x ∷ s) [] n = refl
+word-length (x ∷ s) (y ∷ w) n = go (eqb (upper x) y) (word-length s w (λ e. n (ap suc e)))
+  where
+    go : (c : Bool) → false ≡ isWord w s → false ≡ (c && isWord w s)
+    go true e = e
+    go false e = refl
 
 module _ (s w : Bytes) (i : ℕ) (h : i < length s) (k : length s ≡ length w) (u : ℕ) (f : u ≡ upper (getD s i 0)) where
-  pub word-more : u ≡ getD w i 0 → same (map upper (drop i s)) (drop i w) ≡ same (map upper (drop (i + 1) s)) (drop (i + 1) w)
+  pub word-more : u ≡ getD w i 0 → isWord (drop i w) (drop i s) ≡ isWord (drop (i + 1) w) (drop (i + 1) s)
   word-more e = rw (drop-cons s i 0 h, drop-cons w i 0 (omega arith), ← f, eq-eqb _ _ e, add-one i)
 
-  pub word-stop : (u ≡ getD w i 0 → ⊥) → false ≡ same (map upper (drop i s)) (drop i w)
+  pub word-stop : (u ≡ getD w i 0 → ⊥) → false ≡ isWord (drop i w) (drop i s)
   word-stop e = rw (drop-cons s i 0 h, drop-cons w i 0 (omega arith), ← f, ne-eqb _ _ e)
 
-pub word-end : (s w : Bytes) (i : ℕ) → length s ≤ i → length s ≡ length w → true ≡ same (map upper (drop i s)) (drop i w)
+pub word-end : (s w : Bytes) (i : ℕ) → length s ≤ i → length s ≡ length w → true ≡ isWord (drop i w) (drop i s)
 word-end s w i h k = rw (drop-of-length-le s {i = i} h, drop-of-length-le w {i = i} (omega arith))
 
 -- ---------------------------------------------------------------- seven words

@@ -2,12 +2,12 @@
 use mathlib.Core.Path.{_≡_}
 use mathlib.Core.Bool.{Bool, false, cond, _&&_}
 use mathlib.Core.Option.{Option, none, some}
-use mathlib.Core.List.{List, [], _∷_}
+use mathlib.Core.List.{List, [], _∷_, map}
 use Prim.Native.Nat.{ℕ, _≤_}
 use lib.Dec.{eqb}
 use lib.ListN.{length}
-use Rattle.grammar.specs.Bytes.{Bytes}
-use Rattle.grammar.specs.Fields.{Form, formIs, words, isCall, isAt, isBid}
+use Rattle.grammar.specs.Bytes.{Bytes, same}
+use Rattle.grammar.specs.Fields.{Form, formIs, upper, words, isCall, isAt, isBid}
 use Rattle.grammar.specs.Turns as turns
 use Rattle.span.specs.declared.Span.{Span}
 use Rattle.span.specs.Places.{part}
@@ -52,6 +52,10 @@ LiesIn l TurnLine.NotAllowed = Unit {0}
 LiesIn l (TurnLine.Proposed p) = ProposalLies l p
 
 -- ---------------------------------------------------------------- on the way there
+
+-- The bytes are this word, in either case; the word is given in capitals.
+abbrev pub isWord : Bytes → Bytes → Bool
+isWord word s = same (map upper s) word
 
 -- The form that form_of answers; 3 says that there is none.
 abbrev pub formBy : ℕ → Option Form

@@ -10,10 +10,9 @@ use span::Span;
 ghost use mathlib.Core.Path.{_≡_};
 ghost use mathlib.Core.List.{map};
 ghost use Prim.Native.Nat.{_≤_};
-ghost use Rattle.grammar.specs.Bytes.{same};
 ghost use Rattle.grammar.specs.Fields.{upper};
 ghost use Rattle.grammar.specs.Turns.{formOf, typeOf, orNotAllowed, readProposal, readTurnLine};
-ghost use Rattle.proposal.specs.Meaning.{turnLineIs, LiesIn, formBy, typeBy, SplitIs, SevenLie, fieldsHold, sevenBy};
+ghost use Rattle.proposal.specs.Meaning.{isWord, turnLineIs, LiesIn, formBy, typeBy, SplitIs, SevenLie, fieldsHold, sevenBy};
 
 // A proposal as read: its form by 01's number, its type as the capital P or B, and its fields where they lie in the line.
 pub struct Proposal {
@@ -59,7 +58,7 @@ const NO_TYPE: u8 = 0;
 
 // The bytes are the word, in either case; the word is given in capitals.
 fn is_word(s: &[u8], word: &[u8]) -> bool
-    ensures { λ r. ⌜ r ≡ same (map upper (now (s .entry))) (now (word .entry)) ⌝ }
+    ensures { λ r. ⌜ r ≡ isWord (now (word .entry)) (now (s .entry)) ⌝ }
 {
     if s.len() != word.len() {
         return false;

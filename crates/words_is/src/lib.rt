@@ -79,7 +79,7 @@ pub extern "C" fn words_field_is(kind: u8, s: &[u8]) -> u8
 pub extern "C" fn words_same_bid(a: &[u8], b: &[u8]) -> u8
     ensures { λ r. ⌜ r ≡ flag (sameBid (now (a .entry)) (now (b .entry))) ⌝ }
 {
-    flag_of(field::same_bid(a, b))
+    flag_of(bid::same_bid(a, b))
 }
 
 // 1 if the line is ignored wherever a line is awaited.

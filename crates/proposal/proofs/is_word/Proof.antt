@@ -1,17 +1,15 @@
 -- Invariant: the words are the same from the start exactly if they are the same from i on. Measure: the bytes left.
 use Prim.Native.Nat.{_≤_, _-_}
-use mathlib.Core.List.{map}
 use mathlib.Core.Path.{_≡_, refl, sym, _∙_}
 use lib.ListN.{length, drop}
 use borrow.Author.Needs.{needs}
-use Rattle.grammar.specs.Bytes.{same}
-use Rattle.grammar.specs.Fields.{upper}
+use Rattle.proposal.specs.Meaning.{isWord}
 use Rattle.proposal.proofs.Laws.{word-length, word-more, word-stop, word-end}
 use Rattle.proposal.proofs.is_word.Statement.{statement}
 use Rattle.proposal.proofs.is_word.Tie as tie
 
 abbrev Inv-loop : tie.InvT-loop
-Inv-loop s word i₀ i = (i ≤ length s) × (length s ≡ length word) × (same (map upper s) word ≡ same (map upper (drop i s)) (drop i word))
+Inv-loop s word i₀ i = (i ≤ length s) × (length s ≡ length word) × (isWord word s ≡ isWord (drop i word) (drop i s))
 
 abbrev μ-loop : tie.MeasureT-loop
 μ-loop s word i₀ i = length s - i

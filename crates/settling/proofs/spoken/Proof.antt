@@ -1,7 +1,7 @@
 -- Whether it is our turn.
 use mathlib.Core.Path.{ap, _∙_}
 use borrow.Author.Tests.{eq-eqb, ne-eqb}
-use Rattle.line_effect.specs.Judged.{Spoken}
+use Rattle.our_turn.specs.Turn.{Spoken}
 use Rattle.receive_defined.specs.Receiving.{settledOf}
 use borrow.Author.Needs.{needs}
 use Rattle.settling.proofs.spoken.Statement.{statement}

@@ -1,0 +1,73 @@
+// Where BIDs are compared: two of them, and one with those of a buffer's entries.
+use part::at_most;
+ghost use mathlib.Core.Path.{_≡_};
+ghost use Prim.Native.Nat.{_+_, _≤_};
+ghost use lib.ListN.{length, take, drop};
+ghost use Rattle.grammar.specs.Fields.{sameBid};
+ghost use Rattle.session.specs.Choices.{among};
+ghost use Rattle.places.specs.Places.{bidMax};
+ghost use Rattle.layout.specs.Layout.{fieldIn};
+ghost use Rattle.entries.specs.Decoded.{entries};
+
+// The bytes of s from a place on, as many as the BID has, are this BID.
+fn same_from(s: &[u8], from: usize, bid: &[u8]) -> bool
+    requires { ⌜ from + length (now bid) ≤ length (now s) ⌝ }
+    ensures { λ r. ⌜ r ≡ sameBid (take (length (now (bid .entry))) (drop from (now (s .entry)))) (now (bid .entry)) ⌝ }
+{
+    let mut i = 0;
+    while i < bid.len() {
+        if s[from + i] != bid[i] {
+            return false;
+        }
+        i += 1;
+    }
+    true
+}
+
+// The two BIDs are the same, byte by byte.
+pub fn same_bid(a: &[u8], b: &[u8]) -> bool
+    ensures { λ r. ⌜ r ≡ sameBid (now (a .entry)) (now (b .entry)) ⌝ }
+{
+    if a.len() != b.len() {
+        return false;
+    }
+    same_from(a, 0, b)
+}
+
+fn wide(x: u8) -> usize
+    ensures { λ r. ⌜ r ≡ x ⌝ }
+{
+    x as usize
+}
+
+// The field at this place, which s has room for up to the longest BID, is this BID.
+fn is_bid_at(s: &[u8], at: usize, bid: &[u8]) -> bool
+    requires { ⌜ at + 1 + bidMax ≤ length (now s) ⌝ }
+    ensures { λ r. ⌜ r ≡ sameBid (fieldIn bidMax at (now (s .entry))) (now (bid .entry)) ⌝ }
+{
+    if at_most(places::BID_MAX as usize, wide(s[at])) != bid.len() {
+        return false;
+    }
+    same_from(s, at + 1, bid)
+}
+
+// One of the first n entries of this size, which have a BID at this place, has this one.
+pub fn has_bid(size: u8, s: &[u8], n: u16, at: u8, bid: &[u8]) -> bool
+    requires { ⌜ at + 1 + bidMax ≤ size ⌝ }
+    ensures { λ r. ⌜ r ≡ among (now (bid .entry)) (entries (fieldIn bidMax at) size (now (s .entry)) n) ⌝ }
+{
+    let step = size as usize;
+    let whole = at_most(n as usize, s.len() / step);
+    let mut i = 0usize;
+    while i < whole {
+        if is_bid_at(s, i * step + (at as usize), bid) {
+            return true;
+        }
+        i += 1;
+    }
+    // An entry past the end of the buffer is empty, and so is its BID.
+    if whole < (n as usize) {
+        return bid.len() == 0;
+    }
+    false
+}

@@ -1,0 +1,54 @@
+-- Entries one by one; the BIDs of entries are a field of them.
+use mathlib.Core.Path.{_≡_, refl, sym, ap, _∙_}
+use mathlib.Core.List.{List, [], _∷_}
+use Prim.Native.Nat.{ℕ, zero, suc, _+_, _-_, _<_, _≤_}
+use native.Mathlib.Omega.{arith}
+use native.Mathlib.Nat.{sub-zero}
+use native.Mathlib.Numerals.{add-one}
+use lib.ListN.{length, getD}
+use Rattle.grammar.specs.Bytes.{Bytes}
+use Rattle.session.specs.Choices.{recordBids, messageBids, bodyBytes}
+use Rattle.layout.specs.Layout.{fieldIn, entryAt, recordOf, messageOf, recordSize, entrySize}
+use Rattle.entries.specs.Decoded.{entriesFrom, entries}
+
+module _ {A : Type 0} (f : Bytes → A) (size : ℕ) (s : Bytes) where
+  -- the first of those that are left
+  pub entries-more : (i n : ℕ) → i < n → entriesFrom f size s i (n - i) ≡ f (entryAt size s i) ∷ entriesFrom f size s (i + 1) (n - (i + 1))
+  entries-more i n h =
+      let e : n - i ≡ suc (n - (i + 1)) = omega arith in
+      rw (e, add-one i)
+
+  pub entries-all : (n : ℕ) → entries f size s n ≡ entriesFrom f size s 0 (n - 0)
+  entries-all n = ap (entriesFrom f size s 0) (sym (sub-zero n))
+
+  pub entries-end : (i n : ℕ) → n ≤ i → entriesFrom f size s i (n - i) ≡ []
+  entries-end i n h =
+      let e : n - i ≡ 0 = omega arith in
+      rw e
+
+  pub entries-length : (i n : ℕ) → length (entriesFrom f size s i n) ≡ n
+  entries-length i zero = refl
+  entries-length i (suc n) = ap suc (entries-length (suc i) n)
+
+  entries-from : (i n k : ℕ) (d : A) → k < n → getD (entriesFrom f size s i n) k d ≡ f (entryAt size s (i + k))
+  entries-from i zero k d h = let z : ⊥ = omega arith in absurd z
+  entries-from i (suc n) zero d h = ap (λ (j : ℕ). f (entryAt size s j)) (omega arith)
+  entries-from i (suc n) (suc k) d h =
+      entries-from (suc i) n k d (omega arith) ∙ ap (λ (j : ℕ). f (entryAt size s j)) (omega arith)
+
+  pub entries-at : (n i : ℕ) (d : A) → i < n → getD (entries f size s n) i d ≡ f (entryAt size s i)
+  entries-at n i d h = entries-from 0 n i d h ∙ ap (λ (j : ℕ). f (entryAt size s j)) (omega arith)
+
+-- BIDs of entries are a field of them
+pub record-bids : (s : Bytes) (i n : ℕ) → recordBids (entriesFrom (recordOf [] [] []) recordSize s i n) ≡ entriesFrom (fieldIn 12 56) recordSize s i n
+record-bids s i zero = refl
+record-bids s i (suc n) = ap (λ (l : List Bytes). fieldIn 12 56 (entryAt recordSize s i) ∷ l) (record-bids s (suc i) n)
+
+pub message-bids : (s : Bytes) (i n : ℕ) → messageBids (entriesFrom (λ (c : Bytes). messageOf c []) entrySize s i n) ≡ entriesFrom (fieldIn 12 55) entrySize s i n
+message-bids s i zero = refl
+message-bids s i (suc n) = ap (λ (l : List Bytes). fieldIn 12 55 (entryAt entrySize s i) ∷ l) (message-bids s (suc i) n)
+
+-- bodies are left out
+pub no-bodies : (s : Bytes) (i n : ℕ) → bodyBytes (entriesFrom (λ (c : Bytes). messageOf c []) entrySize s i n) ≡ 0
+no-bodies s i zero = refl
+no-bodies s i (suc n) = omega (arith, no-bodies s (suc i) n)

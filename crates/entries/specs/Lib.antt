@@ -1,0 +1,2 @@
+-- What the lent buffers hold, as lists.
+pub mod Decoded

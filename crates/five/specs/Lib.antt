@@ -1,0 +1,2 @@
+-- Up to five numbers as they are collected.
+pub mod Filled

@@ -1,2 +1,0 @@
--- Some of the numbers changed.
-pub mod Changed

@@ -1,0 +1,182 @@
+-- Our block, from a record on: it passes a record that is not wanted, adds one that is while it has room, and is whole at the table's end.
+use mathlib.Core.Path.{_≡_, refl, sym, ap, _∙_}
+use mathlib.Core.Bool.{Bool, true, false, cond, not, _&&_}
+use mathlib.Core.List.{List, [], _∷_, _++_, append-nil}
+use Prim.Native.Nat.{ℕ, zero, suc, _+_, _-_, _*_, _<_, _≤_}
+use native.Mathlib.Omega.{arith}
+use native.Mathlib.Numerals.{add-one}
+use lib.Dec.{ltb, leb}
+use lib.ListN.{length, getD, take, drop}
+use lib.Seq.{append-snoc, getD-drop}
+use borrow.Author.Tests.{lt-ltb, le-ltb}
+use Rattle.grammar.specs.Bytes.{Bytes}
+use Rattle.grammar.specs.Fields.{plain, message, file}
+use Rattle.grammar.specs.Turns.{inMode, ourBlock}
+use Rattle.mail.specs.Mail.{Record, noRecord}
+use Rattle.session.specs.Choices.{wanted, candidates, sizeAt, chosen}
+use Rattle.layout.specs.Layout.{byteAt, le4At, entryAt, recordOf, recordSize}
+use Rattle.layout.proofs.Laws.{le4-small}
+use Rattle.session_memory.specs.State.{held, fiveOf}
+use Rattle.session_memory.specs.declared.Five.{Five}
+use Rattle.entries.specs.Decoded.{entriesFrom, entries, recordCount, recordsOf, statesOf}
+use Rattle.our_turn.specs.Turn.{chooseOf}
+use Rattle.five.specs.Filled.{Filled}
+use Rattle.entries.proofs.Laws.{entries-more, entries-all, entries-end, entries-at}
+use Rattle.five.proofs.Laws.{five-held, five-filled, five-next}
+
+-- ---------------------------------------------------------------- a record
+
+-- packed forms are proposed in framed mode, plain text in the other
+pub mode-message : (m : Bool) → m ≡ inMode m message
+mode-message true = refl
+mode-message false = refl
+
+pub mode-file : (m : Bool) → m ≡ inMode m file
+mode-file true = refl
+mode-file false = refl
+
+pub mode-plain : (m : Bool) → not m ≡ inMode m plain
+mode-plain true = refl
+mode-plain false = refl
+
+-- ---------------------------------------------------------------- our block from a record on
+
+module _ (table : Bytes) (framed : Bool) (flags : List ℕ) (n : ℕ) where
+  abbrev T : List Record
+  T = entries (recordOf [] [] []) recordSize table n
+
+  abbrev states : List ℕ
+  states = entries (λ (c : Bytes). byteAt c 0) recordSize table n
+
+  -- what is chosen from record i on, where k records of b bytes in all are in
+  abbrev pub blockFrom : ℕ → ℕ → ℕ → List ℕ
+  blockFrom i k b = ourBlock (sizeAt T) k b (candidates framed states flags i (entriesFrom (recordOf [] [] []) recordSize table i (n - i)))
+
+  abbrev pub isWanted : ℕ → Bool
+  isWanted i = wanted framed (recordOf [] [] [] (entryAt recordSize table i)) (byteAt (entryAt recordSize table i) 0) (getD flags i 0)
+
+  pub block-pass : (i k b : ℕ) → i < n → isWanted i ≡ false → blockFrom i k b ≡ blockFrom (i + 1) k b
+  block-pass i k b h e =
+      rw (entries-more (recordOf [] [] []) recordSize table i n h, entries-at (λ (c : Bytes). byteAt c 0) recordSize table n i 0 h, e, add-one i)
+
+  -- record i, which is wanted: it is added while the block has room
+  abbrev addedOr : ℕ → ℕ → ℕ → ℕ → List ℕ
+  addedOr i k b size = cond (ltb k 5 && ltb b 10240) (i ∷ blockFrom (i + 1) (k + 1) (b + size)) []
+
+  block-step : (i k b : ℕ) → i < n → isWanted i ≡ true → blockFrom i k b ≡ addedOr i k b (sizeAt T i)
+  block-step i k b h e =
+      rw (entries-more (recordOf [] [] []) recordSize table i n h, entries-at (λ (c : Bytes). byteAt c 0) recordSize table n i 0 h, e, add-one i)
+
+  block-next : (i k b : ℕ) → i < n → isWanted i ≡ true → blockFrom i k b ≡ addedOr i k b (le4At (entryAt recordSize table i) 69)
+  block-next i k b h e =
+      block-step i k b h e ∙ ap (λ (r : Record). addedOr i k b (r .size)) (entries-at (recordOf [] [] []) recordSize table n i noRecord h)
+
+  pub block-more : (i k b : ℕ) → i < n → isWanted i ≡ true → k < 5 → b < 10240
+      → blockFrom i k b ≡ i ∷ blockFrom (i + 1) (k + 1) (b + le4At (entryAt recordSize table i) 69)
+  block-more i k b h e l m = block-next i k b h e ∙ rw (lt-ltb k 5 l, lt-ltb b 10240 m)
+
+  pub block-five : (i k b : ℕ) → i < n → isWanted i ≡ true → 5 ≤ k → blockFrom i k b ≡ []
+  block-five i k b h e l = block-next i k b h e ∙ rw (le-ltb k 5 l)
+
+  pub block-full : (i k b : ℕ) → i < n → isWanted i ≡ true → k < 5 → 10240 ≤ b → blockFrom i k b ≡ []
+  block-full i k b h e l m = block-next i k b h e ∙ rw (lt-ltb k 5 l, le-ltb b 10240 m)
+
+  pub block-end : (i k b : ℕ) → n ≤ i → blockFrom i k b ≡ []
+  block-end i k b h = rw (entries-end (recordOf [] [] []) recordSize table i n h)
+
+-- bytes of an entry are bytes of the memory, so that a size has 32 bits
+take-small : (n : ℕ) (l : Bytes) → ((i : ℕ) → byteAt l i < 256) → (i : ℕ) → byteAt (take n l) i < 256
+take-small zero l h i = omega arith
+take-small (suc n) [] h i = omega arith
+take-small (suc n) (x ∷ l) h zero = h zero
+take-small (suc n) (x ∷ l) h (suc i) = take-small n l (λ k. h (suc k)) i
+
+entry-small : (size : ℕ) (s : Bytes) (j : ℕ) → ((i : ℕ) → byteAt s i < 256) → (i : ℕ) → byteAt (entryAt size s j) i < 256
+entry-small size s j h i = go (leb (j * size) (length s)) (leb size (length s - j * size))
+  where
+    go : (a b : Bool) → byteAt (cond a (cond b (take size (drop (j * size) s)) []) []) i < 256
+    go true true = take-small size (drop (j * size) s) (λ k. rw (getD-drop (j * size) s k 0) (h (j * size + k))) i
+    go true false = omega arith
+    go false b = omega arith
+
+pub size-small : (s : Bytes) (j at : ℕ) → ((i : ℕ) → byteAt s i < 256) → le4At (entryAt recordSize s j) at < 4294967296
+size-small s j at h = le4-small (entryAt recordSize s j) (entry-small recordSize s j h) at
+
+-- ---------------------------------------------------------------- the loop
+
+-- records are being chosen: those held, then what is chosen from record i on, are the whole; total has room for one size more
+pub record Choosing (table : Bytes) (framed : Bool) (flags : List ℕ) (n : ℕ) (places : Five) (total i : ℕ) : Type 0 where
+  pub filled : Filled places
+  pub small : total < 4294977536
+  pub whole : blockFrom table framed flags n 0 0 0 ≡ held places ++ blockFrom table framed flags n i (places .count) total
+
+module _ (table : Bytes) (framed : Bool) (flags : List ℕ) (n : ℕ) where
+  pub choosing-none : {f : Five} → f ≡ fiveOf [] → Choosing table framed flags n f 0 0
+  choosing-none {f} e = rw e (record { filled = refl; small = omega arith; whole = refl })
+
+  module _ {places : Five} {total i : ℕ} (c : Choosing table framed flags n places total i) (h : i < n) where
+    pub choosing-pass : isWanted table framed flags n i ≡ false → Choosing table framed flags n places total (i + 1)
+    choosing-pass e =
+        record {
+          filled = c .filled;
+          small = c .small;
+          whole = c .whole ∙ ap (λ (l : List ℕ). held places ++ l) (block-pass table framed flags n i (places .count) total h e);
+        }
+
+    pub choosing-add : isWanted table framed flags n i ≡ true → places .count < 5 → total < 10240 → {f : Five} {size : ℕ} → f ≡ fiveOf (held places ++ (i ∷ []))
+        → size ≡ le4At (entryAt recordSize table i) 69 → size < 4294967296 → Choosing table framed flags n f (total + size) (i + 1)
+    choosing-add w k b {f} {size} e s m =
+        let xs = held places ++ (i ∷ []) in
+        let d : f .count ≡ places .count + 1 = five-next f places i (c .filled) e in
+        record {
+          filled = five-filled f xs e;
+          small = omega arith;
+          whole =
+              c .whole
+              ∙ rw (block-more table framed flags n i (places .count) total h w k b, ← s, five-held f xs e, d)
+              (sym (append-snoc (held places) i (blockFrom table framed flags n (i + 1) (places .count + 1) (total + size))));
+        }
+
+  chosen-all : n ≡ recordCount table → chosen (recordsOf [] [] [] table) framed (statesOf table) flags ≡ blockFrom table framed flags n 0 0 0
+  unfolding chosen recordsOf statesOf
+  chosen-all e =
+      rw (← e)
+      (ap (λ (l : List Record). ourBlock (sizeAt (T table framed flags n)) 0 0 (candidates framed (states table framed flags n) flags 0 l))
+      (entries-all (recordOf [] [] []) recordSize table n))
+
+  pub chosen-now : {places : Five} {total i : ℕ} → n ≡ recordCount table → Choosing table framed flags n places total i
+      → blockFrom table framed flags n i (places .count) total ≡ [] → places ≡ chooseOf table framed flags
+  unfolding chooseOf
+  chosen-now {places} {total} {i} e c h =
+      let w : blockFrom table framed flags n 0 0 0 ≡ held places = c .whole ∙ ap (λ (l : List ℕ). held places ++ l) h ∙ append-nil (held places) in
+      c .filled ∙ ap fiveOf (sym w ∙ sym (chosen-all e))
+
+-- ---------------------------------------------------------------- for callers
+
+-- titles, names and bodies change no choice
+block-same : (f g : ℕ → ℕ) → ((i : ℕ) → f i ≡ g i) → (k b : ℕ) (xs : List ℕ) → ourBlock f k b xs ≡ ourBlock g k b xs
+block-same f g h k b [] = refl
+block-same f g h k b (x ∷ xs) =
+    ap (λ (l : List ℕ). cond (ltb k 5 && ltb b 10240) (x ∷ l) []) (block-same f g h (k + 1) (b + f x) xs ∙ ap (λ (n : ℕ). ourBlock g (k + 1) (b + n) xs) (h x))
+
+module _ (titles names bodies table : Bytes) where
+  size-same : (a n i : ℕ) → sizeAt (entriesFrom (recordOf titles names bodies) recordSize table a n) i ≡ sizeAt (entriesFrom (recordOf [] [] []) recordSize table a n) i
+  size-same a zero i = refl
+  size-same a (suc n) zero = refl
+  size-same a (suc n) (suc i) = size-same (suc a) n i
+
+  candidates-same : (framed : Bool) (states flags : List ℕ) (i a n : ℕ)
+      → candidates framed states flags i (entriesFrom (recordOf titles names bodies) recordSize table a n) ≡ candidates framed states flags i (entriesFrom (recordOf [] [] []) recordSize table a n)
+  candidates-same framed states flags i a zero = refl
+  candidates-same framed states flags i a (suc n) =
+      let r = recordOf [] [] [] (entryAt recordSize table a) in
+      ap (λ (l : List ℕ). cond (wanted framed r (getD states i 0) (getD flags i 0)) (i ∷ l) l) (candidates-same framed states flags (suc i) (suc a) n)
+
+  pub chosen-stores : (framed : Bool) (states flags : List ℕ)
+      → chosen (recordsOf titles names bodies table) framed states flags ≡ chosen (recordsOf [] [] [] table) framed states flags
+  unfolding chosen recordsOf
+  chosen-stores framed states flags =
+      let n = recordCount table in
+      let T = entries (recordOf titles names bodies) recordSize table n in
+      block-same (sizeAt T) (sizeAt (entries (recordOf [] [] []) recordSize table n)) (size-same 0 n) 0 0 (candidates framed states flags 0 T)
+      ∙ ap (ourBlock (sizeAt (entries (recordOf [] [] []) recordSize table n)) 0 0) (candidates-same framed states flags 0 0 n)

@@ -1,0 +1,2 @@
+-- What we propose, and what we say in our turn.
+pub mod Turn

@@ -1,0 +1,108 @@
+// Our turn: which records we propose, and what we say where none is left.
+use five::add;
+use five::none;
+use layout::byte_at;
+use layout::entry;
+use next_awaited::to_turn;
+use number_read::number4;
+use numbers::AwaitNumbers;
+use numbers::Numbers;
+use session_memory::Five;
+use session_memory::Say;
+ghost use mathlib.Core.Path.{_≡_};
+ghost use mathlib.Core.List.{[]};
+ghost use Rattle.grammar.specs.Fields.{formIs};
+ghost use Rattle.grammar.specs.Turns.{inMode};
+ghost use Rattle.session.specs.Choices.{wanted};
+ghost use Rattle.layout.specs.Layout.{byteAt, recordOf};
+ghost use Rattle.our_turn.specs.Turn.{chooseOf, Speaks};
+
+// "the announced sizes so far are below 10,240"
+const SIZES_MAX: usize = 10240;
+
+// Records of this form are proposed in this mode.
+fn in_mode(framed: bool, form: u8) -> bool
+    ensures { λ r. ⌜ r ≡ inMode framed (formIs form) ⌝ }
+{
+    if form == 1 {
+        return framed;
+    }
+    if form == 2 {
+        return framed;
+    }
+    !framed
+}
+
+// The record in these bytes waits, is of the mode's form and was not deferred.
+fn wanted(framed: bool, bytes: &[u8], flag: u8) -> bool
+    ensures { λ r. ⌜ r ≡ wanted framed (recordOf [] [] [] (now (bytes .entry))) (byteAt (now (bytes .entry)) 0) flag ⌝ }
+{
+    if !in_mode(framed, byte_at(bytes, places::RECORD_FORM as usize)) {
+        return false;
+    }
+    if byte_at(bytes, 0) != phase::STATE_WAITING {
+        return false;
+    }
+    flag == 0
+}
+
+// The places of the records that we propose now.
+pub fn choose(table: &[u8], framed: bool, deferred: &[u8]) -> Five
+    ensures { λ r. ⌜ r ≡ chooseOf (now (table .entry)) framed (now (deferred .entry)) ⌝ }
+{
+    let n = entries::records(table);
+    let mut chosen = none();
+    let mut total = 0usize;
+    let mut i = 0u16;
+    while i < n {
+        let bytes = entry(places::RECORD, table, i);
+        let at = i as usize;
+        if !wanted(framed, bytes, byte_at(deferred, at)) {
+            i += 1;
+            continue;
+        }
+        let sum = total + number4(bytes, places::RECORD_SIZE as u16);
+        if phase::BLOCK_LIMIT <= chosen.count {
+            return chosen;
+        }
+        if SIZES_MAX <= total {
+            return chosen;
+        }
+        chosen = add(chosen, i as u8);
+        total = sum;
+        i += 1;
+    }
+    chosen
+}
+
+// The numbers with this awaited and this said.
+fn with_turn(s: Numbers, awaited: AwaitNumbers, say: Say) -> Numbers
+    ensures { λ r. ⌜ r ≡ record { now = awaited; say = say; keep = s .keep; reader = s .reader; line = s .line } ⌝ }
+{
+    let mut t = s;
+    t.now = awaited;
+    t.say = say;
+    t
+}
+
+// Our turn: what we propose, or FF, or FQ where the partner's turn just now was FF.
+pub fn speak(s: Numbers, deferred: &[u8], table: &[u8], ff: bool) -> Numbers
+    ensures { λ r. ⌜ Speaks s (now (deferred .entry)) (now (table .entry)) ff r ⌝ }
+{
+    let chosen = choose(table, s.keep.framed, deferred);
+    let mut awaited = s.now;
+    let mut say = s.say;
+    if chosen.count == 0 {
+        if ff {
+            awaited.phase = phase::LEAVING;
+            say.then = phase::PIECE_FQ;
+            return with_turn(s, awaited, say);
+        }
+        say.then = phase::PIECE_FF;
+        return with_turn(s, to_turn(awaited, true), say);
+    }
+    awaited.phase = phase::FS;
+    awaited.ours = chosen;
+    say.then = phase::PIECE_BLOCK;
+    with_turn(s, awaited, say)
+}
