@@ -1,0 +1,198 @@
+-- THE NUMBERS OF SESSION MEMORY WITH A FEW CHANGED: saved, they change the bytes of those few, and the flags, which are saved as 1 or 0.
+use Prim.Native.Nat.{ℕ, suc, _+_, _<_, _≤_}
+use mathlib.Core.Path.{_≡_, refl, sym, ap, _∙_}
+use mathlib.Core.List.{[], _∷_, _++_, append-nil}
+use native.Mathlib.Omega.{arith}
+use lib.Dec.{eqb}
+use lib.ListN.{length, getD, set, take, drop}
+use lib.Seq.{sets, length-sets, getD-take, getD-drop}
+use Rattle.grammar.specs.Bytes.{Bytes}
+use Rattle.buffer.specs.Put.{putBytes}
+use Rattle.places.specs.Places.{sessionLen, ffAt, framedAt, afterCrAt, firstAt, thenAt, keptAt, oursAt, sendingAt, signsAt, placeAt, lengthAt, headAt, offsetAt, sumAt, lineLengthAt, leftAt, bodyAt, posAt, usedAt}
+use Rattle.places.specs.Places as places
+use Rattle.layout.specs.Layout.{byteAt, le2At, le4At, le8At, le2, le4, le8}
+use Rattle.session_memory.specs.State.{at, flag, fiveAt, fiveOut, arrayAt, smallOut, numbersOut}
+use Rattle.session_memory.proofs.Laws.{array-in}
+use Rattle.transfer_step.specs.declared.Reader.{Reader}
+use Rattle.numbers.specs.declared.Numbers.{Numbers}
+use Rattle.numbers.specs.Whole.{awaitNumbers, sayNumbers, keepNumbers, readerNumbers, lineNumbers, numbersAt, numberBytes}
+use Rattle.numbers.proofs.Laws.{out-length}
+use Rattle.numbers_in_place.specs.Changed.{withLine, withReader, withSay}
+use Rattle.numbers_in_place.proofs.Written.{bytesFrom, Agrees, agrees-same, agrees-later, agrees-set, skipped, put-sets, le2-back, le4-back, le8-back}
+
+-- up to five numbers that were read are written as they stand
+five-back : (sm : Bytes) (i : ℕ) → i + 6 ≤ length sm → fiveOut (fiveAt sm i) ≡ bytesFrom sm i 6
+five-back sm i h =
+    let k : (j n : ℕ) → j < 5 → i + 1 + j ≡ n → getD (arrayAt 5 sm (i + 1)) j 0 ≡ byteAt sm n =
+    λ j n g e. ap (λ (x : Bytes). getD x j 0) (array-in 5 sm (i + 1) (omega arith)) ∙ getD-take 5 (drop (i + 1) sm) j 0 g ∙ getD-drop (i + 1) sm j 0 ∙ ap (byteAt sm) e in
+    list6 (k 0 (suc i) (omega arith) (omega arith)) (k 1 (suc (suc i)) (omega arith) (omega arith)) (k 2 (suc (suc (suc i))) (omega arith) (omega arith))
+    (k 3 (suc (suc (suc (suc i)))) (omega arith) (omega arith)) (k 4 (suc (suc (suc (suc (suc i))))) (omega arith) (omega arith))
+  where
+    list6 : {a b c d e f g h i j x : ℕ} → a ≡ b → c ≡ d → e ≡ f → g ≡ h → i ≡ j → _≡_ {A = Bytes} (x ∷ a ∷ c ∷ e ∷ g ∷ i ∷ []) (x ∷ b ∷ d ∷ f ∷ h ∷ j ∷ [])
+    list6 e₁ e₂ e₃ e₄ e₅ = rw (e₁, e₂, e₃, e₄, e₅)
+
+-- the numbers' bytes, piece by piece
+abbrev pieces : Bytes → Bytes → Bytes → Bytes → Bytes → Bytes → Bytes → Bytes → Bytes → Bytes → Bytes
+pieces a o d g r l f b p u = (a ++ (o ++ (d ++ (g ++ r)))) ++ (l ++ (f ++ (b ++ (p ++ u))))
+
+module _ (sm : Bytes) (n : length sm ≡ sessionLen) (small : (i : ℕ) → byteAt sm i < 256) where
+  abbrev ff : ℕ
+  ff = flag (eqb (byteAt sm ffAt) 1)
+
+  abbrev framed : ℕ
+  framed = flag (eqb (byteAt sm framedAt) 1)
+
+  abbrev phase : ℕ
+  phase = byteAt sm places.phaseAt
+
+  fives : (a r l f b p u : Bytes) → pieces a (fiveOut (fiveAt sm oursAt)) (fiveOut (fiveAt sm sendingAt)) (fiveOut (fiveAt sm signsAt)) r l f b p u
+      ≡ pieces a (bytesFrom sm oursAt 6) (bytesFrom sm sendingAt 6) (bytesFrom sm signsAt 6) r l f b p u
+  fives a r l f b p u =
+      ap (λ (x : Bytes). pieces a x (fiveOut (fiveAt sm sendingAt)) (fiveOut (fiveAt sm signsAt)) r l f b p u) (five-back sm oursAt (omega arith))
+      ∙ ap (λ (x : Bytes). pieces a (bytesFrom sm oursAt 6) x (fiveOut (fiveAt sm signsAt)) r l f b p u) (five-back sm sendingAt (omega arith))
+      ∙ ap (λ (x : Bytes). pieces a (bytesFrom sm oursAt 6) (bytesFrom sm sendingAt 6) x r l f b p u) (five-back sm signsAt (omega arith))
+
+  -- the phase is as it was
+  phase-stays : (l : Bytes) → sets sm places.numbersAt (phase ∷ l) ≡ sets sm ffAt l
+  phase-stays l = skipped 1 places.numbersAt sm sm l (agrees-same places.numbersAt sm)
+
+  -- the numbers h saved are these bytes written from the flags on
+  saved-as : (h : Numbers) (l : Bytes) → numberBytes h ≡ phase ∷ l → putBytes sm (at places.numbersAt) (numberBytes h) ≡ sets sm ffAt l
+  saved-as h l e =
+      put-sets sm places.numbersAt (numberBytes h) (omega (arith, out-length h)) ∙ ap (sets sm places.numbersAt) e ∙ phase-stays l
+
+  -- ---------------------------------------------------------------- the line
+
+  line-bytes : (k : ℕ) → numberBytes (withLine k (numbersAt sm)) ≡ phase ∷ ff ∷ framed ∷ 0 ∷ (bytesFrom sm firstAt 28 ++ (le2 k ++ (bytesFrom sm leftAt 22 ++ [])))
+  unfolding numberBytes smallOut numbersOut numbersAt awaitNumbers sayNumbers keepNumbers readerNumbers lineNumbers
+  line-bytes k =
+      let a : Bytes = phase ∷ ff ∷ framed ∷ 0 ∷ bytesFrom sm firstAt 5 in
+      let r : Bytes = bytesFrom sm placeAt 5 in
+      let o : Bytes = bytesFrom sm oursAt 6 in
+      let d : Bytes = bytesFrom sm sendingAt 6 in
+      let g : Bytes = bytesFrom sm signsAt 6 in
+      fives a r (le2 k) (le2 (le2At sm leftAt)) (le4 (le4At sm bodyAt)) (le8 (le8At sm posAt)) (le8 (le8At sm usedAt))
+      ∙ ap (λ (x : Bytes). pieces a o d g r (le2 k) x (le4 (le4At sm bodyAt)) (le8 (le8At sm posAt)) (le8 (le8At sm usedAt))) (le2-back sm small leftAt)
+      ∙ ap (λ (x : Bytes). pieces a o d g r (le2 k) (bytesFrom sm leftAt 2) x (le8 (le8At sm posAt)) (le8 (le8At sm usedAt))) (le4-back sm small bodyAt)
+      ∙ ap (λ (x : Bytes). pieces a o d g r (le2 k) (bytesFrom sm leftAt 2) (bytesFrom sm bodyAt 4) x (le8 (le8At sm usedAt))) (le8-back sm small posAt)
+      ∙ ap (λ (x : Bytes). pieces a o d g r (le2 k) (bytesFrom sm leftAt 2) (bytesFrom sm bodyAt 4) (bytesFrom sm posAt 8) x) (le8-back sm small usedAt)
+
+  -- session memory with the flags as a taken byte leaves them
+  abbrev flagged : Bytes
+  flagged = set (set (set sm ffAt ff) framedAt framed) afterCrAt 0
+
+  flagged-after : Agrees firstAt flagged sm
+  flagged-after =
+      agrees-set firstAt afterCrAt 0 (set (set sm ffAt ff) framedAt framed) sm (omega arith)
+      (agrees-set firstAt framedAt framed (set sm ffAt ff) sm (omega arith) (agrees-set firstAt ffAt ff sm sm (omega arith) (agrees-same firstAt sm)))
+
+  -- after bytes written one after the other
+  written-after : (l : Bytes) (i k : ℕ) (m : Bytes) → i + length l ≤ k → Agrees k m sm → Agrees k (sets m i l) sm
+  written-after [] i k m h a = a
+  written-after (x ∷ l) i k m h a = written-after l (suc i) k (set m i x) (omega arith) (agrees-set k i x m sm (omega arith) a)
+
+  pub line-saved : (k : ℕ) → sets flagged lineLengthAt (le2 k) ≡ putBytes sm (at places.numbersAt) (numberBytes (withLine k (numbersAt sm)))
+  line-saved k =
+      sym
+      (saved-as (withLine k (numbersAt sm)) (ff ∷ framed ∷ 0 ∷ (bytesFrom sm firstAt 28 ++ (le2 k ++ (bytesFrom sm leftAt 22 ++ [])))) (line-bytes k)
+      ∙ skipped 28 firstAt flagged sm (le2 k ++ (bytesFrom sm leftAt 22 ++ [])) flagged-after
+      ∙ skipped 22 leftAt (sets flagged lineLengthAt (le2 k)) sm []
+      (written-after (le2 k) lineLengthAt leftAt flagged (omega arith) (agrees-later firstAt leftAt flagged sm (omega arith) flagged-after)))
+
+  -- ---------------------------------------------------------------- the reader
+
+  abbrev small-out : Reader → Bytes
+  small-out r = r .place ∷ r .len ∷ r .head ∷ r .off ∷ r .sum ∷ []
+
+  abbrev sizes-out : Reader → Bytes
+  sizes-out r = le2 (r .left) ++ le4 (r .body)
+
+  reader-bytes : (r : Reader) → numberBytes (withReader r (numbersAt sm))
+      ≡ phase ∷ ff ∷ framed ∷ 0 ∷ (bytesFrom sm firstAt 23 ++ (small-out r ++ (bytesFrom sm lineLengthAt 2 ++ (sizes-out r ++ (bytesFrom sm posAt 16 ++ [])))))
+  unfolding numberBytes smallOut numbersOut numbersAt awaitNumbers sayNumbers keepNumbers readerNumbers lineNumbers
+  reader-bytes r =
+      let a : Bytes = phase ∷ ff ∷ framed ∷ 0 ∷ bytesFrom sm firstAt 5 in
+      let o : Bytes = bytesFrom sm oursAt 6 in
+      let d : Bytes = bytesFrom sm sendingAt 6 in
+      let g : Bytes = bytesFrom sm signsAt 6 in
+      fives a (small-out r) (le2 (le2At sm lineLengthAt)) (le2 (r .left)) (le4 (r .body)) (le8 (le8At sm posAt)) (le8 (le8At sm usedAt))
+      ∙ ap (λ (x : Bytes). pieces a o d g (small-out r) x (le2 (r .left)) (le4 (r .body)) (le8 (le8At sm posAt)) (le8 (le8At sm usedAt))) (le2-back sm small lineLengthAt)
+      ∙ ap (λ (x : Bytes). pieces a o d g (small-out r) (bytesFrom sm lineLengthAt 2) (le2 (r .left)) (le4 (r .body)) x (le8 (le8At sm usedAt))) (le8-back sm small posAt)
+      ∙ ap (λ (x : Bytes). pieces a o d g (small-out r) (bytesFrom sm lineLengthAt 2) (le2 (r .left)) (le4 (r .body)) (bytesFrom sm posAt 8) x) (le8-back sm small usedAt)
+
+  pub reader-saved : (r : Reader) → sets (sets flagged placeAt (small-out r)) leftAt (sizes-out r)
+      ≡ putBytes sm (at places.numbersAt) (numberBytes (withReader r (numbersAt sm)))
+  reader-saved r =
+      let m : Bytes = sets flagged placeAt (small-out r) in
+      let k : Bytes = bytesFrom sm posAt 16 ++ [] in
+      let f : Agrees lineLengthAt m sm = written-after (small-out r) placeAt lineLengthAt flagged (omega arith) (agrees-later firstAt lineLengthAt flagged sm (omega arith) flagged-after) in
+      sym
+      (saved-as (withReader r (numbersAt sm)) (ff ∷ framed ∷ 0 ∷ (bytesFrom sm firstAt 23 ++ (small-out r ++ (bytesFrom sm lineLengthAt 2 ++ (sizes-out r ++ k))))) (reader-bytes r)
+      ∙ skipped 23 firstAt flagged sm (small-out r ++ (bytesFrom sm lineLengthAt 2 ++ (sizes-out r ++ k))) flagged-after
+      ∙ skipped 2 lineLengthAt m sm (sizes-out r ++ k) f
+      ∙ skipped 16 posAt (sets m leftAt (sizes-out r)) sm []
+      (written-after (sizes-out r) leftAt posAt m (omega arith) (agrees-later lineLengthAt posAt m sm (omega arith) f)))
+
+  -- ---------------------------------------------------------------- what waits for give
+
+  abbrev after-cr : ℕ
+  after-cr = flag (eqb (byteAt sm afterCrAt) 1)
+
+  say-bytes : (first then pos : ℕ) → numberBytes (withSay first then pos (numbersAt sm))
+      ≡ phase ∷ ff ∷ framed ∷ after-cr ∷ first ∷ then ∷ (bytesFrom sm keptAt 34 ++ (le8 pos ++ (bytesFrom sm usedAt 8 ++ [])))
+  unfolding numberBytes smallOut numbersOut numbersAt awaitNumbers sayNumbers keepNumbers readerNumbers lineNumbers
+  say-bytes first then pos =
+      let a : Bytes = phase ∷ ff ∷ framed ∷ after-cr ∷ first ∷ then ∷ bytesFrom sm keptAt 3 in
+      let r : Bytes = bytesFrom sm placeAt 5 in
+      let o : Bytes = bytesFrom sm oursAt 6 in
+      let d : Bytes = bytesFrom sm sendingAt 6 in
+      let g : Bytes = bytesFrom sm signsAt 6 in
+      fives a r (le2 (le2At sm lineLengthAt)) (le2 (le2At sm leftAt)) (le4 (le4At sm bodyAt)) (le8 pos) (le8 (le8At sm usedAt))
+      ∙ ap (λ (x : Bytes). pieces a o d g r x (le2 (le2At sm leftAt)) (le4 (le4At sm bodyAt)) (le8 pos) (le8 (le8At sm usedAt))) (le2-back sm small lineLengthAt)
+      ∙ ap (λ (x : Bytes). pieces a o d g r (bytesFrom sm lineLengthAt 2) x (le4 (le4At sm bodyAt)) (le8 pos) (le8 (le8At sm usedAt))) (le2-back sm small leftAt)
+      ∙ ap (λ (x : Bytes). pieces a o d g r (bytesFrom sm lineLengthAt 2) (bytesFrom sm leftAt 2) x (le8 pos) (le8 (le8At sm usedAt))) (le4-back sm small bodyAt)
+      ∙ ap (λ (x : Bytes). pieces a o d g r (bytesFrom sm lineLengthAt 2) (bytesFrom sm leftAt 2) (bytesFrom sm bodyAt 4) (le8 pos) x) (le8-back sm small usedAt)
+
+  -- the flags and the pieces from their place on, then how many bytes are given
+  pub say-saved : (first then pos : ℕ) → sets (sets sm ffAt (ff ∷ framed ∷ after-cr ∷ first ∷ then ∷ [])) posAt (le8 pos)
+      ≡ putBytes sm (at places.numbersAt) (numberBytes (withSay first then pos (numbersAt sm)))
+  say-saved first then pos =
+      let w : Bytes = ff ∷ framed ∷ after-cr ∷ first ∷ then ∷ [] in
+      let m : Bytes = sets sm ffAt w in
+      let k : Bytes = bytesFrom sm usedAt 8 ++ [] in
+      let f : Agrees keptAt m sm = written-after w ffAt keptAt sm (omega arith) (agrees-same keptAt sm) in
+      sym
+      (saved-as (withSay first then pos (numbersAt sm)) (ff ∷ framed ∷ after-cr ∷ first ∷ then ∷ (bytesFrom sm keptAt 34 ++ (le8 pos ++ k))) (say-bytes first then pos)
+      ∙ skipped 34 keptAt m sm (le8 pos ++ k) f
+      ∙ skipped 8 usedAt (sets m posAt (le8 pos)) sm [] (written-after (le8 pos) posAt usedAt m (omega arith) (agrees-later keptAt usedAt m sm (omega arith) f)))
+
+  -- the same by two writes
+  pub say-put : (first then pos : ℕ) → putBytes (putBytes sm (at ffAt) (ff ∷ framed ∷ after-cr ∷ first ∷ then ∷ [])) (at posAt) (le8 pos)
+      ≡ putBytes sm (at places.numbersAt) (numberBytes (withSay first then pos (numbersAt sm)))
+  say-put first then pos =
+      let w : Bytes = ff ∷ framed ∷ after-cr ∷ first ∷ then ∷ [] in
+      let l : length (sets sm ffAt w) ≡ length sm = length-sets sm ffAt w in
+      ap (λ (x : Bytes). putBytes x (at posAt) (le8 pos)) (put-sets sm ffAt w (omega arith)) ∙ put-sets (sets sm ffAt w) posAt (le8 pos) (omega arith) ∙ say-saved first then pos
+
+  -- ---------------------------------------------------------------- as the code writes them
+
+  module _ (f g : ℕ) (e : f ≡ ff) (h : g ≡ framed) where
+    abbrev started : Bytes
+    started = set (set (set sm ffAt f) framedAt g) afterCrAt 0
+
+    starts : started ≡ flagged
+    starts = ap (λ (x : ℕ). set (set (set sm ffAt x) framedAt g) afterCrAt 0) e ∙ ap (λ (x : ℕ). set (set (set sm ffAt ff) framedAt x) afterCrAt 0) h
+
+    pub line-put : (k : ℕ) (l : Bytes) → l ≡ le2 k
+        → set (set started lineLengthAt (getD l 0 0)) (lineLengthAt + 1) (getD l 1 0) ≡ putBytes sm (at places.numbersAt) (numberBytes (withLine k (numbersAt sm)))
+    line-put k l d =
+        ap (λ (x : Bytes). set (set started lineLengthAt (getD x 0 0)) (lineLengthAt + 1) (getD x 1 0)) d ∙ ap (λ (x : Bytes). sets x lineLengthAt (le2 k)) starts ∙ line-saved k
+
+    pub reader-put : (r : Reader) (l b : Bytes) → l ≡ le2 (r .left) → b ≡ le4 (r .body)
+        → sets (sets started placeAt (small-out r)) leftAt (getD l 0 0 ∷ getD l 1 0 ∷ getD b 0 0 ∷ getD b 1 0 ∷ getD b 2 0 ∷ getD b 3 0 ∷ [])
+        ≡ putBytes sm (at places.numbersAt) (numberBytes (withReader r (numbersAt sm)))
+    reader-put r l b d i =
+        let m : Bytes = sets started placeAt (small-out r) in
+        ap (λ (x : Bytes). sets m leftAt (getD x 0 0 ∷ getD x 1 0 ∷ getD b 0 0 ∷ getD b 1 0 ∷ getD b 2 0 ∷ getD b 3 0 ∷ [])) d
+        ∙ ap (λ (x : Bytes). sets m leftAt (getD (le2 (r .left)) 0 0 ∷ getD (le2 (r .left)) 1 0 ∷ getD x 0 0 ∷ getD x 1 0 ∷ getD x 2 0 ∷ getD x 3 0 ∷ [])) i
+        ∙ ap (λ (x : Bytes). sets (sets x placeAt (small-out r)) leftAt (sizes-out r)) starts ∙ reader-saved r

@@ -1,0 +1,2 @@
+-- Some of the numbers changed.
+pub mod Changed

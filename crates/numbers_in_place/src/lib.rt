@@ -1,0 +1,63 @@
+// Some of the numbers changed where they stand in session memory, as if all were loaded, changed and saved.
+use number_write::bytes2;
+use number_write::bytes4;
+use transfer_step::Reader;
+ghost use mathlib.Core.Path.{_≡_};
+ghost use lib.Dec.{eqb};
+ghost use lib.ListN.{length};
+ghost use Rattle.buffer.specs.Put.{putBytes};
+ghost use Rattle.places.specs.Places.{sessionLen};
+ghost use Rattle.places.specs.Places as places;
+ghost use Rattle.session_memory.specs.State.{at, flag};
+ghost use Rattle.numbers.specs.Whole.{numbersAt, numberBytes};
+ghost use Rattle.numbers_in_place.specs.Changed.{withLine, withReader};
+
+// A flag as it is saved: 1 for the byte 1, 0 for any other.
+fn flag(b: u8) -> u8
+    ensures { λ r. ⌜ r ≡ flag (eqb b 1) ⌝ }
+{
+    if b == 1 {
+        return 1;
+    }
+    0
+}
+
+// The line under way has len bytes, and the last byte was no CR.
+pub fn put_line(sm: &mut [u8], len: usize)
+    requires { ⌜ length (now sm) ≡ sessionLen ⌝ }
+    ensures { λ _. ⌜ now (sm .exit) ≡ putBytes (now (sm .entry)) (at places.numbersAt) (numberBytes (withLine len (numbersAt (now (sm .entry))))) ⌝ }
+{
+    let ff = flag(sm[places::FF]);
+    let framed = flag(sm[places::FRAMED]);
+    let n = bytes2(len);
+    sm[places::FF] = ff;
+    sm[places::FRAMED] = framed;
+    sm[places::AFTER_CR] = 0;
+    sm[places::LINE_LENGTH] = n[0];
+    sm[places::LINE_LENGTH + 1] = n[1];
+}
+
+// The transfer under way is read so far, and the last byte was no CR.
+pub fn put_reader(sm: &mut [u8], r: Reader)
+    requires { ⌜ length (now sm) ≡ sessionLen ⌝ }
+    ensures { λ _. ⌜ now (sm .exit) ≡ putBytes (now (sm .entry)) (at places.numbersAt) (numberBytes (withReader r (numbersAt (now (sm .entry))))) ⌝ }
+{
+    let ff = flag(sm[places::FF]);
+    let framed = flag(sm[places::FRAMED]);
+    let left = bytes2(r.left as usize);
+    let body = bytes4(r.body as usize);
+    sm[places::FF] = ff;
+    sm[places::FRAMED] = framed;
+    sm[places::AFTER_CR] = 0;
+    sm[places::PLACE] = r.place;
+    sm[places::LENGTH] = r.len;
+    sm[places::HEAD] = r.head;
+    sm[places::OFFSET] = r.off;
+    sm[places::SUM] = r.sum;
+    sm[places::LEFT] = left[0];
+    sm[places::LEFT + 1] = left[1];
+    sm[places::BODY] = body[0];
+    sm[places::BODY + 1] = body[1];
+    sm[places::BODY + 2] = body[2];
+    sm[places::BODY + 3] = body[3];
+}
