@@ -15,8 +15,9 @@ use Rattle.grammar.specs.Transfers.{sum}
 use Rattle.grammar.proofs.Basics.{Lacks}
 use Rattle.buffer.specs.Put.{putBytes}
 use Rattle.transfer_step.specs.declared.Reader.{Reader}
+use Rattle.transfer_step.specs.declared.Outcome.the-variants.{More}
 use Rattle.transfer_step.specs.Step.{reader, bodyStep, dataStep, stepAt, stepOf}
-use Rattle.transfer_read.specs.Feed.{Run, after, headingPut, storePut, feedOf}
+use Rattle.transfer_read.specs.Feed.{Run, run, after, headingPut, storePut, feedOf}
 use Rattle.transfer_read.specs.Straight.{beforeMark, straightOf, along}
 use Rattle.transfer_read.proofs.Laws.{after-zero, after-after}
 
@@ -259,3 +260,22 @@ module _ (room : ℕ) (t : Reader) (input : Bytes) (i n : ℕ) (h : i < length i
       ap (after i) (this-run .feeds hd st)
       ∙ (after-after i n (feedOf room (along t (take n (drop i input))) (drop n (drop i input)) hd (sets st (t .body) (take n (drop i input))))
       ∙ rw (f, g, part-is, drop-drop n i input))
+
+-- ---------------------------------------------------------------- for `run_on`: all bytes at hand are such bytes
+
+module _ (room : ℕ) (r : Reader) (bs : Bytes) (n : ℕ) (e : n ≡ straightOf room r bs) (p : n ≡ 0 → ⊥) (q : length bs ≤ n) where
+  whole-run : Straight room r bs n
+  whole-run = subst (Straight room r bs) (sym e) (straight-run room r bs (omega (arith, e, p)))
+
+  pub all-fit : r .body + length bs ≤ room
+  all-fit = omega (arith, whole-run .fits)
+
+  pub all-block : r .place ≡ 7 → length bs ≤ r .left
+  all-block k = let f = whole-run .block k in omega arith
+
+  pub all-run : (hd st st′ : Bytes) (t : Reader) → t ≡ along r bs → st′ ≡ sets st (r .body) bs
+      → feedOf room r bs hd st ≡ run (record { outcome = More; reader = t; count = length bs }) hd st′
+  unfolding feedOf
+  all-run hd st st′ t f g =
+      let k : n + 0 ≡ length bs = omega (arith, whole-run .within) in
+      whole-run .feeds hd st ∙ rw (take-all n bs q, drop-of-length-le bs q, f, g, k)

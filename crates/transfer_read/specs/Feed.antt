@@ -1,5 +1,6 @@
 -- A portion of a transfer, read byte by byte into the array of the heading and the store of the body.
-use mathlib.Core.Bool.{cond}
+use mathlib.Core.Path.{_≡_}
+use mathlib.Core.Bool.{Bool, true, false, cond}
 use mathlib.Core.List.{[], _∷_}
 use Prim.Native.Nat.{ℕ, _+_, min}
 use lib.Dec.{eqb}
@@ -44,3 +45,8 @@ feedOf room r (b ∷ bs) hd st =
     let st′ = storePut (s .put) r b st in
     let u = feedOf room (s .reader) bs hd′ st′ in
     cond (goesOn (s .outcome)) (after 1 u) (run (record { outcome = s .outcome; reader = s .reader; count = 1 }) hd′ st′)
+
+-- All of the bytes go to the body as they come, and q is the reading after them, whatever the heading is; or none is read.
+abbrev pub RunsOn : Bool → Reader → Reader → Bytes → Bytes → Bytes → Type 0
+RunsOn true q r bs st st′ = (hd : Bytes) → feedOf (roomOf st) r bs hd st ≡ run (record { outcome = More; reader = q; count = length bs }) hd st′
+RunsOn false q r bs st st′ = st′ ≡ st

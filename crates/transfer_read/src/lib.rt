@@ -10,7 +10,7 @@ ghost use lib.ListN.{length};
 ghost use lib.Seq.{sets};
 ghost use Rattle.transfer_step.specs.Step.{stepOf, goesOn};
 ghost use Rattle.transfer_read.specs.Straight.{beforeMark, straightOf, along};
-ghost use Rattle.transfer_read.specs.Feed.{headingPut, storePut, roomOf, feedOf, run};
+ghost use Rattle.transfer_read.specs.Feed.{headingPut, storePut, roomOf, feedOf, run, RunsOn};
 
 // The places where bytes of a body come.
 const BODY: u8 = 1;
@@ -33,6 +33,12 @@ pub struct Fed {
     pub outcome: Outcome,
     pub reader: Reader,
     pub count: usize,
+}
+
+// Whether all of some bytes went to the body as they came, and the reading after them.
+pub struct RunOn {
+    pub all: bool,
+    pub reader: Reader,
 }
 
 // Whether the reading goes on.
@@ -172,5 +178,28 @@ pub fn feed(r: Reader, input: &[u8], heading: &mut [u8], store: &mut [u8]) -> Fe
         outcome: Outcome::More,
         reader: t,
         count: i,
+    }
+}
+
+// Bytes that all go to the body as they come, at once; where one of them does not, none is read.
+pub fn run_on(r: Reader, bytes: &[u8], store: &mut [u8]) -> RunOn
+    ensures { λ q. ⌜ RunsOn (q .all) (q .reader) r (now (bytes .entry)) (now (store .entry)) (now (store .exit)) ⌝ }
+{
+    let n = straight(r, bytes, room_of(store.len()));
+    if n == 0 {
+        return RunOn {
+            all: false,
+            reader: r,
+        };
+    }
+    if n < bytes.len() {
+        return RunOn {
+            all: false,
+            reader: r,
+        };
+    }
+    RunOn {
+        all: true,
+        reader: carry(r, bytes, store),
     }
 }
