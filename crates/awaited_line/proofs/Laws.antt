@@ -1,10 +1,12 @@
--- The SID by what its reader answers, and any line by the phase.
-use mathlib.Core.Path.{_≡_, refl, sym, ap, _∙_}
+-- The SID by what its reader answers, any line by the phase, and one array lent: what is judged on it is judged on all of them.
+use mathlib.Core.Path.{_≡_, refl, sym, ap, _∙_, subst}
 use mathlib.Core.Bool.{Bool, true, false, cond}
 use mathlib.Core.Option.{Option, none, some}
-use mathlib.Core.List.{List}
-use Prim.Native.Nat.{ℕ}
+use mathlib.Core.List.{List, _++_}
+use Prim.Native.Nat.{ℕ, _-_}
 use native.Mathlib.Omega.{arith}
+use lib.ListN.{length, take, drop, length-drop}
+use lib.Seq.{length-take-le}
 use borrow.Author.Tests.{eq-eqb, ne-eqb}
 use Rattle.grammar.specs.Bytes.{Bytes}
 use Rattle.grammar.specs.Refusals.{noForwarding}
@@ -16,7 +18,15 @@ use Rattle.transfer_step.specs.declared.Reader.{Reader}
 use Rattle.session_memory.specs.declared.Await.{Await}
 use Rattle.session_memory.specs.declared.Say.{Say}
 use Rattle.session_memory.specs.declared.Keep.{Keep}
+use Rattle.phase.specs.Phase.{phaseCallerSid, phasePrompt}
+use Rattle.places.specs.Places.{arraysLen}
+use Rattle.region.specs.Region.{region, lent}
+use Rattle.region.proofs.Laws.{lent-here, lent-before, lent-after}
+use Rattle.numbers.specs.declared.Numbers.{Numbers}
+use Rattle.numbers.specs.Whole.{awaitOf, keepOf, deferredIn, blockIn}
+use Rattle.line_effect.specs.declared.Verdict.{Verdict}
 use Rattle.line_effect.specs.Judged.{Judged}
+use Rattle.line_effect.specs.Verdict.{judgedOf, Judges}
 use Rattle.line_effect.specs.Judge.{refusal, wentOn, inPhase, toTurn, inMode, afterSid, sidRead, lineIn, judgeOf}
 
 module _ (w : Await) (y : Say) (k : Keep) (rd : Reader) where
@@ -37,15 +47,15 @@ module _ (w : Await) (y : Say) (k : Keep) (rd : Reader) where
     where
       go : (b : Bool) → hasFeature 5 fs ≡ b → wentOn (afterSid w) y (inMode (framed (r .features .levels)) k) rd ≡ cond b (wentOn (afterSid w) y (inMode (framed fs) k) rd) (refusal noForwarding w y k rd)
       go true q = ap (λ (x : Sid). wentOn (afterSid w) y (inMode (framed (x .features .levels)) k) rd) e
-      go false q = let f : r .number ≡ 4 = ap (λ (x : Sid). x .number) e ∙ rw q in let z : ⊥ = omega (arith, f) in absurd z
+      go false q = let f : r .number ≡ noForwarding = ap (λ (x : Sid). x .number) e ∙ rw q in let z : ⊥ = omega (arith, f) in absurd z
 
   module _ (o : Option (List ℕ)) (r : Sid) (e : r ≡ sidOf o) (n : r .number ≡ 0) (b : Bool) (f : b ≡ framed (r .features .levels)) where
-    pub sid-prompt : w .phase ≡ 1 → wentOn (inPhase 2 w) y (inMode b k) rd ≡ sidRead o w y k rd
+    pub sid-prompt : w .phase ≡ phaseCallerSid → wentOn (inPhase phasePrompt w) y (inMode b k) rd ≡ sidRead o w y k rd
     sid-prompt h =
-        let q : inPhase 2 w ≡ afterSid w = rw (eq-eqb _ _ h) in
+        let q : inPhase phasePrompt w ≡ afterSid w = rw (eq-eqb _ _ h) in
         rw (q, f) (sid-yes o r e n)
 
-    pub sid-turn : (w .phase ≡ 1 → ⊥) → wentOn (toTurn false w) y (inMode b k) rd ≡ sidRead o w y k rd
+    pub sid-turn : (w .phase ≡ phaseCallerSid → ⊥) → wentOn (toTurn false w) y (inMode b k) rd ≡ sidRead o w y k rd
     sid-turn h =
         let q : toTurn false w ≡ afterSid w = rw (ne-eqb _ _ h) in
         rw (q, f) (sid-yes o r e n)
@@ -55,3 +65,43 @@ module _ (w : Await) (y : Say) (k : Keep) (rd : Reader) where
     pub line-in : (p : ℕ) (b : Bool) → w .phase ≡ p → b ≡ isComment ln → b ≡ false → j ≡ lineIn p ln w y k rd table known inbox store → j ≡ judgeOf ln w y k rd table known inbox store
     unfolding judgeOf
     line-in p b e c n f = rw (sym c ∙ n) (f ∙ ap (λ (q : ℕ). lineIn q ln w y k rd table known inbox store) (sym e))
+
+-- ---------------------------------------------------------------- on the arrays where they stand
+
+-- judged beside the table, the known BIDs, the inbox and a store of this size
+abbrev pub judging : Bytes → Bytes → Bytes → Bytes → ℕ → Await → Say → Keep → Reader → Judged
+judging ln table known inbox store w y k r = judgeOf ln w y k r table known inbox store
+
+module _ (s : Numbers) (m : Bytes) (n : length m ≡ arraysLen) (v : Verdict) (f : Await → Say → Keep → Reader → Judged) where
+  -- nothing was lent
+  pub as-it-was : ((block deferred : Bytes) → judgedOf v block deferred ≡ f (awaitOf (s .now) block) (s .say) (keepOf (s .keep) deferred) (s .reader)) → Judges s m v m f
+  as-it-was e = (e (blockIn m) (deferredIn m), refl)
+
+  -- the flags were lent, `&mut mem[..64]`, and given back as u
+  pub on-deferred : (u : Bytes) → length u ≡ length (take 64 m)
+      → ((block : Bytes) → judgedOf v block u ≡ f (awaitOf (s .now) block) (s .say) (keepOf (s .keep) (take 64 m)) (s .reader))
+      → Judges s m v (u ++ drop 64 m) f
+  unfolding region lent
+  on-deferred u l e =
+      let h : length u ≡ 64 = l ∙ length-take-le 64 m (omega arith) in
+      let d : deferredIn (lent 0 64 m u) ≡ u = lent-here 0 64 m u (omega arith) h in
+      let b : blockIn (lent 0 64 m u) ≡ blockIn m = lent-after 0 64 m u (omega arith) h 400 360 (omega arith) in (
+        ap (λ (x : Bytes). judgedOf v x (deferredIn (lent 0 64 m u))) b ∙ ap (λ (x : Bytes). judgedOf v (blockIn m) x) d ∙ e (blockIn m),
+        lent-after 0 64 m u (omega arith) h 64 336 (omega arith),
+      )
+
+  -- the block was lent, `&mut mem[400..]`, and given back as u
+  pub on-block : (u : Bytes) → length u ≡ length (take (length m - 400) (drop 400 m))
+      → ((deferred : Bytes) → judgedOf v u deferred ≡ f (awaitOf (s .now) (take (length m - 400) (drop 400 m))) (s .say) (keepOf (s .keep) deferred) (s .reader))
+      → Judges s m v (take 400 m ++ (u ++ drop (length m - 400) (drop 400 m))) f
+  unfolding region lent
+  on-block u l e =
+      let i : length m - 400 ≡ 360 = omega arith in
+      let h : length u ≡ 360 = l ∙ ap (λ (x : ℕ). length (take x (drop 400 m))) i ∙ length-take-le 360 (drop 400 m) (simp length-drop (omega arith)) in
+      let b : blockIn (lent 400 360 m u) ≡ u = lent-here 400 360 m u (omega arith) h in
+      let d : deferredIn (lent 400 360 m u) ≡ deferredIn m = lent-before 400 360 m u (omega arith) h 0 64 (omega arith) in
+      subst (λ (x : ℕ). Judges s m v (take 400 m ++ (u ++ drop x (drop 400 m))) f) (sym i) (
+        ap (λ (x : Bytes). judgedOf v x (deferredIn (lent 400 360 m u))) b ∙ ap (λ (x : Bytes). judgedOf v u x) d ∙ e (deferredIn m)
+            ∙ ap (λ (x : ℕ). f (awaitOf (s .now) (take x (drop 400 m))) (s .say) (keepOf (s .keep) (deferredIn m)) (s .reader)) i,
+        lent-before 400 360 m u (omega arith) h 64 336 (omega arith),
+      )

@@ -1,78 +1,88 @@
 // A whole line, judged by what is awaited.
-use line_effect::Judged;
+use line_effect::Verdict;
 use line_effect::refusal;
 use line_effect::unmarked;
 use line_effect::went;
 use next_awaited::to_turn;
-use session_memory::Await;
-use session_memory::Keep;
-use session_memory::Say;
-use transfer_step::Reader;
+use numbers::Numbers;
 ghost use mathlib.Core.Path.{_≡_};
+ghost use lib.ListN.{length};
+ghost use Rattle.grammar.specs.Bytes.{Bytes};
+ghost use Rattle.places.specs.Places.{arraysLen};
+ghost use Rattle.numbers.specs.Whole.{awaitOf, keepOf};
 ghost use Rattle.line_effect.specs.Judge.{sidLine, textLine, judgeOf};
+ghost use Rattle.line_effect.specs.Verdict.{judgedOf, Judges};
 
 // The partner's SID.
-fn sid_line(line: &[u8], awaited: Await, say: Say, keep: Keep, reader: Reader) -> Judged
-    ensures { λ r. ⌜ r ≡ sidLine (now (line .entry)) awaited say keep reader ⌝ }
+fn sid_line(line: &[u8], s: Numbers) -> Verdict
+    ensures { λ r. ⌜ ((block deferred : Bytes) → judgedOf r block deferred ≡ sidLine (now (line .entry)) (awaitOf (s .now) block) (s .say) (keepOf (s .keep) deferred) (s .reader)) ⌝ }
 {
     let r = sid::read_sid(line);
-    if r.number != 0 {
-        return refusal(r.number, awaited, say, keep, reader);
+    if r.number != refusal::NONE {
+        return refusal(r.number, s);
     }
-    let mut k = keep;
-    k.framed = features::is_framed(r.features);
-    if awaited.phase == 1 {
-        let mut t = awaited;
-        t.phase = 2;
-        return went(t, say, k, reader);
+    let mut keep = s.keep;
+    keep.framed = features::is_framed(r.features);
+    let mut t = s;
+    t.keep = keep;
+    if s.now.phase == phase::CALLER_SID {
+        t.now.phase = phase::PROMPT;
+        return went(t);
     }
-    went(to_turn(awaited, false), say, k, reader)
+    let awaited = s.now;
+    t.now = to_turn(awaited, false);
+    went(t)
 }
 
 // A text line of the called station before its prompt, or the prompt.
-fn text_line(line: &[u8], awaited: Await, say: Say, keep: Keep, reader: Reader) -> Judged
-    ensures { λ r. ⌜ r ≡ textLine (now (line .entry)) awaited say keep reader ⌝ }
+fn text_line(line: &[u8], s: Numbers) -> Verdict
+    ensures { λ r. ⌜ ((block deferred : Bytes) → judgedOf r block deferred ≡ textLine (now (line .entry)) (awaitOf (s .now) block) (s .say) (keepOf (s .keep) deferred) (s .reader)) ⌝ }
 {
     if line::is_prompt(line) {
-        let mut y = say;
-        y.first = 2;
-        return Judged {
-            answer: 0,
-            speaks: 1,
+        let mut t = s;
+        t.say.first = phase::PIECE_SID;
+        return Verdict {
+            answer: refusal::NONE,
+            speaks: phase::OUR_TURN,
             marks: unmarked(),
-            now: awaited,
-            say: y,
-            keep: keep,
-            reader: reader,
+            next: t,
         };
     }
-    went(awaited, say, keep, reader)
+    went(s)
 }
 
-// The line, without the spaces at its end, by what is awaited.
+// The line, without the spaces at its end, by what is awaited. mem: the state's arrays; a line of the partner's turn may change the block, an FS
+// line the flags of deferred records.
 pub fn judge(
     line: &[u8],
-    awaited: Await,
-    say: Say,
-    keep: Keep,
-    reader: Reader,
+    s: Numbers,
+    mem: &mut [u8],
     table: &[u8],
     known: &[u8],
     inbox: &[u8],
     store: usize,
-) -> Judged
-    ensures { λ r. ⌜ r ≡ judgeOf (now (line .entry)) awaited say keep reader (now (table .entry)) (now (known .entry)) (now (inbox .entry)) store ⌝ }
+) -> Verdict
+    requires { ⌜ length (now mem) ≡ arraysLen ⌝ }
+    ensures { λ r. ⌜ Judges s (now (mem .entry)) r (now (mem .exit)) (λ w y k d. judgeOf (now (line .entry)) w y k d (now (table .entry)) (now (known .entry)) (now (inbox .entry)) store) ⌝ }
 {
     if line::is_comment(line) {
-        return went(awaited, say, keep, reader);
+        return went(s);
     }
-    let phase = awaited.phase;
-    match phase {
-        0 => sid_line(line, awaited, say, keep, reader),
-        1 => sid_line(line, awaited, say, keep, reader),
-        2 => text_line(line, awaited, say, keep, reader),
-        3 => partner_turn::turn_line(line, awaited, say, keep, reader, table, known, inbox, store),
-        4 => fs_effect::answer_line(line, awaited, say, keep, reader),
-        _ => refusal(5, awaited, say, keep, reader),
+    let awaited = s.now.phase;
+    match awaited {
+        phase::CALLED_SID => sid_line(line, s),
+        phase::CALLER_SID => sid_line(line, s),
+        phase::PROMPT => text_line(line, s),
+        phase::TURN => partner_turn::turn_line(
+            line,
+            s,
+            &mut mem[places::BLOCK..],
+            table,
+            known,
+            inbox,
+            store,
+        ),
+        phase::FS => fs_effect::answer_line(line, s, &mut mem[..places::HEADING]),
+        _ => refusal(refusal::LINE_NOT_ALLOWED, s),
     }
 }

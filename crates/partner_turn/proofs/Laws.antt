@@ -21,33 +21,27 @@ use Rattle.session_memory.specs.declared.Five.{Five}
 use Rattle.session_memory.specs.declared.Await.{Await}
 use Rattle.session_memory.specs.declared.Say.{Say}
 use Rattle.session_memory.specs.declared.Keep.{Keep}
+use Rattle.phase.specs.Phase.{phaseOver, notOurTurn, ourTurn, ourTurnAfterFF, blockLimit, noProposal}
+use Rattle.places.specs.Places.{proposalLen}
 use Rattle.our_answer.specs.Answers.{answersOf}
 use Rattle.line_effect.specs.Judged.{Judged}
-use Rattle.line_effect.specs.declared.Marks.{Marks}
 use Rattle.line_effect.specs.Judge.{judged, refusal, wentOn, inPhase, toTransfer, saysSigns, readerFor, turnMarks, settledKeep, ffLine, fqLine, nextAccepted, answered, endLine, proposalLine, turnRead, turnLine}
 
--- what a whole turn marks, and what is kept after it
-pub settled-as : (n v : ℕ) (w : Await) (y : Say) (k : Keep) (rd : Reader) (m : Marks) (l : Keep) → m ≡ turnMarks k → l ≡ settledKeep k
-    → judged n v m w y l rd ≡ judged n v (turnMarks k) w y (settledKeep k) rd
-settled-as n v w y k rd m l e f = ap (λ (x : Marks). judged n v x w y l rd) e ∙ ap (λ (x : Keep). judged n v (turnMarks k) w y x rd) f
+-- our signs are said; v and r are what is awaited and read then
+module _ (signs : Five) (w : Await) (y : Say) (k : Keep) (rd : Reader) (i : ℕ) (j : Judged) (e : i ≡ nextAccepted signs 0) where
+  by-place : j ≡ answered signs i w y k rd → j ≡ answered signs (nextAccepted signs 0) w y k rd
+  by-place f = f ∙ ap (λ (n : ℕ). answered signs n w y k rd) e
 
--- our signs are said
-module _ (signs : Five) (w : Await) (y : Say) (k : Keep) (rd : Reader) (i : ℕ) (m : Marks) (l : Keep) (e : i ≡ nextAccepted signs 0) (f : m ≡ turnMarks k) (g : l ≡ settledKeep k) where
-  by-place : answered signs i w y k rd ≡ answered signs (nextAccepted signs 0) w y k rd
-  by-place = ap (λ (n : ℕ). answered signs n w y k rd) e
+  pub answered-none : i ≡ noProposal → j ≡ judged 0 ourTurn (turnMarks k) w (saysSigns signs y) (settledKeep k) rd → j ≡ answered signs (nextAccepted signs 0) w y k rd
+  answered-none h f = by-place (rw (eq-eqb _ _ h) f)
 
-  pub answered-none : i ≡ 5 → judged 0 1 m w (saysSigns signs y) l rd ≡ answered signs (nextAccepted signs 0) w y k rd
-  answered-none h =
-      let q : judged 0 1 (turnMarks k) w (saysSigns signs y) (settledKeep k) rd ≡ answered signs i w y k rd = rw (eq-eqb _ _ h) in
-      settled-as 0 1 w (saysSigns signs y) k rd m l f g ∙ q ∙ by-place
-
-  pub answered-some : (i ≡ 5 → ⊥) → (v : Await) (r : Reader) → v ≡ toTransfer i w → r ≡ readerFor w i
-      → judged 0 0 m v (saysSigns signs y) l r ≡ answered signs (nextAccepted signs 0) w y k rd
-  answered-some h v r a b =
-      let q : judged 0 0 (turnMarks k) (toTransfer i w) (saysSigns signs y) (settledKeep k) (readerFor w i) ≡ answered signs i w y k rd = rw (ne-eqb _ _ h) in
-      settled-as 0 0 v (saysSigns signs y) k r m l f g
-      ∙ ap (λ (x : Await). judged 0 0 (turnMarks k) x (saysSigns signs y) (settledKeep k) r) a
-      ∙ ap (λ (x : Reader). judged 0 0 (turnMarks k) (toTransfer i w) (saysSigns signs y) (settledKeep k) x) b ∙ q ∙ by-place
+  pub answered-some : (i ≡ noProposal → ⊥) → (v : Await) (r : Reader) → v ≡ toTransfer i w → r ≡ readerFor w i
+      → j ≡ judged 0 notOurTurn (turnMarks k) v (saysSigns signs y) (settledKeep k) r → j ≡ answered signs (nextAccepted signs 0) w y k rd
+  answered-some h v r a b f =
+      by-place
+      (rw (ne-eqb _ _ h)
+      (f ∙ ap (λ (x : Await). judged 0 notOurTurn (turnMarks k) x (saysSigns signs y) (settledKeep k) r) a
+      ∙ ap (λ (x : Reader). judged 0 notOurTurn (turnMarks k) (toTransfer i w) (saysSigns signs y) (settledKeep k) x) b))
 
 form-number : (n : ℕ) → n ≤ 2 → formNumber (formIs n) ≡ n
 form-number zero h = refl
@@ -62,7 +56,7 @@ module _ (w : Await) (y : Say) (k : Keep) (rd : Reader) where
     unfolding ffLine
     ff-no q = rw (eq-eqb _ _ p, q)
 
-    pub ff-yes : w .ff ≡ false → judged 0 2 (turnMarks k) w y (settledKeep k) rd ≡ ffLine w y k rd
+    pub ff-yes : w .ff ≡ false → judged 0 ourTurnAfterFF (turnMarks k) w y (settledKeep k) rd ≡ ffLine w y k rd
     unfolding ffLine
     ff-yes q = rw (eq-eqb _ _ p, q)
 
@@ -70,7 +64,7 @@ module _ (w : Await) (y : Say) (k : Keep) (rd : Reader) where
     unfolding fqLine
     fq-no q = rw (eq-eqb _ _ p, q)
 
-    pub fq-yes : w .ff ≡ true → wentOn (inPhase 7 w) y k rd ≡ fqLine w y k rd
+    pub fq-yes : w .ff ≡ true → wentOn (inPhase phaseOver w) y k rd ≡ fqLine w y k rd
     unfolding fqLine
     fq-yes q = simp (eq-eqb _ _ p, q)
 
@@ -81,8 +75,8 @@ module _ (w : Await) (y : Say) (k : Keep) (rd : Reader) where
   end-by table known inbox store j signs e n f = rw (ne-eqb _ _ n) (f ∙ ap (λ (g : Five). answered g (nextAccepted g 0) w y k rd) e)
 
   -- a proposal of the partner's
-  pub proposed : (ln : Bytes) (p : Proposal) (block : Bytes) (j : Judged) → p .form ≤ 2 → w .proposals < 5
-      → block ≡ putBytes (w .block) (at (w .proposals * 72)) (proposalOut (p .form) (p .kind) (part ln (p .from)) (part ln (p .at)) (part ln (p .to)) (part ln (p .bid)) (p .size))
+  pub proposed : (ln : Bytes) (p : Proposal) (block : Bytes) (j : Judged) → p .form ≤ 2 → w .proposals < blockLimit
+      → block ≡ putBytes (w .block) (at (w .proposals * proposalLen)) (proposalOut (p .form) (p .kind) (part ln (p .from)) (part ln (p .at)) (part ln (p .to)) (part ln (p .bid)) (p .size))
       → j ≡ wentOn (record { phase = w .phase; ff = w .ff; current = w .current; proposals = w .proposals + 1; ours = w .ours; block = block }) y k rd
       → j ≡ proposalLine (proposalIs ln p) w y k rd
   unfolding proposalLine

@@ -1,6 +1,6 @@
 // The lines of the partner's turn: proposals, F>, FF and FQ.
 use buffer::Cursor;
-use line_effect::Judged;
+use line_effect::Verdict;
 use line_effect::marked;
 use line_effect::marks_of;
 use line_effect::refusal;
@@ -8,77 +8,78 @@ use line_effect::went;
 use next_awaited::next_accepted;
 use next_awaited::reader_for;
 use next_awaited::to_transfer;
+use numbers::Numbers;
 use proposal::Proposal;
 use proposal::TurnLine;
-use session_memory::Await;
 use session_memory::Five;
-use session_memory::Keep;
-use session_memory::Say;
-use transfer_step::Reader;
 ghost use mathlib.Core.Path.{_≡_};
+ghost use Rattle.grammar.specs.Bytes.{Bytes};
 ghost use Rattle.buffer.specs.Put.{putBytes};
 ghost use Rattle.span.specs.Places.{part};
 ghost use Rattle.layout.specs.Layout.{proposalOut};
 ghost use Rattle.proposal.specs.Meaning.{ProposalLies, proposalIs};
 ghost use Rattle.session_memory.specs.State.{at};
-ghost use Rattle.line_effect.specs.Judge.{nextAccepted, answered, endLine, proposalLine, ffLine, fqLine, turnLine};
+ghost use Rattle.numbers.specs.Whole.{awaitOf, keepOf};
+ghost use Rattle.line_effect.specs.Judge.{judged, turnMarks, settledKeep, nextAccepted, answered, endLine, proposalLine, ffLine, fqLine, turnLine};
+ghost use Rattle.line_effect.specs.Verdict.{judgedOf};
 
-// The turn is whole and answered by these signs: the first transfer is awaited, or it is our turn.
-fn answered(signs: Five, awaited: Await, say: Say, keep: Keep, reader: Reader) -> Judged
-    ensures { λ r. ⌜ r ≡ answered signs (nextAccepted signs 0) awaited say keep reader ⌝ }
+// The partner's turn is whole, so what we were sending is forwarded.
+fn whole_turn(s: Numbers, speaks: u8) -> Verdict
+    ensures { λ r. ⌜ ((block deferred : Bytes) → judgedOf r block deferred ≡ judged 0 speaks (turnMarks (keepOf (s .keep) deferred)) (awaitOf (s .now) block) (s .say) (settledKeep (keepOf (s .keep) deferred)) (s .reader)) ⌝ }
 {
-    let mut y = say;
-    y.first = 3;
-    y.signs = signs;
-    let i = next_accepted(signs, 0);
-    if i == 5 {
-        return Judged {
-            answer: 0,
-            speaks: 1,
-            marks: marks_of(keep),
-            now: awaited,
-            say: y,
-            keep: marked(keep),
-            reader: reader,
-        };
-    }
-    Judged {
-        answer: 0,
-        speaks: 0,
+    let keep = s.keep;
+    let mut t = s;
+    t.keep = marked(keep);
+    Verdict {
+        answer: refusal::NONE,
+        speaks: speaks,
         marks: marks_of(keep),
-        now: to_transfer(awaited, i),
-        say: y,
-        keep: marked(keep),
-        reader: reader_for(awaited, i),
+        next: t,
     }
+}
+
+// The block is answered by these signs: the first transfer is awaited, or it is our turn.
+fn answered(signs: Five, s: Numbers, block: &[u8]) -> Verdict
+    ensures { λ r. ⌜ ((deferred : Bytes) → judgedOf r (now (block .entry)) deferred ≡ answered signs (nextAccepted signs 0) (awaitOf (s .now) (now (block .entry))) (s .say) (keepOf (s .keep) deferred) (s .reader)) ⌝ }
+{
+    let mut say = s.say;
+    say.first = phase::PIECE_SIGNS;
+    say.signs = signs;
+    let mut t = s;
+    t.say = say;
+    let i = next_accepted(signs, 0);
+    if i == phase::NO_PROPOSAL {
+        return whole_turn(t, phase::OUR_TURN);
+    }
+    let awaited = s.now;
+    t.now = to_transfer(awaited, i);
+    t.reader = reader_for(block, i);
+    whole_turn(t, phase::NOT_OUR_TURN)
 }
 
 // F>: the block is whole.
 fn end_line(
-    awaited: Await,
-    say: Say,
-    keep: Keep,
-    reader: Reader,
+    s: Numbers,
+    block: &[u8],
     table: &[u8],
     known: &[u8],
     inbox: &[u8],
     store: usize,
-) -> Judged
-    ensures { λ r. ⌜ r ≡ endLine awaited say keep reader (now (table .entry)) (now (known .entry)) (now (inbox .entry)) store ⌝ }
+) -> Verdict
+    ensures { λ r. ⌜ ((deferred : Bytes) → judgedOf r (now (block .entry)) deferred ≡ endLine (awaitOf (s .now) (now (block .entry))) (s .say) (keepOf (s .keep) deferred) (s .reader) (now (table .entry)) (now (known .entry)) (now (inbox .entry)) store) ⌝ }
 {
-    if awaited.proposals == 0 {
-        return refusal(6, awaited, say, keep, reader);
+    if s.now.proposals == 0 {
+        return refusal(refusal::PROPOSAL_COUNT, s);
     }
-    let signs = our_answer::answers(awaited, keep, table, known, inbox, store);
-    answered(signs, awaited, say, keep, reader)
+    let signs = our_answer::answers(s, block, table, known, inbox, store);
+    answered(signs, s, block)
 }
 
 // The block with a proposal written at a place.
-fn with_proposal(line: &[u8], p: Proposal, block: [u8; 360], place: usize) -> [u8; 360]
+fn with_proposal(line: &[u8], p: Proposal, block: &mut [u8], place: usize)
     requires { ⌜ ProposalLies (now line) p ⌝ }
-    ensures { λ r. ⌜ r ≡ putBytes block (at place) (proposalOut (p .form) (p .kind) (part (now (line .entry)) (p .from)) (part (now (line .entry)) (p .at)) (part (now (line .entry)) (p .to)) (part (now (line .entry)) (p .bid)) (p .size)) ⌝ }
+    ensures { λ _. ⌜ now (block .exit) ≡ putBytes (now (block .entry)) (at place) (proposalOut (p .form) (p .kind) (part (now (line .entry)) (p .from)) (part (now (line .entry)) (p .at)) (part (now (line .entry)) (p .to)) (part (now (line .entry)) (p .bid)) (p .size)) ⌝ }
 {
-    let mut b = block;
     let a1 = p.from.start;
     let e1 = p.from.end;
     let a2 = p.at.start;
@@ -89,7 +90,7 @@ fn with_proposal(line: &[u8], p: Proposal, block: [u8; 360], place: usize) -> [u
     let e4 = p.bid.end;
     let c = Cursor { at: place, skip: 0 };
     let _d = layout_put::put_proposal(
-        &mut b,
+        block,
         c,
         p.form,
         p.kind,
@@ -99,89 +100,71 @@ fn with_proposal(line: &[u8], p: Proposal, block: [u8; 360], place: usize) -> [u
         &line[a4..e4],
         p.size as usize,
     );
-    b
 }
 
 // A proposal of the partner's.
-fn proposal_line(
-    line: &[u8],
-    p: Proposal,
-    awaited: Await,
-    say: Say,
-    keep: Keep,
-    reader: Reader,
-) -> Judged
+fn proposal_line(line: &[u8], p: Proposal, s: Numbers, block: &mut [u8]) -> Verdict
     requires { ⌜ ProposalLies (now line) p ⌝ }
-    ensures { λ r. ⌜ r ≡ proposalLine (proposalIs (now (line .entry)) p) awaited say keep reader ⌝ }
+    ensures { λ r. ⌜ ((deferred : Bytes) → judgedOf r (now (block .exit)) deferred ≡ proposalLine (proposalIs (now (line .entry)) p) (awaitOf (s .now) (now (block .entry))) (s .say) (keepOf (s .keep) deferred) (s .reader)) ⌝ }
 {
-    if 5 <= awaited.proposals {
-        return refusal(6, awaited, say, keep, reader);
+    if phase::BLOCK_LIMIT <= s.now.proposals {
+        return refusal(refusal::PROPOSAL_COUNT, s);
     }
-    let block = awaited.block;
-    let n = awaited.proposals as usize;
-    let mut t = awaited;
-    let added = with_proposal(line, p, block, n * 72);
-    t.block = added;
-    t.proposals = awaited.proposals + 1;
-    went(t, say, keep, reader)
+    let n = s.now.proposals as usize;
+    with_proposal(line, p, block, n * (places::PROPOSAL as usize));
+    let mut awaited = s.now;
+    awaited.proposals = s.now.proposals + 1;
+    let mut t = s;
+    t.now = awaited;
+    went(t)
 }
 
 // FF: the turn is whole, and it is our turn.
-fn ff_line(awaited: Await, say: Say, keep: Keep, reader: Reader) -> Judged
-    ensures { λ r. ⌜ r ≡ ffLine awaited say keep reader ⌝ }
+fn ff_line(s: Numbers) -> Verdict
+    ensures { λ r. ⌜ ((block deferred : Bytes) → judgedOf r block deferred ≡ ffLine (awaitOf (s .now) block) (s .say) (keepOf (s .keep) deferred) (s .reader)) ⌝ }
 {
-    if awaited.proposals != 0 {
-        return refusal(5, awaited, say, keep, reader);
+    if s.now.proposals != 0 {
+        return refusal(refusal::LINE_NOT_ALLOWED, s);
     }
-    if awaited.ff {
-        return refusal(5, awaited, say, keep, reader);
+    if s.now.ff {
+        return refusal(refusal::LINE_NOT_ALLOWED, s);
     }
-    Judged {
-        answer: 0,
-        speaks: 2,
-        marks: marks_of(keep),
-        now: awaited,
-        say: say,
-        keep: marked(keep),
-        reader: reader,
-    }
+    whole_turn(s, phase::OUR_TURN_AFTER_FF)
 }
 
 // FQ: the session is over.
-fn fq_line(awaited: Await, say: Say, keep: Keep, reader: Reader) -> Judged
-    ensures { λ r. ⌜ r ≡ fqLine awaited say keep reader ⌝ }
+fn fq_line(s: Numbers) -> Verdict
+    ensures { λ r. ⌜ ((block deferred : Bytes) → judgedOf r block deferred ≡ fqLine (awaitOf (s .now) block) (s .say) (keepOf (s .keep) deferred) (s .reader)) ⌝ }
 {
-    if awaited.proposals != 0 {
-        return refusal(5, awaited, say, keep, reader);
+    if s.now.proposals != 0 {
+        return refusal(refusal::LINE_NOT_ALLOWED, s);
     }
-    if !awaited.ff {
-        return refusal(5, awaited, say, keep, reader);
+    if !s.now.ff {
+        return refusal(refusal::LINE_NOT_ALLOWED, s);
     }
-    let mut over = awaited;
-    over.phase = 7;
-    went(over, say, keep, reader)
+    let mut over = s;
+    over.now.phase = phase::OVER;
+    went(over)
 }
 
-// A line of the partner's turn.
+// A line of the partner's turn; block are its proposals so far.
 pub fn turn_line(
     line: &[u8],
-    awaited: Await,
-    say: Say,
-    keep: Keep,
-    reader: Reader,
+    s: Numbers,
+    block: &mut [u8],
     table: &[u8],
     known: &[u8],
     inbox: &[u8],
     store: usize,
-) -> Judged
-    ensures { λ r. ⌜ r ≡ turnLine (now (line .entry)) awaited say keep reader (now (table .entry)) (now (known .entry)) (now (inbox .entry)) store ⌝ }
+) -> Verdict
+    ensures { λ r. ⌜ ((deferred : Bytes) → judgedOf r (now (block .exit)) deferred ≡ turnLine (now (line .entry)) (awaitOf (s .now) (now (block .entry))) (s .say) (keepOf (s .keep) deferred) (s .reader) (now (table .entry)) (now (known .entry)) (now (inbox .entry)) store) ⌝ }
 {
-    let r = proposal::read_turn_line(line, keep.framed);
+    let r = proposal::read_turn_line(line, s.keep.framed);
     match r {
-        TurnLine::FF => ff_line(awaited, say, keep, reader),
-        TurnLine::FQ => fq_line(awaited, say, keep, reader),
-        TurnLine::End => end_line(awaited, say, keep, reader, table, known, inbox, store),
-        TurnLine::NotAllowed => refusal(5, awaited, say, keep, reader),
-        TurnLine::Proposed(p) => proposal_line(line, p, awaited, say, keep, reader),
+        TurnLine::FF => ff_line(s),
+        TurnLine::FQ => fq_line(s),
+        TurnLine::End => end_line(s, block, table, known, inbox, store),
+        TurnLine::NotAllowed => refusal(refusal::LINE_NOT_ALLOWED, s),
+        TurnLine::Proposed(p) => proposal_line(line, p, s, block),
     }
 }

@@ -1,5 +1,6 @@
 -- A sixth is refused; else the block gets it, its form by its number.
 use borrow.Author.Tests.{le-ltb}
+use Rattle.numbers.specs.Whole.{awaitOf, keepOf}
 use Rattle.line_effect.specs.Judge.{proposalLine}
 use Rattle.partner_turn.proofs.Laws.{proposed}
 use borrow.Author.Needs.{needs}
@@ -11,10 +12,13 @@ refusal-requires c κs = search needs
 
 returns : tie.Need-returns
 unfolding proposalLine
-returns c = rw (le-ltb _ _ (c .before .if1 .taken)) (c .refusal .ensures)
+returns c = λ deferred. rw (le-ltb _ _ (c .before .if1 .taken)) (c .refusal .ensures (c .before .before .before .before .before .args .block .now) deferred)
 
 cast-n : tie.Need-cast-n
 cast-n c = search needs
+
+cast-with-proposal : tie.Need-cast-with-proposal
+cast-with-proposal c = search needs
 
 mul-with-proposal : tie.Need-mul-with-proposal
 mul-with-proposal c = search needs
@@ -22,14 +26,19 @@ mul-with-proposal c = search needs
 with-proposal-requires : tie.Need-with-proposal-requires
 with-proposal-requires c κs = search needs
 
-add-t : tie.Need-add-t
-add-t c = search needs
+add-awaited : tie.Need-add-awaited
+add-awaited c = search needs
 
 went-requires : tie.Need-went-requires
 went-requires c κs = search needs
 
+same-length : tie.Need-same-length
+same-length c = search needs
+
 returns-2 : tie.Need-returns-2
-returns-2 c = let a = c .before .before .before .before .before .before .before .before .args in proposed (a .awaited) (a .say) (a .keep) (a .reader) (a .line .now) (a .p) _ _ (c .before .before .before .before .before .before .before .before .pre .form) (c .before .before .before .before .before .if1 .left) (c .before .before .with-proposal .ensures) (c .went .ensures)
+returns-2 c = λ deferred.
+    let a = c .before .before .before .before .before .before .before .before .before .before .before .before .args in
+    proposed (awaitOf (a .s .now) (a .block .now)) (a .s .say) (keepOf (a .s .keep) deferred) (a .s .reader) (a .line .now) (a .p) _ _ (c .before .before .before .before .before .before .before .before .before .before .before .before .pre .form) (c .before .before .before .before .before .before .before .before .if1 .left) (c .before .before .before .before .before .with-proposal .ensures) (c .went .ensures _ deferred)
 
 pub proposal-line-spec : {M : Type 1} → statement M
 proposal-line-spec =
@@ -38,8 +47,10 @@ proposal-line-spec =
     refusal-requires
     returns
     cast-n
+    cast-with-proposal
     mul-with-proposal
     with-proposal-requires
-    add-t
+    add-awaited
     went-requires
+    same-length
     returns-2)
