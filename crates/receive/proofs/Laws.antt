@@ -15,7 +15,7 @@ use Rattle.pending.specs.Pending.{overOf}
 use Rattle.form_test.specs.Form.{formOf}
 use Rattle.give.specs.Giving.{reply}
 use Rattle.receive_defined.specs.Receiving.{Cs, cs, moved, Run, run, stops, receiveFrom, Received, receiveOf}
-use Rattle.receive_step.specs.Portion.{portionOf, Roomy}
+use Rattle.receive_defined.specs.Portion.{portionOf, Roomy}
 use Rattle.lent.specs.Represents.{Fixed}
 use Rattle.lent.proofs.FormLaws.{Octets, octets-nil, octets-cons, octets-drop}
 use Rattle.lent.proofs.FormFacts.{Good}

@@ -1,2 +1,3 @@
 -- Laws of lines settled where the arrays stand.
 pub mod InPlace
+pub mod Portions

@@ -1,2 +1,3 @@
 -- What receive does to lent memory.
 pub mod Receiving
+pub mod Portion

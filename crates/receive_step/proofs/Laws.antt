@@ -23,7 +23,7 @@ use Rattle.receive_defined.specs.Receiving.{Cs, Moved, cs, moved, refusedOf, Se
 use Rattle.kept_message.specs.Keeping.{Keepable}
 use Rattle.receive_step.specs.declared.Taken.{Taken}
 use Rattle.receive_step.specs.declared.Reached.{Reached}
-use Rattle.receive_step.specs.Portion.{fed, counted, ofTransfer, transferPortionOf, portionOf}
+use Rattle.receive_defined.specs.Portion.{fed, counted, ofTransfer, transferPortionOf, portionOf}
 use Rattle.receive_step.specs.Parts.{taken, ReadOn, Leaves}
 
 -- ---------------------------------------------------------------- what a transfer's bytes came to

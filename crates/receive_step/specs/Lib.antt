@@ -1,3 +1,2 @@
 -- What receive takes at once.
-pub mod Portion
 pub mod Parts

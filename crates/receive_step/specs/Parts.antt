@@ -10,7 +10,7 @@ use Rattle.settling.specs.declared.Left.{Left}
 use Rattle.receive_defined.specs.Receiving.{Cs, cs, moved, reading, transferMoved}
 use Rattle.receive_step.specs.declared.Taken.{Taken}
 use Rattle.receive_step.specs.declared.Reached.{Reached}
-use Rattle.receive_step.specs.Portion.{fed}
+use Rattle.receive_defined.specs.Portion.{fed}
 
 abbrev pub taken : ℕ → ℕ → Session → Taken
 taken answer count s = record { answer = answer; count = count; session = s }

@@ -12,7 +12,7 @@ ghost use lib.ListN.{length, drop};
 ghost use Rattle.transfer_read.specs.Feed.{roomOf};
 ghost use Rattle.receive_defined.specs.Receiving.{cs, lfDropped, run};
 ghost use Rattle.kept_message.specs.Keeping.{Keepable};
-ghost use Rattle.receive_step.specs.Portion.{transferPortionOf, portionOf, Roomy};
+ghost use Rattle.receive_defined.specs.Portion.{transferPortionOf, portionOf, Roomy};
 ghost use Rattle.receive_step.specs.Parts.{taken, ReadOn, Leaves};
 
 // 01's number, how many bytes were taken, a refused one included, and the session after them.
