@@ -11,7 +11,7 @@ use lib.ListN.{length, getD, set, drop}
 use lib.Seq.{drop-cons, append-snoc}
 use borrow.Author.Tests.{eq-eqb, ne-eqb, eqb-true, eqb-false}
 use Rattle.grammar.specs.Bytes.{Bytes}
-use Rattle.grammar.specs.Answers.{Sign, accept, decline, defer, signOf}
+use Rattle.grammar.specs.Answers.{Sign, accept, decline, defer, signOf, writeSign}
 use Rattle.fs_line.specs.Answers.{answerNumber, answerSigns}
 use Rattle.transfer_step.specs.declared.Reader.{Reader}
 use Rattle.session_memory.specs.State.{held, fiveOf, noFive}
@@ -20,11 +20,11 @@ use Rattle.session_memory.specs.declared.Await.{Await}
 use Rattle.session_memory.specs.declared.Say.{Say}
 use Rattle.session_memory.specs.declared.Keep.{Keep}
 use Rattle.five.specs.Filled.{Filled}
-use Rattle.five.proofs.Laws.{five-held, five-filled, five-more, five-count}
+use Rattle.five.proofs.Laws.{five-held, five-filled, five-next, five-count}
 use Rattle.line_effect.specs.Judged.{Judged}
 use Rattle.line_effect.specs.Judge.{judged, refusal, toTurn, sends, picked, flagged, transfersAfter, answerTaken, answerLine}
 use Rattle.fs_effect.specs.declared.Answered.{Answered}
-use Rattle.fs_effect.specs.Signs.{withPlace, placed, answeredBy}
+use Rattle.fs_effect.specs.Signs.{Room, withPlace, placed, answeredBy}
 use Rattle.five.proofs.Laws.{held-cons, held-end}
 
 -- flags, place by place
@@ -67,14 +67,14 @@ module _ (c : ℕ) (f : Five) (ss : List ℕ) (g : Five) (i n : ℕ) (e : n ≡ 
           said = p .said ∙ rw (held-cons f i n e h, signs-cons, ne-eqb _ _ k);
         }
 
-    pub pick-take : g .count < 5 → getD ss i 0 ≡ c → Picking c f ss (withPlace g (getD (f .items) i 0)) (i + 1)
-    pick-take b k =
+    pub pick-take : getD ss i 0 ≡ c → Picking c f ss (withPlace g (getD (f .items) i 0)) (i + 1)
+    pick-take k =
         let x : ℕ = getD (f .items) i 0 in
         let g' : Five = withPlace g x in
-        let q : g' ≡ fiveOf (held g ++ (x ∷ [])) = five-more g x (p .filled) b in
+        let q : g' ≡ fiveOf (held g ++ (x ∷ [])) = refl in
         record {
           filled = five-filled g' (held g ++ (x ∷ [])) q;
-          few = let a = p .few in omega arith;
+          few = let a = p .few in omega (arith, five-next g' g x (p .filled) q);
           said = p .said ∙ rw (held-cons f i n e h, signs-cons, eq-eqb _ _ k, five-held g' (held g ++ (x ∷ [])) q, append-snoc (held g) x (picked c (drop (i + 1) (held f)) (drop (i + 1) ss)));
         }
 
@@ -87,21 +87,24 @@ by-sign a b x e f = f ∙ ap (λ (o : Option Sign). placed a o x) e
 
 -- the places with each of the three signs
 abbrev pub Sorted : Five → List ℕ → Answered → ℕ → Type 0
-Sorted f ss a i = Picking 43 f ss (a .accepted) i × Picking 45 f ss (a .declined) i × Picking 61 f ss (a .deferred) i
+Sorted f ss a i = Picking (writeSign accept) f ss (a .accepted) i × Picking (writeSign decline) f ss (a .declined) i × Picking (writeSign defer) f ss (a .deferred) i
 
 module _ (f : Five) (ss : List ℕ) (a : Answered) (i n : ℕ) (e : n ≡ length (held f)) (p : Sorted f ss a i) where
   pub sort-end : n ≤ i
-      → (a .accepted ≡ fiveOf (picked 43 (held f) ss)) × (a .declined ≡ fiveOf (picked 45 (held f) ss)) × (a .deferred ≡ fiveOf (picked 61 (held f) ss))
+      → (a .accepted ≡ fiveOf (picked (writeSign accept) (held f) ss)) × (a .declined ≡ fiveOf (picked (writeSign decline) (held f) ss)) × (a .deferred ≡ fiveOf (picked (writeSign defer) (held f) ss))
   sort-end h =
-      (pick-end 43 f ss (a .accepted) i n e (p .0) h, pick-end 45 f ss (a .declined) i n e (p .1) h, pick-end 61 f ss (a .deferred) i n e (p .2) h)
+      (pick-end (writeSign accept) f ss (a .accepted) i n e (p .0) h, pick-end (writeSign decline) f ss (a .declined) i n e (p .1) h, pick-end (writeSign defer) f ss (a .deferred) i n e (p .2) h)
 
   module _ (h : i < n) (l : i < length ss) (m : n ≤ 5) where
-    pub sort-room : (a .accepted .count < 5) × (a .declined .count < 5) × (a .deferred .count < 5)
-    sort-room = (omega (arith, p .0 .few), omega (arith, p .1 .few), omega (arith, p .2 .few))
+    room : (c : ℕ) (g : Five) → Picking c f ss g i → Room g
+    room c g o = (o .filled, omega (arith, o .few))
+
+    pub sort-room : Room (a .accepted) × Room (a .declined) × Room (a .deferred)
+    sort-room = (room (writeSign accept) _ (p .0), room (writeSign decline) _ (p .1), room (writeSign defer) _ (p .2))
 
     pub sort-more : (b : Answered) → b ≡ answeredBy a (getD ss i 0) (getD (f .items) i 0) → Sorted f ss b (i + 1)
     unfolding answeredBy
-    sort-more b q = subst (λ (o : Answered). Sorted f ss o (i + 1)) (sym q) (go (eqb s 43) (eqb s 45) (eqb s 61) refl refl refl)
+    sort-more b q = subst (λ (o : Answered). Sorted f ss o (i + 1)) (sym q) (go (eqb s (writeSign accept)) (eqb s (writeSign decline)) (eqb s (writeSign defer)) refl refl refl)
       where
         s : ℕ
         s = getD ss i 0
@@ -109,21 +112,21 @@ module _ (f : Five) (ss : List ℕ) (a : Answered) (i n : ℕ) (e : n ≡ length
         skip : (c : ℕ) (g : Five) → Picking c f ss g i → (s ≡ c → ⊥) → Picking c f ss g (i + 1)
         skip c g o k = pick-skip c f ss g i n e o h l k
 
-        take : (c : ℕ) (g : Five) → Picking c f ss g i → g .count < 5 → s ≡ c → Picking c f ss (withPlace g (getD (f .items) i 0)) (i + 1)
-        take c g o b k = pick-take c f ss g i n e o h l b k
+        take : (c : ℕ) (g : Five) → Picking c f ss g i → s ≡ c → Picking c f ss (withPlace g (getD (f .items) i 0)) (i + 1)
+        take c g o k = pick-take c f ss g i n e o h l k
 
-        go : (u v w : Bool) → eqb s 43 ≡ u → eqb s 45 ≡ v → eqb s 61 ≡ w
+        go : (u v w : Bool) → eqb s (writeSign accept) ≡ u → eqb s (writeSign decline) ≡ v → eqb s (writeSign defer) ≡ w
             → Sorted f ss (placed a (cond u (some accept) (cond v (some decline) (cond w (some defer) none))) (getD (f .items) i 0)) (i + 1)
         go true v w x y z =
-            let k = eqb-true s 43 x in
-            (take 43 _ (p .0) (sort-room .0) k, skip 45 _ (p .1) (λ o. omega arith), skip 61 _ (p .2) (λ o. omega arith))
+            let k = eqb-true s (writeSign accept) x in
+            (take (writeSign accept) _ (p .0) k, skip (writeSign decline) _ (p .1) (λ o. omega arith), skip (writeSign defer) _ (p .2) (λ o. omega arith))
         go false true w x y z =
-            let k = eqb-true s 45 y in
-            (skip 43 _ (p .0) (eqb-false s 43 x), take 45 _ (p .1) (sort-room .1) k, skip 61 _ (p .2) (λ o. omega arith))
+            let k = eqb-true s (writeSign decline) y in
+            (skip (writeSign accept) _ (p .0) (eqb-false s (writeSign accept) x), take (writeSign decline) _ (p .1) k, skip (writeSign defer) _ (p .2) (λ o. omega arith))
         go false false true x y z =
-            (skip 43 _ (p .0) (eqb-false s 43 x), skip 45 _ (p .1) (eqb-false s 45 y), take 61 _ (p .2) (sort-room .2) (eqb-true s 61 z))
+            (skip (writeSign accept) _ (p .0) (eqb-false s (writeSign accept) x), skip (writeSign decline) _ (p .1) (eqb-false s (writeSign decline) y), take (writeSign defer) _ (p .2) (eqb-true s (writeSign defer) z))
         go false false false x y z =
-            (skip 43 _ (p .0) (eqb-false s 43 x), skip 45 _ (p .1) (eqb-false s 45 y), skip 61 _ (p .2) (eqb-false s 61 z))
+            (skip (writeSign accept) _ (p .0) (eqb-false s (writeSign accept) x), skip (writeSign decline) _ (p .1) (eqb-false s (writeSign decline) y), skip (writeSign defer) _ (p .2) (eqb-false s (writeSign defer) z))
 
 -- ---------------------------------------------------------------- the FS line
 
@@ -148,11 +151,11 @@ module _ (ss : Bytes) (w : Await) (y : Say) (k : Keep) (rd : Reader) where
   abbrev taking : Five → Five → Bytes → Await → Say → Judged
   taking declined sending flags v z = judged 0 0 (record { state = 2; places = declined }) v z (sends sending flags k) rd
 
-  pub taken : (d s u : Five) (flags : Bytes) (v : Await) (z : Say) → d ≡ fiveOf (picked 45 (held (w .ours)) ss) → s ≡ fiveOf (picked 43 (held (w .ours)) ss)
-      → u ≡ fiveOf (picked 61 (held (w .ours)) ss) → flags ≡ flagged (held u) (k .deferred) → v ≡ toTurn false w → z ≡ transfersAfter s y
+  pub taken : (d s u : Five) (flags : Bytes) (v : Await) (z : Say) → d ≡ fiveOf (picked (writeSign decline) (held (w .ours)) ss) → s ≡ fiveOf (picked (writeSign accept) (held (w .ours)) ss)
+      → u ≡ fiveOf (picked (writeSign defer) (held (w .ours)) ss) → flags ≡ flagged (held u) (k .deferred) → v ≡ toTurn false w → z ≡ transfersAfter s y
       → taking d s flags v z ≡ answerTaken ss w y k rd
   taken d s u flags v z a b c e f g =
-      ap (λ (x : Five). taking x s flags v z) a ∙ ap (λ (x : Bytes). taking (fiveOf (picked 45 (held (w .ours)) ss)) s x v z) (e ∙ ap (λ (l : List ℕ). flagged l (k .deferred)) (five-held u (picked 61 (held (w .ours)) ss) c))
-      ∙ ap (λ (x : Await). taking (fiveOf (picked 45 (held (w .ours)) ss)) s (flagged (picked 61 (held (w .ours)) ss) (k .deferred)) x z) f
-      ∙ ap (λ (x : Say). taking (fiveOf (picked 45 (held (w .ours)) ss)) s (flagged (picked 61 (held (w .ours)) ss) (k .deferred)) (toTurn false w) x) g
-      ∙ ap (λ (x : Five). taking (fiveOf (picked 45 (held (w .ours)) ss)) x (flagged (picked 61 (held (w .ours)) ss) (k .deferred)) (toTurn false w) (transfersAfter x y)) b
+      ap (λ (x : Five). taking x s flags v z) a ∙ ap (λ (x : Bytes). taking (fiveOf (picked (writeSign decline) (held (w .ours)) ss)) s x v z) (e ∙ ap (λ (l : List ℕ). flagged l (k .deferred)) (five-held u (picked (writeSign defer) (held (w .ours)) ss) c))
+      ∙ ap (λ (x : Await). taking (fiveOf (picked (writeSign decline) (held (w .ours)) ss)) s (flagged (picked (writeSign defer) (held (w .ours)) ss) (k .deferred)) x z) f
+      ∙ ap (λ (x : Say). taking (fiveOf (picked (writeSign decline) (held (w .ours)) ss)) s (flagged (picked (writeSign defer) (held (w .ours)) ss) (k .deferred)) (toTurn false w) x) g
+      ∙ ap (λ (x : Five). taking (fiveOf (picked (writeSign decline) (held (w .ours)) ss)) x (flagged (picked (writeSign defer) (held (w .ours)) ss) (k .deferred)) (toTurn false w) (transfersAfter x y)) b

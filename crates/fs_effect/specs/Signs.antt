@@ -1,14 +1,21 @@
 -- A place of our block goes to those accepted, declined or deferred, by the grammar's sign of its byte.
 use mathlib.Core.Option.{Option, none, some}
-use Prim.Native.Nat.{ℕ, _+_}
-use lib.ListN.{set}
+use mathlib.Core.List.{[], _∷_, _++_}
+use Prim.Native.Nat.{ℕ, _<_}
 use Rattle.grammar.specs.Answers.{Sign, accept, decline, defer, signOf}
+use Rattle.phase.specs.Phase.{blockLimit}
+use Rattle.session_memory.specs.State.{held, fiveOf}
 use Rattle.session_memory.specs.declared.Five.{Five}
+use Rattle.five.specs.Filled.{Filled}
 use Rattle.fs_effect.specs.declared.Answered.{Answered}
+
+-- There is room for one place more.
+abbrev pub Room : Five → Type 0
+Room f = Filled f × (f .count < blockLimit)
 
 -- One place more.
 abbrev pub withPlace : Five → ℕ → Five
-withPlace f x = record { count = f .count + 1; items = set (f .items) (f .count) x }
+withPlace f x = fiveOf (held f ++ (x ∷ []))
 
 -- "`+` accept, `-` decline, `=` defer"; what is no sign answers nothing
 abbrev pub placed : Answered → Option Sign → ℕ → Answered

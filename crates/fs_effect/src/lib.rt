@@ -1,4 +1,5 @@
 // The FS line on our proposals: what is sent, what is declined, what is deferred.
+use five::add;
 use five::count_of;
 use five::none;
 use fs_line::Sign;
@@ -10,14 +11,12 @@ use numbers::Numbers;
 use session_memory::Five;
 use session_memory::Say;
 ghost use mathlib.Core.Path.{_≡_};
-ghost use Prim.Native.Nat.{_<_};
 ghost use lib.ListN.{set};
 ghost use Rattle.grammar.specs.Bytes.{Bytes};
 ghost use Rattle.grammar.specs.Answers.{accept, decline, defer, writeSign};
-ghost use Rattle.phase.specs.Phase.{blockLimit};
 ghost use Rattle.numbers.specs.Whole.{awaitOf, keepOf};
 ghost use Rattle.session_memory.specs.State.{held, fiveOf};
-ghost use Rattle.fs_effect.specs.Signs.{withPlace, answeredBy};
+ghost use Rattle.fs_effect.specs.Signs.{Room, answeredBy};
 ghost use Rattle.line_effect.specs.Judge.{picked, flagged, transfersAfter, answerTaken, answerLine};
 ghost use Rattle.line_effect.specs.Verdict.{judgedOf};
 
@@ -28,21 +27,9 @@ struct Answered {
     deferred: Five,
 }
 
-// One place more; there is room for it.
-fn with_place(f: Five, place: u8) -> Five
-    requires { ⌜ f .count < blockLimit ⌝ }
-    ensures { λ r. ⌜ r ≡ withPlace f place ⌝ }
-{
-    let mut g = f;
-    let k = f.count as usize;
-    g.items[k] = place;
-    g.count += 1;
-    g
-}
-
 // A place more where its sign belongs: `+` accept, `-` decline, `=` defer; no other byte is a sign.
 fn answered_by(a: Answered, sign: u8, place: u8) -> Answered
-    requires { ⌜ (a .accepted .count < blockLimit) × (a .declined .count < blockLimit) × (a .deferred .count < blockLimit) ⌝ }
+    requires { ⌜ Room (a .accepted) × Room (a .declined) × Room (a .deferred) ⌝ }
     ensures { λ r. ⌜ r ≡ answeredBy a sign place ⌝ }
 {
     let accepted = a.accepted;
@@ -51,19 +38,19 @@ fn answered_by(a: Answered, sign: u8, place: u8) -> Answered
     let said = sign_of(sign);
     match said {
         Sign::Accept => Answered {
-            accepted: with_place(accepted, place),
+            accepted: add(accepted, place),
             declined: declined,
             deferred: deferred,
         },
         Sign::Decline => Answered {
             accepted: accepted,
-            declined: with_place(declined, place),
+            declined: add(declined, place),
             deferred: deferred,
         },
         Sign::Defer => Answered {
             accepted: accepted,
             declined: declined,
-            deferred: with_place(deferred, place),
+            deferred: add(deferred, place),
         },
         Sign::Other => a,
     }

@@ -12,32 +12,32 @@ sign-of-requires c κs = search needs
 enum-told : tie.Need-enum-told
 enum-told c = search needs
 
-with-place-requires : tie.Need-with-place-requires
-with-place-requires c κs = search needs
+add-requires : tie.Need-add-requires
+add-requires c κs = search needs
 
 enum-told-2 : tie.Need-enum-told-2
 enum-told-2 c = search needs
 
-with-place-requires-2 : tie.Need-with-place-requires-2
-with-place-requires-2 c κs = search needs
+add-requires-2 : tie.Need-add-requires-2
+add-requires-2 c κs = search needs
 
 enum-told-3 : tie.Need-enum-told-3
 enum-told-3 c = search needs
 
-with-place-requires-3 : tie.Need-with-place-requires-3
-with-place-requires-3 c κs = search needs
+add-requires-3 : tie.Need-add-requires-3
+add-requires-3 c κs = search needs
 
 enum-told-4 : tie.Need-enum-told-4
 enum-told-4 c = search needs
 
 returns : tie.Need-returns
-returns c = by-sign _ _ _ (ap signIs (sym (c .before .enum-told .given .1)) ∙ c .before .before .before .sign-of .ensures) (rw (c .with-place .ensures))
+returns c = by-sign _ _ _ (ap signIs (sym (c .before .enum-told .given .1)) ∙ c .before .before .before .sign-of .ensures) (rw (c .add .ensures))
 
 returns-2 : tie.Need-returns-2
-returns-2 c = by-sign _ _ _ (ap signIs (sym (c .before .enum-told2 .given .1)) ∙ c .before .before .before .sign-of .ensures) (rw (c .with-place2 .ensures))
+returns-2 c = by-sign _ _ _ (ap signIs (sym (c .before .enum-told2 .given .1)) ∙ c .before .before .before .sign-of .ensures) (rw (c .add2 .ensures))
 
 returns-3 : tie.Need-returns-3
-returns-3 c = by-sign _ _ _ (ap signIs (sym (c .before .enum-told3 .given .1)) ∙ c .before .before .before .sign-of .ensures) (rw (c .with-place3 .ensures))
+returns-3 c = by-sign _ _ _ (ap signIs (sym (c .before .enum-told3 .given .1)) ∙ c .before .before .before .sign-of .ensures) (rw (c .add3 .ensures))
 
 returns-4 : tie.Need-returns-4
 returns-4 c = by-sign _ _ _ (ap signIs (sym (c .enum-told4 .given .1)) ∙ c .before .before .sign-of .ensures) refl
@@ -48,11 +48,11 @@ answered-by-spec =
     (tie.spec
     sign-of-requires
     enum-told
-    with-place-requires
+    add-requires
     enum-told-2
-    with-place-requires-2
+    add-requires-2
     enum-told-3
-    with-place-requires-3
+    add-requires-3
     enum-told-4
     returns
     returns-2

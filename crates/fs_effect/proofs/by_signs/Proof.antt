@@ -3,6 +3,7 @@ use mathlib.Core.Path.{_≡_}
 use Prim.Native.Nat.{_-_}
 use native.Mathlib.Omega.{arith}
 use lib.ListN.{length}
+use Rattle.grammar.specs.Answers.{accept, decline, defer, writeSign}
 use borrow.Author.Needs.{needs}
 use Rattle.fs_effect.proofs.Laws.{Sorted, pick-start, sort-room, sort-more, sort-end}
 use Rattle.fs_effect.proofs.by_signs.Statement.{statement}
@@ -27,7 +28,7 @@ none-requires-3 : tie.Need-none-requires-3 Inv-loop μ-loop
 none-requires-3 c κs = search needs
 
 loop-holds : tie.Need-loop-holds Inv-loop μ-loop
-loop-holds c = let a = c .before .before .before .before .args in (pick-start 43 (a .t1) (a .t2) _ (c .before .before .none .ensures), pick-start 45 (a .t1) (a .t2) _ (c .before .none2 .ensures), pick-start 61 (a .t1) (a .t2) _ (c .none3 .ensures))
+loop-holds c = let a = c .before .before .before .before .args in (pick-start (writeSign accept) (a .t1) (a .t2) _ (c .before .before .none .ensures), pick-start (writeSign decline) (a .t1) (a .t2) _ (c .before .none2 .ensures), pick-start (writeSign defer) (a .t1) (a .t2) _ (c .none3 .ensures))
 
 array-read-answered-by : tie.Need-array-read-answered-by Inv-loop μ-loop
 array-read-answered-by c = search needs
