@@ -3,6 +3,7 @@
 #include "fringemole.h"
 #include "say.h"
 
+#include <stddef.h>
 #include <stdio.h>
 #include <string.h>
 
@@ -60,42 +61,69 @@ void options_help(void)
 
 struct option {
     const char *name;
-    bool *flag;         /* set, or */
-    const char **text;  /* gets the word that follows, or */
-    long *number;       /* gets the number that follows */
+    enum { FLAG, TEXT, NUMBER } kind; /* set, or takes the word or the number that follows */
+    size_t place;                     /* of its field */
 };
 
-static bool take_value(const struct option *option, const char *value)
+#define OPTION(name, kind, field) { name, kind, offsetof(struct options, field) }
+
+static const struct option table[] = {
+    OPTION("--call", TEXT, call),
+    OPTION("--partner", TEXT, partner),
+    OPTION("--text", FLAG, text),
+    OPTION("--outbox", FLAG, outbox),
+    OPTION("--caller", FLAG, caller),
+    OPTION("--called", FLAG, called),
+    OPTION("--telnet", FLAG, telnet),
+    OPTION("--once", FLAG, once),
+    OPTION("--progress", FLAG, progress),
+    OPTION("--login", TEXT, login),
+    OPTION("--question", TEXT, question),
+    OPTION("--timeout", NUMBER, timeout),
+    OPTION("--room", NUMBER, room),
+    OPTION("--drop-after", NUMBER, drop_after)
+};
+
+static const struct option *find(const char *name, size_t n)
 {
-    if (option->text)
-        *option->text = value;
-    else if (!part_number(part_of(value), option->number)) {
-        say("%s: not a number: %s", option->name, value);
-        return false;
+    size_t i;
+
+    for (i = 0; i < sizeof table / sizeof table[0]; i++) {
+        if (strlen(table[i].name) == n && !memcmp(table[i].name, name, n))
+            return &table[i];
     }
-    return true;
+    return NULL;
+}
+
+static bool take_value(struct options *options, const struct option *option, const char *value)
+{
+    char *field = (char *)options + option->place;
+
+    if (option->kind == TEXT) {
+        *(const char **)(void *)field = value;
+        return true;
+    }
+    if (part_number(part_of(value), (long *)(void *)field))
+        return true;
+    say("%s: not a number: %s", option->name, value);
+    return false;
 }
 
 /* Takes the option at words[*at] and its value, and leaves *at at the last word it took. */
-static bool take_option(const struct option *table, char **words, int count, int *at)
+static bool take_option(struct options *options, char **words, int count, int *at)
 {
     const char *word = words[*at], *equals = strchr(word, '=');
-    size_t n = equals ? (size_t)(equals - word) : strlen(word);
+    const struct option *option = find(word, equals ? (size_t)(equals - word) : strlen(word));
 
-    for (; table->name; table++) {
-        if (strlen(table->name) != n || memcmp(table->name, word, n))
-            continue;
-        if (table->flag && !equals) {
-            *table->flag = true;
-            return true;
-        }
-        if (!table->flag && equals)
-            return take_value(table, equals + 1);
-        if (!table->flag && *at + 1 < count)
-            return take_value(table, words[++*at]);
-        break;
+    if (option && option->kind == FLAG && !equals) {
+        *(bool *)(void *)((char *)options + option->place) = true;
+        return true;
     }
-    say(table->name ? "%s: wrong use; see --help" : "%s: no such option; see --help", word);
+    if (option && option->kind != FLAG && equals)
+        return take_value(options, option, equals + 1);
+    if (option && option->kind != FLAG && *at + 1 < count)
+        return take_value(options, option, words[++*at]);
+    say(option ? "%s: wrong use; see --help" : "%s: no such option; see --help", word);
     return false;
 }
 
@@ -122,15 +150,6 @@ static void take_word(struct options *options, char **words, char *word)
 
 bool options_read(struct options *options, int count, char **words)
 {
-    const struct option table[] = {
-        { "--call", NULL, &options->call, NULL }, { "--partner", NULL, &options->partner, NULL },
-        { "--text", &options->text, NULL, NULL }, { "--outbox", &options->outbox, NULL, NULL },
-        { "--caller", &options->caller, NULL, NULL }, { "--called", &options->called, NULL, NULL },
-        { "--telnet", &options->telnet, NULL, NULL }, { "--once", &options->once, NULL, NULL },
-        { "--progress", &options->progress, NULL, NULL }, { "--login", NULL, &options->login, NULL },
-        { "--question", NULL, &options->question, NULL }, { "--timeout", NULL, NULL, &options->timeout },
-        { "--room", NULL, NULL, &options->room }, { "--drop-after", NULL, NULL, &options->drop_after }, { NULL, NULL, NULL, NULL }
-    };
     int at;
 
     defaults(options);
@@ -146,7 +165,7 @@ bool options_read(struct options *options, int count, char **words)
             options->transcript = words[at] + 13;
         else if (words[at][0] != '-' || !words[at][1])
             take_word(options, words, words[at]);
-        else if (!take_option(table, words, count, &at))
+        else if (!take_option(options, words, count, &at))
             return false;
     }
     return true;
