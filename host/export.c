@@ -67,7 +67,7 @@ static bool export_one(void *context, const struct message *message)
 enum exit_code boxes_export(const struct options *options)
 {
     struct export export = { options->arguments[0], { NULL, 0, 0 }, 0, 0 };
-    struct base *base = base_open(options->base, false);
+    struct base *base = base_open(options->base, READING);
     enum exit_code code = BAD_BASE;
 
     if (base && base_partner(base, &export.partner)) {

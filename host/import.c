@@ -173,7 +173,7 @@ static enum exit_code add_files(struct import *import, const struct options *opt
 
 enum exit_code boxes_import(const struct options *options)
 {
-    struct import import = { base_open(options->base, true), options->text, NULL, 0, 0 };
+    struct import import = { base_open(options->base, CHANGING), options->text, NULL, 0, 0 };
     enum exit_code code = BAD_BASE;
 
     if (import.base && base_begin(import.base)) {

@@ -50,7 +50,7 @@ static bool show_incoming(void *shown, const struct message *message)
 
 enum exit_code boxes_list(const struct options *options)
 {
-    struct base *base = base_open(options->base, false);
+    struct base *base = base_open(options->base, READING);
     bool out = false, in = false, right;
     long long known = 0;
 
@@ -70,7 +70,7 @@ enum exit_code boxes_list(const struct options *options)
 /* All of them, or none. */
 enum exit_code boxes_release(const struct options *options)
 {
-    struct base *base = base_open(options->base, true);
+    struct base *base = base_open(options->base, CHANGING);
     bool right = base && base_begin(base), found = true;
     int i;
 

@@ -15,15 +15,30 @@ static enum exit_code initialize(const struct options *options)
 
 /* ---- sessions */
 
+/* A base for one session; NULL after saying why there is none. */
+static struct base *base_for_session(const struct options *options)
+{
+    struct base *base = base_open(options->base, CHANGING);
+
+    if (base && base_lock_session(base))
+        return base;
+    base_close(base);
+    return NULL;
+}
+
 static enum exit_code run_on(struct link *link, const struct options *options, uint8_t role)
 {
-    struct base *base = base_open(options->base, true);
+    struct base *base = base_for_session(options);
+    struct bytes partner = { NULL, 0, 0 };
     enum exit_code code = BAD_BASE;
 
-    if (base && options->login && !login(link, options->question, options->login))
+    if (base && options->login && !login(link, options->question, options->login)) {
         code = LINK_DROPPED;
-    else if (base)
-        code = session_run(base, link, role, (size_t)options->room);
+    } else if (base && base_partner(base, &partner)) {
+        struct session_terms terms = { role, (size_t)options->room, part_all(&partner) };
+        code = session_run(base, link, &terms);
+    }
+    bytes_free(&partner);
     base_close(base);
     if (code == DONE)
         say("the session ended by FQ");
@@ -58,7 +73,7 @@ static enum exit_code run_session(const struct port *port, const struct options 
 /* Whether a base can be used, before somebody is called or waited for. */
 static bool base_is_there(const struct options *options)
 {
-    struct base *base = base_open(options->base, true);
+    struct base *base = base_for_session(options);
 
     base_close(base);
     return base != NULL;

@@ -159,24 +159,24 @@ static bool changed(const struct shelf *shelf)
     return shelf->session[FRINGEMOLE_SESSION_KEPT] != shelf->kept;
 }
 
-static bool write_changes(const struct shelf *shelf, struct base *base)
+static bool write_changes(const struct shelf *shelf, struct base *base, const struct passage *passage)
 {
     size_t place;
 
     for (place = 0; place < shelf_records(shelf); place++) {
         uint8_t state = state_now(shelf, place);
-        if (state != shelf->states[place] && !base_mark(base, shelf->numbers[place], state))
+        if (state != shelf->states[place] && !base_mark(base, shelf->numbers[place], state, passage))
             return false;
     }
     for (place = shelf->kept; place < shelf->session[FRINGEMOLE_SESSION_KEPT]; place++) {
         struct message message = kept_message(shelf, place);
-        if (!base_keep(base, &message))
+        if (!base_keep(base, &message, passage))
             return false;
     }
     return true;
 }
 
-bool shelf_save(struct shelf *shelf, struct base *base)
+bool shelf_save(struct shelf *shelf, struct base *base, const struct passage *passage)
 {
     size_t place;
 
@@ -184,13 +184,38 @@ bool shelf_save(struct shelf *shelf, struct base *base)
         return true;
     if (!base_begin(base))
         return false;
-    if (!write_changes(shelf, base) || !base_commit(base)) {
+    if (!write_changes(shelf, base, passage) || !base_commit(base)) {
         base_undo(base);
         return false;
     }
     for (place = 0; place < shelf_records(shelf); place++)
         shelf->states[place] = state_now(shelf, place);
     shelf->kept = shelf->session[FRINGEMOLE_SESSION_KEPT];
+    return true;
+}
+
+static bool is_deferred(const struct shelf *shelf, size_t place)
+{
+    return shelf->session[FRINGEMOLE_SESSION_DEFERRED + place] == 1 && state_now(shelf, place) == WAITING;
+}
+
+size_t shelf_deferred(const struct shelf *shelf)
+{
+    size_t place, count = 0;
+
+    for (place = 0; place < shelf_records(shelf); place++)
+        count += is_deferred(shelf, place);
+    return count;
+}
+
+bool shelf_save_deferred(const struct shelf *shelf, struct base *base, const struct passage *passage)
+{
+    size_t place;
+
+    for (place = 0; place < shelf_records(shelf); place++) {
+        if (is_deferred(shelf, place) && !base_defer(base, shelf->numbers[place], passage))
+            return false;
+    }
     return true;
 }
 

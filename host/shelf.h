@@ -24,7 +24,10 @@ bool shelf_fill(struct shelf *shelf, struct base *base);
 /* Sets up lent memory, then opens. Add nothing after that. */
 struct fringemole_reply shelf_open(struct shelf *shelf, uint8_t role);
 /* Writes to the base what receive changed since the last time, in one transaction; none if nothing changed. */
-bool shelf_save(struct shelf *shelf, struct base *base);
+bool shelf_save(struct shelf *shelf, struct base *base, const struct passage *passage);
+/* How many records the partner deferred; and their rows told so. */
+size_t shelf_deferred(const struct shelf *shelf);
+bool shelf_save_deferred(const struct shelf *shelf, struct base *base, const struct passage *passage);
 void shelf_clear(struct shelf *shelf);
 
 size_t shelf_records(const struct shelf *shelf);

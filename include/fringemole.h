@@ -93,6 +93,7 @@ enum { /* our role */
 
 /* ---- in session memory a host may read: */
 #define FRINGEMOLE_SESSION_KEPT 66       /* how many messages of the inbox are kept, 1 byte; 0 after an accepted open */
+#define FRINGEMOLE_SESSION_DEFERRED 116  /* a flag a record, 64 bytes: 1 if the partner has deferred it in this session */
 
 /* ---- the numbers given back */
 enum {

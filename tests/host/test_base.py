@@ -13,13 +13,13 @@ class Bases(Folder):
         other = self.folder / "other.base"
         sqlite3.connect(other).executescript("CREATE TABLE a (b); PRAGMA application_id = 7")
         newer = self.node("newer")
-        newer.ask("PRAGMA user_version = 2")
+        newer.ask("PRAGMA user_version = 3")
         missing = self.node("missing")
         missing.path.unlink()
         (self.folder / "folder.base").mkdir()
         half = self.node("half").path.read_bytes()
         bad = {"no message base": [self.made("text", b"not a base\n" * 100), Node(self.folder, "other"), self.made("empty", b"")],
-               "version 2": [newer], "make a base with init": [missing], "unable to open": [Node(self.folder, "folder")],
+               "version 3": [newer], "make a base with init": [missing], "unable to open": [Node(self.folder, "folder")],
                "half.base: ": [self.made("half", half[:len(half) // 2])]}
         for why, nodes in bad.items():
             for node in nodes:
@@ -30,7 +30,7 @@ class Bases(Folder):
     def test_init(self):
         "init leaves what is there alone, and says where it can't make a base"
         node = self.node().add(Message(b"1_A"))
-        self.says_why(node.run("init"), BAD_BASE, "File exists")
+        self.says_why(node.run("init"), BAD_BASE, "there is a base already")
         self.assertEqual(len(node.outbox()), 1)
         node.path = self.folder / "no" / "where"
         self.says_why(node.run("init"), BAD_BASE, "No such file")
@@ -62,15 +62,18 @@ class Bases(Folder):
         self.says_why(node.run("stdio"), BAD_BASE, "the base holds what the library doesn't take (refusal 1)")
 
     def test_lock(self):
-        "a base in a session is locked; when the session's process is killed it is free"
+        "one session at a time; when its process is killed the base is free"
         node = self.node()
         partner = node.stdio()
         partner.hears(GREETING)
-        for words in (("list",), ("stdio",)):
-            self.says_why(node.run(*words), BAD_BASE, "in use by another process")
+        for words in (("stdio",), ("call", "1"), ("listen", "0")):
+            self.says_why(node.run(*words), BAD_BASE, "in use by another session")
         partner.process.kill()
         partner.rest()
-        node.right("list")
+        partner = node.stdio()
+        partner.hears(GREETING)
+        partner.hang_up()
+        self.assertEqual(partner.ends()[0], LINK_DROPPED)
 
     def test_no_commit(self):
         "where the base takes no change, the partner is told nothing and the session ends with 3"

@@ -176,5 +176,8 @@ class Killed(Folder):
         self.assertEqual(partner.ends()[0], DONE)
         with open(read, "rb") as events:
             order = events.read().decode()
-        # greeting, FS; the message is kept, our block; the decline, our transfer; the mark, FQ
-        self.assertRegex(order, r"^S*WWS{4,}WS{4,}WS{4,}W")
+        # The session's row; greeting, FS; the message is kept, our block; the decline, our transfer; the mark, FQ; the row's end.
+        self.assertRegex(order, r"^[PSD]*P+S[SD]*WWP+S+WP+S+WP+S+WP+S")
+        # Before bytes go onto the link, all that was written is synced; the log of the base is a new file, so its folder was synced too.
+        self.assertNotRegex(order, r"P[^S]*W")
+        self.assertIn("D", order.split("W")[0])
