@@ -1,0 +1,226 @@
+-- THE LAW OF OPEN: the session memory that an accepted open leaves, with the lent buffers, represents the session that is opened on lists.
+use mathlib.Core.Path.{_≡_, refl, sym, ap, _∙_, subst}
+use mathlib.Core.Bool.{Bool, true, false, cond}
+use Prim.Native.Nat.{ℕ, _*_, _/_, _%_, _≤_}
+use native.Mathlib.Omega.{arith}
+use lib.Dec.{eqb, leb}
+use lib.ListN.{length}
+use borrow.Author.Tests.{eqb-true, leb-true}
+use Rattle.grammar.specs.Bytes.{Bytes}
+use Rattle.grammar.specs.Refusals.{badMemory}
+use Rattle.grammar.proofs.Basics.{and2, no-both}
+use Rattle.session.specs.Choices.{Shelf}
+use Rattle.session.specs.Session as on-lists
+use Rattle.demand3.specs.Demand.{Good}
+use Rattle.session_memory.specs.State.{sessionSize, loadOf, saveOf, sizesOut, saveSizes, freshOf}
+use Rattle.session_memory.specs.declared.Session.{Session}
+use Rattle.session_memory.proofs.Laws.{Sized, load-save, load-sizes, save-length, sizes-length, sizes-saved, save-sizes-kept, fresh-shaped}
+use Rattle.choice.specs.Decoded.{recordsOf, statesOf, knownBids, placeCount, recordCount}
+use Rattle.waiting.specs.Waiting.{waitingOf, firstText, thenText}
+use Rattle.pending.specs.Pending.{waits}
+use Rattle.form_test.specs.Form.{markOk, usedBy}
+use Rattle.give.specs.Giving.{reply}
+use Rattle.open.specs.Opening.{Opened, opened, entriesOk, sizesOk, knownOk, tableFault, openOf}
+use Rattle.receive_defined.specs.Receiving.{Cs, cs}
+use Rattle.form_closed.specs.Fixed.{Fixed}
+use Rattle.represents.specs.Represents.{Says, Awaits, Represents, messagesOf}
+use Rattle.represents.specs.Frame.{Spared}
+use Rattle.main_theorem.specs.Calls.{Lent, Memory, fixedIn, lentIn, openedOn, sizesOf, withSession}
+use Rattle.main_theorem.specs.Demand3.{openedBy}
+use Rattle.represents.proofs.Byte.{spared-same}
+use Rattle.represents.proofs.Small.{Small}
+use Rattle.main_theorem.proofs.Held.{mark-kept, Held}
+use Rattle.main_theorem.proofs.Giving.{Short}
+use Rattle.main_theorem.proofs.Accepted.{table-good, table-short}
+
+-- ---------------------------------------------------------------- what open has looked at
+
+pub record Accepted (role : ℕ) (F : Fixed) (m : Lent) : Type 0 where
+  pub session : length (m .sm) ≡ 876
+  pub table : (length (m .table) ≡ recordCount (m .table) * 89) × (length (m .table) ≤ 5696)
+  pub known : length (F .known) ≤ 13312
+  pub inbox : (length (m .inbox) ≡ placeCount (m .inbox) * 155) × (placeCount (m .inbox) ≤ 64)
+  pub fault : tableFault (m .table) (F .titles) (F .names) (F .bodies) ≡ 255
+  pub left : openedOn role F m .sm ≡ saveOf (saveSizes (m .sm) (sizesOf F m)) (freshOf (eqb role 1))
+
+entries-are : (n size most : ℕ) → entriesOk n size most ≡ true → (n % size ≡ 0) × (n / size ≤ most)
+entries-are n size most e = let p = and2 (eqb (n % size) 0) (leb (n / size) most) e in (eqb-true (n % size) 0 (p .0), leb-true (n / size) most (p .1))
+
+module _ (role : ℕ) (F : Fixed) (m : Lent) where
+  abbrev fresh : Bytes
+  fresh = saveOf (saveSizes (m .sm) (sizesOf F m)) (freshOf (eqb role 1))
+
+  abbrev fault : ℕ
+  fault = tableFault (m .table) (F .titles) (F .names) (F .bodies)
+
+  pub accepted : openedOn role F m .reply .answer ≡ 0 → Accepted role F m
+  unfolding openOf sizesOk
+  accepted e = go (leb role 1) (sizesOk (m .sm) (m .table) (F .known) (m .inbox)) (knownOk (F .known)) (eqb fault 255) refl refl refl refl e
+    where
+      bad : ℕ → Opened
+      bad n = opened (reply badMemory n 0) (m .sm)
+
+      tested : Bool → Bool → Bool → Bool → Opened
+      tested a b c d = cond a (cond b (cond c (cond d (opened (reply 0 0 0) fresh) (bad fault)) (bad 255)) (bad 255)) (bad 255)
+
+      go : (a b c d : Bool) → leb role 1 ≡ a → sizesOk (m .sm) (m .table) (F .known) (m .inbox) ≡ b → knownOk (F .known) ≡ c → eqb fault 255 ≡ d
+          → tested a b c d .reply .answer ≡ 0 → Accepted role F m
+      go true true true true p q r s k =
+          let q₁ = and2 (eqb (length (m .sm)) sessionSize) _ q in
+          let q₂ = and2 (entriesOk (length (m .table)) 89 64) _ (q₁ .1) in
+          let q₃ = and2 (entriesOk (length (F .known)) 13 1024) (entriesOk (length (m .inbox)) 155 64) (q₂ .1) in
+          let t = entries-are (length (m .table)) 89 64 (q₂ .0) in
+          let w = entries-are (length (F .known)) 13 1024 (q₃ .0) in
+          let i = entries-are (length (m .inbox)) 155 64 (q₃ .1) in
+          record {
+            session = eqb-true (length (m .sm)) sessionSize (q₁ .0);
+            table = (omega arith, omega arith);
+            known = omega arith;
+            inbox = (omega arith, i .1);
+            fault = eqb-true fault 255 s;
+            left = ap (λ (a : Bool). tested a (sizesOk (m .sm) (m .table) (F .known) (m .inbox)) (knownOk (F .known)) (eqb fault 255) .sm) p
+                ∙ ap (λ (b : Bool). tested true b (knownOk (F .known)) (eqb fault 255) .sm) q
+                ∙ ap (λ (c : Bool). tested true true c (eqb fault 255) .sm) r
+                ∙ ap (λ (d : Bool). tested true true true d .sm) s;
+          }
+      go true true true false p q r s k = absurd (omega arith)
+      go true true false d p q r s k = absurd (omega arith)
+      go true false c d p q r s k = absurd (omega arith)
+      go false b c d p q r s k = absurd (omega arith)
+
+-- ---------------------------------------------------------------- the state that open saves
+
+-- the state that open leaves, with the lent bytes
+abbrev pub freshCs : ℕ → Lent → Cs
+freshCs role m = cs (freshOf (eqb role 1)) (m .table) (m .inbox) (m .store)
+
+-- the shelf of lent buffers
+abbrev pub shelfOf : Fixed → Lent → Shelf
+shelfOf F m =
+    record { table = recordsOf (F .titles) (F .names) (F .bodies) (m .table); known = knownBids (F .known); places = placeCount (m .inbox); bytes = length (m .store) }
+
+module _ (role : ℕ) (F : Fixed) (m : Lent) (a : Accepted role F m) where
+  greeting-says : (caller : Bool) → Says F (cs (freshOf caller) (m .table) (m .inbox) (m .store)) (on-lists.greeting caller)
+  unfolding freshOf waits waitingOf firstText thenText
+  greeting-says true = record { toGive = refl; some = λ w. absurd (no-both false w refl) }
+  greeting-says false = record { toGive = refl; some = λ w. omega arith }
+
+  sid-awaited : (caller : Bool) → Awaits (cs (freshOf caller) (m .table) (m .inbox) (m .store)) (on-lists.aLine (on-lists.awaitsSid caller))
+  unfolding freshOf
+  sid-awaited true = (refl, refl)
+  sid-awaited false = (refl, refl)
+
+  fresh-represents : (caller : Bool) → Represents F (shelfOf F m) (cs (freshOf caller) (m .table) (m .inbox) (m .store)) (on-lists.opened caller (statesOf (m .table)))
+  unfolding freshOf messagesOf usedBy
+  fresh-represents caller =
+      record {
+        arrays = record {
+          ours = refl;
+          sending = refl;
+          signs = refl;
+          block = refl;
+          flags = refl;
+          heading = refl;
+          line = refl;
+          oursCount = omega arith;
+          sendingCount = omega arith;
+          signsCount = omega arith;
+          proposals = omega arith;
+          lineLen = omega arith;
+          head = omega arith;
+          entries = λ i h. absurd (omega arith);
+        };
+        shelved = record {
+          records = refl;
+          known = refl;
+          places = refl;
+          bytes = refl;
+          table = a .table .0;
+          inbox = a .inbox .0;
+          few = a .inbox .1;
+        };
+        boxed = record {
+          kept = refl;
+          messages = refl;
+          laid = tt;
+          bodies = refl;
+          row = tt;
+          sum = refl;
+          small = omega arith;
+          used = refl;
+          placed = omega arith;
+          within = omega arith;
+        };
+        says = greeting-says caller;
+        awaits = sid-awaited caller;
+        part = refl;
+        afterCr = refl;
+        framed = refl;
+        states = refl;
+        sending = refl;
+        flags = refl;
+      }
+
+  fresh-small : (caller : Bool) → Small (freshOf caller)
+  unfolding freshOf
+  fresh-small caller = record { pos = omega arith; fine = record { left = omega arith; body = omega arith } }
+
+  -- the mark that open leaves
+  mark-new : markOk (saveSizes (m .sm) (sizesOf F m)) ≡ true
+  unfolding sizesOut
+  mark-new = ap markOk (sizes-saved (m .sm) (sizesOf F m) (let e = a .session in omega arith))
+
+-- ---------------------------------------------------------------- the call
+
+pub record OpenedAs (role : ℕ) (F : Fixed) (m : Lent) : Type 0 where
+  pub good : Good (shelfOf F m .table)
+  pub short : Short (shelfOf F m .table)
+  pub held : Held F (shelfOf F m) (freshCs role m) (sizesOf F m) (withSession m (openedOn role F m .sm)) (on-lists.opened (eqb role 1) (statesOf (m .table)))
+
+pub open-law : (role : ℕ) (M : Memory) → openedBy role M .reply .answer ≡ 0 → OpenedAs role (fixedIn M) (lentIn M)
+open-law role M e =
+    record {
+      good = table-good (m .table) (F .titles) (F .names) (F .bodies) (a .fault);
+      short = table-short (m .table) (F .titles) (F .names) (F .bodies) (a .fault);
+      held = subst (λ (x : Bytes). Held F (shelfOf F m) (freshCs role m) (sizesOf F m) (withSession m x) (on-lists.opened (eqb role 1) (statesOf (m .table)))) (sym (a .left)) held;
+    }
+  where
+    F : Fixed
+    F = fixedIn M
+
+    m : Lent
+    m = lentIn M
+
+    a : Accepted role F m
+    a = accepted role F m e
+
+    caller : Bool
+    caller = eqb role 1
+
+    sized : Sized (sizesOf F m)
+    sized =
+        let t = a .table .1 in
+        let k = a .known in
+        let i = a .inbox in
+        record { table = omega arith; titles = M .titles .short; names = M .names .short; bodies = M .bodies .short; known = omega arith; inbox = omega arith; store = M .store .short }
+
+    long : 60 ≤ length (m .sm)
+    long = let n = a .session in omega arith
+
+    n : length (saveSizes (m .sm) (sizesOf F m)) ≡ 876
+    n = sizes-length (m .sm) (sizesOf F m) ∙ a .session
+
+    back : loadOf (fresh role F m) ≡ freshOf caller
+    back = load-save (saveSizes (m .sm) (sizesOf F m)) (freshOf caller) n (fresh-shaped caller)
+
+    held : Held F (shelfOf F m) (freshCs role m) (sizesOf F m) (withSession m (fresh role F m)) (on-lists.opened caller (statesOf (m .table)))
+    held =
+        record {
+          size = save-length (saveSizes (m .sm) (sizesOf F m)) (freshOf caller) ∙ n;
+          mark = mark-kept (saveSizes (m .sm) (sizesOf F m)) (freshOf caller) n ∙ mark-new role F m a;
+          sizes = save-sizes-kept (saveSizes (m .sm) (sizesOf F m)) (freshOf caller) (let k = n in omega arith) ∙ load-sizes (m .sm) (sizesOf F m) long sized;
+          lent = refl;
+          represents = subst (λ (x : Session). Represents F (shelfOf F m) (cs x (m .table) (m .inbox) (m .store)) (on-lists.opened caller (statesOf (m .table)))) (sym back) (fresh-represents role F m a caller);
+          spared = subst (λ (x : Session). Spared (freshCs role m) (cs x (m .table) (m .inbox) (m .store))) (sym back) (spared-same (freshCs role m));
+          small = subst Small (sym back) (fresh-small role F m a caller);
+        }
