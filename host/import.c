@@ -147,7 +147,7 @@ static bool read_all(const char *name, struct bytes *into)
         say("%s: %s", name, strerror(errno));
         return false;
     }
-    while ((n = fread(piece, 1, sizeof piece, file)) > 0)
+    while (!ferror(file) && (n = fread(piece, 1, sizeof piece, file)) > 0)
         bytes_add(into, piece, n);
     right = !ferror(file);
     if (!right)

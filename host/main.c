@@ -3,6 +3,7 @@
 #include "login.h"
 #include "options.h"
 #include "session.h"
+#include "stop.h"
 
 #include <signal.h>
 #include <string.h>
@@ -157,8 +158,10 @@ static enum exit_code run(const struct options *options)
 int main(int count, char **words)
 {
     struct options options;
+    enum exit_code code;
 
     signal(SIGPIPE, SIG_IGN);
+    stop_watch();
     if (!options_read(&options, count - 1, words + 1))
         return BAD_USAGE;
     if (options.command && !strcmp(options.command, "--help")) {
@@ -169,5 +172,7 @@ int main(int count, char **words)
         say("give a base, a command and at most one role; see --help");
         return BAD_USAGE;
     }
-    return run(&options);
+    code = run(&options);
+    stop_finish();
+    return code;
 }

@@ -1,4 +1,5 @@
 #include "port.h"
+#include "stop.h"
 
 #include <errno.h>
 #include <poll.h>
@@ -17,15 +18,17 @@ static long milliseconds(void)
     return (long)now.tv_sec * 1000 + now.tv_nsec / 1000000;
 }
 
-/* Waits until the descriptor is ready; false if it isn't in time. */
+/* Waits until the descriptor is ready; false if it isn't in time, or we are asked to stop. */
 static bool ready(int descriptor, short what, long seconds)
 {
-    struct pollfd wait = { descriptor, what, 0 };
+    struct pollfd wait[2] = { { descriptor, what, 0 }, { stop_descriptor(), POLLIN, 0 } };
     long end = milliseconds() + seconds * 1000;
 
     for (;;) {
         long left = seconds < 0 ? 60000 : end - milliseconds();
-        int found = poll(&wait, 1, left > 60000 ? 60000 : left > 0 ? (int)left : 0);
+        int found = poll(wait, 2, left > 60000 ? 60000 : left > 0 ? (int)left : 0);
+        if (stop_asked())
+            return false;
         if (found > 0)
             return true;
         if (found < 0 && errno != EINTR)

@@ -3,6 +3,7 @@
 #include "history.h"
 #include "refusal.h"
 #include "shelf.h"
+#include "stop.h"
 
 #include <string.h>
 
@@ -48,6 +49,8 @@ static enum exit_code dropped(struct session *session, const char *how)
 {
     if (session->link->left_until_drop == 0)
         how = "--drop-after";
+    else if (stop_asked())
+        how = stop_name();
     ended(session, how, LINK_DROPPED);
     say("the link dropped: %s", how);
     return LINK_DROPPED;

@@ -1,10 +1,12 @@
 #include "port.h"
 #include "say.h"
+#include "stop.h"
 
 #include <errno.h>
 #include <netdb.h>
 #include <netinet/in.h>
 #include <netinet/tcp.h>
+#include <poll.h>
 #include <stdio.h>
 #include <string.h>
 #include <sys/socket.h>
@@ -129,9 +131,11 @@ bool tcp_accept(struct port *port, int listener)
     int s;
 
     do {
-        s = accept(listener, NULL, NULL);
-    } while (s < 0 && (errno == EINTR || errno == ECONNABORTED));
-    if (s < 0)
+        struct pollfd wait[2] = { { listener, POLLIN, 0 }, { stop_descriptor(), POLLIN, 0 } };
+        poll(wait, 2, -1);
+        s = stop_asked() ? -1 : accept(listener, NULL, NULL);
+    } while (s < 0 && !stop_asked() && (errno == EINTR || errno == ECONNABORTED));
+    if (s < 0 && !stop_asked())
         say("accept: %s", strerror(errno));
     use_socket(port, s);
     return s >= 0;

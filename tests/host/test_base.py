@@ -126,3 +126,27 @@ class Usage(Folder):
         for number in range(8):
             self.assertIn("\n  %d  " % number, text.split("Exit codes")[1])
         self.assertTrue(all(len(line) < 96 for line in text.splitlines()))
+
+
+class Stopped(Folder):
+    def test_signals(self):
+        "SIGINT and SIGTERM end every command that waits with a sentence, by the signal itself; a session's row tells of it"
+        import signal
+        for number, (words, name) in enumerate([(("stdio",), "SIGTERM"), (("stdio",), "SIGINT"), (("listen", "0"), "SIGTERM"), (("import", "-"), "SIGINT")]):
+            with self.subTest((words, name)):
+                node = self.node("node%d" % number)
+                process = node.start(*words, stdin=subprocess.PIPE)
+                if words[0] == "stdio":
+                    Partner.of_process(process).hears(GREETING)
+                elif words[0] == "listen":
+                    process.stderr.readline()
+                else:
+                    process.stdin.write(Message(b"1_A").file())
+                    process.stdin.flush()
+                    time.sleep(0.5)
+                process.send_signal(getattr(signal, name))
+                process.wait(PATIENCE)
+                said = process.communicate()[1].decode()
+                self.says_why((process.returncode, said), -getattr(signal, name), "ended by " + name)
+                self.assertEqual(node.ask("SELECT ending FROM session"), [(name,)] if words[0] == "stdio" else [])
+                self.assertEqual(node.outbox(), [])
