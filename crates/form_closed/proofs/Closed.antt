@@ -74,7 +74,7 @@ module _ (F : Fixed) (nt ni ns : ℕ) (c : Cs) (g : Good F nt ni ns c) (n : ℕ)
   waiting = waitingOf (c .session) (c .table) (F .titles) (F .names) (F .bodies)
 
   -- what give hands out is no longer to be given
-  handed-ok : Good F nt ni ns (cs (handedOf (c .session) n (length waiting)) (c .table) (c .inbox) (c .store))
+  pub handed-ok : Good F nt ni ns (cs (handedOf (c .session) n (length waiting)) (c .table) (c .inbox) (c .store))
   unfolding handedOf silentOf waitingOf waits
   handed-ok = go (ltb (c .session .say .pos + n) (length waiting)) refl
     where

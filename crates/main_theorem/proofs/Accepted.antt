@@ -2,18 +2,17 @@
 -- are no longer than they may be. Idea: the first fault is 255 only where there is none, since a table has 64 records at most.
 use mathlib.Core.Path.{_≡_, refl, sym, ap, _∙_, subst}
 use mathlib.Core.Bool.{Bool, true, false, cond, not, _&&_}
-use mathlib.Core.List.{List, []}
 use Prim.Native.Nat.{ℕ, zero, suc, _+_, _≤_, _<_}
 use native.Mathlib.Omega.{arith}
 use lib.Dec.{eqb, ltb, leb}
-use lib.ListN.{length, List·getD-eq-default}
-use borrow.Author.Tests.{eqb-true, eqb-false, leb-true, le-leb, lt-ltb, ltb-true, ltb-false, not-true}
+use lib.ListN.{length}
+use borrow.Author.Tests.{eqb-true, eqb-false, leb-true, le-leb, lt-ltb, not-true}
 use Rattle.grammar.specs.Bytes.{Bytes}
-use Rattle.grammar.specs.Fields.{plain, message, file, isCall, isAt, isBid, isHeading, isBody, bodyFair, headingByte, sameBid}
+use Rattle.grammar.specs.Fields.{plain, message, file, isCall, isAt, isBid, isHeading, isBody, sameBid}
 use Rattle.grammar.specs.Turns.{isType, proposable}
 use Rattle.grammar.specs.Transfers.{partOf, sendable}
-use Rattle.grammar.proofs.Basics.{and2, both, or2, no-both, field-is}
-use Rattle.mail.specs.Mail.{Record, noRecord, recordAt, proposalOf, headingFor, transferOf}
+use Rattle.grammar.proofs.Basics.{and2, both, or2, no-both}
+use Rattle.mail.specs.Mail.{Record, noRecord, recordAt, proposalOf, headingFor}
 use Rattle.session.specs.Choices.{among}
 use Rattle.demand2.specs.ReadBack.{ReadsBack}
 use Rattle.demand2.proofs.ReadBack as read-back
@@ -22,9 +21,7 @@ use Rattle.demand3.specs.Demand.{Good, allProposable, noneWith, distinctBids}
 use Rattle.layout.specs.Layout.{byteAt, le2At, le4At, fieldIn, entryAt, recordSize, recordOf}
 use Rattle.choice.specs.Decoded.{entriesFrom, entries, recordCount, recordsOf}
 use Rattle.choice.proofs.Laws.{entries-length, entries-at}
-use Rattle.waiting.proofs.Short.{part-short, transfer-short, heading-short}
 use Rattle.open.specs.Opening.{lengthOk, numbersOk, fieldsOk, within, headingOk, textsOk, recordOk, placeOk, faultFrom, tableFault}
-use Rattle.main_theorem.proofs.Giving.{Short}
 
 -- ---------------------------------------------------------------- one record
 
@@ -53,16 +50,6 @@ module _ (c titles names bodies : Bytes) (h : recordOk c titles names bodies ≡
       (both (isCall (fieldIn 6 3 c)) (isAt (fieldIn 38 10 c)) (and2 (lengthOk c 3 6) (isCall (fieldIn 6 3 c)) (f₁ .0) .1) (and2 (lengthOk c 10 38) (isAt (fieldIn 38 10 c)) (f₂ .0) .1))
       (both (isCall (fieldIn 6 49 c)) (isBid (fieldIn 12 56 c)) (and2 (lengthOk c 49 6) (isCall (fieldIn 6 49 c)) (f₃ .0) .1) (and2 (lengthOk c 56 12) (isBid (fieldIn 12 56 c)) (f₃ .1) .1)))
 
-  -- a title or a name
-  text-short : (s : Bytes) (start len : ℕ) (needed : Bool) → headingOk s start len needed ≡ true → length (partOf s start len) ≤ 255
-  unfolding headingOk
-  text-short s start len needed e =
-      go (eqb len 0) refl (and2 (within s start len) (cond (eqb len 0) (not needed) (isHeading (partOf s start len))) e .1)
-    where
-      go : (b : Bool) → eqb len 0 ≡ b → cond b (not needed) (isHeading (partOf s start len)) ≡ true → length (partOf s start len) ≤ 255
-      go true p q = let z = eqb-true len 0 p in omega (arith, part-short s start len)
-      go false p q = omega (arith, field-is headingByte 80 (partOf s start len) q .most)
-
   abbrev r : Record
   r = recordOf titles names bodies c
 
@@ -83,13 +70,6 @@ module _ (c titles names bodies : Bytes) (h : recordOk c titles names bodies ≡
         name = t₂ .0;
         body = and2 (within bodies (le4At c 83) (le2At c 87)) (isBody (r .form) (r .body)) (t₂ .1) .1;
       }
-
-  record-short : length (transferOf r) ≤ 200000
-  record-short =
-      let b = leb-true (length (r .body)) 65535 (and2 (leb (length (r .body)) 65535) (bodyFair (r .form) (r .body)) (texts .body) .0) in
-      let t = text-short titles (le4At c 73) (byteAt c 77) (not (eqb (byteAt c 1) 2)) (texts .title) in
-      let n = text-short names (le4At c 78) (byteAt c 82) (eqb (byteAt c 1) 2) (texts .name) in
-      transfer-short (r .form) (headingFor (r .form) r) (r .body) (heading-short (r .form) r t n) b
 
   -- "Forms 0 and 1 need a title, form 2 a name"
   needed-is : (s : Bytes) (start len : ℕ) → headingOk s start len true ≡ true → isHeading (partOf s start len) ≡ true
@@ -192,26 +172,6 @@ module _ (table titles names bodies : Bytes) where
         fields = all-proposable ok (recordCount table) 0 (omega arith);
         bids = distinct ok (recordCount table) 0 (omega arith);
       }
-
-  pub table-short : tableFault table titles names bodies ≡ 255 → Short (recordsOf titles names bodies table)
-  unfolding recordsOf
-  table-short e i = go (ltb i (recordCount table)) refl
-    where
-      T : List Record
-      T = entries (recordOf titles names bodies) recordSize table (recordCount table)
-
-      none-short : length (transferOf noRecord) ≤ 200000
-      none-short = transfer-short plain [] [] (omega arith) (omega arith)
-
-      go : (b : Bool) → ltb i (recordCount table) ≡ b → length (transferOf (recordAt T i)) ≤ 200000
-      go true p =
-          let h = ltb-true i (recordCount table) p in
-          rw (entries-at (recordOf titles names bodies) recordSize table (recordCount table) i noRecord h)
-          (record-short (entryAt recordSize table i) titles names bodies (record-ok (all-ok e) i h))
-      go false p =
-          let h = ltb-false i (recordCount table) p in
-          let n = entries-length (recordOf titles names bodies) recordSize table 0 (recordCount table) in
-          rw (List·getD-eq-default T noRecord {n = i} (omega arith)) none-short
 
   -- every record of it reads back
   pub table-reads-back : tableFault table titles names bodies ≡ 255 → (i : ℕ) → i < recordCount table → ReadsBack (recordAt (recordsOf titles names bodies table) i)

@@ -21,7 +21,7 @@ use Rattle.main_theorem.proofs.Opening.{freshCs, accepted}
 use Rattle.main_theorem.proofs.Held.{Held}
 use Rattle.main_theorem.proofs.Giving.{GaveAs, give-law}
 use Rattle.main_theorem.proofs.Run.{TookAs, receive-law}
-use Rattle.main_theorem.proofs.Demand3.{open-as, ran}
+use Rattle.main_theorem.proofs.Demand3.{ran}
 
 -- every list of calls leads to a session that is reached
 run-reached : (E : Shelf) (cs : List on-lists-run.Call) (s : on-lists.Session) (q : Bytes) → Reached E s q → (r : Bytes) × Reached E ((on-lists-run.run E s cs) .0) r
@@ -45,13 +45,13 @@ module _ (role : ℕ) (M : Memory) (e : openedBy role M .reply .answer ≡ 0) (c
   held : Held (fixedIn M) (shelfIn M) (freshCs role (lentIn M)) (sizesOf (fixedIn M) (lentIn M)) end after
   held = ran role M e cs .held
 
-  took : (b : Buffer) → TookAs (fixedIn M) (shelfIn M) (freshCs role (lentIn M)) (sizesOf (fixedIn M) (lentIn M)) (M .store .short) (open-as role M e cs .short) (received (fixedIn M) end (b .bytes)) (receive (shelfIn M) after (b .bytes))
+  took : (b : Buffer) → TookAs (fixedIn M) (shelfIn M) (freshCs role (lentIn M)) (sizesOf (fixedIn M) (lentIn M)) (received (fixedIn M) end (b .bytes)) (receive (shelfIn M) after (b .bytes))
   took b =
-      receive-law (fixedIn M) (shelfIn M) (freshCs role (lentIn M)) (sizesOf (fixedIn M) (lentIn M)) (M .store .short) (open-as role M e cs .short) end after held (b .bytes) (b .octets)
+      receive-law (fixedIn M) (shelfIn M) (freshCs role (lentIn M)) (sizesOf (fixedIn M) (lentIn M)) end after held (b .bytes) (b .octets)
 
-  gave : (b : Buffer) (place : ℕ) → GaveAs (fixedIn M) (shelfIn M) (freshCs role (lentIn M)) (sizesOf (fixedIn M) (lentIn M)) (M .store .short) (open-as role M e cs .short) end (b .bytes) place after (given (fixedIn M) end (b .bytes) place)
+  gave : (b : Buffer) (place : ℕ) → GaveAs (fixedIn M) (shelfIn M) (freshCs role (lentIn M)) (sizesOf (fixedIn M) (lentIn M)) end (b .bytes) place after (given (fixedIn M) end (b .bytes) place)
   gave b place =
-      give-law (fixedIn M) (shelfIn M) (freshCs role (lentIn M)) (sizesOf (fixedIn M) (lentIn M)) (M .store .short) (open-as role M e cs .short) end after held (b .bytes) place
+      give-law (fixedIn M) (shelfIn M) (freshCs role (lentIn M)) (sizesOf (fixedIn M) (lentIn M)) end after held (b .bytes) place
 
 -- THE THEOREM
 pub demand-2-lent : Claim2

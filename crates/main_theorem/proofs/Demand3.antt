@@ -25,7 +25,6 @@ use Rattle.main_theorem.specs.Calls.{Lent, Memory, fixedIn, lentIn, size
 use Rattle.main_theorem.specs.Demand3.{openedBy, CallsOn, finally, logged, Claim}
 use Rattle.represents.proofs.Frame.{with-law}
 use Rattle.form_closed.proofs.Answers.{receive-exactly, give-exactly}
-use Rattle.main_theorem.proofs.Held.{held-form}
 use Rattle.main_theorem.proofs.Opening.{freshCs, shelfOf, accepted, OpenedAs, open-law}
 use Rattle.form_closed.proofs.Closed.{receive-one, give-one}
 use Rattle.main_theorem.proofs.Run.{other-form, RanAs, run-law}
@@ -51,9 +50,9 @@ module _ (role : ℕ) (M : Memory) (e : openedBy role M .reply .answer ≡ 0) (c
   open-as = open-law role M e
 
   -- after the list of calls
-  pub ran : RanAs F E (freshCs role m) (sizesOf F m) (M .store .short) (open-as .short) (run F (withSession m (openedBy role M .sm)) cs)
+  pub ran : RanAs F E (freshCs role m) (sizesOf F m) (run F (withSession m (openedBy role M .sm)) cs)
       (on-lists-run.run E (on-lists.opened caller states) (map callOf cs))
-  ran = run-law F E (freshCs role m) (sizesOf F m) (M .store .short) (open-as .short) cs (withSession m (openedBy role M .sm)) (on-lists.opened caller states) (open-as .held)
+  ran = run-law F E (freshCs role m) (sizesOf F m) cs (withSession m (openedBy role M .sm)) (on-lists.opened caller states) (open-as .held)
 
   on-lists-demand : on-lists-run.Demand3 E caller states (map callOf cs)
   on-lists-demand = demand-3 E (open-as .good) caller states (map callOf cs)
@@ -89,8 +88,7 @@ module _ (role : ℕ) (M : Memory) (e : openedBy role M .reply .answer ≡ 0) (c
 
   -- the memory passes the form test, so that no call that is lent it answers 1
   form-along : formOf (finally role M cs .sm) (finally role M cs .table) (F .titles) (F .names) (F .bodies) (F .known) (finally role M cs .inbox) (finally role M cs .store) ≡ true
-  form-along =
-      held-form F E (freshCs role m) (sizesOf F m) (finally role M cs) ((on-lists-run.run E (on-lists.opened caller states) (map callOf cs)) .0) (ran .held)
+  form-along = ran .held .inForm .form
 
   pub receive-not-one : (bs : Bytes) → eqb (received F (finally role M cs) bs .reply .answer) 1 ≡ false
   receive-not-one bs =

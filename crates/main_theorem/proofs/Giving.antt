@@ -3,8 +3,8 @@
 -- list; where none is left, nothing waits.
 use mathlib.Core.Path.{_≡_, refl, sym, ap, _∙_, subst}
 use mathlib.Core.Bool.{Bool, true, false, cond, not}
-use mathlib.Core.List.{List, [], _∷_, _++_}
-use Prim.Native.Nat.{ℕ, zero, suc, _+_, _-_, _≤_, _<_}
+use mathlib.Core.List.{[], _∷_, _++_}
+use Prim.Native.Nat.{ℕ, zero, suc, _+_, _-_, _≤_}
 use native.Mathlib.Omega.{arith}
 use lib.Dec.{ltb}
 use lib.ListN.{length, take, drop, length-take, length-drop, drop-of-length-le}
@@ -12,33 +12,29 @@ use lib.Seq.{drop-drop, drop-nil, take-nil, drop-at, take-append-seam, length-ta
 use borrow.Author.Tests.{ltb-true, ltb-false}
 use Rattle.grammar.specs.Bytes.{Bytes, null}
 use Rattle.grammar.specs.Refusals.{badMemory}
-use Rattle.grammar.proofs.Basics.{no-both, by-cond, by-test}
-use Rattle.mail.specs.Mail.{Record, transferOf, recordAt}
+use Rattle.grammar.proofs.Basics.{no-both, by-cond}
 use Rattle.session.specs.Choices.{Shelf}
 use Rattle.session.specs.Session as on-lists
 use Rattle.session.specs.Calls.{handedOut, give}
 use Rattle.buffer.specs.Put.{wrote, putBytes}
 use Rattle.buffer.proofs.Laws.{wrote-nil}
 use Rattle.transfer_read.proofs.Untouched.{kept-same}
-use Rattle.layout.specs.Layout.{entryAt, recordSize, recordOf}
 use Rattle.session_memory.specs.State.{loadOf, saveOf}
 use Rattle.session_memory.specs.declared.Session.{Session}
 use Rattle.session_memory.specs.declared.Sizes.{Sizes}
 use Rattle.waiting.specs.Waiting.{waitingOf, firstText, thenText}
 use Rattle.pending.specs.Pending.{waits, overOf, hasToGive, silentOf}
-use Rattle.waiting.proofs.Short.{waiting-short}
 use Rattle.give.specs.Giving.{Given, reply, handedOf, handing, giveOf}
 use Rattle.receive_defined.specs.Receiving.{Cs, cs}
 use Rattle.form_closed.specs.Fixed.{Fixed}
 use Rattle.represents.specs.Represents.{Says, Awaits, Represents}
 use Rattle.represents.specs.Frame.{Spared}
 use Rattle.main_theorem.specs.Calls.{Lent, withSession, given}
-use Rattle.represents.proofs.Table.{record-at}
 use Rattle.represents.proofs.Frame.{only-same}
 use Rattle.represents.proofs.Byte.{waits-law, over-law}
-use Rattle.represents.proofs.Small.{Small, word}
-use Rattle.main_theorem.proofs.Held.{csOf, Held, held-form, saved-held}
+use Rattle.main_theorem.proofs.Held.{csOf, Held, saved-held, held-good}
 use Rattle.represents.proofs.Parts.{represents, block-of, signs-of, holds-of, rest-of}
+use Rattle.form_closed.proofs.Closed.{handed-ok}
 
 -- ---------------------------------------------------------------- lists
 
@@ -130,14 +126,6 @@ module _ (F : Fixed) (E : Shelf) (c : Cs) (s : on-lists.Session) (h : Represents
           resaid F E c 0 0 0 (λ q. refl) s (drop room (s .out)) h
           (record { toGive = none-left (ltb-false (c .session .say .pos + count) (length waiting) e); some = λ w. absurd (no-both false w refl) })
 
-  -- the position fits its eight bytes
-  hand-small : length waiting < word → Small (c .session) → Small (handedOf (c .session) count (length waiting))
-  unfolding handedOf silentOf
-  hand-small l k =
-      by-test Small (ltb (c .session .say .pos + count) (length waiting))
-      (λ e. record { pos = let g = ltb-true (c .session .say .pos + count) (length waiting) e in omega arith; fine = k .fine })
-      (λ e. record { pos = omega arith; fine = k .fine })
-
   hand-spared : Spared c (cs (handedOf (c .session) count (length waiting)) (c .table) (c .inbox) (c .store))
   unfolding handedOf silentOf
   hand-spared =
@@ -149,20 +137,7 @@ module _ (F : Fixed) (E : Shelf) (c : Cs) (s : on-lists.Session) (h : Represents
 
 -- ---------------------------------------------------------------- the call
 
--- open has looked at the texts of these records
-abbrev pub Short : List Record → Type 0
-Short T = (i : ℕ) → length (transferOf (recordAt T i)) ≤ 200000
-
-module _ (F : Fixed) (E : Shelf) (c₀ : Cs) (z : Sizes) (roomy : E .bytes < word) (short : Short (E .table)) where
-  short-waiting : (c : Cs) (s : on-lists.Session) → Represents F E c s → length (waitingOf (c .session) (c .table) (F .titles) (F .names) (F .bodies)) < word
-  short-waiting c s h =
-      let each : (i : ℕ) → length (transferOf (recordOf (F .titles) (F .names) (F .bodies) (entryAt recordSize (c .table) i))) ≤ 200000 = λ i.
-      subst (λ (r : Record). length (transferOf r) ≤ 200000)
-      (ap (λ (T : List Record). recordAt T i) (sym (h .shelved .records)) ∙ record-at (F .titles) (F .names) (F .bodies) (c .table) i (h .shelved .table))
-      (short i) in
-      let a = h .arrays in
-      omega (arith, waiting-short (c .table) (F .titles) (F .names) (F .bodies) each (c .session) (a .ours) (a .signs) (a .sending))
-
+module _ (F : Fixed) (E : Shelf) (c₀ : Cs) (z : Sizes) where
   pub record GaveAs (m : Lent) (buf : Bytes) (place : ℕ) (s : on-lists.Session) (g : Given) : Type 0 where
     pub answer : g .reply .answer ≡ 0
     pub count : g .reply .count ≡ length (handedOut s (length buf - place))
@@ -197,15 +172,16 @@ module _ (F : Fixed) (E : Shelf) (c₀ : Cs) (z : Sizes) (roomy : E .bytes < wor
           count = ap (λ (o : Bytes). length (take space o)) e;
           buffer = ap (λ (o : Bytes). wrote buf place (take space o)) e;
           held = subst (λ (o : Bytes). Held F E c₀ z (withSession m (saveOf (m .sm) (handedOf (loadOf (m .sm)) (length (take space o)) (length lot)))) (give s space)) (sym e)
-              (saved-held F E c₀ z roomy m s h (cs left (m .table) (m .inbox) (m .store)) (give s space) (hand-law F E c s (h .represents) space)
-              (hand-spared F E c s (h .represents) space) (hand-small F E c s (h .represents) space (short-waiting c s (h .represents)) (h .small)));
+              (saved-held F E c₀ z m s h (cs left (m .table) (m .inbox) (m .store)) (give s space)
+              (handed-ok F (length (m .table)) (length (m .inbox)) (length (m .store)) c (held-good F E c₀ z m s h) (length (take space (s .out))))
+              (hand-law F E c s (h .represents) space) (hand-spared F E c s (h .represents) space));
         }
 
     pub give-law : GaveAs m buf place s (given F m buf place)
     unfolding giveOf hasToGive
     give-law =
         subst (λ (q : Bool). GaveAs m buf place s (cond q asked (record { reply = reply badMemory 255 0; sm = m .sm; buf = buf })))
-        (sym (held-form F E c₀ z m s h)) (go (hasToGive (loadOf (m .sm))) (ltb place (length buf)) refl refl)
+        (sym (h .inForm .form)) (go (hasToGive (loadOf (m .sm))) (ltb place (length buf)) refl refl)
       where
         same : Given
         same = record { reply = reply 0 0 0; sm = m .sm; buf = buf }

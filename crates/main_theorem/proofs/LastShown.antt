@@ -3,7 +3,7 @@
 use mathlib.Core.Path.{_≡_, refl, sym, ap, _∙_, subst}
 use mathlib.Core.Bool.{Bool, true, false, cond, not}
 use mathlib.Core.List.{List, [], _∷_, map}
-use Prim.Native.Nat.{ℕ, suc, _-_, _<_}
+use Prim.Native.Nat.{ℕ, suc, _-_}
 use native.Mathlib.Omega.{arith}
 use lib.Dec.{eqb}
 use lib.ListN.{length}
@@ -28,10 +28,9 @@ use Rattle.main_theorem.specs.Calls.{Lent, Call, receives, gives, receiv
 use Rattle.main_theorem.specs.Store.{lastByte, lastLive}
 use Rattle.represents.proofs.Byte.{over-law, byte-law, same-stops, spared-then}
 use Rattle.form_closed.proofs.Closed.{receive-one, give-one}
-use Rattle.main_theorem.proofs.Giving.{Short, give-law}
-use Rattle.main_theorem.proofs.Held.{csOf, Held, held-form}
+use Rattle.main_theorem.proofs.Giving.{give-law}
+use Rattle.main_theorem.proofs.Held.{csOf, Held}
 use Rattle.main_theorem.proofs.Run.{other-form, receive-law}
-use Rattle.represents.proofs.Small.{word}
 use Rattle.represents.proofs.Stays.{byte-stays}
 
 -- c₀: the state and the lent bytes as open left them
@@ -77,20 +76,20 @@ module _ (F : Fixed) (E : Shelf) (c₀ : Cs) where
     received-store : (m : Lent) (s : on-lists.Session) → Held F E c₀ z m s → on-lists.ended s ≡ false → (bs : Bytes)
         → received F m bs .store ≡ receiveFrom (F .known) (csOf m) 0 bs .cs .store
     unfolding receiveOf receiveFrom
-    received-store m s h live [] = rw (held-form F E c₀ z m s h, over-law F E (csOf m) s (h .represents) ∙ live)
+    received-store m s h live [] = rw (h .inForm .form, over-law F E (csOf m) s (h .represents) ∙ live)
     received-store m s h live (b ∷ bs) =
-        rw (held-form F E c₀ z m s h, over-law F E (csOf m) s (h .represents) ∙ live, ne-eqb (length (b ∷ bs)) 0 (λ e. omega arith))
+        rw (h .inForm .form, over-law F E (csOf m) s (h .represents) ∙ live, ne-eqb (length (b ∷ bs)) 0 (λ e. omega arith))
 
     -- on an ended session no call changes anything
     received-over : (m : Lent) (s : on-lists.Session) → Held F E c₀ z m s → on-lists.ended s ≡ true → (bs : Bytes)
         → received F m bs ≡ unchanged (reply sessionEnded 0 0) (m .sm) (m .table) (m .inbox) (m .store)
     unfolding receiveOf
-    received-over m s h e bs = rw (held-form F E c₀ z m s h, over-law F E (csOf m) s (h .represents) ∙ e)
+    received-over m s h e bs = rw (h .inForm .form, over-law F E (csOf m) s (h .represents) ∙ e)
 
     given-over : (m : Lent) (s : on-lists.Session) → Held F E c₀ z m s → on-lists.ended s ≡ true → (buf : Bytes) (place : ℕ)
         → given F m buf place ≡ record { reply = reply 0 0 0; sm = m .sm; buf = buf }
     unfolding giveOf hasToGive
-    given-over m s h e buf place = rw (held-form F E c₀ z m s h, over-law F E (csOf m) s (h .represents) ∙ e)
+    given-over m s h e buf place = rw (h .inForm .form, over-law F E (csOf m) s (h .represents) ∙ e)
 
     over-stays : (cs : List (Call z)) (m : Lent) (s : on-lists.Session) → Held F E c₀ z m s → on-lists.ended s ≡ true → (lent-calls.run F m cs) .0 .store ≡ m .store
     over-stays [] m s h e = refl
@@ -107,48 +106,47 @@ module _ (F : Fixed) (E : Shelf) (c₀ : Cs) where
         (give-one (o .fixed) (m .sm) (o .table) (o .inbox) (o .store) (b .bytes) place (other-form (m .sm) z o (h .sizes)))
         ∙ over-stays cs m s h e
 
-    module _ (roomy : E .bytes < word) (short : Short (E .table)) where
-      -- a list of calls: of the session just before its end, or after them
-      pub calls-last : (cs : List (Call z)) (m : Lent) (s : on-lists.Session) → Held F E c₀ z m s → on-lists.ended s ≡ false
-          → Shown (lastLive E s (map callOf cs)) ((lent-calls.run F m cs) .0 .store)
-      calls-last [] m s h live = record { state = csOf m; represents = h .represents; spared = h .spared; same = refl }
-      calls-last (receives b ∷ cs) m s h live = go (on-lists.ended (q .session)) refl (λ e. calls-last cs (leftBy r) (q .session) after e)
-        where
-          r : Received
-          r = received F m (b .bytes)
+    -- a list of calls: of the session just before its end, or after them
+    pub calls-last : (cs : List (Call z)) (m : Lent) (s : on-lists.Session) → Held F E c₀ z m s → on-lists.ended s ≡ false
+        → Shown (lastLive E s (map callOf cs)) ((lent-calls.run F m cs) .0 .store)
+    calls-last [] m s h live = record { state = csOf m; represents = h .represents; spared = h .spared; same = refl }
+    calls-last (receives b ∷ cs) m s h live = go (on-lists.ended (q .session)) refl (λ e. calls-last cs (leftBy r) (q .session) after e)
+      where
+        r : Received
+        r = received F m (b .bytes)
 
-          q : calls.Received
-          q = calls.receive E s (b .bytes)
+        q : calls.Received
+        q = calls.receive E s (b .bytes)
 
-          after : Held F E c₀ z (leftBy r) (q .session)
-          after = receive-law F E c₀ z roomy short m s h (b .bytes) (b .octets) .held
+        after : Held F E c₀ z (leftBy r) (q .session)
+        after = receive-law F E c₀ z m s h (b .bytes) (b .octets) .held
 
-          go : (e : Bool) → on-lists.ended (q .session) ≡ e
-              → (on-lists.ended (q .session) ≡ false → Shown (lastLive E (q .session) (map callOf cs)) ((lent-calls.run F (leftBy r) cs) .0 .store))
-              → Shown (cond e (lastByte E s (b .bytes)) (lastLive E (q .session) (map callOf cs))) ((lent-calls.run F (leftBy r) cs) .0 .store)
-          go true e f =
-              subst (λ (l : Bytes). Shown (lastByte E s (b .bytes)) l) (sym (over-stays cs (leftBy r) (q .session) after e ∙ received-store m s h live (b .bytes)))
-              (bytes-last (csOf m) s 0 (b .bytes) (h .represents) (h .spared) live)
-          go false e f = f e
-      calls-last (gives b place ∷ cs) m s h live = go (on-lists.ended (calls.give s room)) refl (λ e. calls-last cs left (calls.give s room) after e)
-        where
-          room : ℕ
-          room = length (b .bytes) - place
+        go : (e : Bool) → on-lists.ended (q .session) ≡ e
+            → (on-lists.ended (q .session) ≡ false → Shown (lastLive E (q .session) (map callOf cs)) ((lent-calls.run F (leftBy r) cs) .0 .store))
+            → Shown (cond e (lastByte E s (b .bytes)) (lastLive E (q .session) (map callOf cs))) ((lent-calls.run F (leftBy r) cs) .0 .store)
+        go true e f =
+            subst (λ (l : Bytes). Shown (lastByte E s (b .bytes)) l) (sym (over-stays cs (leftBy r) (q .session) after e ∙ received-store m s h live (b .bytes)))
+            (bytes-last (csOf m) s 0 (b .bytes) (h .represents) (h .spared) live)
+        go false e f = f e
+    calls-last (gives b place ∷ cs) m s h live = go (on-lists.ended (calls.give s room)) refl (λ e. calls-last cs left (calls.give s room) after e)
+      where
+        room : ℕ
+        room = length (b .bytes) - place
 
-          left : Lent
-          left = withSession m (given F m (b .bytes) place .sm)
+        left : Lent
+        left = withSession m (given F m (b .bytes) place .sm)
 
-          after : Held F E c₀ z left (calls.give s room)
-          after = give-law F E c₀ z roomy short m s h (b .bytes) place .held
+        after : Held F E c₀ z left (calls.give s room)
+        after = give-law F E c₀ z m s h (b .bytes) place .held
 
-          go : (e : Bool) → on-lists.ended (calls.give s room) ≡ e
-              → (on-lists.ended (calls.give s room) ≡ false → Shown (lastLive E (calls.give s room) (map callOf cs)) ((lent-calls.run F left cs) .0 .store))
-              → Shown (cond e s (lastLive E (calls.give s room) (map callOf cs))) ((lent-calls.run F left cs) .0 .store)
-          go true e f = record { state = csOf m; represents = h .represents; spared = h .spared; same = sym (over-stays cs left (calls.give s room) after e) }
-          go false e f = f e
-      calls-last (receivesOther o b ∷ cs) m s h live =
-          subst (λ (r : Received). Shown (lastLive E s (map callOf cs)) ((lent-calls.run F (withSession m (r .sm)) cs) .0 .store))
-          (sym (receive-one (o .fixed) (m .sm) (o .table) (o .inbox) (o .store) (b .bytes) (other-form (m .sm) z o (h .sizes)))) (calls-last cs m s h live)
-      calls-last (givesOther o b place ∷ cs) m s h live =
-          subst (λ (g : Given). Shown (lastLive E s (map callOf cs)) ((lent-calls.run F (withSession m (g .sm)) cs) .0 .store))
-          (sym (give-one (o .fixed) (m .sm) (o .table) (o .inbox) (o .store) (b .bytes) place (other-form (m .sm) z o (h .sizes)))) (calls-last cs m s h live)
+        go : (e : Bool) → on-lists.ended (calls.give s room) ≡ e
+            → (on-lists.ended (calls.give s room) ≡ false → Shown (lastLive E (calls.give s room) (map callOf cs)) ((lent-calls.run F left cs) .0 .store))
+            → Shown (cond e s (lastLive E (calls.give s room) (map callOf cs))) ((lent-calls.run F left cs) .0 .store)
+        go true e f = record { state = csOf m; represents = h .represents; spared = h .spared; same = sym (over-stays cs left (calls.give s room) after e) }
+        go false e f = f e
+    calls-last (receivesOther o b ∷ cs) m s h live =
+        subst (λ (r : Received). Shown (lastLive E s (map callOf cs)) ((lent-calls.run F (withSession m (r .sm)) cs) .0 .store))
+        (sym (receive-one (o .fixed) (m .sm) (o .table) (o .inbox) (o .store) (b .bytes) (other-form (m .sm) z o (h .sizes)))) (calls-last cs m s h live)
+    calls-last (givesOther o b place ∷ cs) m s h live =
+        subst (λ (g : Given). Shown (lastLive E s (map callOf cs)) ((lent-calls.run F (withSession m (g .sm)) cs) .0 .store))
+        (sym (give-one (o .fixed) (m .sm) (o .table) (o .inbox) (o .store) (b .bytes) place (other-form (m .sm) z o (h .sizes)))) (calls-last cs m s h live)

@@ -12,26 +12,27 @@ use Rattle.grammar.proofs.Basics.{and2, no-both}
 use Rattle.session.specs.Choices.{Shelf}
 use Rattle.session.specs.Session as on-lists
 use Rattle.demand3.specs.Demand.{Good}
-use Rattle.session_memory.specs.State.{sessionSize, loadOf, saveOf, sizesOut, saveSizes, freshOf}
+use Rattle.session_memory.specs.State.{sessionSize, loadOf, saveOf, saveSizes, freshOf}
 use Rattle.session_memory.specs.declared.Session.{Session}
-use Rattle.session_memory.proofs.Laws.{Sized, load-save, load-sizes, save-length, sizes-length, sizes-saved, save-sizes-kept, fresh-shaped}
+use Rattle.session_memory.proofs.Laws.{Sized, load-save, load-sizes, sizes-length, save-sizes-kept, fresh-shaped}
 use Rattle.choice.specs.Decoded.{recordsOf, statesOf, knownBids, placeCount, recordCount}
 use Rattle.waiting.specs.Waiting.{waitingOf, firstText, thenText}
 use Rattle.pending.specs.Pending.{waits}
-use Rattle.form_test.specs.Form.{markOk, usedBy}
+use Rattle.form_test.specs.Form.{usedBy}
 use Rattle.give.specs.Giving.{reply}
 use Rattle.open.specs.Opening.{Opened, opened, entriesOk, sizesOk, knownOk, tableFault, openOf}
 use Rattle.receive_defined.specs.Receiving.{Cs, cs}
 use Rattle.form_closed.specs.Fixed.{Fixed}
 use Rattle.represents.specs.Represents.{Says, Awaits, Represents, messagesOf}
 use Rattle.represents.specs.Frame.{Spared}
-use Rattle.main_theorem.specs.Calls.{Lent, Memory, fixedIn, lentIn, openedOn, sizesOf, withSession}
+use Rattle.main_theorem.specs.Calls.{Lent, Memory, fixedIn, lentIn, openedOn, sizesOf, withSession, Buffer}
 use Rattle.main_theorem.specs.Demand3.{openedBy}
 use Rattle.represents.proofs.Byte.{spared-same}
-use Rattle.represents.proofs.Small.{Small}
-use Rattle.main_theorem.proofs.Held.{mark-kept, Held}
-use Rattle.main_theorem.proofs.Giving.{Short}
-use Rattle.main_theorem.proofs.Accepted.{table-good, table-short}
+use Rattle.main_theorem.proofs.Held.{Held}
+use Rattle.main_theorem.proofs.Accepted.{table-good}
+use Rattle.form_closed.proofs.Closed.{open-closed}
+use Rattle.form_closed.specs.InForm.{InForm}
+use Rattle.form_closed.specs.Facts.{Octets}
 
 -- ---------------------------------------------------------------- what open has looked at
 
@@ -161,27 +162,16 @@ module _ (role : ℕ) (F : Fixed) (m : Lent) (a : Accepted role F m) where
         flags = refl;
       }
 
-  fresh-small : (caller : Bool) → Small (freshOf caller)
-  unfolding freshOf
-  fresh-small caller = record { pos = omega arith; fine = record { left = omega arith; body = omega arith } }
-
-  -- the mark that open leaves
-  mark-new : markOk (saveSizes (m .sm) (sizesOf F m)) ≡ true
-  unfolding sizesOut
-  mark-new = ap markOk (sizes-saved (m .sm) (sizesOf F m) (let e = a .session in omega arith))
-
 -- ---------------------------------------------------------------- the call
 
 pub record OpenedAs (role : ℕ) (F : Fixed) (m : Lent) : Type 0 where
   pub good : Good (shelfOf F m .table)
-  pub short : Short (shelfOf F m .table)
   pub held : Held F (shelfOf F m) (freshCs role m) (sizesOf F m) (withSession m (openedOn role F m .sm)) (on-lists.opened (eqb role 1) (statesOf (m .table)))
 
 pub open-law : (role : ℕ) (M : Memory) → openedBy role M .reply .answer ≡ 0 → OpenedAs role (fixedIn M) (lentIn M)
 open-law role M e =
     record {
       good = table-good (m .table) (F .titles) (F .names) (F .bodies) (a .fault);
-      short = table-short (m .table) (F .titles) (F .names) (F .bodies) (a .fault);
       held = subst (λ (x : Bytes). Held F (shelfOf F m) (freshCs role m) (sizesOf F m) (withSession m x) (on-lists.opened (eqb role 1) (statesOf (m .table)))) (sym (a .left)) held;
     }
   where
@@ -194,6 +184,9 @@ open-law role M e =
     a : Accepted role F m
     a = accepted role F m e
 
+    octets : (b : Buffer) → Octets (b .bytes)
+    octets b = record { each = b .octets }
+
     caller : Bool
     caller = eqb role 1
 
@@ -204,9 +197,6 @@ open-law role M e =
         let i = a .inbox in
         record { table = omega arith; titles = M .titles .short; names = M .names .short; bodies = M .bodies .short; known = omega arith; inbox = omega arith; store = M .store .short }
 
-    long : 60 ≤ length (m .sm)
-    long = let n = a .session in omega arith
-
     n : length (saveSizes (m .sm) (sizesOf F m)) ≡ 876
     n = sizes-length (m .sm) (sizesOf F m) ∙ a .session
 
@@ -216,11 +206,9 @@ open-law role M e =
     held : Held F (shelfOf F m) (freshCs role m) (sizesOf F m) (withSession m (fresh role F m)) (on-lists.opened caller (statesOf (m .table)))
     held =
         record {
-          size = save-length (saveSizes (m .sm) (sizesOf F m)) (freshOf caller) ∙ n;
-          mark = mark-kept (saveSizes (m .sm) (sizesOf F m)) (freshOf caller) n ∙ mark-new role F m a;
-          sizes = save-sizes-kept (saveSizes (m .sm) (sizesOf F m)) (freshOf caller) (let k = n in omega arith) ∙ load-sizes (m .sm) (sizesOf F m) long sized;
-          lent = refl;
+          inForm = subst (λ (x : Bytes). InForm F x (m .table) (m .inbox) (m .store)) (a .left)
+              (open-closed F role (m .sm) (m .table) (m .inbox) (m .store) (octets (M .session)) (octets (M .table)) (octets (M .inbox)) (octets (M .store)) sized e);
+          sizes = save-sizes-kept (saveSizes (m .sm) (sizesOf F m)) (freshOf caller) (let k = n in omega arith) ∙ load-sizes (m .sm) (sizesOf F m) (omega (arith, a .session)) sized;
           represents = subst (λ (x : Session). Represents F (shelfOf F m) (cs x (m .table) (m .inbox) (m .store)) (on-lists.opened caller (statesOf (m .table)))) (sym back) (fresh-represents role F m a caller);
           spared = subst (λ (x : Session). Spared (freshCs role m) (cs x (m .table) (m .inbox) (m .store))) (sym back) (spared-same (freshCs role m));
-          small = subst Small (sym back) (fresh-small role F m a caller);
         }

@@ -3,7 +3,7 @@
 use mathlib.Core.Path.{_≡_, refl, sym, ap, _∙_, subst}
 use mathlib.Core.Bool.{Bool, true, false, cond, _&&_}
 use mathlib.Core.List.{List, [], _∷_, _++_, map}
-use Prim.Native.Nat.{ℕ, _-_, _<_}
+use Prim.Native.Nat.{ℕ, _-_}
 use native.Mathlib.Nat.{zero-add}
 use native.Mathlib.Omega.{arith}
 use lib.Dec.{eqb}
@@ -29,9 +29,9 @@ use Rattle.main_theorem.specs.Calls.{Lent, Call, receives, gives, receiv
 use Rattle.form_closed.proofs.Closed.{receive-one, give-one}
 use Rattle.represents.proofs.Byte as byte
 use Rattle.represents.proofs.Byte.{over-law}
-use Rattle.represents.proofs.Small.{word, receive-small}
-use Rattle.main_theorem.proofs.Held.{csOf, Held, held-form, saved-held}
-use Rattle.main_theorem.proofs.Giving.{Short, given-back, give-law}
+use Rattle.main_theorem.proofs.Held.{csOf, Held, saved-held, held-good}
+use Rattle.main_theorem.proofs.Giving.{given-back, give-law}
+use Rattle.form_closed.proofs.Bytes.{receive-ok}
 
 length-zero : (l : Bytes) → length l ≡ 0 → l ≡ []
 length-zero [] e = refl
@@ -51,7 +51,7 @@ other-form sm z o e =
 
 -- ---------------------------------------------------------------- one call
 
-module _ (F : Fixed) (E : Shelf) (c₀ : Cs) (z : Sizes) (roomy : E .bytes < word) (short : Short (E .table)) where
+module _ (F : Fixed) (E : Shelf) (c₀ : Cs) (z : Sizes) where
   pub record TookAs (r : Received) (q : on-lists-calls.Received) : Type 0 where
     pub answer : r .reply .answer ≡ q .answer
     pub count : r .reply .count ≡ q .count
@@ -62,7 +62,7 @@ module _ (F : Fixed) (E : Shelf) (c₀ : Cs) (z : Sizes) (roomy : E .bytes < wor
   unfolding receiveOf on-lists-calls.receive
   receive-law m s h bs o =
       subst (λ (b : Bool). TookAs (cond b asked (unchanged (reply badMemory 255 0) (m .sm) (m .table) (m .inbox) (m .store))) (on-lists-calls.receive E s bs))
-      (sym (held-form F E c₀ z m s h)) (go (overOf (loadOf (m .sm))) (on-lists.ended s) (over-law F E (csOf m) s (h .represents)) refl)
+      (sym (h .inForm .form)) (go (overOf (loadOf (m .sm))) (on-lists.ended s) (over-law F E (csOf m) s (h .represents)) refl)
     where
       over : Received
       over = unchanged (reply sessionEnded 0 0) (m .sm) (m .table) (m .inbox) (m .store)
@@ -85,8 +85,9 @@ module _ (F : Fixed) (E : Shelf) (c₀ : Cs) (z : Sizes) (roomy : E .bytes < wor
           record {
             answer = r .answer;
             count = r .count ∙ zero-add _;
-            held = saved-held F E c₀ z roomy m s h (fed .cs) (on-lists-calls.receiveOn E s bs .session) (r .represents) (r .spared)
-                (receive-small (F .known) bs (csOf m) 0 o (h .small));
+            held = saved-held F E c₀ z m s h (fed .cs) (on-lists-calls.receiveOn E s bs .session)
+                (receive-ok F (length (m .table)) (length (m .inbox)) (length (m .store)) (F .known) bs (csOf m) 0 (record { each = o }) (held-good F E c₀ z m s h))
+                (r .represents) (r .spared);
           }
 
       go : (a b : Bool) → a ≡ b → on-lists.ended s ≡ b
@@ -114,7 +115,7 @@ module _ (F : Fixed) (E : Shelf) (c₀ : Cs) (z : Sizes) (roomy : E .bytes < wor
       }
   run-law (gives b place ∷ cs) m s h =
       let buf : Bytes = b .bytes in
-      let t = give-law F E c₀ z roomy short m s h buf place in
+      let t = give-law F E c₀ z m s h buf place in
       let g = run-law cs (withSession m (given F m buf place .sm)) (on-lists-calls.give s (length buf - place)) (t .held) in
       let o = on-lists-calls.handedOut s (length buf - place) in
       let w : take (given F m buf place .reply .count) (drop place (given F m buf place .buf)) ≡ o =

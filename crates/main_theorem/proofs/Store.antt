@@ -47,5 +47,5 @@ store-exactly role M e cs =
 
     shown : Shown F E (freshCs role (lentIn M)) (lastOf role M cs) (finally role M cs .store)
     shown =
-        calls-last F E (freshCs role (lentIn M)) (sizesOf F (lentIn M)) (M .store .short) (open-as role M e cs .short) cs (withSession (lentIn M) (openedBy role M .sm)) first
+        calls-last F E (freshCs role (lentIn M)) (sizesOf F (lentIn M)) cs (withSession (lentIn M) (openedBy role M .sm)) first
         (open-as role M e cs .held) at-open

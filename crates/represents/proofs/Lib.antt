@@ -1,7 +1,6 @@
 -- Lists, Table, Inbox, Proposals: entries in lent memory as lists. Choices, Says: what we choose and say. Parts, Settle, Leads: the relation
 -- in parts, and what a line or transfer leaves of it. Line, Answer, LineStep: a byte of a line. Transfer, Keep, TransferStep: a byte of a
--- transfer. Byte: any byte, and a receive. Frame, Stays: what is left alone. Laid: entries and bodies byte for byte. Small: numbers that must fit their
--- bytes. InForm: the form test.
+-- transfer. Byte: any byte, and a receive. Frame, Stays: what is left alone. Laid: entries and bodies byte for byte.
 pub mod Lists
 pub mod Table
 pub mod Frame
@@ -21,5 +20,3 @@ pub mod TransferStep
 pub mod Byte
 pub mod Stays
 pub mod Laid
-pub mod Small
-pub mod InForm

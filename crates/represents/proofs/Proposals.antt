@@ -30,7 +30,6 @@ use Rattle.choice.proofs.Laws.{entries-length, entries-at}
 use Rattle.line_effect.specs.Judge.{plusFrom}
 use Rattle.session_memory.specs.State.{at, held}
 use Rattle.session_memory.specs.declared.Five.{Five}
-use Rattle.form_test.specs.Form.{pluses}
 use Rattle.represents.specs.Represents.{Written, signsIn}
 use Rattle.represents.proofs.Lists.{FiveOk, entries-same, entries-snoc}
 
@@ -103,18 +102,6 @@ signs-back [] = refl
 signs-back (accept ∷ ss) = ap (λ (l : List Sign). accept ∷ l) (signs-back ss)
 signs-back (decline ∷ ss) = ap (λ (l : List Sign). decline ∷ l) (signs-back ss)
 signs-back (defer ∷ ss) = ap (λ (l : List Sign). defer ∷ l) (signs-back ss)
-
--- as many are accepted as there are `+`
-pub accepted-pluses : {A : Type 0} (bs : List ℕ) (xs : List A) → length bs ≡ length xs → length (accepted (signsIn bs) xs) ≡ pluses bs
-accepted-pluses [] xs h = refl
-accepted-pluses (b ∷ bs) [] h = absurd (omega arith)
-accepted-pluses (b ∷ bs) (x ∷ xs) h = go (eqb b 43) (eqb b 45) (accepted-pluses bs xs (omega arith))
-  where
-    go : (c d : Bool) → length (accepted (signsIn bs) xs) ≡ pluses bs
-        → length (accepted (cond c accept (cond d decline defer) ∷ signsIn bs) (x ∷ xs)) ≡ cond c (suc (pluses bs)) (pluses bs)
-    go true d e = ap suc e
-    go false true e = e
-    go false false e = e
 
 -- i is k and some steps on, there stands a `+`, and from there on p and qs are accepted
 pub record Ahead (bs : List ℕ) (ps : List Proposal) (k i : ℕ) (p : Proposal) (qs : List Proposal) : Type 0 where
