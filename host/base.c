@@ -1,5 +1,6 @@
 /* A base is made, opened, locked and closed. */
 #include "base.h"
+#include "partner.h"
 #include "say.h"
 #include "schema.h"
 #include "statement.h"
@@ -232,8 +233,8 @@ static bool fill_new(struct base *base, const char *call, const char *partner)
     version = schema_version(base);
     if (version > 0)
         say("%s: there is a base already", base->path);
-    return version == 0 && schema_lift(base, version) && base_set_station(base, part_of(call), part_of(partner)) && base_commit(base)
-        && settle(base);
+    return version == 0 && schema_lift(base, version) && base_set_station(base, part_of(call), part_of(partner))
+        && (!*partner || partner_set(base, part_of(partner), part_of(""))) && base_commit(base) && settle(base);
 }
 
 /* What an init that was killed has left, an empty file or one that SQLite takes back to that, is filled by the next. */

@@ -114,6 +114,18 @@ bool base_release(struct base *base, struct part bid, bool *found)
 
 /* ---- questions */
 
+int base_has(struct base *base, const struct message *message)
+{
+#define ALIKE "form = ?1 AND type = ?2 AND \"from\" = ?3 AND at = ?4 AND \"to\" = ?5 AND bid = ?6 AND title = ?7 AND name = ?8 AND body = ?9"
+    sqlite3_stmt *statement = base_prepare(base,
+        "SELECT EXISTS (SELECT 1 FROM outbox WHERE " ALIKE ") OR EXISTS (SELECT 1 FROM inbox WHERE " ALIKE ")");
+    long long has = 0;
+
+    if (statement)
+        bind_message(statement, message);
+    return base_number(base, statement, &has) ? has > 0 : -1;
+}
+
 bool base_next(struct base *base, long long *number)
 {
     const char *sql = "SELECT coalesce((SELECT seq FROM sqlite_sequence WHERE name = 'outbox'), 0) + 1";

@@ -1,17 +1,34 @@
 /* Fringemole's reference host: a port and a message base, and between them the library's three calls, which decide everything. */
 #include "boxes.h"
+#include "call.h"
 #include "login.h"
 #include "options.h"
 #include "session.h"
 #include "stop.h"
 
+#include <errno.h>
 #include <signal.h>
+#include <stdio.h>
 #include <string.h>
 #include <unistd.h>
 
+/* An option may be left out, but is a callsign if it is there. */
+static bool callsign(const char *option, const char *text, struct call *call)
+{
+    bool right = call_read(part_of(text), call) || !*text;
+
+    if (!right)
+        say("%s: %s is no callsign (3 to 6 letters and digits, at least one of each)", option, text);
+    return right;
+}
+
 static enum exit_code initialize(const struct options *options)
 {
-    return base_make(options->base, options->call, options->partner) ? DONE : BAD_BASE;
+    struct call call, partner;
+
+    if (!callsign("--call", options->call, &call) || !callsign("--partner", options->partner, &partner))
+        return BAD_USAGE;
+    return base_make(options->base, call.text, partner.text) ? DONE : BAD_BASE;
 }
 
 /* ---- sessions */
@@ -64,7 +81,8 @@ static enum exit_code run_session(const struct port *port, const struct options 
     progress_start(&link.progress, options->progress, !options->transcript || strcmp(options->transcript, "-"));
     if (transcript_open(&link.transcript, options->transcript)) {
         code = run_on(&link, options, options->caller ? FRINGEMOLE_CALLER : options->called ? FRINGEMOLE_CALLED : role);
-        transcript_close(&link.transcript);
+        if (!transcript_close(&link.transcript) && code == DONE)
+            code = FAILED;
     } else {
         port_drop(&link.port);
     }
@@ -133,7 +151,7 @@ struct command {
 };
 
 static const struct command commands[] = {
-    { "init", 0, 0, initialize }, { "import", 1, 9999, boxes_import }, { "export", 1, 1, boxes_export }, { "list", 0, 0, boxes_list },
+    { "init", 0, 0, initialize }, { "import", 1, 9999, boxes_import }, { "export", 1, 1, boxes_export }, { "list", 0, 0, boxes_list }, { "sessions", 0, 0, boxes_sessions },
     { "release", 1, 9999, boxes_release }, { "call", 1, 1, call }, { "listen", 1, 1, listen_for }, { "stdio", 0, 0, standard },
     { "serial", 2, 2, serial }
 };
@@ -148,11 +166,24 @@ static enum exit_code run(const struct options *options)
             continue;
         if (options->count >= command->least && options->count <= command->most)
             return command->run(options);
-        say("%s: wrong number of arguments; see --help", command->name);
+        if (options->count > command->most && options->transcript && !strcmp(options->transcript, "-"))
+            say("%s: too many arguments; a transcript's file stands after =, as in --transcript=FILE", command->name);
+        else
+            say("%s: wrong number of arguments; see --help", command->name);
         return BAD_USAGE;
     }
     say("%s: no such command; see --help", options->command);
     return BAD_USAGE;
+}
+
+/* Whether all that was printed got out. */
+static enum exit_code printed(enum exit_code code)
+{
+    if (fflush(stdout) == 0 && !ferror(stdout))
+        return code;
+    if (!stop_asked())
+        say("standard output: %s", strerror(errno));
+    return code == DONE ? FAILED : code;
 }
 
 int main(int count, char **words)
@@ -166,13 +197,17 @@ int main(int count, char **words)
         return BAD_USAGE;
     if (options.command && !strcmp(options.command, "--help")) {
         options_help();
-        return DONE;
+        return printed(DONE);
+    }
+    if (options.command && !strcmp(options.command, "--version")) {
+        options_version();
+        return printed(DONE);
     }
     if (!options.command || (options.caller && options.called)) {
         say("give a base, a command and at most one role; see --help");
         return BAD_USAGE;
     }
-    code = run(&options);
+    code = printed(run(&options));
     stop_finish();
     return code;
 }

@@ -7,6 +7,7 @@
 #include <stdio.h>
 #include <string.h>
 
+#define VERSION "1.0"
 #define ROOM ((long)FRINGEMOLE_MAX_MESSAGES * FRINGEMOLE_MAX_BODY) /* each message that a session can keep, at its longest */
 
 static const char help[] =
@@ -17,6 +18,7 @@ static const char help[] =
     "  import FILE..        put the messages of files into the outbox (-: standard input)\n"
     "  export FOLDER        write each message of the inbox to a file of its own\n"
     "  list                 show both boxes\n"
+    "  sessions             show what each session did, the newest first\n"
     "  release BID..        let held messages go\n"
     "  call [HOST:]PORT     call a partner over TCP\n"
     "  listen [HOST:]PORT   wait for partners to call over TCP, one at a time\n"
@@ -38,25 +40,34 @@ static const char help[] =
     "Options of the others\n"
     "  --call CALL          init: our callsign, for BIDs of messages that have none\n"
     "  --partner CALL       init: the partner's callsign, for X-Forwarded-To\n"
-    "  --text               import: line ends of the bodies become CR, as on the air\n"
+    "  --text               import: line ends of plain bodies become CR, as on the air\n"
+    "  --as-is              import: plain bodies whose lines end with LF stay as they are\n"
     "  --outbox             export: the outbox instead\n"
+    "\n"
+    "--help and --version need no base.\n"
     "\n"
     "Exit codes\n"
     "  0  done; a session ended by FQ\n"
-    "  1  failed: no memory, no transcript file\n"
+    "  1  failed: no memory, output or transcript that can't be written\n"
     "  2  bad usage\n"
     "  3  bad base: not there, not a base, in use, a message that breaks the rules\n"
     "  4  bad port\n"
     "  5  link dropped, or the partner silent too long\n"
     "  6  refusal; its number is said\n"
-    "  7  bad message file\n"
+    "  7  bad message file; files that another message's BID or text kept from their place\n"
+    "SIGINT and SIGTERM end it by themselves (a shell shows 130 and 143).\n"
     "\n"
-    "A session takes the 64 oldest waiting messages, knows the 1,024 newest BIDs and keeps\n"
-    "up to 64 messages. What is left waits for the next session.\n";
+    "A session takes 64 waiting messages, the oldest first, knows 1,024 BIDs and keeps up to\n"
+    "64 messages. What is left waits for the next session.\n";
 
 void options_help(void)
 {
     fputs(help, stdout);
+}
+
+void options_version(void)
+{
+    puts("fringemole " VERSION);
 }
 
 struct option {
@@ -71,6 +82,7 @@ static const struct option table[] = {
     OPTION("--call", TEXT, call),
     OPTION("--partner", TEXT, partner),
     OPTION("--text", FLAG, text),
+    OPTION("--as-is", FLAG, as_is),
     OPTION("--outbox", FLAG, outbox),
     OPTION("--caller", FLAG, caller),
     OPTION("--called", FLAG, called),
@@ -155,7 +167,7 @@ bool options_read(struct options *options, int count, char **words)
     defaults(options);
     options->arguments = words;
     for (at = 0; at < count; at++) {
-        if (!strcmp(words[at], "--help")) {
+        if (!strcmp(words[at], "--help") || !strcmp(words[at], "--version")) {
             options->command = words[at];
             return true;
         }

@@ -1,8 +1,8 @@
 #include "session.h"
 #include "heard.h"
 #include "history.h"
+#include "lend.h"
 #include "refusal.h"
-#include "shelf.h"
 #include "stop.h"
 
 #include <string.h>
@@ -142,26 +142,12 @@ static bool close_row(struct session *session)
     return false;
 }
 
-static enum exit_code bad_record(const struct shelf *shelf, unsigned place)
-{
-    if (place < shelf_records(shelf))
-        say("message %lld of the base breaks the rules (refusal 1 at record %u)", shelf->numbers[place], place);
-    else
-        say("the base holds what the library doesn't take (refusal 1)");
-    return BAD_BASE;
-}
-
 static enum exit_code run(struct session *session, const struct session_terms *terms)
 {
-    struct fringemole_reply opened;
     enum exit_code code;
 
-    if (!shelf_fill(&session->shelf, session->base))
-        return BAD_BASE;
-    opened = shelf_open(&session->shelf, terms->role);
-    if (opened.answer != FRINGEMOLE_OK)
-        return bad_record(&session->shelf, opened.place);
-    if (!history_begin(session->base, terms->partner, terms->role, &session->history.number))
+    if (!lend(&session->shelf, session->base, terms->role, terms->room)
+        || !history_begin(session->base, terms->partner, terms->role, &session->history.number))
         return BAD_BASE;
     session->passage.session = session->history.number;
     session->passage.partner = terms->partner;
@@ -177,7 +163,6 @@ enum exit_code session_run(struct base *base, struct link *link, const struct se
     memset(&session, 0, sizeof session);
     session.base = base;
     session.link = link;
-    shelf_start(&session.shelf, terms->room);
     code = run(&session, terms);
     shelf_clear(&session.shelf);
     return code;

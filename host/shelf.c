@@ -1,5 +1,4 @@
 #include "shelf.h"
-#include "say.h"
 
 #include <string.h>
 
@@ -112,23 +111,6 @@ bool shelf_know(struct shelf *shelf, struct part bid)
     return true;
 }
 
-static bool take_message(void *shelf, const struct message *message)
-{
-    if (!shelf_add(shelf, message))
-        say("message %lld of the base: its body is over %d bytes", message->number, FRINGEMOLE_MAX_BODY);
-    return message->body.n <= FRINGEMOLE_MAX_BODY;
-}
-
-static bool take_bid(void *shelf, struct part bid)
-{
-    return shelf_know(shelf, bid);
-}
-
-bool shelf_fill(struct shelf *shelf, struct base *base)
-{
-    return base_waiting(base, take_message, shelf) && base_known(base, take_bid, shelf);
-}
-
 struct fringemole_reply shelf_open(struct shelf *shelf, uint8_t role)
 {
     struct fringemole_memory lent = {
@@ -139,6 +121,11 @@ struct fringemole_reply shelf_open(struct shelf *shelf, uint8_t role)
 
     shelf->lent = lent;
     return fringemole_open_in(&shelf->lent, role);
+}
+
+struct part shelf_bid(const struct shelf *shelf, size_t place)
+{
+    return get_field(shelf->table.at + place * FRINGEMOLE_RECORD_SIZE + FRINGEMOLE_RECORD_BID);
 }
 
 /* ---- saving */

@@ -1,4 +1,4 @@
-/* The shelf of one session: the memory that is lent to the library, filled from the base, and saved to it. */
+/* The shelf of one session: the memory that is lent to the library, filled from the base (lend.h), and saved to it. */
 #ifndef SHELF_H
 #define SHELF_H
 
@@ -20,7 +20,6 @@ void shelf_start(struct shelf *shelf, size_t room);
 /* False if there is no place, or the body is over 65,535 bytes. */
 bool shelf_add(struct shelf *shelf, const struct message *message);
 bool shelf_know(struct shelf *shelf, struct part bid);
-bool shelf_fill(struct shelf *shelf, struct base *base);
 /* Sets up lent memory, then opens. Add nothing after that. */
 struct fringemole_reply shelf_open(struct shelf *shelf, uint8_t role);
 /* Writes to the base what receive changed since the last time, in one transaction; none if nothing changed. */
@@ -31,5 +30,6 @@ bool shelf_save_deferred(const struct shelf *shelf, struct base *base, const str
 void shelf_clear(struct shelf *shelf);
 
 size_t shelf_records(const struct shelf *shelf);
+struct part shelf_bid(const struct shelf *shelf, size_t place);
 
 #endif

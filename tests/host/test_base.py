@@ -46,20 +46,46 @@ class Bases(Folder):
                 self.assertIn(code, (DONE, BAD_BASE, LINK_DROPPED), err)
                 self.assertNotIn("Sanitizer", err)
 
+    ROWS = [("bid = ?", b"with space", "with space", "a BID has"), ("type = ?", "T", "2_A", "a type is"), ("body = ?", b"x" * 65536, "2_A", "a body has"),
+            ("body = ?", b"\x1a", "2_A", "a body has"), ("size = ?", 1000000, "2_A", "an announced size is"), ("size = ?", 1 << 32, "2_A", "an announced size is"),
+            ("title = ?", b"", "2_A", "a title has"), ("form = ?", 256, "2_A", "a form is"), ("\"from\" = ?", b"A.B", "2_A", "from has")]
+
     def test_bad_row(self):
-        "a row that breaks 01's rules is named by its number, and no session takes place"
-        for number, (sql, value) in enumerate([("UPDATE outbox SET bid = ? WHERE number = 2", b"with space"), ("UPDATE outbox SET type = ? WHERE number = 2", "T"),
-                                               ("UPDATE outbox SET body = ? WHERE number = 2", b"x" * 65536), ("UPDATE outbox SET body = ? WHERE number = 2", b"\x1a"),
-                                               ("UPDATE outbox SET size = ? WHERE number = 2", 1000000), ("UPDATE outbox SET title = ? WHERE number = 2", b"")]):
-            with self.subTest(sql):
-                node = self.node("node%d" % number).add(Message(b"1_A", form="plain"), Message(b"2_A", form="plain"))
-                node.ask(sql, value)
-                code, out, err = node.run("stdio")
-                self.says_why((code, err), BAD_BASE, "message 2 of the base")
-                self.assertEqual(out, b"")
-        node.ask("UPDATE outbox SET state = 1")
-        node.ask("INSERT INTO known (bid) VALUES (?)", b"with space")
-        self.says_why(node.run("stdio"), BAD_BASE, "the base holds what the library doesn't take (refusal 1)")
+        "a row that breaks 01's rules is named by its BID and the rule, and held; the other messages go"
+        for number, (what, value, bid, rule) in enumerate(self.ROWS):
+            with self.subTest(what):
+                node = self.node("node%d" % number).add(*[Message(b"%d_A" % i, form="plain") for i in range(1, 4)])
+                node.ask("UPDATE outbox SET " + what + " WHERE number = 2", value)
+                partner = node.stdio()
+                partner.hears(GREETING)
+                partner.says(b"[TST-1-F$]\rFF\r")
+                partner.hears(Message(b"1_A", form="plain").proposal() + Message(b"3_A", form="plain").proposal() + b"F>\r")
+                partner.says(b"FS --\rFF\r")
+                partner.hears(b"FQ\r")
+                self.says_why(partner.ends(), DONE, "BID " + bid + ", is held: " + rule)
+                self.assertEqual(node.ask("SELECT state FROM outbox ORDER BY number"), [(DECLINED,), (HELD,), (DECLINED,)])
+
+    def test_many_bad_rows(self):
+        "bad rows take nobody's place: behind 100 of them the others still go"
+        node = self.node(program=PLAIN).add(*[Message(b"%03d" % i, form="plain") for i in range(102)])
+        node.ask("UPDATE outbox SET type = 'T' WHERE number <= 100")
+        partner = node.stdio()
+        partner.hears(GREETING)
+        partner.says(b"[TST-1-F$]\rFF\r")
+        partner.hears(Message(b"100", form="plain").proposal() + Message(b"101", form="plain").proposal() + b"F>\r")
+        partner.hang_up()
+        self.says_why(partner.ends(), LINK_DROPPED, "BID 099, is held", "2 still waiting")
+
+    def test_bad_known(self):
+        "a known BID that is none is named and left out"
+        node = self.node()
+        node.ask("INSERT INTO known (bid) VALUES (?), (?)", b"with space", b"1_T")
+        partner = node.stdio()
+        partner.hears(GREETING)
+        partner.says(b"[TST-1-F$]\r" + Message(b"1_T", form="plain").proposal() + b"F>\r")
+        partner.hears(b"FS -\r")
+        partner.hang_up()
+        self.says_why(partner.ends(), LINK_DROPPED, "left out: with space")
 
     def test_lock(self):
         "one session at a time; when its process is killed the base is free"
@@ -120,8 +146,8 @@ class Usage(Folder):
         code, out, err = self.node().run("call", "--help")
         self.assertEqual((code, err), (DONE, ""))
         text = out.decode()
-        for word in ("init", "import", "export", "list", "release", "call", "listen", "stdio", "serial", "--caller", "--called", "--login", "--question",
-                     "--telnet", "--transcript", "--progress", "--timeout", "--room", "--once", "--drop-after", "--call", "--partner", "--text", "--outbox"):
+        for word in ("init", "import", "export", "list", "sessions", "release", "call", "listen", "stdio", "serial", "--caller", "--called", "--login", "--question",
+                     "--telnet", "--transcript", "--progress", "--timeout", "--room", "--once", "--drop-after", "--call", "--partner", "--text", "--as-is", "--outbox"):
             self.assertIn("\n  " + word, text.replace(", --called", "\n  --called"))
         for number in range(8):
             self.assertIn("\n  %d  " % number, text.split("Exit codes")[1])
