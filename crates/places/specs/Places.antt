@@ -140,8 +140,8 @@ sizeStore = 52
 
 -- ---------------------------------------------------------------- Session memory: the numbers of the state
 
-abbrev pub numbersAt : ℕ
-numbersAt = 60
+abbrev pub numbersStart : ℕ
+numbersStart = 60
 
 abbrev pub phaseAt : ℕ
 phaseAt = 60
