@@ -1,4 +1,6 @@
 """The base, wrong ways to use it, and usage."""
+import signal
+
 from node import *
 
 
@@ -157,7 +159,6 @@ class Usage(Folder):
 class Stopped(Folder):
     def test_signals(self):
         "SIGINT and SIGTERM end every command that waits with a sentence, by the signal itself; a session's row tells of it"
-        import signal
         for number, (words, name) in enumerate([(("stdio",), "SIGTERM"), (("stdio",), "SIGINT"), (("listen", "0"), "SIGTERM"), (("import", "-"), "SIGINT")]):
             with self.subTest((words, name)):
                 node = self.node("node%d" % number)
