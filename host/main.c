@@ -50,7 +50,7 @@ static enum exit_code run_on(struct link *link, const struct options *options, u
     struct bytes partner = { NULL, 0, 0 };
     enum exit_code code = BAD_BASE;
 
-    if (base && options->login && !login(link, options->question, options->login)) {
+    if (base && options->login && !login(link, options)) {
         code = LINK_DROPPED;
     } else if (base && base_partner(base, &partner)) {
         struct session_terms terms = { role, (size_t)options->room, part_all(&partner) };
@@ -60,10 +60,10 @@ static enum exit_code run_on(struct link *link, const struct options *options, u
     base_close(base);
     if (code == DONE)
         say("the session ended by FQ");
-    if (link->left_until_drop == 0)
+    if (link->left_until_drop == 0 || link->over)
         port_drop(&link->port);
     else
-        port_hang_up(&link->port);
+        port_hang_up(&link->port, options->linger * SECOND);
     return code;
 }
 
@@ -73,10 +73,12 @@ static enum exit_code run_session(const struct port *port, const struct options 
     struct link link;
     enum exit_code code = FAILED;
 
+    say_not_on(port->in);
+    say_not_on(port->out);
     memset(&link, 0, sizeof link);
     link.port = *port;
     link.doubles = options->telnet;
-    link.seconds = options->timeout ? options->timeout : -1;
+    patience_start(&link.patience, options);
     link.left_until_drop = options->drop_after;
     progress_start(&link.progress, options->progress, !options->transcript || strcmp(options->transcript, "-"));
     if (transcript_open(&link.transcript, options->transcript)) {
@@ -111,11 +113,12 @@ static enum exit_code listen_for(const struct options *options)
 {
     struct port port;
     enum exit_code code = BAD_PORT;
+    bool inside;
     int listener;
 
     if (!base_is_there(options))
         return BAD_BASE;
-    listener = tcp_listen(options->arguments[0]);
+    listener = tcp_listen(options->arguments[0], &inside);
     while (listener >= 0 && tcp_accept(&port, listener)) {
         code = run_session(&port, options, FRINGEMOLE_CALLED);
         if (options->once)
@@ -131,7 +134,10 @@ static enum exit_code serial(const struct options *options)
 {
     struct port port;
 
-    return serial_open(&port, options->arguments[0], options->arguments[1]) ? run_session(&port, options, FRINGEMOLE_CALLED) : BAD_PORT;
+    if (!base_is_there(options))
+        return BAD_BASE;
+    return serial_open(&port, options->arguments[0], options->arguments[1], options->flow) ? run_session(&port, options, FRINGEMOLE_CALLED)
+                                                                                            : BAD_PORT;
 }
 
 static enum exit_code standard(const struct options *options)
@@ -191,6 +197,7 @@ int main(int count, char **words)
     struct options options;
     enum exit_code code;
 
+    say_start();
     signal(SIGPIPE, SIG_IGN);
     stop_watch();
     if (!options_read(&options, count - 1, words + 1))
@@ -207,6 +214,8 @@ int main(int count, char **words)
         say("give a base, a command and at most one role; see --help");
         return BAD_USAGE;
     }
+    if (options.log && !say_to(options.log))
+        return FAILED;
     code = printed(run(&options));
     stop_finish();
     return code;

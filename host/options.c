@@ -23,7 +23,7 @@ static const char help[] =
     "  call [HOST:]PORT     call a partner over TCP\n"
     "  listen [HOST:]PORT   wait for partners to call over TCP, one at a time\n"
     "  stdio                a session on standard input and output\n"
-    "  serial DEVICE BITS   a session on a serial device, at 1200 or 9600 bit/s\n"
+    "  serial DEVICE BITS   a session on a serial device, at 300 to 230400 bit/s\n"
     "HOST is 127.0.0.1 if it is left out. PORT 0 listens where there is room.\n"
     "\n"
     "Options of a session\n"
@@ -32,11 +32,22 @@ static const char help[] =
     "  --question TEXT      the question (\"Callsign : \")\n"
     "  --telnet             FF bytes are doubled on the wire\n"
     "  --transcript[=FILE]  show both directions as they look on the air (FILE is added to)\n"
+    "  --log FILE           add what is said to FILE instead of standard error\n"
     "  --progress           progress lines also where standard error is no terminal\n"
-    "  --timeout SECONDS    hang up after this silence (600; 0: never)\n"
     "  --room BYTES         for bodies that come in, in one session (4194240)\n"
     "  --once               listen: end after one session, with its exit code\n"
     "  --drop-after BYTES   drop the link after so many bytes, to see what happens\n"
+    "  --rtscts             serial: hardware flow control\n"
+    "Limits; 0: none\n"
+    "  --timeout SECONDS    of silence, from the last byte that came or left (600)\n"
+    "  --sid-limit SECONDS  until the partner's SID has come, login included (120)\n"
+    "  --progress-limit SECONDS\n"
+    "                       without progress in the protocol (600)\n"
+    "  --least-rate BYTES   a second, in transfers, that count as progress (10)\n"
+    "  --session-limit SECONDS\n"
+    "                       of the whole session (86400)\n"
+    "  --login-limit BYTES  before a login is over (4096)\n"
+    "  --linger SECONDS     after hanging up, for our last bytes (30)\n"
     "Options of the others\n"
     "  --call CALL          init: our callsign, for BIDs of messages that have none\n"
     "  --partner CALL       init: the partner's callsign, for X-Forwarded-To\n"
@@ -92,6 +103,14 @@ static const struct option table[] = {
     OPTION("--login", TEXT, login),
     OPTION("--question", TEXT, question),
     OPTION("--timeout", NUMBER, timeout),
+    OPTION("--sid-limit", NUMBER, sid_limit),
+    OPTION("--progress-limit", NUMBER, progress_limit),
+    OPTION("--session-limit", NUMBER, session_limit),
+    OPTION("--least-rate", NUMBER, least_rate),
+    OPTION("--login-limit", NUMBER, login_limit),
+    OPTION("--linger", NUMBER, linger),
+    OPTION("--rtscts", FLAG, flow),
+    OPTION("--log", TEXT, log),
     OPTION("--room", NUMBER, room),
     OPTION("--drop-after", NUMBER, drop_after)
 };
@@ -145,6 +164,12 @@ static void defaults(struct options *options)
     options->call = options->partner = "";
     options->question = "Callsign : ";
     options->timeout = 600;
+    options->sid_limit = 120;
+    options->progress_limit = 600;
+    options->session_limit = 86400;
+    options->least_rate = 10;
+    options->login_limit = 4096;
+    options->linger = 30;
     options->room = ROOM;
     options->drop_after = -1;
 }

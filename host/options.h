@@ -13,9 +13,11 @@ struct options {
     /* import, export */
     bool text, as_is, outbox;
     /* sessions */
-    bool caller, called, telnet, once, progress;
-    const char *login, *question, *transcript;
-    long timeout, room, drop_after;
+    bool caller, called, telnet, once, progress, flow;
+    const char *login, *question, *transcript, *log;
+    long timeout, sid_limit, progress_limit, session_limit, linger; /* seconds; 0: no limit */
+    long least_rate, login_limit;                                   /* bytes a second, bytes */
+    long room, drop_after;
 };
 
 /* False after it has said what is wrong. With --help or --version that is the command. */

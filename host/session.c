@@ -3,7 +3,6 @@
 #include "history.h"
 #include "lend.h"
 #include "refusal.h"
-#include "stop.h"
 
 #include <string.h>
 
@@ -49,8 +48,8 @@ static enum exit_code dropped(struct session *session, const char *how)
 {
     if (session->link->left_until_drop == 0)
         how = "--drop-after";
-    else if (stop_asked())
-        how = stop_name();
+    else if (session->link->over)
+        how = session->link->over;
     ended(session, how, LINK_DROPPED);
     say("the link dropped: %s", how);
     return LINK_DROPPED;
@@ -82,7 +81,7 @@ static enum exit_code converse(struct session *session)
 {
     struct link *link = session->link;
     uint8_t out[PIECE], in[PIECE];
-    bool over = false;
+    bool speaking = false, over = false;
 
     while (!over) {
         struct fringemole_reply given = fringemole_give_in(&session->shelf.lent, out, sizeof out, 0);
@@ -90,15 +89,15 @@ static enum exit_code converse(struct session *session)
         long n;
         if (given.answer != FRINGEMOLE_OK)
             return refused(session, given.answer);
+        patience_watch(&link->patience, session->shelf.session, given.count > 0 && !speaking);
+        speaking = given.count == sizeof out;
         if (given.count && !link_write(link, (struct part){ out, given.count }))
-            return dropped(session, "the port takes no more bytes");
+            return dropped(session, "the partner is gone");
         if (has_ended(&session->shelf))
             return ended(session, "FQ", DONE);
-        n = link_read(link, in, sizeof in, given.count < sizeof out);
-        if (n == PORT_GONE)
+        n = link_read(link, in, sizeof in, !speaking);
+        if (n == PORT_GONE || link->over)
             return dropped(session, "the partner is gone");
-        if (n == PORT_SILENT && given.count < sizeof out)
-            return dropped(session, "the partner is silent");
         if (n == PORT_SILENT)
             continue;
         code = take(session, (struct part){ in, (size_t)n }, &over);

@@ -2,6 +2,7 @@
 #include "say.h"
 #include "stop.h"
 
+#include <arpa/inet.h>
 #include <errno.h>
 #include <netdb.h>
 #include <netinet/in.h>
@@ -13,6 +14,9 @@
 #include <unistd.h>
 
 #define LOOPBACK "127.0.0.1"
+#define LOOPBACK_NET 127 /* the first byte of each IPv4 address of this machine's own */
+#define LAST_PORT 65535
+#define WAITING_CALLS 64
 
 /* HOST:PORT, [HOST]:PORT for a HOST with colons, :PORT or PORT. */
 static bool split(const char *address, char *host, size_t room, const char **service)
@@ -34,6 +38,16 @@ static bool split(const char *address, char *host, size_t room, const char **ser
     return true;
 }
 
+/* A number that is too large would be taken for another. */
+static bool is_service(const char *service)
+{
+    long number;
+
+    if (strspn(service, "0123456789") != strlen(service))
+        return true; /* a name */
+    return part_number(part_of(service), &number) && number <= LAST_PORT;
+}
+
 static struct addrinfo *look_up(const char *address, int flags)
 {
     struct addrinfo hints, *found = NULL;
@@ -46,6 +60,10 @@ static struct addrinfo *look_up(const char *address, int flags)
     hints.ai_flags = flags;
     if (!split(address, host, sizeof host, &service)) {
         say("%s: not an address HOST:PORT", address);
+        return NULL;
+    }
+    if (!is_service(service)) {
+        say("%s: a port number is at most %d", address, LAST_PORT);
         return NULL;
     }
     fault = getaddrinfo(host, service, &hints, &found);
@@ -66,8 +84,8 @@ static void use_socket(struct port *port, int s)
 
     if (s >= 0)
         setsockopt(s, IPPROTO_TCP, TCP_NODELAY, &yes, sizeof yes);
-    port->in = port->out = s;
-    port->socket = true;
+    port_start(port, s, s);
+    port->kind = STREAM;
 }
 
 bool tcp_call(struct port *port, const char *address)
@@ -104,17 +122,26 @@ static void say_where(int s)
         say("listening on %s%s%s:%s", strchr(host, ':') ? "[" : "", host, strchr(host, ':') ? "]" : "", service);
 }
 
-int tcp_listen(const char *address)
+/* Whether nobody but this machine can call there. */
+static bool is_inside(const struct sockaddr *where)
+{
+    if (where->sa_family == AF_INET)
+        return ntohl(((const struct sockaddr_in *)(const void *)where)->sin_addr.s_addr) >> 24 == LOOPBACK_NET;
+    return where->sa_family == AF_INET6 && IN6_IS_ADDR_LOOPBACK(&((const struct sockaddr_in6 *)(const void *)where)->sin6_addr);
+}
+
+int tcp_listen(const char *address, bool *inside)
 {
     struct addrinfo *found = look_up(address, AI_PASSIVE);
     int s, yes = 1;
 
     if (!found)
         return -1;
+    *inside = is_inside(found->ai_addr);
     s = socket_for(found);
     if (s >= 0)
         setsockopt(s, SOL_SOCKET, SO_REUSEADDR, &yes, sizeof yes);
-    if (s < 0 || bind(s, found->ai_addr, found->ai_addrlen) || listen(s, 4)) {
+    if (s < 0 || bind(s, found->ai_addr, found->ai_addrlen) || listen(s, WAITING_CALLS)) {
         say("%s: %s", address, strerror(errno));
         if (s >= 0)
             close(s);

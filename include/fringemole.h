@@ -92,8 +92,11 @@ enum { /* our role */
 #define FRINGEMOLE_ENTRY_BODY_LEN 153    /* 2 bytes */
 
 /* ---- in session memory a host may read: */
+#define FRINGEMOLE_SESSION_PHASE 60      /* what is awaited, 1 byte: up to FRINGEMOLE_LAST_SID_PHASE the partner's SID */
 #define FRINGEMOLE_SESSION_KEPT 66       /* how many messages of the inbox are kept, 1 byte; 0 after an accepted open */
+#define FRINGEMOLE_SESSION_BODY 96       /* body bytes so far of the message that is coming in, 4 bytes */
 #define FRINGEMOLE_SESSION_DEFERRED 116  /* a flag a record, 64 bytes: 1 if the partner has deferred it in this session */
+#define FRINGEMOLE_LAST_SID_PHASE 1
 
 /* ---- the numbers given back */
 enum {

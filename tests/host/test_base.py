@@ -149,7 +149,8 @@ class Usage(Folder):
         self.assertEqual((code, err), (DONE, ""))
         text = out.decode()
         for word in ("init", "import", "export", "list", "sessions", "release", "call", "listen", "stdio", "serial", "--caller", "--called", "--login", "--question",
-                     "--telnet", "--transcript", "--progress", "--timeout", "--room", "--once", "--drop-after", "--call", "--partner", "--text", "--as-is", "--outbox"):
+                     "--telnet", "--transcript", "--progress", "--timeout", "--room", "--once", "--drop-after", "--rtscts", "--log", "--sid-limit", "--progress-limit",
+                     "--least-rate", "--session-limit", "--login-limit", "--linger", "--call", "--partner", "--text", "--as-is", "--outbox"):
             self.assertIn("\n  " + word, text.replace(", --called", "\n  --called"))
         for number in range(8):
             self.assertIn("\n  %d  " % number, text.split("Exit codes")[1])
