@@ -97,7 +97,8 @@ bool serial_open(struct port *port, const char *device, const char *bits, bool f
         return false;
     line = open(device, O_RDWR | O_NOCTTY | O_NONBLOCK);
     port_start(port, line, line);
-    say_not_on(line);
+    if (line >= 0)
+        say_not_on(line);
     if (line >= 0 && !lock(line)) {
         say("%s: the line is in use by another process", device);
         close(line);
