@@ -20,19 +20,21 @@ bool history_begin(struct base *base, struct part partner, uint8_t role, long lo
 
 bool history_end(struct base *base, const struct history *session)
 {
-    const unsigned long counts[] = { session->forwarded, session->declined, session->deferred, session->kept, session->sent, session->received };
     sqlite3_stmt *statement = base_prepare(base,
         "UPDATE session SET ended = ?, ending = CAST(? AS TEXT), refusal = ?, line = ?,"
         " forwarded = ?, declined = ?, deferred = ?, kept = ?, sent = ?, received = ? WHERE number = ?");
-    int i;
 
     if (statement) {
         sqlite3_bind_int64(statement, 1, base_now());
         bind_part(statement, 2, session->ending);
         sqlite3_bind_int64(statement, 3, session->refusal);
         bind_part(statement, 4, session->line);
-        for (i = 0; i < 6; i++)
-            sqlite3_bind_int64(statement, 5 + i, (long long)counts[i]);
+        sqlite3_bind_int64(statement, 5, (long long)session->forwarded);
+        sqlite3_bind_int64(statement, 6, (long long)session->declined);
+        sqlite3_bind_int64(statement, 7, (long long)session->deferred);
+        sqlite3_bind_int64(statement, 8, (long long)session->kept);
+        sqlite3_bind_int64(statement, 9, (long long)session->sent);
+        sqlite3_bind_int64(statement, 10, (long long)session->received);
         sqlite3_bind_int64(statement, 11, session->number);
     }
     return base_finish(base, statement);
@@ -47,8 +49,6 @@ static bool take_row(void *context, sqlite3_stmt *statement)
 {
     struct taker *taker = context;
     struct history session;
-    unsigned long *counts[] = { &session.forwarded, &session.declined, &session.deferred, &session.kept, &session.sent, &session.received };
-    int i;
 
     memset(&session, 0, sizeof session);
     session.number = sqlite3_column_int64(statement, 0);
@@ -59,8 +59,12 @@ static bool take_row(void *context, sqlite3_stmt *statement)
     session.ending = column_part(statement, 5);
     session.refusal = (unsigned)sqlite3_column_int(statement, 6);
     session.line = column_part(statement, 7);
-    for (i = 0; i < 6; i++)
-        *counts[i] = (unsigned long)sqlite3_column_int64(statement, 8 + i);
+    session.forwarded = (unsigned long)sqlite3_column_int64(statement, 8);
+    session.declined = (unsigned long)sqlite3_column_int64(statement, 9);
+    session.deferred = (unsigned long)sqlite3_column_int64(statement, 10);
+    session.kept = (unsigned long)sqlite3_column_int64(statement, 11);
+    session.sent = (unsigned long)sqlite3_column_int64(statement, 12);
+    session.received = (unsigned long)sqlite3_column_int64(statement, 13);
     return taker->function(taker->context, &session);
 }
 

@@ -216,6 +216,12 @@ class Folder(unittest.TestCase):
     def node(self, name="node", **more):
         return Node(self.folder, name, **more)
 
+    def shim(self, name):
+        """A library of this folder, to load before the C library (LD_PRELOAD)."""
+        made = self.folder / (name + ".so")
+        subprocess.run(["cc", "-shared", "-fPIC", "-o", made, ROOT / "tests" / "host" / (name + ".c"), "-ldl"], check=True)
+        return str(made)
+
     def says_why(self, answer, code, *words):
         """A command ended with this code and said these words."""
         self.assertEqual(answer[0], code, answer)

@@ -41,11 +41,11 @@ class Beside(Folder):
     def test_slow_import(self):
         "an import whose file takes its time holds up no session"
         node, theirs = self.node(), Message(b"1_T", b"theirs\r", form="plain")
-        partner = self.begun(node, theirs)
         slow = node.start("import", "-", stdin=subprocess.PIPE)
         slow.stdin.write(Message(b"1_US").file())
         slow.stdin.flush()
         time.sleep(0.3)
+        partner = self.begun(node, theirs)
         partner.says(theirs.transfer())
         partner.hears(b"FF\r")
         self.ended(partner)

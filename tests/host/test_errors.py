@@ -8,13 +8,6 @@ from test_files import HEAD, letter
 from test_lifted import VERSION_1
 
 
-def shim(folder, name):
-    """A library of this folder to load before the C library."""
-    made = folder / (name + ".so")
-    subprocess.run(["cc", "-shared", "-fPIC", "-o", made, ROOT / "tests" / "host" / (name + ".c"), "-ldl"], check=True)
-    return str(made)
-
-
 class Exported(Folder):
     def setUp(self):
         super().setUp()
@@ -73,7 +66,7 @@ class Exported(Folder):
         node = self.node(program=PLAIN).add(*[Message(b"%d_A" % i) for i in range(3)])
         read, write = os.pipe()
         os.dup2(write, 9)
-        self.exports(node, DONE, "3 exported", pass_fds=[9], env=dict(os.environ, LD_PRELOAD=shim(self.folder, "synced")))
+        self.exports(node, DONE, "3 exported", pass_fds=[9], env=dict(os.environ, LD_PRELOAD=self.shim("synced")))
         os.close(write)
         os.close(9)
         with open(read, "rb") as events:
@@ -81,7 +74,7 @@ class Exported(Folder):
 
     def test_killed(self):
         "an export that is killed at any moment leaves no file half written under its name; the next makes it whole"
-        node, loaded = self.node(program=PLAIN).add(*[Message(b"%d_A" % i, b"x" * 9000) for i in range(2)]), shim(self.folder, "killed")
+        node, loaded = self.node(program=PLAIN).add(*[Message(b"%d_A" % i, b"x" * 9000) for i in range(2)]), self.shim("killed")
         self.exports(node, DONE)
         whole = {path.name: path.read_bytes() for path in self.out.iterdir()}
         for moment in range(1, 100):
@@ -131,7 +124,7 @@ class KilledAtEachMoment(Folder):
 
     def test_init(self):
         "an init that is killed at any moment can be repeated"
-        loaded = shim(self.folder, "killed")
+        loaded = self.shim("killed")
         for moment in range(1, 200):
             node = Node.__new__(Node)
             node.path, node.program = self.folder / ("%d.base" % moment), PLAIN
@@ -147,7 +140,7 @@ class KilledAtEachMoment(Folder):
 
     def test_lift(self):
         "a base of version 1 whose lifting is killed at any moment has all of its mail, and is lifted the next time"
-        loaded, dice = shim(self.folder, "killed"), random.Random(3)
+        loaded, dice = self.shim("killed"), random.Random(3)
         old = self.folder / "old.base"
         base = sqlite3.connect(old)
         base.executescript(VERSION_1)
