@@ -29,6 +29,7 @@ use Rattle.main_theorem.proofs.Opening.{freshCs, shelfOf, accepted, Ope
 use Rattle.form_closed.proofs.Closed.{receive-one, give-one}
 use Rattle.main_theorem.proofs.Run.{other-form, RanAs, run-law}
 use Rattle.represents.proofs.Laid.{entries-laid, bodies-laid}
+use Rattle.main_theorem.proofs.Held.{csOf, GoodAs, held-good}
 
 module _ (role : ℕ) (M : Memory) (e : openedBy role M .reply .answer ≡ 0) (cs : CallsOn M) where
   abbrev pub F : Fixed
@@ -54,6 +55,9 @@ module _ (role : ℕ) (M : Memory) (e : openedBy role M .reply .answer ≡ 0) (c
       (on-lists-run.run E (on-lists.opened caller states) (map callOf cs))
   ran = run-law F E (freshCs role m) (sizesOf F m) cs (withSession m (openedBy role M .sm)) (on-lists.opened caller states) (open-as .held)
 
+  in-order : GoodAs F (finally role M cs) (csOf (finally role M cs))
+  in-order = held-good F E (freshCs role m) (sizesOf F m) (finally role M cs) ((on-lists-run.run E (on-lists.opened caller states) (map callOf cs)) .0) (ran .held)
+
   on-lists-demand : on-lists-run.Demand3 E caller states (map callOf cs)
   on-lists-demand = demand-3 E (open-as .good) caller states (map callOf cs)
 
@@ -78,13 +82,13 @@ module _ (role : ℕ) (M : Memory) (e : openedBy role M .reply .answer ≡ 0) (c
   entries-logged =
       let r = ran .held .represents in
       subst (λ (ms : List Message). take (length ms * 155) (finally role M cs .inbox) ≡ entriesBytes 0 ms) kept-logged
-      (entries-laid (finally role M cs .inbox) 0 0 kept (r .boxed .laid) (omega (arith, r .boxed .kept, r .boxed .placed, r .shelved .places, r .shelved .inbox)))
+      (entries-laid (finally role M cs .inbox) 0 0 kept (r .boxed .laid) (omega (arith, r .boxed .kept, in-order .box .placed, r .shelved .places, r .shelved .inbox)))
 
   bodies-logged : take (length (bodiesBytes (logged role M cs .book .kept))) (finally role M cs .store) ≡ bodiesBytes (logged role M cs .book .kept)
   bodies-logged =
       let b = ran .held .represents .boxed in
       subst (λ (ms : List Message). take (length (bodiesBytes ms)) (finally role M cs .store) ≡ bodiesBytes ms) kept-logged
-      (bodies-laid (finally role M cs .store) _ kept (b .within) (b .bodies))
+      (bodies-laid (finally role M cs .store) _ kept (in-order .box .within) (b .bodies))
 
   -- the memory passes the form test, so that no call that is lent it answers 1
   form-along : formOf (finally role M cs .sm) (finally role M cs .table) (F .titles) (F .names) (F .bodies) (F .known) (finally role M cs .inbox) (finally role M cs .store) ≡ true

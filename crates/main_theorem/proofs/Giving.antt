@@ -33,7 +33,7 @@ use Rattle.main_theorem.specs.Calls.{Lent, withSession, given}
 use Rattle.represents.proofs.Frame.{only-same}
 use Rattle.represents.proofs.Byte.{waits-law, over-law}
 use Rattle.main_theorem.proofs.Held.{csOf, Held, saved-held, held-good}
-use Rattle.represents.proofs.Parts.{represents, block-of, signs-of, holds-of, rest-of}
+use Rattle.represents.proofs.Parts.{represents, holds-of}
 use Rattle.form_closed.proofs.Closed.{handed-ok}
 
 -- ---------------------------------------------------------------- lists
@@ -86,7 +86,7 @@ module _ (F : Fixed) (E : Shelf) (c : Cs) (first then pos : ℕ)
 
   resaid : (s : on-lists.Session) (o : Bytes) → Represents F E c s → Says F (csSaying c first then pos) o → Represents F E (csSaying c first then pos) (withOut s o)
   resaid s o h y =
-      represents F E (csSaying c first then pos) (withOut s o) (block-of h) (signs-of h) (holds-of h) (rest-of h) (h .arrays .head) (h .arrays .lineLen) y
+      represents F E (csSaying c first then pos) (withOut s o) (h .entries) (holds-of h) y
       (awaits-still (s .phase) (h .awaits)) (h .part) (h .afterCr)
 
 -- ---------------------------------------------------------------- the state after a give
@@ -100,14 +100,14 @@ module _ (F : Fixed) (E : Shelf) (c : Cs) (s : on-lists.Session) (h : Represents
 
   -- some of it is left
   left-says : drop (c .session .say .pos + count) waiting ≡ drop room (s .out)
-  left-says = sym (drop-drop count (c .session .say .pos) waiting) ∙ ap (drop count) (h .says .toGive) ∙ drop-taken room (s .out)
+  left-says = sym (drop-drop count (c .session .say .pos) waiting) ∙ ap (drop count) (h .says) ∙ drop-taken room (s .out)
 
   -- none is
   none-left : length waiting ≤ c .session .say .pos + count → [] ≡ drop room (s .out)
   none-left l =
       sym
       (drop-of-length-le (s .out) {i = room}
-      (let e = ap length (h .says .toGive) in
+      (let e = ap length (h .says) in
       let f = length-drop (c .session .say .pos) waiting in
       let g = length-take room (s .out) in
       omega arith))
@@ -121,10 +121,10 @@ module _ (F : Fixed) (E : Shelf) (c : Cs) (s : on-lists.Session) (h : Represents
           (cs (cond b (saying (c .session) (c .session .say .first) (c .session .say .then) (c .session .say .pos + count)) (silentOf (c .session))) (c .table) (c .inbox) (c .store)) (give s room)
       go true e =
           resaid F E c (c .session .say .first) (c .session .say .then) (c .session .say .pos + count) (λ q. q) s (drop room (s .out)) h
-          (record { toGive = left-says; some = λ w. ltb-true (c .session .say .pos + count) (length waiting) e })
+          left-says
       go false e =
           resaid F E c 0 0 0 (λ q. refl) s (drop room (s .out)) h
-          (record { toGive = none-left (ltb-false (c .session .say .pos + count) (length waiting) e); some = λ w. absurd (no-both false w refl) })
+          (none-left (ltb-false (c .session .say .pos + count) (length waiting) e))
 
   hand-spared : Spared c (cs (handedOf (c .session) count (length waiting)) (c .table) (c .inbox) (c .store))
   unfolding handedOf silentOf
@@ -165,7 +165,7 @@ module _ (F : Fixed) (E : Shelf) (c₀ : Cs) (z : Sizes) where
     unfolding putBytes
     some-given =
         let c = csOf m in
-        let e = h .represents .says .toGive in
+        let e = h .represents .says in
         let left = handedOf (loadOf (m .sm)) (length (take space (s .out))) (length lot) in
         record {
           answer = refl;
@@ -198,12 +198,12 @@ module _ (F : Fixed) (E : Shelf) (c₀ : Cs) (z : Sizes) where
         ended-null (on-lists.aLine l) a e = absurd (no-both false e refl)
         ended-null (on-lists.awaitsTransfer p ps sc) a e = absurd (no-both false e refl)
         ended-null on-lists.leaving a e = ap not e
-        ended-null on-lists.over a e = sym (waits-law F (csOf m) (s .out) (h .represents .says)) ∙ a .1
+        ended-null on-lists.over a e = sym (waits-law F (csOf m) (s .out) (held-good F E c₀ z m s h) (h .represents .says)) ∙ a .1
 
         silent : (b w : Bool) → overOf (loadOf (m .sm)) ≡ b → waits (loadOf (m .sm) .say) ≡ w → cond b false w ≡ false → s .out ≡ []
         silent true w o e q =
-            null-is (s .out) (ended-null (s .phase) (h .represents .awaits) (sym (over-law F E (csOf m) s (h .represents)) ∙ o))
-        silent false w o e q = null-is (s .out) (sym (waits-law F (csOf m) (s .out) (h .represents .says)) ∙ e ∙ q)
+            null-is (s .out) (ended-null (s .phase) (h .represents .awaits) (sym (over-law F E (csOf m) s (held-good F E c₀ z m s h) (h .represents)) ∙ o))
+        silent false w o e q = null-is (s .out) (sym (waits-law F (csOf m) (s .out) (held-good F E c₀ z m s h) (h .represents .says)) ∙ e ∙ q)
 
         go : (w l : Bool) → hasToGive (loadOf (m .sm)) ≡ w → ltb place (length buf) ≡ l
             → GaveAs m buf place s (cond w (cond l (handing (loadOf (m .sm)) lot (m .sm) buf place) same) same)

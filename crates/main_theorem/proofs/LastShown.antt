@@ -3,7 +3,7 @@
 use mathlib.Core.Path.{_≡_, refl, sym, ap, _∙_, subst}
 use mathlib.Core.Bool.{Bool, true, false, cond, not}
 use mathlib.Core.List.{List, [], _∷_, map}
-use Prim.Native.Nat.{ℕ, suc, _-_}
+use Prim.Native.Nat.{ℕ, suc, _-_, _≤_}
 use native.Mathlib.Omega.{arith}
 use lib.Dec.{eqb}
 use lib.ListN.{length}
@@ -29,9 +29,12 @@ use Rattle.main_theorem.specs.Store.{lastByte, lastLive}
 use Rattle.represents.proofs.Byte.{over-law, byte-law, same-stops, spared-then}
 use Rattle.form_closed.proofs.Closed.{receive-one, give-one}
 use Rattle.main_theorem.proofs.Giving.{give-law}
-use Rattle.main_theorem.proofs.Held.{csOf, Held}
+use Rattle.main_theorem.proofs.Held.{csOf, Held, held-good}
 use Rattle.main_theorem.proofs.Run.{other-form, receive-law}
 use Rattle.represents.proofs.Stays.{byte-stays}
+use Rattle.form_closed.specs.Facts.{Octets, Good}
+use Rattle.form_closed.proofs.Laws.{octets-first, octets-rest}
+use Rattle.form_closed.proofs.Bytes.{byte-ok}
 
 -- c₀: the state and the lent bytes as open left them
 module _ (F : Fixed) (E : Shelf) (c₀ : Cs) where
@@ -41,15 +44,16 @@ module _ (F : Fixed) (E : Shelf) (c₀ : Cs) where
     pub represents : Represents F E state v
     pub spared : Spared c₀ state
     pub same : state .store ≡ store
+    pub within : state .session .keep .used ≤ length (state .store)
 
   -- the bytes of a receive: of the session just before its end, or after them
-  bytes-last : (c : Cs) (v : on-lists.Session) (n : ℕ) (bs : Bytes) → Represents F E c v → Spared c₀ c → on-lists.ended v ≡ false
+  bytes-last : {nt ni ns : ℕ} (c : Cs) (v : on-lists.Session) (n : ℕ) (bs : Bytes) → Octets bs → Good F nt ni ns c → Represents F E c v → Spared c₀ c → on-lists.ended v ≡ false
       → Shown (lastByte E v bs) (receiveFrom (F .known) c n bs .cs .store)
   unfolding receiveFrom
-  bytes-last c v n [] h p live = record { state = c; represents = h; spared = p; same = refl }
-  bytes-last c v n (b ∷ bs) h p live =
-      subst (λ (e : Bool). Shown (cond e v (lastByte E (o .session) bs)) ((cond (stops x) (run (x .answer) (suc n) (x .cs)) more) .cs .store)) (same-stops F E c x o k)
-      (go (stops x) refl (λ e. bytes-last (x .cs) (o .session) (suc n) bs (k .represents) (spared-then c₀ c (x .cs) p (k .spared)) (lives e)))
+  bytes-last c v n [] q g h p live = record { state = c; represents = h; spared = p; same = refl; within = g .box .within }
+  bytes-last {nt} {ni} {ns} c v n (b ∷ bs) q g h p live =
+      subst (λ (e : Bool). Shown (cond e v (lastByte E (o .session) bs)) ((cond (stops x) (run (x .answer) (suc n) (x .cs)) more) .cs .store)) (same-stops F E c x o g′ k)
+      (go (stops x) refl (λ e. bytes-last (x .cs) (o .session) (suc n) bs (octets-rest q) g′ (k .represents) (spared-then c₀ c (x .cs) p (k .spared)) (lives e)))
     where
       x : Moved
       x = byteOf (F .known) c b
@@ -58,17 +62,20 @@ module _ (F : Fixed) (E : Shelf) (c₀ : Cs) where
       o = on-lists.step E v b
 
       k : Moving F E c x o
-      k = byte-law F E c v b h live
+      k = byte-law F E c v b g h live
+
+      g′ : Good F nt ni ns (x .cs)
+      g′ = byte-ok F nt ni ns c b g (octets-first q) (F .known)
 
       more : Run
       more = receiveFrom (F .known) (x .cs) (suc n) bs
 
       lives : stops x ≡ false → on-lists.ended (o .session) ≡ false
-      lives e = (or2 (not (eqb (o .answer) 0)) (on-lists.ended (o .session)) (sym (same-stops F E c x o k) ∙ e)) .1
+      lives e = (or2 (not (eqb (o .answer) 0)) (on-lists.ended (o .session)) (sym (same-stops F E c x o g′ k) ∙ e)) .1
 
       go : (e : Bool) → stops x ≡ e → (stops x ≡ false → Shown (lastByte E (o .session) bs) (more .cs .store))
           → Shown (cond e v (lastByte E (o .session) bs)) ((cond e (run (x .answer) (suc n) (x .cs)) more) .cs .store)
-      go true e f = record { state = c; represents = h; spared = p; same = sym (byte-stays c b (F .known) e) }
+      go true e f = record { state = c; represents = h; spared = p; same = sym (byte-stays c b (F .known) e); within = g .box .within }
       go false e f = f e
 
   module _ (z : Sizes) where
@@ -76,20 +83,20 @@ module _ (F : Fixed) (E : Shelf) (c₀ : Cs) where
     received-store : (m : Lent) (s : on-lists.Session) → Held F E c₀ z m s → on-lists.ended s ≡ false → (bs : Bytes)
         → received F m bs .store ≡ receiveFrom (F .known) (csOf m) 0 bs .cs .store
     unfolding receiveOf receiveFrom
-    received-store m s h live [] = rw (h .inForm .form, over-law F E (csOf m) s (h .represents) ∙ live)
+    received-store m s h live [] = rw (h .inForm .form, over-law F E (csOf m) s (held-good F E c₀ z m s h) (h .represents) ∙ live)
     received-store m s h live (b ∷ bs) =
-        rw (h .inForm .form, over-law F E (csOf m) s (h .represents) ∙ live, ne-eqb (length (b ∷ bs)) 0 (λ e. omega arith))
+        rw (h .inForm .form, over-law F E (csOf m) s (held-good F E c₀ z m s h) (h .represents) ∙ live, ne-eqb (length (b ∷ bs)) 0 (λ e. omega arith))
 
     -- on an ended session no call changes anything
     received-over : (m : Lent) (s : on-lists.Session) → Held F E c₀ z m s → on-lists.ended s ≡ true → (bs : Bytes)
         → received F m bs ≡ unchanged (reply sessionEnded 0 0) (m .sm) (m .table) (m .inbox) (m .store)
     unfolding receiveOf
-    received-over m s h e bs = rw (h .inForm .form, over-law F E (csOf m) s (h .represents) ∙ e)
+    received-over m s h e bs = rw (h .inForm .form, over-law F E (csOf m) s (held-good F E c₀ z m s h) (h .represents) ∙ e)
 
     given-over : (m : Lent) (s : on-lists.Session) → Held F E c₀ z m s → on-lists.ended s ≡ true → (buf : Bytes) (place : ℕ)
         → given F m buf place ≡ record { reply = reply 0 0 0; sm = m .sm; buf = buf }
     unfolding giveOf hasToGive
-    given-over m s h e buf place = rw (h .inForm .form, over-law F E (csOf m) s (h .represents) ∙ e)
+    given-over m s h e buf place = rw (h .inForm .form, over-law F E (csOf m) s (held-good F E c₀ z m s h) (h .represents) ∙ e)
 
     over-stays : (cs : List (Call z)) (m : Lent) (s : on-lists.Session) → Held F E c₀ z m s → on-lists.ended s ≡ true → (lent-calls.run F m cs) .0 .store ≡ m .store
     over-stays [] m s h e = refl
@@ -109,7 +116,7 @@ module _ (F : Fixed) (E : Shelf) (c₀ : Cs) where
     -- a list of calls: of the session just before its end, or after them
     pub calls-last : (cs : List (Call z)) (m : Lent) (s : on-lists.Session) → Held F E c₀ z m s → on-lists.ended s ≡ false
         → Shown (lastLive E s (map callOf cs)) ((lent-calls.run F m cs) .0 .store)
-    calls-last [] m s h live = record { state = csOf m; represents = h .represents; spared = h .spared; same = refl }
+    calls-last [] m s h live = record { state = csOf m; represents = h .represents; spared = h .spared; same = refl; within = held-good F E c₀ z m s h .box .within }
     calls-last (receives b ∷ cs) m s h live = go (on-lists.ended (q .session)) refl (λ e. calls-last cs (leftBy r) (q .session) after e)
       where
         r : Received
@@ -126,7 +133,7 @@ module _ (F : Fixed) (E : Shelf) (c₀ : Cs) where
             → Shown (cond e (lastByte E s (b .bytes)) (lastLive E (q .session) (map callOf cs))) ((lent-calls.run F (leftBy r) cs) .0 .store)
         go true e f =
             subst (λ (l : Bytes). Shown (lastByte E s (b .bytes)) l) (sym (over-stays cs (leftBy r) (q .session) after e ∙ received-store m s h live (b .bytes)))
-            (bytes-last (csOf m) s 0 (b .bytes) (h .represents) (h .spared) live)
+            (bytes-last (csOf m) s 0 (b .bytes) (record { each = b .octets }) (held-good F E c₀ z m s h) (h .represents) (h .spared) live)
         go false e f = f e
     calls-last (gives b place ∷ cs) m s h live = go (on-lists.ended (calls.give s room)) refl (λ e. calls-last cs left (calls.give s room) after e)
       where
@@ -142,7 +149,7 @@ module _ (F : Fixed) (E : Shelf) (c₀ : Cs) where
         go : (e : Bool) → on-lists.ended (calls.give s room) ≡ e
             → (on-lists.ended (calls.give s room) ≡ false → Shown (lastLive E (calls.give s room) (map callOf cs)) ((lent-calls.run F left cs) .0 .store))
             → Shown (cond e s (lastLive E (calls.give s room) (map callOf cs))) ((lent-calls.run F left cs) .0 .store)
-        go true e f = record { state = csOf m; represents = h .represents; spared = h .spared; same = sym (over-stays cs left (calls.give s room) after e) }
+        go true e f = record { state = csOf m; represents = h .represents; spared = h .spared; same = sym (over-stays cs left (calls.give s room) after e); within = held-good F E c₀ z m s h .box .within }
         go false e f = f e
     calls-last (receivesOther o b ∷ cs) m s h live =
         subst (λ (r : Received). Shown (lastLive E s (map callOf cs)) ((lent-calls.run F (withSession m (r .sm)) cs) .0 .store))

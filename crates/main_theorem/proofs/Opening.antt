@@ -8,7 +8,7 @@ use lib.ListN.{length}
 use borrow.Author.Tests.{eqb-true, leb-true}
 use Rattle.grammar.specs.Bytes.{Bytes}
 use Rattle.grammar.specs.Refusals.{badMemory}
-use Rattle.grammar.proofs.Basics.{and2, no-both}
+use Rattle.grammar.proofs.Basics.{and2}
 use Rattle.session.specs.Choices.{Shelf}
 use Rattle.session.specs.Session as on-lists
 use Rattle.demand3.specs.Demand.{Good}
@@ -103,34 +103,19 @@ shelfOf F m =
 module _ (role : ℕ) (F : Fixed) (m : Lent) (a : Accepted role F m) where
   greeting-says : (caller : Bool) → Says F (cs (freshOf caller) (m .table) (m .inbox) (m .store)) (on-lists.greeting caller)
   unfolding freshOf waits waitingOf firstText thenText
-  greeting-says true = record { toGive = refl; some = λ w. absurd (no-both false w refl) }
-  greeting-says false = record { toGive = refl; some = λ w. omega arith }
+  greeting-says true = refl
+  greeting-says false = refl
 
   sid-awaited : (caller : Bool) → Awaits (cs (freshOf caller) (m .table) (m .inbox) (m .store)) (on-lists.aLine (on-lists.awaitsSid caller))
   unfolding freshOf
-  sid-awaited true = (refl, refl)
-  sid-awaited false = (refl, refl)
+  sid-awaited true = (refl, tt)
+  sid-awaited false = (refl, tt)
 
   fresh-represents : (caller : Bool) → Represents F (shelfOf F m) (cs (freshOf caller) (m .table) (m .inbox) (m .store)) (on-lists.opened caller (statesOf (m .table)))
   unfolding freshOf messagesOf usedBy
   fresh-represents caller =
       record {
-        arrays = record {
-          ours = refl;
-          sending = refl;
-          signs = refl;
-          block = refl;
-          flags = refl;
-          heading = refl;
-          line = refl;
-          oursCount = omega arith;
-          sendingCount = omega arith;
-          signsCount = omega arith;
-          proposals = omega arith;
-          lineLen = omega arith;
-          head = omega arith;
-          entries = λ i h. absurd (omega arith);
-        };
+        entries = λ i h. absurd (omega arith);
         shelved = record {
           records = refl;
           known = refl;
@@ -138,7 +123,6 @@ module _ (role : ℕ) (F : Fixed) (m : Lent) (a : Accepted role F m) where
           bytes = refl;
           table = a .table .0;
           inbox = a .inbox .0;
-          few = a .inbox .1;
         };
         boxed = record {
           kept = refl;
@@ -146,11 +130,8 @@ module _ (role : ℕ) (F : Fixed) (m : Lent) (a : Accepted role F m) where
           laid = tt;
           bodies = refl;
           row = tt;
-          sum = refl;
           small = omega arith;
           used = refl;
-          placed = omega arith;
-          within = omega arith;
         };
         says = greeting-says caller;
         awaits = sid-awaited caller;

@@ -62,7 +62,7 @@ module _ (F : Fixed) (E : Shelf) (c₀ : Cs) (z : Sizes) where
   unfolding receiveOf on-lists-calls.receive
   receive-law m s h bs o =
       subst (λ (b : Bool). TookAs (cond b asked (unchanged (reply badMemory 255 0) (m .sm) (m .table) (m .inbox) (m .store))) (on-lists-calls.receive E s bs))
-      (sym (h .inForm .form)) (go (overOf (loadOf (m .sm))) (on-lists.ended s) (over-law F E (csOf m) s (h .represents)) refl)
+      (sym (h .inForm .form)) (go (overOf (loadOf (m .sm))) (on-lists.ended s) (over-law F E (csOf m) s (held-good F E c₀ z m s h) (h .represents)) refl)
     where
       over : Received
       over = unchanged (reply sessionEnded 0 0) (m .sm) (m .table) (m .inbox) (m .store)
@@ -81,7 +81,7 @@ module _ (F : Fixed) (E : Shelf) (c₀ : Cs) (z : Sizes) where
       live true e f =
           subst (λ (l : Bytes). TookAs (some true) (on-lists-calls.receiveOn E s l)) (sym (length-zero bs (eqb-true (length bs) 0 e))) (record { answer = refl; count = refl; held = h })
       live false e f =
-          let r = byte.receive-law F E (csOf m) s 0 bs (h .represents) f in
+          let r = byte.receive-law F E (csOf m) s 0 bs (record { each = o }) (held-good F E c₀ z m s h) (h .represents) f in
           record {
             answer = r .answer;
             count = r .count ∙ zero-add _;

@@ -41,9 +41,9 @@ reach-at : (s : Session) (n : ℕ) → s .now .phase ≡ n → reachOf s ≡ s .
 reach-at s n e = ap (λ (p : ℕ). s .keep .used + cond (ltb p 5) 0 (cond (eqb p 6) 0 (s .reading .reader .body))) e
 
 -- A SESSION THAT GOES ON: its store
-pub store-written : (F : Fixed) (E : Shelf) (c₀ c : Cs) (v : on-lists.Session) → Represents F E c v → Spared c₀ c → on-lists.ended v ≡ false
+pub store-written : (F : Fixed) (E : Shelf) (c₀ c : Cs) (v : on-lists.Session) → c .session .keep .used ≤ length (c .store) → Represents F E c v → Spared c₀ c → on-lists.ended v ≡ false
     → c .store ≡ written v ++ drop (length (written v)) (c₀ .store)
-store-written F E c₀ c v h p live = go (v .phase) refl (h .awaits)
+store-written F E c₀ c v w h p live = go (v .phase) refl (h .awaits)
   where
     used : ℕ
     used = c .session .keep .used
@@ -59,7 +59,6 @@ store-written F E c₀ c v h p live = go (v .phase) refl (h .awaits)
     without : (n : ℕ) → c .session .now .phase ≡ n → cond (ltb n 5) 0 (cond (eqb n 6) 0 (c .session .reading .reader .body)) ≡ 0
         → c .store ≡ (bodiesBytes (v .memory .inbox) ++ []) ++ drop (length (bodiesBytes (v .memory .inbox) ++ [])) (c₀ .store)
     without n e z =
-        let w = h .boxed .within in
         with [] 0 (reach-at (c .session) n e ∙ ap (λ (k : ℕ). used + k) z) (omega (arith, w)) refl
 
     Holds : Phase → Type 0
@@ -68,8 +67,7 @@ store-written F E c₀ c v h p live = go (v .phase) refl (h .awaits)
     go : (q : Phase) → v .phase ≡ q → Awaits c q → Holds q
     go (on-lists.aLine l) e a = without (lineNumber l) (a .0) (ap (λ (q : Bool). cond q 0 (cond (eqb (lineNumber l) 6) 0 (c .session .reading .reader .body))) (lt-ltb (lineNumber l) 5 (line-below l)))
     go (on-lists.awaitsTransfer p ps sc) e a =
-        let s = a .7 in
-        let w = h .boxed .within in
+        let s = a .2 in
         let n = length-drop used (c .store) in
         let f = s .fits in
         let g = s .store in

@@ -28,9 +28,12 @@ use Rattle.represents.specs.Link.{Moving, Receiving}
 use Rattle.represents.proofs.Frame.{only-same, only-then}
 use Rattle.represents.proofs.Says.{first-nothing, then-nothing}
 use Rattle.form_closed.proofs.Waiting.{waits-none}
-use Rattle.represents.proofs.Parts.{block-of, signs-of, rest-of, holds-of, represents, refuse-law}
+use Rattle.represents.proofs.Parts.{holds-of, represents, refuse-law}
 use Rattle.represents.proofs.LineStep.{line-below, awaits-line, says-line, line-step}
 use Rattle.represents.proofs.TransferStep.{reach-least, transfer-step}
+use Rattle.form_closed.specs.Facts.{Octets, Good}
+use Rattle.form_closed.proofs.Laws.{octets-first, octets-rest}
+use Rattle.form_closed.proofs.Bytes.{byte-ok}
 
 -- ---------------------------------------------------------------- what waits
 
@@ -48,23 +51,23 @@ waiting-none s t ti na bo e =
     ∙ then-nothing (s .say .then) (s .now .ours) (s .keep .sending) t ti na bo ((waits-none (s .say) e) .1)
 
 -- something waits where some bytes are still to be given
-pub waits-law : (F : Fixed) (c : Cs) (o : Bytes) → Says F c o → waits (c .session .say) ≡ not (null o)
-waits-law F c o h = go (waits (c .session .say)) refl
+pub waits-law : (F : Fixed) {nt ni ns : ℕ} (c : Cs) (o : Bytes) → Good F nt ni ns c → Says F c o → waits (c .session .say) ≡ not (null o)
+waits-law F c o g h = go (waits (c .session .say)) refl
   where
     all : Bytes
     all = waitingOf (c .session) (c .table) (F .titles) (F .names) (F .bodies)
 
     go : (q : Bool) → waits (c .session .say) ≡ q → q ≡ not (null o)
-    go true e = ap not (sym (ap null (sym (h .toGive)) ∙ null-drop (c .session .say .pos) all (h .some e)))
+    go true e = ap not (sym (ap null (sym h) ∙ null-drop (c .session .say .pos) all (g .waiting e)))
     go false e =
         ap (λ (l : Bytes). not (null l))
-        (sym (drop-nil (c .session .say .pos)) ∙ ap (drop (c .session .say .pos)) (sym (waiting-none (c .session) (c .table) (F .titles) (F .names) (F .bodies) e)) ∙ h .toGive)
+        (sym (drop-nil (c .session .say .pos)) ∙ ap (drop (c .session .say .pos)) (sym (waiting-none (c .session) (c .table) (F .titles) (F .names) (F .bodies) e)) ∙ h)
 
 -- ---------------------------------------------------------------- whether the session is over
 
-pub over-law : (F : Fixed) (E : Shelf) (c : Cs) (v : on-lists.Session) → Represents F E c v → overOf (c .session) ≡ on-lists.ended v
+pub over-law : (F : Fixed) (E : Shelf) {nt ni ns : ℕ} (c : Cs) (v : on-lists.Session) → Good F nt ni ns c → Represents F E c v → overOf (c .session) ≡ on-lists.ended v
 unfolding overOf
-over-law F E c v h = go (v .phase) (h .awaits)
+over-law F E c v g h = go (v .phase) (h .awaits)
   where
     at : (n : ℕ) → c .session .now .phase ≡ n
         → cond (ltb (c .session .now .phase) 6) false (cond (eqb (c .session .now .phase) 6) (not (waits (c .session .say))) true)
@@ -80,7 +83,7 @@ over-law F E c v h = go (v .phase) (h .awaits)
     go (on-lists.aLine l) a =
         at (lineNumber l) (a .0) ∙ ap (λ (q : Bool). cond q false (cond (eqb (lineNumber l) 6) (not (waits (c .session .say))) true)) (lt-ltb (lineNumber l) 6 (omega (arith, line-below l)))
     go (on-lists.awaitsTransfer p ps sc) a = at 5 (a .0)
-    go on-lists.leaving a = at 6 a ∙ ap not (waits-law F c (v .out) (h .says)) ∙ not-not (null (v .out))
+    go on-lists.leaving a = at 6 a ∙ ap not (waits-law F c (v .out) g (h .says)) ∙ not-not (null (v .out))
     go on-lists.over a =
         let l = a .0 in
         rw (le-ltb (c .session .now .phase) 6 (omega arith), ne-eqb (c .session .now .phase) 6 (λ e. omega arith))
@@ -101,7 +104,7 @@ reach-most s = go (ltb (s .now .phase) 5) (eqb (s .now .phase) 6)
     go false true = omega arith
     go false false = omega arith
 
-module _ (F : Fixed) (E : Shelf) (c : Cs) (v : on-lists.Session) (b : ℕ) (h : Represents F E c v) where
+module _ (F : Fixed) (E : Shelf) {nt ni ns : ℕ} (c : Cs) (g : Good F nt ni ns c) (v : on-lists.Session) (b : ℕ) (h : Represents F E c v) where
   abbrev Moves : Moved → on-lists.Stepped → Type 0
   Moves x o = Moving F E c x o
 
@@ -110,7 +113,7 @@ module _ (F : Fixed) (E : Shelf) (c : Cs) (v : on-lists.Session) (b : ℕ) (h : 
       record {
         answer = refl;
         represents = represents F E (cs (lfDropped (c .session)) (c .table) (c .inbox) (c .store)) (on-lists.withAfterCr false v)
-            (block-of h) (signs-of h) (holds-of h) (rest-of h) (h .arrays .head) (h .arrays .lineLen)
+            (h .entries) (holds-of h)
             (says-line F (c .session) (c .table) (c .inbox) (c .store) (lfDropped (c .session) .line) (v .out) (h .says))
             (awaits-line (v .phase) (c .session) (c .table) (c .inbox) (c .store) (lfDropped (c .session) .line) (h .awaits)) (h .part) refl;
         spared = record { table = only-same (c .table); inbox = kept-same _ _ (c .inbox) (omega arith); store = kept-same _ _ (c .store) (omega arith) };
@@ -130,7 +133,7 @@ module _ (F : Fixed) (E : Shelf) (c : Cs) (v : on-lists.Session) (b : ℕ) (h : 
     line-law : (n : ℕ) → c .session .now .phase ≡ n → ltb n 5 ≡ true → eqb n 5 ≡ false → (l : on-lists.Awaited) → v .phase ≡ on-lists.aLine l
         → Moves (cond (eqb (c .session .now .phase) 5) (transferStepOf c b) (lineByteOf (F .known) c b)) (on-lists.lineStep E l v b)
     line-law n e low ne l x =
-        let t = line-step F E c v h quiet b l x in
+        let t = line-step F E c g v h quiet b l x in
         subst (λ (q : Bool). Moves (cond q (transferStepOf c b) (lineByteOf (F .known) c b)) (on-lists.lineStep E l v b)) (sym (ap (λ (p : ℕ). eqb p 5) e ∙ ne))
         (record {
           answer = t .answer;
@@ -149,7 +152,7 @@ module _ (F : Fixed) (E : Shelf) (c : Cs) (v : on-lists.Session) (b : ℕ) (h : 
         line-law (lineNumber l) (a .0) (lt-ltb (lineNumber l) 5 k) (ne-eqb (lineNumber l) 5 (λ z. omega arith)) l e
     phase-law live out (on-lists.awaitsTransfer p ps sc) e a =
         subst (λ (q : Bool). Moves (cond q (transferStepOf c b) (lineByteOf (F .known) c b)) (on-lists.phaseStep E (on-lists.awaitsTransfer p ps sc) v b)) (sym (ap (λ (n : ℕ). eqb n 5) (a .0)))
-        (transfer-step F E c v h b quiet p ps sc a)
+        (transfer-step F E c g v h b quiet p ps sc a)
     phase-law live out on-lists.leaving e a =
         absurd (no-both (on-lists.ended v) (ap (λ (p : Phase). on-lists.endedIn p (v .out)) e ∙ out) live)
     phase-law live out on-lists.over e a = absurd (no-both (on-lists.ended v) (ap (λ (p : Phase). on-lists.endedIn p (v .out)) e) live)
@@ -157,16 +160,16 @@ module _ (F : Fixed) (E : Shelf) (c : Cs) (v : on-lists.Session) (b : ℕ) (h : 
   free-law : on-lists.ended v ≡ false → (q : Bool) → waits (c .session .say) ≡ q → (o : Bytes) → v .out ≡ o
       → Moves (cond q (moved bytesWait (cs (refusedOf (c .session)) (c .table) (c .inbox) (c .store))) (cond (eqb (c .session .now .phase) 5) (transferStepOf c b) (lineByteOf (F .known) c b)))
       (on-lists.freeStep E o v b)
-  free-law live true e [] f = absurd (no-both true refl (sym e ∙ waits-law F c (v .out) (h .says) ∙ ap (λ (l : Bytes). not (null l)) f))
+  free-law live true e [] f = absurd (no-both true refl (sym e ∙ waits-law F c (v .out) g (h .says) ∙ ap (λ (l : Bytes). not (null l)) f))
   free-law live true e (x ∷ o) f = refused-law bytesWait
   free-law live false e [] f = phase-law e live (ap null f) (v .phase) refl (h .awaits)
-  free-law live false e (x ∷ o) f = absurd (no-both false (sym e ∙ waits-law F c (v .out) (h .says) ∙ ap (λ (l : Bytes). not (null l)) f) refl)
+  free-law live false e (x ∷ o) f = absurd (no-both false (sym e ∙ waits-law F c (v .out) g (h .says) ∙ ap (λ (l : Bytes). not (null l)) f) refl)
 
 -- A BYTE: the same answer, the session after it, and the rest spared.
-pub byte-law : (F : Fixed) (E : Shelf) (c : Cs) (v : on-lists.Session) (b : ℕ) → Represents F E c v → on-lists.ended v ≡ false
+pub byte-law : (F : Fixed) (E : Shelf) {nt ni ns : ℕ} (c : Cs) (v : on-lists.Session) (b : ℕ) → Good F nt ni ns c → Represents F E c v → on-lists.ended v ≡ false
     → Moving F E c (byteOf (F .known) c b) (on-lists.step E v b)
 unfolding byteOf
-byte-law F E c v b h live =
+byte-law F E c v b g h live =
     subst (λ (q : Bool). Moving F E c (cond (q && eqb b LF) dropped free) (on-lists.step E v b)) (sym (h .afterCr)) (go (v .afterCr && eqb b LF))
   where
     dropped : Moved
@@ -178,8 +181,8 @@ byte-law F E c v b h live =
         (cond (eqb (c .session .now .phase) 5) (transferStepOf c b) (lineByteOf (F .known) c b))
 
     go : (q : Bool) → Moving F E c (cond q dropped free) (cond q (on-lists.moved (on-lists.withAfterCr false v)) (on-lists.freeStep E (v .out) v b))
-    go true = dropped-law F E c v b h
-    go false = free-law F E c v b h live (waits (c .session .say)) refl (v .out) refl
+    go true = dropped-law F E c g v b h
+    go false = free-law F E c g v b h live (waits (c .session .say)) refl (v .out) refl
 
 -- ---------------------------------------------------------------- a receive
 
@@ -194,10 +197,10 @@ spared-then c d e p q =
       store = kept-then _ _ _ (c .store) (d .store) (e .store) (p .store) (q .store);
     }
 
-module _ (F : Fixed) (E : Shelf) (c : Cs) (x : Moved) (o : on-lists.Stepped) (k : Moving F E c x o) where
+module _ (F : Fixed) (E : Shelf) {nt ni ns : ℕ} (c : Cs) (x : Moved) (o : on-lists.Stepped) (g : Good F nt ni ns (x .cs)) (k : Moving F E c x o) where
   pub same-stops : stops x ≡ calls.stops o
   same-stops =
-      ap (λ (a : ℕ). not (eqb a 0) || overOf (x .cs .session)) (k .answer) ∙ ap (λ (e : Bool). not (eqb (o .answer) 0) || e) (over-law F E (x .cs) (o .session) (k .represents))
+      ap (λ (a : ℕ). not (eqb a 0) || overOf (x .cs .session)) (k .answer) ∙ ap (λ (e : Bool). not (eqb (o .answer) 0) || e) (over-law F E (x .cs) (o .session) g (k .represents))
 
   -- a byte, and those after it unless the session is over
   receive-more : (n : ℕ) (r : Run) (q : calls.Received) → (calls.stops o ≡ false → Receiving F E (x .cs) (suc n) r q)
@@ -210,17 +213,18 @@ module _ (F : Fixed) (E : Shelf) (c : Cs) (x : Moved) (o : on-lists.Stepped) (k 
           → Receiving F E c n (cond e (run (x .answer) (suc n) (x .cs)) r) (cond e (calls.stoppedAt o) (calls.oneMore q))
       go true f = record { answer = k .answer; count = omega arith; represents = k .represents; spared = k .spared }
       go false f =
-          let g = f refl in
-          record { answer = g .answer; count = g .count ∙ omega arith; represents = g .represents; spared = spared-then c (x .cs) (r .cs) (k .spared) (g .spared) }
+          let m = f refl in
+          record { answer = m .answer; count = m .count ∙ omega arith; represents = m .represents; spared = spared-then c (x .cs) (r .cs) (k .spared) (m .spared) }
 
 -- A RECEIVE on a session that goes on
-pub receive-law : (F : Fixed) (E : Shelf) (c : Cs) (v : on-lists.Session) (n : ℕ) (bs : Bytes) → Represents F E c v → on-lists.ended v ≡ false
+pub receive-law : (F : Fixed) (E : Shelf) {nt ni ns : ℕ} (c : Cs) (v : on-lists.Session) (n : ℕ) (bs : Bytes) → Octets bs → Good F nt ni ns c → Represents F E c v → on-lists.ended v ≡ false
     → Receiving F E c n (receiveFrom (F .known) c n bs) (calls.receiveOn E v bs)
 unfolding receiveFrom
-receive-law F E c v n [] h live = record { answer = refl; count = omega arith; represents = h; spared = spared-same c }
-receive-law F E c v n (b ∷ bs) h live =
+receive-law F E c v n [] q g h live = record { answer = refl; count = omega arith; represents = h; spared = spared-same c }
+receive-law F E {nt} {ni} {ns} c v n (b ∷ bs) q g h live =
     let x = byteOf (F .known) c b in
     let o = on-lists.step E v b in
-    let k = byte-law F E c v b h live in
-    receive-more F E c x o k n (receiveFrom (F .known) (x .cs) (suc n) bs) (calls.receiveOn E (o .session) bs)
-    (λ e. receive-law F E (x .cs) (o .session) (suc n) bs (k .represents) ((or2 (not (eqb (o .answer) 0)) (on-lists.ended (o .session)) e) .1))
+    let k = byte-law F E c v b g h live in
+    let g′ = byte-ok F nt ni ns c b g (octets-first q) (F .known) in
+    receive-more F E c x o g′ k n (receiveFrom (F .known) (x .cs) (suc n) bs) (calls.receiveOn E (o .session) bs)
+    (λ e. receive-law F E (x .cs) (o .session) (suc n) bs (octets-rest q) g′ (k .represents) ((or2 (not (eqb (o .answer) 0)) (on-lists.ended (o .session)) e) .1))

@@ -14,11 +14,9 @@ use Rattle.grammar.specs.Transfers.{partOf}
 use Rattle.mail.specs.Mail.{Message}
 use Rattle.session.specs.Choices.{bodyBytes}
 use Rattle.buffer.specs.Put.{putBytes}
-use Rattle.buffer.proofs.Laws.{put-length}
 use Rattle.layout.specs.Layout.{le2, le4, fieldOut, fieldsOut, entryAt, entrySize, messageOf, proposalOf, bodyStart, bodyLength, entryOut}
 use Rattle.layout.proofs.Places.{part-in, part-kept, part-here}
 use Rattle.layout.proofs.Laws.{withContent, entry-length, message-back, start-back, length-back, inbox-back, inbox-kept}
-use Rattle.choice.specs.Decoded.{placeCount}
 use Rattle.form_test.specs.Form.{usedFrom, usedBy}
 use Rattle.session_memory.specs.State.{at}
 use Rattle.represents.specs.Laid.{messageBytes, bodiesBytes}
@@ -63,13 +61,6 @@ module _ (e : Bytes) where
       ap (λ (l : List Message). messageAt st i ∷ l) (messages-snoc st (suc i) n)
       ∙ ap (λ (j : ℕ). messageAt st i ∷ (messagesFrom e st (suc i) n ++ (messageAt st j ∷ []))) (omega arith)
 
-  used-snoc : (i n : ℕ) → usedFrom e i (suc n) ≡ usedFrom e i n + bodyLength (entryAt entrySize e (i + n))
-  used-snoc i zero = ap (λ (j : ℕ). bodyLength (entryAt entrySize e j) + 0) (sym (add-zero i)) ∙ omega arith
-  used-snoc i (suc n) =
-      ap (λ (m : ℕ). bodyLength (entryAt entrySize e i) + m) (used-snoc (suc i) n)
-      ∙ ap (λ (j : ℕ). bodyLength (entryAt entrySize e i) + (usedFrom e (suc i) n + bodyLength (entryAt entrySize e j))) (omega arith)
-      ∙ sym (add-assoc (bodyLength (entryAt entrySize e i)) (usedFrom e (suc i) n) (bodyLength (entryAt entrySize e (i + suc n))))
-
   row-snoc : (i n place : ℕ) → InRow e i n place → bodyStart (entryAt entrySize e (i + n)) ≡ place + usedFrom e i n → InRow e i (suc n) place
   row-snoc i zero place r h = (ap (λ (j : ℕ). bodyStart (entryAt entrySize e j)) (sym (add-zero i)) ∙ h ∙ add-zero place, tt)
   row-snoc i (suc n) place r h = (
@@ -96,27 +87,21 @@ pub record Box (kept used : ℕ) (inbox store : Bytes) (ms : List Message) : Typ
   pub laid : LaidFrom inbox 0 0 ms
   pub bodies : take used store ≡ bodiesBytes ms
   pub row : InRow inbox 0 kept 0
-  pub sum : usedBy inbox kept ≡ used
   pub small : used ≤ kept * 65535
   pub bytes : used ≡ bodyBytes ms
-  pub placed : kept ≤ placeCount inbox
-  pub within : used ≤ length store
 
-pub box-store : (kept used : ℕ) (inbox store r : Bytes) (ms : List Message) → length (take used store ++ r) ≡ length store → Box kept used inbox store ms
+pub box-store : (kept used : ℕ) (inbox store r : Bytes) (ms : List Message) → usedBy inbox kept ≡ used → used ≤ length store → Box kept used inbox store ms
     → Box kept used inbox (take used store ++ r) ms
 unfolding messagesOf usedBy
-box-store kept used inbox store r ms l h =
+box-store kept used inbox store r ms sum within h =
     record {
       count = h .count;
-      messages = messages-store inbox store r used (h .within) 0 kept 0 (h .row) (omega (arith, h .sum)) ∙ h .messages;
+      messages = messages-store inbox store r used within 0 kept 0 (h .row) (omega (arith, sum)) ∙ h .messages;
       laid = h .laid;
-      bodies = take-at (take used store) r used (length-take-le used store (h .within)) ∙ h .bodies;
+      bodies = take-at (take used store) r used (length-take-le used store within) ∙ h .bodies;
       row = h .row;
-      sum = h .sum;
       small = h .small;
       bytes = h .bytes;
-      placed = h .placed;
-      within = omega (arith, h .within, l);
     }
 
 body-bytes-snoc : (ms : List Message) (m : Message) → bodyBytes (ms ++ (m ∷ [])) ≡ bodyBytes ms + length (m .body)
@@ -144,6 +129,7 @@ pub record Fitting (kept used : ℕ) (inbox store : Bytes) (places n : ℕ) : Ty
   pub free : kept < places
   pub limit : n ≤ 65535
   pub room : used + n ≤ length store
+  pub sum : usedBy inbox kept ≡ used
 
 -- any entry x that says where its body begins and how long it is
 module _ (kept used : ℕ) (inbox store : Bytes) (ms : List Message) (places n : ℕ) (g : Fitting kept used inbox store places n)
@@ -163,7 +149,6 @@ module _ (kept used : ℕ) (inbox store : Bytes) (ms : List Message) (places n :
   box-entry : Box kept used inbox store ms → Box (kept + 1) (used + n) grown store (ms ++ (messageOf x (take n (drop used store)) ∷ []))
   unfolding messagesOf usedBy
   box-entry h =
-      let long : length grown ≡ length inbox = put-length inbox (at (kept * 155)) x in
       record {
         count = omega (arith, h .count, length-append ms (messageOf x (take n (drop used store)) ∷ []));
         messages = ap (messagesFrom grown store 0) (add-one kept) ∙ messages-snoc grown store 0 kept
@@ -175,13 +160,9 @@ module _ (kept used : ℕ) (inbox store : Bytes) (ms : List Message) (places n :
         bodies = take-add used n store ∙ ap (λ (o : Bytes). o ++ take n (drop used store)) (h .bodies) ∙ sym (bodies-snoc ms kept-message);
         row = subst (λ (k : ℕ). InRow grown 0 k 0) (sym (add-one kept))
             (row-snoc grown 0 kept 0 (row-same inbox grown kept before 0 kept 0 (omega arith) (h .row))
-            (ap bodyStart here ∙ s ∙ omega (arith, h .sum, used-same inbox grown kept before 0 kept (omega arith))));
-        sum = ap (usedFrom grown 0) (add-one kept) ∙ used-snoc grown 0 kept
-            ∙ omega (arith, h .sum, used-same inbox grown kept before 0 kept (omega arith), ap bodyLength here, b);
+            (ap bodyStart here ∙ s ∙ omega (arith, g .sum, used-same inbox grown kept before 0 kept (omega arith))));
         small = omega (arith, h .small, g .limit);
         bytes = omega (arith, h .bytes, body-bytes-snoc ms (messageOf x (take n (drop used store))), size);
-        placed = rw long (omega (arith, g .size, g .free));
-        within = g .room;
       }
     where
       kept-message : Message

@@ -28,28 +28,29 @@ use Rattle.line_effect.specs.Judge.{noMarks, judged, toTransfer, plusFrom, next
 use Rattle.line_effect.specs.declared.Judged.{Judged}
 use Rattle.waiting.specs.Waiting.{thenText}
 use Rattle.pending.specs.Pending.{waits}
-use Rattle.receive_defined.specs.Receiving.{Cs, unsaid, keptKeep, nextJudged, isPlainAt, keepOf}
+use Rattle.receive_defined.specs.Receiving.{Cs, keptKeep, nextJudged, isPlainAt, keepOf}
 use Rattle.form_closed.specs.Fixed.{Fixed}
 use Rattle.represents.specs.Represents.{Awaits, Represents, signsIn}
-use Rattle.represents.proofs.Proposals.{Found, owing, owed-now, next-found, plain-law, written-form}
+use Rattle.represents.proofs.Proposals.{Found, owing, owed-now, next-found, plain-law, written-form, owed-pluses}
 use Rattle.represents.proofs.Inbox.{Box, Fitting, box-more}
 use Rattle.represents.proofs.Frame.{kept-put}
-use Rattle.represents.proofs.Says.{first-nothing, then-nothing, waits-not}
+use Rattle.represents.proofs.Says.{first-nothing, then-nothing}
 use Rattle.form_closed.proofs.Waiting.{waits-none}
-use Rattle.represents.proofs.Parts.{Holds, Rest, block-of, signs-of}
+use Rattle.represents.proofs.Parts.{Holds}
 use Rattle.represents.proofs.Settle.{Settles, settled-is, our-turn-law}
 use Rattle.represents.proofs.Leads.{Settling, Goes, goes-speaking, settle-goes}
-use Rattle.represents.proofs.Line.{await-transfer, short-start}
+use Rattle.represents.proofs.Line.{await-transfer}
 use Rattle.represents.proofs.Transfer.{behind, behind′, store′, heading′, s′, stepped, behind-back, store-kept, holds′}
+use Rattle.form_closed.specs.Facts.{Good, Under}
 
-module _ (F : Fixed) (E : Shelf) (c : Cs) (v : on-lists.Session) (h : Represents F E c v) (b : ℕ) (quiet : waits (c .session .say) ≡ false)
+module _ (F : Fixed) (E : Shelf) {nt ni ns : ℕ} (c : Cs) (g : Good F nt ni ns c) (v : on-lists.Session) (h : Represents F E c v) (b : ℕ) (quiet : waits (c .session .say) ≡ false)
     (p : Proposal) (ps : List Proposal) (sc last : Scan) (a : Awaits c (on-lists.awaitsTransfer p ps sc))
-    (k : Stands (roomOf (behind F E c v h b)) (stepped F E c v h b .reader) (heading′ F E c v h b) (behind′ F E c v h b) last) where
+    (k : Stands (roomOf (behind F E c g v h b)) (stepped F E c g v h b .reader) (heading′ F E c g v h b) (behind′ F E c g v h b) last) where
   abbrev u : Session
-  u = s′ F E c v h b
+  u = s′ F E c g v h b
 
   abbrev st : Bytes
-  st = store′ F E c v h b
+  st = store′ F E c g v h b
 
   abbrev n : ℕ
   n = u .reading .reader .body
@@ -65,15 +66,18 @@ module _ (F : Fixed) (E : Shelf) (c : Cs) (v : on-lists.Session) (h : Represents
 
   -- the message that is kept
   abbrev pub kept : Message
-  kept = messageOf p (record { heading = title; body = take n (behind′ F E c v h b) })
+  kept = messageOf p (record { heading = title; body = take n (behind′ F E c g v h b) })
 
   abbrev m′ : Memory
   m′ = on-lists.keptIn (v .memory) kept
 
   -- ---------------------------------------------------------------- it is kept
 
+  under : Under (u .now) (u .say) (u .keep) (c .session .reading .reader) (c .inbox) (c .store)
+  under = g .awaited .under (a .0)
+
   now-owed : p ∷ ps ≡ proposalOf entry ∷ accepted (signsIn (drop (suc (u .now .current)) (held (u .say .signs)))) (drop (suc (u .now .current)) (proposalsOf (u .now .block) (u .now .proposals)))
-  now-owed = sym (a .2) ∙ owed-now (u .say .signs) (u .now .block) (u .now .proposals) (signs-of h) (a .4) (u .now .current) (a .3) (a .5)
+  now-owed = sym (a .1) ∙ owed-now (u .say .signs) (u .now .block) (u .now .proposals) (g .say .signs) (under .signs) (u .now .current) (under .current) (under .plus)
 
   this : p ≡ proposalOf entry
   this = cc now-owed
@@ -83,7 +87,14 @@ module _ (F : Fixed) (E : Shelf) (c : Cs) (v : on-lists.Session) (h : Represents
 
   -- it and those after it have places
   places : u .keep .kept + suc (length ps) ≤ E .places
-  places = omega (arith, a .6, ap (λ (l : List Proposal). length l) (a .2), h .shelved .places)
+  places =
+      omega (
+        arith,
+        under .places,
+        owed-pluses (u .say .signs) (u .now .block) (u .now .proposals) (g .say .signs) (under .signs) (u .now .current),
+        ap (λ (l : List Proposal). length l) (a .1),
+        h .shelved .places,
+      )
 
   fitting : Fitting (u .keep .kept) (u .keep .used) (c .inbox) st (E .places) n
   fitting =
@@ -91,16 +102,17 @@ module _ (F : Fixed) (E : Shelf) (c : Cs) (v : on-lists.Session) (h : Represents
       let behind-size = length-drop (u .keep .used) (c .store) in
       record {
         size = h .shelved .inbox;
-        few = h .shelved .few;
+        few = omega (arith, g .box .limit, h .shelved .places);
         free = omega (arith, places);
         limit = omega arith;
-        room = omega (arith, h .boxed .within, store-kept F E c v h b .size);
+        sum = g .box .used;
+        room = omega (arith, g .box .within, store-kept F E c g v h b .size);
       }
 
   entry-size : length entry ≡ 72
   entry-size =
-      let e : entry ≡ take 72 (drop (u .now .current * 72) (u .now .block)) = part-in (u .now .block) (u .now .current * 72) 72 (omega (arith, a .3, h .arrays .block, h .arrays .proposals)) in
-      rw e (length-take-le 72 (drop (u .now .current * 72) (u .now .block)) (rw (length-drop (u .now .current * 72) (u .now .block)) (omega (arith, a .3, h .arrays .block, h .arrays .proposals))))
+      let e : entry ≡ take 72 (drop (u .now .current * 72) (u .now .block)) = part-in (u .now .block) (u .now .current * 72) 72 (omega (arith, under .current, g .now .block, g .now .proposals)) in
+      rw e (length-take-le 72 (drop (u .now .current * 72) (u .now .block)) (rw (length-drop (u .now .current * 72) (u .now .block)) (omega (arith, under .current, g .now .block, g .now .proposals))))
 
   title-short : length title ≤ 80
   title-short = rw (length-take (u .reading .reader .head) (u .reading .heading)) (omega (arith, k .array))
@@ -115,8 +127,8 @@ module _ (F : Fixed) (E : Shelf) (c : Cs) (v : on-lists.Session) (h : Represents
 
   holds″ : Holds F E (keptKeep u) (c .table) inbox′ st m′
   holds″ =
-      let g = holds′ F E c v h b in
-      let l = g .lies in
+      let H = holds′ F E c g v h b in
+      let l = H .lies in
       let same = inbox-kept .size in
       record {
         lies = record {
@@ -126,18 +138,14 @@ module _ (F : Fixed) (E : Shelf) (c : Cs) (v : on-lists.Session) (h : Represents
           bytes = l .bytes;
           table = l .table;
           inbox = same ∙ l .inbox;
-          few = l .few;
         };
         box = subst (λ (x : Message). Box (u .keep .kept + 1) (u .keep .used + n) inbox′ st (v .memory .inbox ++ (x ∷ [])))
-            (ap (λ (q : Proposal). withContent q title (take n (drop (u .keep .used) st))) (sym this) ∙ ap (λ (x : Bytes). withContent p title (take n x)) (behind-back F E c v h b))
-            (box-more (u .keep .kept) (u .keep .used) (c .inbox) st (v .memory .inbox) (E .places) n entry title fitting (omega (arith, entry-size)) title-short (h .arrays .entries (u .now .current) (a .3)) (g .box));
-        marks = g .marks;
+            (ap (λ (q : Proposal). withContent q title (take n (drop (u .keep .used) st))) (sym this) ∙ ap (λ (x : Bytes). withContent p title (take n x)) (behind-back F E c g v h b))
+            (box-more (u .keep .kept) (u .keep .used) (c .inbox) st (v .memory .inbox) (E .places) n entry title fitting (omega (arith, entry-size)) title-short (h .entries (u .now .current) (under .current)) (H .box));
+        marks = H .marks;
       }
 
   -- ---------------------------------------------------------------- then
-
-  rest : Rest (u .reading .heading) (u .line .bytes)
-  rest = record { heading = k .array; line = h .arrays .line }
 
   first : u .say .first ≡ 0
   first = (waits-none (c .session .say) quiet) .0
@@ -146,34 +154,32 @@ module _ (F : Fixed) (E : Shelf) (c : Cs) (v : on-lists.Session) (h : Represents
   then = (waits-none (c .session .say) quiet) .1
 
   abbrev Next : Judged → Outcome → Type 0
-  Next j o = Goes F E u (isPlainAt u) inbox′ st rest (u .keep .kept + 1) (u .keep .used + n) (c .table) j o
+  Next j o = Goes F E u (isPlainAt u) inbox′ st (u .keep .kept + 1) (u .keep .used + n) (c .table) j o
 
-  next-law : (l : List Proposal) (j : ℕ) → u .keep .kept + suc (length l) ≤ E .places
+  next-law : (l : List Proposal) (j : ℕ)
       → Found (drop (suc (u .now .current)) (held (u .say .signs))) (drop (suc (u .now .current)) (proposalsOf (u .now .block) (u .now .proposals))) (suc (u .now .current)) j l
       → Next (nextJudged u j) (on-lists.nextTransfer E l m′)
-  next-law [] j room found =
+  next-law [] j found =
       subst (λ (x : ℕ). Next (nextJudged u x) (on-lists.ourTurn E [] false m′)) (sym found)
-      (goes-speaking F E u (isPlainAt u) inbox′ st rest (u .keep .kept + 1) (u .keep .used + n) (c .table) noMarks (u .now) (u .say) (keptKeep u) (u .reading .reader) refl refl false
+      (goes-speaking F E u (isPlainAt u) inbox′ st (u .keep .kept + 1) (u .keep .used + n) (c .table) noMarks (u .now) (u .say) (keptKeep u) (u .reading .reader) refl refl false
       (on-lists.ourTurn E [] false m′)
-      (subst (λ (o : Bytes). Settles F E u (isPlainAt u) inbox′ st rest (speakOf (u .now) (u .say) (keptKeep u) (c .table) false .now) (speakOf (u .now) (u .say) (keptKeep u) (c .table) false .say)
+      (subst (λ (o : Bytes). Settles F E u (isPlainAt u) inbox′ st (speakOf (u .now) (u .say) (keptKeep u) (c .table) false .now) (speakOf (u .now) (u .say) (keptKeep u) (c .table) false .say)
       (keptKeep u) (u .reading .reader) (c .table) (on-lists.ourTurn E o false m′)) (first-nothing (u .say .first) (u .say .signs) first)
-      (our-turn-law F E u (isPlainAt u) inbox′ st rest (u .now) (u .say) (keptKeep u) (u .reading .reader) (c .table) m′ (block-of h) (signs-of h) holds″ (k .short) (a .1) false)))
-  next-law (q ∷ qs) j room found =
-      let o = owing (u .say .signs) (u .now .block) (u .now .proposals) (signs-of h) (a .4) (suc (u .now .current)) j q qs found in
+      (our-turn-law F E u (isPlainAt u) inbox′ st (u .now) (u .say) (keptKeep u) (u .reading .reader) (c .table) m′ (h .entries) holds″ false)))
+  next-law (q ∷ qs) j found =
+      let o = owing (u .say .signs) (u .now .block) (u .now .proposals) (g .say .signs) (under .signs) (suc (u .now .current)) j q qs found in
       subst
       (λ (x : Bool). Next (cond x (judged 0 1 noMarks (u .now) (u .say) (keptKeep u) (u .reading .reader)) (judged 0 0 noMarks (toTransfer j (u .now)) (u .say) (keptKeep u) (readerFor (u .now) j)))
       (on-lists.nextTransfer E (q ∷ qs) m′))
-      (sym (ne-eqb j 5 (λ e. omega (arith, o .within, h .arrays .proposals)))) (
+      (sym (ne-eqb j 5 (λ e. omega (arith, o .within, g .now .proposals)))) (
         refl,
         refl,
         refl,
-        settled-is F E u (isPlainAt u) inbox′ st rest (toTransfer j (u .now)) (u .say) (keptKeep u) (readerFor (u .now) j) (c .table) (on-lists.awaitsTransfer q qs (scanFrom (q .form))) m′ []
-            (block-of h) (signs-of h) holds″ (short-start (u .now) j)
+        settled-is F E u (isPlainAt u) inbox′ st (toTransfer j (u .now)) (u .say) (keptKeep u) (readerFor (u .now) j) (c .table) (on-lists.awaitsTransfer q qs (scanFrom (q .form))) m′ []
+            (h .entries) holds″
             (ap (λ (l : Bytes). l ++ thenText (u .say .then) (u .now .ours) (u .keep .sending) (c .table) (F .titles) (F .names) (F .bodies)) (first-nothing (u .say .first) (u .say .signs) first)
             ∙ then-nothing (u .say .then) (u .now .ours) (u .keep .sending) (c .table) (F .titles) (F .names) (F .bodies) then)
-            (λ e. absurd (let z : _≡_ {A = ℕ} 0 1 = (cc (e, waits-not (unsaid (u .say)) first then)) in omega arith))
-            (await-transfer F E u (isPlainAt u) inbox′ st rest (u .now) (u .say) (keptKeep u) (c .table) j q qs (block-of h) (signs-of h) o (a .1)
-            (omega (arith, room, holds″ .lies .places))),
+            (await-transfer F E u (isPlainAt u) inbox′ st (u .now) (u .say) (keptKeep u) (c .table) j q qs (h .entries) (g .say .signs) (k .array) o),
       )
 
   -- THE MESSAGE KEPT, at its last byte
@@ -182,12 +188,12 @@ module _ (F : Fixed) (E : Shelf) (c : Cs) (v : on-lists.Session) (h : Represents
   unfolding keepOf nextAccepted
   keep-law =
       subst (λ (x : Bool). Settling F E inbox′ st (u .keep .kept + 1) (u .keep .used + n) (c .table) (keepOf u (c .table)) (on-lists.settled v x (on-lists.nextTransfer E ps m′))) plain
-      (settle-goes F E u (isPlainAt u) inbox′ st rest (u .keep .kept + 1) (u .keep .used + n) (c .table) v (nextJudged u (nextAccepted (u .say .signs) (u .now .current + 1))) (on-lists.nextTransfer E ps m′)
+      (settle-goes F E u (isPlainAt u) inbox′ st (u .keep .kept + 1) (u .keep .used + n) (c .table) v (nextJudged u (nextAccepted (u .say .signs) (u .now .current + 1))) (on-lists.nextTransfer E ps m′)
       (subst (λ (x : ℕ). Next (nextJudged u (plusFrom x (drop x (held (u .say .signs))))) (on-lists.nextTransfer E ps m′)) (sym (add-one (u .now .current)))
-      (next-law ps (plusFrom (suc (u .now .current)) (drop (suc (u .now .current)) (held (u .say .signs)))) places
+      (next-law ps (plusFrom (suc (u .now .current)) (drop (suc (u .now .current)) (held (u .say .signs))))
       (subst (λ (l : List Proposal). Found (drop (suc (u .now .current)) (held (u .say .signs))) (drop (suc (u .now .current)) (proposalsOf (u .now .block) (u .now .proposals))) (suc (u .now .current))
       (plusFrom (suc (u .now .current)) (drop (suc (u .now .current)) (held (u .say .signs)))) l) (sym rest-owed)
-      (next-found (u .say .signs) (u .now .block) (u .now .proposals) (signs-of h) (a .4) (suc (u .now .current)))))))
+      (next-found (u .say .signs) (u .now .block) (u .now .proposals) (g .say .signs) (under .signs) (suc (u .now .current)))))))
     where
       plain : isPlainAt u ≡ on-lists.isPlain (p .form)
-      plain = plain-law (byteAt entry 0) (written-form (h .arrays .entries (u .now .current) (a .3))) ∙ ap (λ (q : Proposal). on-lists.isPlain (q .form)) (sym this)
+      plain = plain-law (byteAt entry 0) (written-form (h .entries (u .now .current) (under .current))) ∙ ap (λ (q : Proposal). on-lists.isPlain (q .form)) (sym this)

@@ -21,7 +21,6 @@ use Rattle.receive_defined.specs.Receiving.{cs, markAll, settledOf, spokenOf, S
 use Rattle.form_closed.specs.Fixed.{Fixed}
 use Rattle.represents.specs.Represents.{Represents}
 use Rattle.represents.specs.Frame.{StatesOnly}
-use Rattle.represents.proofs.Parts.{Rest}
 use Rattle.represents.proofs.Frame.{only-same, only-mark}
 use Rattle.represents.proofs.Settle.{after, Settles}
 
@@ -36,20 +35,20 @@ pub record Settling (F : Fixed) (E : Shelf) (i st : Bytes) (kept used : ℕ) (t 
 abbrev pub marking : Marks → Bytes → Bytes
 marking mk t = markAll (held (mk .places)) (mk .state) t
 
-module _ (F : Fixed) (E : Shelf) (s : Session) (a : Bool) (i st : Bytes) (rest : Rest (s .reading .heading) (s .line .bytes)) (kept used : ℕ) (t : Bytes) where
+module _ (F : Fixed) (E : Shelf) (s : Session) (a : Bool) (i st : Bytes) (kept used : ℕ) (t : Bytes) where
   -- no refusal
   abbrev pub Goes : Judged → Outcome → Type 0
   Goes j (refuses n) = ⊥
   Goes j (goesOn p m o) =
       (j .answer ≡ 0) × (j .keep .kept ≡ kept) × (j .keep .used ≡ used)
-      × Represents F E (cs (spokenOf s j a (marking (j .marks) t)) (marking (j .marks) t) i st) (after F E s a i st rest p m o)
+      × Represents F E (cs (spokenOf s j a (marking (j .marks) t)) (marking (j .marks) t) i st) (after F E s a i st p m o)
 
   -- any outcome
   abbrev pub Leads : Judged → Outcome → Type 0
   Leads j (refuses n) = (j .answer ≡ n) × (eqb n 0 ≡ false)
   Leads j (goesOn p m o) =
       (j .answer ≡ 0) × (j .keep .kept ≡ kept) × (j .keep .used ≡ used)
-      × Represents F E (cs (spokenOf s j a (marking (j .marks) t)) (marking (j .marks) t) i st) (after F E s a i st rest p m o)
+      × Represents F E (cs (spokenOf s j a (marking (j .marks) t)) (marking (j .marks) t) i st) (after F E s a i st p m o)
 
   pub goes-leads : (j : Judged) (o : Outcome) → Goes j o → Leads j o
   goes-leads j (refuses n) h = absurd h
@@ -60,7 +59,7 @@ module _ (F : Fixed) (E : Shelf) (s : Session) (a : Bool) (i st : Bytes) (rest :
   module _ (mk : Marks) (w : Await) (y : Say) (k : Keep) (r : Reader) (same : k .kept ≡ kept) (spent : k .used ≡ used) where
     -- it is our turn; ff: the partner's was FF
     pub goes-speaking : (ff : Bool) (o : Outcome)
-        → Settles F E s a i st rest (speakOf w y k (marking mk t) ff .now) (speakOf w y k (marking mk t) ff .say) k r (marking mk t) o → Goes (judged 0 (cond ff 2 1) mk w y k r) o
+        → Settles F E s a i st (speakOf w y k (marking mk t) ff .now) (speakOf w y k (marking mk t) ff .say) k r (marking mk t) o → Goes (judged 0 (cond ff 2 1) mk w y k r) o
     goes-speaking ff (refuses n) h = absurd h
     goes-speaking true (goesOn p m o) h = (refl, same, spent, h)
     goes-speaking false (goesOn p m o) h = (refl, same, spent, h)

@@ -4,10 +4,10 @@ use mathlib.Core.Path.{_≡_, refl, sym, ap, _∙_, subst}
 use mathlib.Core.Bool.{Bool, true, false, cond}
 use mathlib.Core.Option.{Option, none, some}
 use mathlib.Core.List.{List, [], _∷_, _++_, map, append-nil}
-use Prim.Native.Nat.{ℕ, zero, suc, _+_, _≤_}
+use Prim.Native.Nat.{ℕ, zero, suc, _+_}
 use native.Mathlib.Omega.{arith}
 use lib.Dec.{eqb, ltb}
-use lib.ListN.{length, drop, length-append, length-map}
+use lib.ListN.{length, drop, length-map}
 use borrow.Author.Tests.{ne-eqb, ltb-true}
 use Rattle.grammar.specs.Bytes.{Bytes}
 use Rattle.grammar.specs.Refusals.{lineNotAllowed, noForwarding, proposalCount}
@@ -24,7 +24,6 @@ use Rattle.session.specs.Session as on-lists
 use Rattle.session.specs.Session.{Memory, Phase, Outcome, refuses, goesOn}
 use Rattle.our_line.specs.Lines.{fsText}
 use Rattle.our_line.proofs.Laws.{fs-text}
-use Rattle.buffer.proofs.Laws.{put-length}
 use Rattle.layout.specs.Layout.{byteAt, entryAt, proposalSize, proposalOf}
 use Rattle.layout.proofs.Laws.{Fits}
 use Rattle.transfer_step.specs.declared.Reader.{Reader}
@@ -38,7 +37,7 @@ use Rattle.session_memory.specs.declared.Say.{Say}
 use Rattle.session_memory.specs.declared.Keep.{Keep}
 use Rattle.session_memory.specs.declared.Session.{Session}
 use Rattle.session_memory.proofs.Laws.{held-five}
-use Rattle.choice.specs.Decoded.{proposalsOf, placeCount}
+use Rattle.choice.specs.Decoded.{proposalsOf}
 use Rattle.choice.specs.Choice.{answersOf}
 use Rattle.line_effect.specs.Judge.{noMarks, judged, wentOn, refusal, inPhase, toTurn, toTransfer, saysFirst, saysSigns, sidRead, plusFrom, nextAccepted, readerFor, endLine, withProposal, proposalLine, ffLine, fqLine, turnRead, speakOf}
 use Rattle.line_effect.specs.Judge as judge
@@ -48,52 +47,39 @@ use Rattle.waiting.specs.Waiting.{firstText, thenText}
 use Rattle.pending.specs.Pending.{waits}
 use Rattle.receive_defined.specs.Receiving.{cs, unsaid, markAll}
 use Rattle.form_closed.specs.Fixed.{Fixed}
-use Rattle.represents.specs.Represents.{Awaits, signsIn}
-use Rattle.represents.proofs.Lists.{FiveOk, five-ok}
+use Rattle.represents.specs.Represents.{Awaits, signsIn, Entries}
 use Rattle.represents.proofs.Choices.{answers-law}
-use Rattle.form_closed.proofs.Choices.{answers-fit}
 use Rattle.represents.proofs.Proposals.{no-proposals, proposals-length, proposals-more, entries-more, written-form, signs-back, Found, Owing, owing, owed-now, next-found, start-law, stands-fresh, proper-fits}
 use Rattle.represents.proofs.Says.{first-nothing, then-nothing, waits-not}
-use Rattle.represents.proofs.Parts.{Holds, Block, Rest, Ready, block-none}
+use Rattle.represents.proofs.Parts.{Holds, Ready, no-entries}
 use Rattle.represents.proofs.Settle.{holds-turn, holds-mode, left, settled-is, our-turn-law, Settles}
 use Rattle.represents.proofs.Leads.{marking, Leads, goes-leads, goes-speaking}
+use Rattle.form_closed.specs.Facts.{FiveOk}
+use Rattle.form_closed.proofs.Laws.{five-of, signs-octets}
 
-pub short-start : (w : Await) (j : ℕ) → readerFor w j .head ≤ 80
-unfolding readerFor
-short-start w j = omega arith
-
-module _ (F : Fixed) (E : Shelf) (s : Session) (a : Bool) (i st : Bytes) (rest : Rest (s .reading .heading) (s .line .bytes)) where
+module _ (F : Fixed) (E : Shelf) (s : Session) (a : Bool) (i st : Bytes) where
   -- a transfer is awaited, none of its bytes is there
   pub await-transfer : (w : Await) (y : Say) (k : Keep) (t : Bytes) (j : ℕ) (p : Proposal) (qs : List Proposal)
-      → Block (w .ours) (w .block) (w .proposals) → FiveOk (y .signs) → Owing (y .signs) (w .block) (w .proposals) j p qs
-      → k .sending .count ≡ 0 → k .kept + length (p ∷ qs) ≤ placeCount i
-      → Awaits (cs (left F E s a i st rest (toTransfer j w) y k (readerFor w j)) t i st) (on-lists.awaitsTransfer p qs (scanFrom (p .form)))
+      → Entries (w .block) (w .proposals) → FiveOk (y .signs) → length (s .reading .heading) ≡ 80 → Owing (y .signs) (w .block) (w .proposals) j p qs
+      → Awaits (cs (left F E s a i st (toTransfer j w) y k (readerFor w j)) t i st) (on-lists.awaitsTransfer p qs (scanFrom (p .form)))
   unfolding readerFor
-  await-transfer w y k t j p qs b g o idle room =
+  await-transfer w y k t j p qs b g heading o =
       let byte = byteAt (entryAt proposalSize (w .block) j) 0 in
       let this : p ≡ proposalOf (entryAt proposalSize (w .block) j) = (cc (o .owed, owed-now (y .signs) (w .block) (w .proposals) g (o .count) j (o .within) (o .plus))) in
       let fresh : Stands (roomOf (drop (k .used) st)) (numbersOf (scanFrom (formIs byte))) (s .reading .heading) (drop (k .used) st) (scanFrom (formIs byte))
-      = stands-fresh (formIs byte) (roomOf (drop (k .used) st)) (s .reading .heading) (drop (k .used) st) (rest .heading) (omega arith) in (
+      = stands-fresh (formIs byte) (roomOf (drop (k .used) st)) (s .reading .heading) (drop (k .used) st) heading (omega arith) in (
         refl,
-        idle,
         o .owed,
-        o .within,
-        o .count,
-        o .plus,
-        subst (λ (l : List Proposal). k .kept + length l ≤ placeCount i) (sym (o .owed)) room,
         subst (λ (q : Proposal). Stands (roomOf (drop (k .used) st)) (startOf byte) (s .reading .heading) (drop (k .used) st) (scanFrom (q .form))) (sym this)
-            (subst (λ (q : Reader). Stands (roomOf (drop (k .used) st)) q (s .reading .heading) (drop (k .used) st) (scanFrom (formIs byte))) (sym (start-law byte (written-form (b .entries j (o .within))))) fresh),
+            (subst (λ (q : Reader). Stands (roomOf (drop (k .used) st)) q (s .reading .heading) (drop (k .used) st) (scanFrom (formIs byte))) (sym (start-law byte (written-form (b j (o .within))))) fresh),
       )
 
-  module _ (w : Await) (y : Say) (k : Keep) (r : Reader) (t : Bytes) (m : Memory) (ready : Ready F E i st w y k r t m) where
+  module _ (w : Await) (y : Say) (k : Keep) (r : Reader) (t : Bytes) (m : Memory) (ready : Ready F E (s .reading .heading) i st w y k t m) where
     abbrev Lead : Judged → Outcome → Type 0
-    Lead j o = Leads F E s a i st rest (k .kept) (k .used) t j o
+    Lead j o = Leads F E s a i st (k .kept) (k .used) t j o
 
-    b : Block (w .ours) (w .block) (w .proposals)
-    b = ready .block
-
-    g : FiveOk (y .signs)
-    g = ready .signs
+    b : Entries (w .block) (w .proposals)
+    b = ready .entries
 
     h : Holds F E k t i st m
     h = ready .holds
@@ -112,39 +98,39 @@ module _ (F : Fixed) (E : Shelf) (s : Session) (a : Bool) (i st : Bytes) (rest :
     forwarded = markAll (held (k .sending)) 1 t
 
     -- nothing is said
-    pub went-on : (w′ : Await) (k′ : Keep) (p : Phase) (m′ : Memory) → Block (w′ .ours) (w′ .block) (w′ .proposals) → Holds F E k′ t i st m′
-        → k′ .kept ≡ k .kept → k′ .used ≡ k .used → Awaits (cs (left F E s a i st rest w′ y k′ r) t i st) p → Lead (wentOn w′ y k′ r) (goesOn p m′ [])
+    pub went-on : (w′ : Await) (k′ : Keep) (p : Phase) (m′ : Memory) → Entries (w′ .block) (w′ .proposals) → Holds F E k′ t i st m′
+        → k′ .kept ≡ k .kept → k′ .used ≡ k .used → Awaits (cs (left F E s a i st w′ y k′ r) t i st) p → Lead (wentOn w′ y k′ r) (goesOn p m′ [])
     went-on w′ k′ p m′ b′ h′ same spent await = (
       refl,
       same,
       spent,
-      settled-is F E s a i st rest w′ y k′ r t p m′ [] b′ g h′ (ready .head)
+      settled-is F E s a i st w′ y k′ r t p m′ [] b′ h′
           (ap (λ (l : Bytes). l ++ thenText (y .then) (w′ .ours) (k′ .sending) t (F .titles) (F .names) (F .bodies)) nothing
           ∙ then-nothing (y .then) (w′ .ours) (k′ .sending) t (F .titles) (F .names) (F .bodies) (ready .then))
-          (λ e. absurd (let z : _≡_ {A = ℕ} 0 1 = (cc (e, silent)) in omega arith)) await,
+          await,
     )
 
     -- our turn, after o
-    speaks : (ff : Bool) (mk : Marks) (y′ : Say) (k′ : Keep) (m′ : Memory) (o : Bytes) → FiveOk (y′ .signs) → Holds F E k′ (marking mk t) i st m′
-        → k′ .kept ≡ k .kept → k′ .used ≡ k .used → k′ .sending .count ≡ 0 → firstText (y′ .first) (y′ .signs) ≡ o
+    speaks : (ff : Bool) (mk : Marks) (y′ : Say) (k′ : Keep) (m′ : Memory) (o : Bytes) → Holds F E k′ (marking mk t) i st m′
+        → k′ .kept ≡ k .kept → k′ .used ≡ k .used → firstText (y′ .first) (y′ .signs) ≡ o
         → Lead (judged 0 (cond ff 2 1) mk w y′ k′ r) (on-lists.ourTurn E o ff m′)
-    speaks ff mk y′ k′ m′ o g′ h′ same spent idle said =
+    speaks ff mk y′ k′ m′ o h′ same spent said =
         let u = marking mk t in
-        goes-leads F E s a i st rest (k .kept) (k .used) t (judged 0 (cond ff 2 1) mk w y′ k′ r) (on-lists.ourTurn E o ff m′)
-        (goes-speaking F E s a i st rest (k .kept) (k .used) t mk w y′ k′ r same spent ff (on-lists.ourTurn E o ff m′)
-        (subst (λ (x : Bytes). Settles F E s a i st rest (speakOf w y′ k′ u ff .now) (speakOf w y′ k′ u ff .say) k′ r u (on-lists.ourTurn E x ff m′)) said
-        (our-turn-law F E s a i st rest w y′ k′ r u m′ b g′ h′ (ready .head) idle ff)))
+        goes-leads F E s a i st (k .kept) (k .used) t (judged 0 (cond ff 2 1) mk w y′ k′ r) (on-lists.ourTurn E o ff m′)
+        (goes-speaking F E s a i st (k .kept) (k .used) t mk w y′ k′ r same spent ff (on-lists.ourTurn E o ff m′)
+        (subst (λ (x : Bytes). Settles F E s a i st (speakOf w y′ k′ u ff .now) (speakOf w y′ k′ u ff .say) k′ r u (on-lists.ourTurn E x ff m′)) said
+        (our-turn-law F E s a i st w y′ k′ r u m′ b h′ ff)))
 
     -- ---------------------------------------------------------------- SID and text lines
 
-    pub sid-law : (caller : Bool) → eqb (w .phase) 1 ≡ caller → k .sending .count ≡ 0 → (o : Option (List ℕ)) → Lead (sidRead o w y k r) (on-lists.sidJudged caller m o)
-    sid-law caller e idle none = (refl, refl)
-    sid-law caller e idle (some fs) = go (hasFeature 5 fs)
+    pub sid-law : (caller : Bool) → eqb (w .phase) 1 ≡ caller → (o : Option (List ℕ)) → Lead (sidRead o w y k r) (on-lists.sidJudged caller m o)
+    sid-law caller e none = (refl, refl)
+    sid-law caller e (some fs) = go (hasFeature 5 fs)
       where
         mode : (c : Bool) → Lead (wentOn (cond c (inPhase 2 w) (toTurn false w)) y (judge.inMode (framed fs) k) r) (goesOn (on-lists.afterSid c) (on-lists.withFramed (framed fs) m) [])
-        mode true = went-on (inPhase 2 w) (judge.inMode (framed fs) k) (on-lists.aLine on-lists.awaitsPrompt) (on-lists.withFramed (framed fs) m) b (holds-mode F E k t i st m h (framed fs)) refl refl (refl, idle)
+        mode true = went-on (inPhase 2 w) (judge.inMode (framed fs) k) (on-lists.aLine on-lists.awaitsPrompt) (on-lists.withFramed (framed fs) m) b (holds-mode F E k t i st m h (framed fs)) refl refl (refl, tt)
         mode false =
-            went-on (toTurn false w) (judge.inMode (framed fs) k) (on-lists.newTurn false) (on-lists.withFramed (framed fs) m) (block-none b)
+            went-on (toTurn false w) (judge.inMode (framed fs) k) (on-lists.newTurn false) (on-lists.withFramed (framed fs) m) (no-entries (w .block))
             (holds-mode F E k t i st m h (framed fs)) refl refl (refl, (refl, no-proposals (w .block)))
 
         go : (c : Bool)
@@ -155,11 +141,11 @@ module _ (F : Fixed) (E : Shelf) (s : Session) (a : Bool) (i st : Bytes) (rest :
             (mode (eqb (w .phase) 1))
         go false = (refl, refl)
 
-    pub text-law : w .phase ≡ 2 → k .sending .count ≡ 0 → (c : Bool)
+    pub text-law : w .phase ≡ 2 → (c : Bool)
         → Lead (cond c (judged 0 1 noMarks w (saysFirst 2 y) k r) (wentOn w y k r)) (on-lists.textJudged E c m)
     unfolding firstText
-    text-law e idle true = speaks false noMarks (saysFirst 2 y) k m (withCr (fixedText ourSid)) g h refl refl idle refl
-    text-law e idle false = went-on w k (on-lists.aLine on-lists.awaitsPrompt) m b h refl refl (e, idle)
+    text-law e true = speaks false noMarks (saysFirst 2 y) k m (withCr (fixedText ourSid)) h refl refl refl
+    text-law e false = went-on w k (on-lists.aLine on-lists.awaitsPrompt) m b h refl refl (e, tt)
 
     -- ---------------------------------------------------------------- FF, FQ and proposals
 
@@ -171,7 +157,7 @@ module _ (F : Fixed) (E : Shelf) (s : Session) (a : Bool) (i st : Bytes) (rest :
             → Lead (cond (eqb n 0) (cond ff (refusal lineNotAllowed w y k r) (judged 0 2 (judge.turnMarks k) w y (judge.settledKeep k) r)) (refusal lineNotAllowed w y k r))
             (on-lists.turnJudged E saysFF ff (proposalsOf (w .block) n) m)
         go zero true = (refl, refl)
-        go zero false = speaks true (judge.turnMarks k) y (judge.settledKeep k) (on-lists.turnMarks m) [] g (holds-turn F E k t i st m h) refl refl refl nothing
+        go zero false = speaks true (judge.turnMarks k) y (judge.settledKeep k) (on-lists.turnMarks m) [] (holds-turn F E k t i st m h) refl refl nothing
         go (suc n) ff = rw (ne-eqb (suc n) 0 (λ e. omega arith)) (refl, refl)
 
     pub fq-law : Lead (fqLine w y k r) (on-lists.turnJudged E saysFQ (w .ff) (proposalsOf (w .block) (w .proposals)) m)
@@ -201,8 +187,7 @@ module _ (F : Fixed) (E : Shelf) (s : Session) (a : Bool) (i st : Bytes) (rest :
         go true f =
             let l = ltb-true (w .proposals) 5 f in
             went-on (withProposal q w) k (on-lists.aLine (on-lists.awaitsTurn (w .ff) (proposalsOf (w .block) (w .proposals) ++ (q ∷ [])))) m
-            (record { five = b .five; size = put-length (w .block) _ _ ∙ b .size; few = omega arith; entries = entries-more (w .block) (w .proposals) (b .size) l q fits (b .entries) })
-            h refl refl (e, (refl, proposals-more (w .block) (w .proposals) (b .size) l q fits))
+            (entries-more (w .block) (w .proposals) (ready .now .block) l q fits b) h refl refl (e, (refl, proposals-more (w .block) (w .proposals) (ready .now .block) l q fits))
         go false f = (refl, refl)
 
     -- ---------------------------------------------------------------- F>
@@ -216,32 +201,31 @@ module _ (F : Fixed) (E : Shelf) (s : Session) (a : Bool) (i st : Bytes) (rest :
       said = saysSigns signs y
 
       signs-ok : FiveOk signs
-      signs-ok = five-ok (map writeSign ss) (rw (length-map ss writeSign) (omega (arith, one, b .few)))
+      signs-ok = five-of (map writeSign ss) (rw (length-map ss writeSign) (omega (arith, one, ready .now .proposals))) (signs-octets ss)
 
       fs-said : firstText 3 signs ≡ withCr (fsLine ss)
       unfolding firstText
       fs-said = ap fsText (held-five (map writeSign ss)) ∙ fs-text ss
 
-      answered-law : (l : List Proposal) (j : ℕ) → k .kept + length l ≤ placeCount i → Found (held signs) (proposalsOf (w .block) (w .proposals)) 0 j l
+      answered-law : (l : List Proposal) (j : ℕ) → Found (held signs) (proposalsOf (w .block) (w .proposals)) 0 j l
           → Lead (judge.answered signs j w y k r) (on-lists.answering E ss l (on-lists.turnMarks m))
-      answered-law [] j room found =
+      answered-law [] j found =
           subst (λ (n : ℕ). Lead (judge.answered signs n w y k r) (on-lists.answering E ss [] (on-lists.turnMarks m))) (sym found)
-          (speaks false (judge.turnMarks k) said (judge.settledKeep k) (on-lists.turnMarks m) (withCr (fsLine ss)) signs-ok (holds-turn F E k t i st m h) refl refl refl fs-said)
-      answered-law (p ∷ qs) j room found =
+          (speaks false (judge.turnMarks k) said (judge.settledKeep k) (on-lists.turnMarks m) (withCr (fsLine ss)) (holds-turn F E k t i st m h) refl refl fs-said)
+      answered-law (p ∷ qs) j found =
           let o = owing signs (w .block) (w .proposals) signs-ok (length-map ss writeSign ∙ one) 0 j p qs found in
           let out : Outcome = goesOn (on-lists.awaitsTransfer p qs (scanFrom (p .form))) (on-lists.turnMarks m) (withCr (fsLine ss)) in
           subst
           (λ (c : Bool). Lead (cond c (judged 0 1 (judge.turnMarks k) w said (judge.settledKeep k) r) (judged 0 0 (judge.turnMarks k) (toTransfer j w) said (judge.settledKeep k) (readerFor w j))) out)
-          (sym (ne-eqb j 5 (λ e. omega (arith, o .within, b .few)))) (
+          (sym (ne-eqb j 5 (λ e. omega (arith, o .within, ready .now .proposals)))) (
             refl,
             refl,
             refl,
-            settled-is F E s a i st rest (toTransfer j w) said (judge.settledKeep k) (readerFor w j) forwarded (on-lists.awaitsTransfer p qs (scanFrom (p .form))) (on-lists.turnMarks m) (withCr (fsLine ss))
-                b signs-ok (holds-turn F E k t i st m h) (short-start w j)
+            settled-is F E s a i st (toTransfer j w) said (judge.settledKeep k) (readerFor w j) forwarded (on-lists.awaitsTransfer p qs (scanFrom (p .form))) (on-lists.turnMarks m) (withCr (fsLine ss))
+                b (holds-turn F E k t i st m h)
                 (ap (λ (x : Bytes). x ++ thenText (y .then) (w .ours) noFive forwarded (F .titles) (F .names) (F .bodies)) fs-said
                 ∙ ap (λ (x : Bytes). withCr (fsLine ss) ++ x) (nothing-then noFive forwarded) ∙ append-nil (withCr (fsLine ss)))
-                (λ e. simp length-append (omega arith))
-                (await-transfer w said (judge.settledKeep k) forwarded j p qs b signs-ok o refl room),
+                (await-transfer w said (judge.settledKeep k) forwarded j p qs b signs-ok (ready .heading) o),
           )
 
     -- our answers on lent memory are those on lists
@@ -254,7 +238,7 @@ module _ (F : Fixed) (E : Shelf) (s : Session) (a : Bool) (i st : Bytes) (rest :
     answers-are : answersOf w k t (F .known) i (length st) ≡ fiveOf (map writeSign answers)
     answers-are =
         answers-law (F .titles) (F .names) (F .bodies) t (F .known) i st E w k (h .lies .records) (h .lies .known) (h .lies .places) (h .lies .bytes)
-        (ap bodyBytes (h .box .messages) ∙ sym (h .box .bytes)) (b .few)
+        (ap bodyBytes (h .box .messages) ∙ sym (h .box .bytes)) (ready .now .proposals)
         ∙ ap (λ (ms : List Message). fiveOf (map writeSign (answersTo E ms theirs))) (h .box .messages)
 
     one-each : length answers ≡ w .proposals
@@ -264,9 +248,8 @@ module _ (F : Fixed) (E : Shelf) (s : Session) (a : Bool) (i st : Bytes) (rest :
         (on-lists.answered E theirs (on-lists.turnMarks m))
     unfolding nextAccepted
     all-answered =
-        let fit = answers-fit E (m .inbox) theirs (omega (arith, h .box .count, h .box .placed, h .lies .places)) in
         subst (λ (f : Five). Lead (judge.answered f (nextAccepted f 0) w y k r) (on-lists.answered E theirs (on-lists.turnMarks m))) (sym answers-are)
-        (answered-law answers one-each (accepted answers theirs) (plusFrom 0 (held (signs answers one-each))) (omega (arith, fit, h .box .count, h .lies .places))
+        (answered-law answers one-each (accepted answers theirs) (plusFrom 0 (held (signs answers one-each)))
         (subst (λ (l : List Proposal). Found (held (signs answers one-each)) theirs 0 (plusFrom 0 (held (signs answers one-each))) l)
         (ap (λ (bs : List ℕ). accepted (signsIn bs) theirs) (held-five (map writeSign answers)) ∙ ap (λ (ss : List Sign). accepted ss theirs) (signs-back answers))
         (next-found (signs answers one-each) (w .block) (w .proposals) (signs-ok answers one-each) (length-map answers writeSign ∙ one-each) 0)))

@@ -6,7 +6,7 @@ use Prim.Native.Nat.{ℕ, _<_}
 use native.Mathlib.Omega.{arith}
 use native.Mathlib.Numerals.{add-one}
 use lib.Dec.{eqb, ltb}
-use lib.ListN.{length, take, set, length-set}
+use lib.ListN.{length, take, set}
 use lib.Seq.{take-suc-set, length-take-le}
 use borrow.Author.Tests.{ltb-true}
 use Rattle.grammar.specs.Bytes.{Bytes, CR}
@@ -29,11 +29,12 @@ use Rattle.receive_defined.specs.Receiving.{Cs, cs, Settled, longer, lineMoved,
 use Rattle.form_closed.specs.Fixed.{Fixed}
 use Rattle.represents.specs.Represents.{Says, lineNumber, Awaits, Represents}
 use Rattle.form_closed.proofs.Waiting.{waits-none}
-use Rattle.represents.proofs.Parts.{Ready, block-of, signs-of, rest-of, holds-of, represents, refuse-law}
+use Rattle.represents.proofs.Parts.{Ready, holds-of, represents, refuse-law}
 use Rattle.represents.proofs.Frame.{only-same}
 use Rattle.represents.proofs.Leads.{Settling, Leads, settle-law}
 use Rattle.represents.proofs.Line.{went-on, sid-law, text-law, turn-law}
 use Rattle.represents.proofs.Answer.{fs-law}
+use Rattle.form_closed.specs.Facts.{Good}
 
 -- the numbers of lines
 pub line-below : (a : on-lists.Awaited) → lineNumber a < 5
@@ -56,9 +57,9 @@ awaits-line on-lists.over s t i st l h = h
 -- what waits does not depend on the line
 pub says-line : (F : Fixed) (s : Session) (t i st : Bytes) (l : Line) (o : Bytes) → Says F (cs s t i st) o → Says F (cs (withLine l s) t i st) o
 unfolding waitingOf
-says-line F s t i st l o h = record { toGive = h .toGive; some = h .some }
+says-line F s t i st l o h = h
 
-module _ (F : Fixed) (E : Shelf) (c : Cs) (v : on-lists.Session) (h : Represents F E c v) (quiet : waits (c .session .say) ≡ false) where
+module _ (F : Fixed) (E : Shelf) {nt ni ns : ℕ} (c : Cs) (g : Good F nt ni ns c) (v : on-lists.Session) (h : Represents F E c v) (quiet : waits (c .session .say) ≡ false) where
   abbrev s : Session
   s = c .session
 
@@ -66,11 +67,11 @@ module _ (F : Fixed) (E : Shelf) (c : Cs) (v : on-lists.Session) (h : Represents
   m = v .memory
 
   abbrev Lead : Judged → Outcome → Type 0
-  Lead j o = Leads F E s true (c .inbox) (c .store) (rest-of h) (s .keep .kept) (s .keep .used) (c .table) j o
+  Lead j o = Leads F E s true (c .inbox) (c .store) (s .keep .kept) (s .keep .used) (c .table) j o
 
-  ready : Ready F E (c .inbox) (c .store) (s .now) (s .say) (s .keep) (s .reading .reader) (c .table) m
+  ready : Ready F E (s .reading .heading) (c .inbox) (c .store) (s .now) (s .say) (s .keep) (c .table) m
   ready =
-      record { block = block-of h; signs = signs-of h; holds = holds-of h; head = h .arrays .head; first = (waits-none (s .say) quiet) .0; then = (waits-none (s .say) quiet) .1 }
+      record { now = g .now; heading = g .heading .size; entries = h .entries; holds = holds-of h; first = (waits-none (s .say) quiet) .0; then = (waits-none (s .say) quiet) .1 }
 
   -- ---------------------------------------------------------------- the line judged
 
@@ -85,22 +86,22 @@ module _ (F : Fixed) (E : Shelf) (c : Cs) (v : on-lists.Session) (h : Represents
     read-law : (a : on-lists.Awaited) → Awaits c (on-lists.aLine a) → Lead (judgedIn (lineNumber a)) (on-lists.awaitedJudged E a m raw)
     unfolding sidLine textLine turnLine
     read-law (on-lists.awaitsSid true) a =
-        sid-law F E s true (c .inbox) (c .store) (rest-of h) (s .now) (s .say) (s .keep) (s .reading .reader) (c .table) m ready true (ap (λ (p : ℕ). eqb p 1) (a .0)) (a .1) (readSid ln)
+        sid-law F E s true (c .inbox) (c .store) (s .now) (s .say) (s .keep) (s .reading .reader) (c .table) m ready true (ap (λ (p : ℕ). eqb p 1) (a .0)) (readSid ln)
     read-law (on-lists.awaitsSid false) a =
-        sid-law F E s true (c .inbox) (c .store) (rest-of h) (s .now) (s .say) (s .keep) (s .reading .reader) (c .table) m ready false (ap (λ (p : ℕ). eqb p 1) (a .0)) (a .1) (readSid ln)
+        sid-law F E s true (c .inbox) (c .store) (s .now) (s .say) (s .keep) (s .reading .reader) (c .table) m ready false (ap (λ (p : ℕ). eqb p 1) (a .0)) (readSid ln)
     read-law on-lists.awaitsPrompt a =
-        text-law F E s true (c .inbox) (c .store) (rest-of h) (s .now) (s .say) (s .keep) (s .reading .reader) (c .table) m ready (a .0) (a .1) (isPrompt ln)
+        text-law F E s true (c .inbox) (c .store) (s .now) (s .say) (s .keep) (s .reading .reader) (c .table) m ready (a .0) (isPrompt ln)
     read-law (on-lists.awaitsTurn ff ps) a =
         subst (λ (o : Outcome). Lead (judgedIn 3) o) (same (h .framed) (a .1 .0) (a .1 .1))
-        (turn-law F E s true (c .inbox) (c .store) (rest-of h) (s .now) (s .say) (s .keep) (s .reading .reader) (c .table) m ready (a .0)
+        (turn-law F E s true (c .inbox) (c .store) (s .now) (s .say) (s .keep) (s .reading .reader) (c .table) m ready (a .0)
         (s .keep .framed) (readTurnLine (s .keep .framed) ln) (turn-read-ok (s .keep .framed) ln))
       where
         same : {d e : Bool} {f g : Bool} {qs rs : List Proposal} → d ≡ e → f ≡ g → qs ≡ rs
             → on-lists.turnJudged E (readTurnLine d ln) f qs m ≡ on-lists.turnJudged E (readTurnLine e ln) g rs m
         same p q r = rw (p, q, r)
     read-law (on-lists.awaitsAnswer is) a =
-        subst (λ (js : List ℕ). Lead (judgedIn 4) (on-lists.answerJudged E js m (fsNumber (length js) ln) (readFs (length js) ln))) (a .1 .1)
-        (fs-law F E s true (c .inbox) (c .store) (rest-of h) (s .now) (s .say) (s .keep) (s .reading .reader) (c .table) m ready ln (a .1 .0))
+        subst (λ (js : List ℕ). Lead (judgedIn 4) (on-lists.answerJudged E js m (fsNumber (length js) ln) (readFs (length js) ln))) (a .1)
+        (fs-law F E s true (c .inbox) (c .store) (s .now) (s .say) (s .keep) (s .reading .reader) (c .table) m ready ln (g .awaited .quiet (λ e. omega (arith, e, a .0)) (omega (arith, a .0))))
 
     -- "A line that begins with `;` is ignored wherever a line is awaited"
     judge-law : (a : on-lists.Awaited) → Awaits c (on-lists.aLine a)
@@ -111,8 +112,8 @@ module _ (F : Fixed) (E : Shelf) (c : Cs) (v : on-lists.Session) (h : Represents
         go : (x : Bool) → Lead (cond x (wentOn (s .now) (s .say) (s .keep) (s .reading .reader)) (judgedIn (s .now .phase)))
             (cond x (goesOn (on-lists.aLine a) m []) (on-lists.awaitedJudged E a m raw))
         go true =
-            went-on F E s true (c .inbox) (c .store) (rest-of h) (s .now) (s .say) (s .keep) (s .reading .reader) (c .table) m ready (s .now) (s .keep) (on-lists.aLine a) m
-            (block-of h) (holds-of h) refl refl w
+            went-on F E s true (c .inbox) (c .store) (s .now) (s .say) (s .keep) (s .reading .reader) (c .table) m ready (s .now) (s .keep) (on-lists.aLine a) m
+            (h .entries) (holds-of h) refl refl w
         go false = subst (λ (q : ℕ). Lead (judgedIn q) (on-lists.awaitedJudged E a m raw)) (sym (w .0)) (read-law a w)
 
   -- ---------------------------------------------------------------- a byte
@@ -133,7 +134,7 @@ module _ (F : Fixed) (E : Shelf) (c : Cs) (v : on-lists.Session) (h : Represents
       go false false e = tt
 
   line-length : length (v .part) ≡ s .line .len
-  line-length = ap length (sym (h .part)) ∙ length-take-le (s .line .len) (s .line .bytes) (omega (arith, h .arrays .lineLen, h .arrays .line))
+  line-length = ap length (sym (h .part)) ∙ length-take-le (s .line .len) (s .line .bytes) (omega (arith, g .line .len, g .line .size))
 
   abbrev Moves : Settled → on-lists.Stepped → Type 0
   Moves x o = Settling F E (c .inbox) (c .store) (s .keep .kept) (s .keep .used) (c .table) x o
@@ -146,21 +147,20 @@ module _ (F : Fixed) (E : Shelf) (c : Cs) (v : on-lists.Session) (h : Represents
       subst
       (λ (w : Bytes). Moves (lineMoved ends s b (c .table) (F .known) (c .inbox) (length (c .store))) (on-lists.settled v true (on-lists.lineJudged E a m w)))
       (h .part)
-      (settle-law F E s true (c .inbox) (c .store) (rest-of h) (s .keep .kept) (s .keep .used) (c .table) v refl refl (λ n. refuse-law F E c v n h)
+      (settle-law F E s true (c .inbox) (c .store) (s .keep .kept) (s .keep .used) (c .table) v refl refl (λ n. refuse-law F E c v n h)
       (judgeOf (trim (take (s .line .len) (s .line .bytes))) (s .now) (s .say) (s .keep) (s .reading .reader) (c .table) (F .known) (c .inbox) (length (c .store)))
       (on-lists.lineJudged E a m (take (s .line .len) (s .line .bytes)))
       (judge-law (take (s .line .len) (s .line .bytes)) a (subst (Awaits c) x (h .awaits))))
   byte-moves b a x grows room =
-      let size : length (set (s .line .bytes) (s .line .len) b) ≡ 256 = length-set (s .line .bytes) (s .line .len) b ∙ h .arrays .line in
       record {
         answer = refl;
         represents = represents F E (cs (longer s b) (c .table) (c .inbox) (c .store))
             (on-lists.withPart (v .part ++ (b ∷ [])) (on-lists.withAfterCr false v))
-            (block-of h) (signs-of h) (holds-of h) (record { heading = h .arrays .heading; line = size }) (h .arrays .head) (omega (arith, room))
+            (h .entries) (holds-of h)
             (says-line F s (c .table) (c .inbox) (c .store) (longer s b .line) (v .out) (h .says))
             (awaits-line (v .phase) s (c .table) (c .inbox) (c .store) (longer s b .line) (h .awaits))
             (ap (λ (n : ℕ). take n (set (s .line .bytes) (s .line .len) b)) (add-one (s .line .len))
-            ∙ take-suc-set (s .line .bytes) (s .line .len) b (omega (arith, room, h .arrays .line)) ∙ ap (λ (l : Bytes). l ++ (b ∷ [])) (h .part))
+            ∙ take-suc-set (s .line .bytes) (s .line .len) b (omega (arith, room, g .line .size)) ∙ ap (λ (l : Bytes). l ++ (b ∷ [])) (h .part))
             refl;
         count = refl;
         spent = refl;

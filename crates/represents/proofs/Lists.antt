@@ -1,16 +1,12 @@
--- Entries of one size as a list, and up to five numbers: element by element.
+-- Entries of one size as a list, element by element.
 use mathlib.Core.Path.{_≡_, refl, sym, ap, _∙_}
 use mathlib.Core.List.{List, [], _∷_, _++_}
-use Prim.Native.Nat.{ℕ, zero, suc, _+_, _≤_, _<_}
+use Prim.Native.Nat.{ℕ, zero, suc, _+_, _<_}
 use native.Mathlib.Omega.{arith}
 use native.Mathlib.Nat.{add-zero, zero-add}
-use lib.ListN.{length}
 use Rattle.grammar.specs.Bytes.{Bytes}
 use Rattle.layout.specs.Layout.{entryAt}
 use Rattle.choice.specs.Decoded.{entriesFrom, entries}
-use Rattle.session_memory.specs.State.{fiveOf}
-use Rattle.session_memory.specs.declared.Five.{Five}
-use Rattle.session_memory.proofs.Laws.{five-length}
 
 -- ---------------------------------------------------------------- entries
 
@@ -32,13 +28,3 @@ entries-same f g size s t i zero h = refl
 entries-same {A} f g size s t i (suc n) h =
     ap (λ (a : A). a ∷ entriesFrom f size s (suc i) n) (h i (omega arith))
     ∙ ap (λ (l : List A). g (entryAt size t i) ∷ l) (entries-same f g size s t (suc i) n (λ j k. h j (omega arith)))
-
--- ---------------------------------------------------------------- up to five numbers
-
--- as many as five, within an array of five
-pub record FiveOk (f : Five) : Type 0 where
-  pub few : f .count ≤ 5
-  pub size : length (f .items) ≡ 5
-
-pub five-ok : (xs : List ℕ) → length xs ≤ 5 → FiveOk (fiveOf xs)
-five-ok xs h = record { few = h; size = five-length xs h }

@@ -2,7 +2,7 @@
 use mathlib.Core.Path.{_≡_, refl}
 use mathlib.Core.Bool.{Bool}
 use mathlib.Core.List.{List}
-use Prim.Native.Nat.{ℕ, _*_, _≤_, _<_}
+use Prim.Native.Nat.{ℕ, _*_}
 use native.Mathlib.Omega.{arith}
 use native.Mathlib.Nat.{not-suc-le-zero}
 use lib.ListN.{length, take}
@@ -10,8 +10,6 @@ use Rattle.grammar.specs.Bytes.{Bytes}
 use Rattle.session.specs.Choices.{Shelf}
 use Rattle.session.specs.Session as on-lists
 use Rattle.session.specs.Session.{Memory}
-use Rattle.layout.specs.Layout.{entryAt, proposalSize}
-use Rattle.transfer_step.specs.declared.Reader.{Reader}
 use Rattle.session_memory.specs.State.{held}
 use Rattle.session_memory.specs.declared.Five.{Five}
 use Rattle.session_memory.specs.declared.Await.{Await}
@@ -22,10 +20,10 @@ use Rattle.waiting.specs.Waiting.{waitingOf, firstText, thenText}
 use Rattle.pending.specs.Pending.{waits}
 use Rattle.receive_defined.specs.Receiving.{Cs, cs, refusedOf}
 use Rattle.form_closed.specs.Fixed.{Fixed}
-use Rattle.represents.specs.Represents.{Written, Says, Awaits, Represents}
-use Rattle.represents.proofs.Lists.{FiveOk}
+use Rattle.represents.specs.Represents.{Says, Awaits, Represents, Entries}
 use Rattle.represents.proofs.Table.{Whole}
 use Rattle.represents.proofs.Inbox.{Box}
+use Rattle.form_closed.specs.Facts.{AwaitOk}
 
 -- ---------------------------------------------------------------- parts
 
@@ -37,7 +35,6 @@ pub record Lies (F : Fixed) (E : Shelf) (t i st : Bytes) : Type 0 where
   pub bytes : length st ≡ E .bytes
   pub table : Whole t
   pub inbox : length i ≡ E .places * 155
-  pub few : E .places ≤ 64
 
 -- mode, states, records being sent and flags
 pub record Marked (md : Bool) (f : Five) (fl : List ℕ) (t : Bytes) (mode′ : Bool) (states′ sending′ flags′ : List ℕ) : Type 0 where
@@ -45,8 +42,6 @@ pub record Marked (md : Bool) (f : Five) (fl : List ℕ) (t : Bytes) (mode′ : 
   pub states : statesOf t ≡ states′
   pub sending : held f ≡ sending′
   pub flags : fl ≡ flags′
-  pub five : FiveOk f
-  pub size : length fl ≡ 64
 
 -- the session's memory
 pub record Holds (F : Fixed) (E : Shelf) (k : Keep) (t i st : Bytes) (m : Memory) : Type 0 where
@@ -54,121 +49,50 @@ pub record Holds (F : Fixed) (E : Shelf) (k : Keep) (t i st : Bytes) (m : Memory
   pub box : Box (k .kept) (k .used) i st (m .inbox)
   pub marks : Marked (k .framed) (k .sending) (k .deferred) t (m .framed) (m .states) (m .sending) (m .deferred)
 
--- our places and the partner's proposals
-pub record Block (ours : Five) (block : Bytes) (n : ℕ) : Type 0 where
-  pub five : FiveOk ours
-  pub size : length block ≡ 360
-  pub few : n ≤ 5
-  pub entries : (i : ℕ) → i < n → Written (entryAt proposalSize block i)
-
 -- no proposal yet
-pub block-none : {f : Five} {bl : Bytes} {n : ℕ} → Block f bl n → Block f bl 0
-block-none b = record { five = b .five; size = b .size; few = omega arith; entries = λ j e. absurd (not-suc-le-zero e) }
+pub no-entries : (block : Bytes) → Entries block 0
+no-entries block j e = absurd (not-suc-le-zero e)
 
--- the arrays of heading and line
-pub record Rest (hd ln : Bytes) : Type 0 where
+-- all that a whole line is judged with; nothing waits; hd: the array of a heading
+pub record Ready (F : Fixed) (E : Shelf) (hd i st : Bytes) (w : Await) (y : Say) (k : Keep) (t : Bytes) (m : Memory) : Type 0 where
+  pub now : AwaitOk w
   pub heading : length hd ≡ 80
-  pub line : length ln ≡ 256
-
--- all that a whole line is judged with; nothing waits
-pub record Ready (F : Fixed) (E : Shelf) (i st : Bytes) (w : Await) (y : Say) (k : Keep) (r : Reader) (t : Bytes) (m : Memory) : Type 0 where
-  pub block : Block (w .ours) (w .block) (w .proposals)
-  pub signs : FiveOk (y .signs)
+  pub entries : Entries (w .block) (w .proposals)
   pub holds : Holds F E k t i st m
-  pub head : r .head ≤ 80
   pub first : y .first ≡ 0
   pub then : y .then ≡ 0
 
 -- ---------------------------------------------------------------- from the relation
 
 module _ {F : Fixed} {E : Shelf} {c : Cs} {s : on-lists.Session} (h : Represents F E c s) where
-  pub block-of : Block (c .session .now .ours) (c .session .now .block) (c .session .now .proposals)
-  block-of =
-      let a = h .arrays in
-      record { five = record { few = a .oursCount; size = a .ours }; size = a .block; few = a .proposals; entries = a .entries }
-
-  pub signs-of : FiveOk (c .session .say .signs)
-  signs-of = record { few = h .arrays .signsCount; size = h .arrays .signs }
-
-  pub rest-of : Rest (c .session .reading .heading) (c .session .line .bytes)
-  rest-of = record { heading = h .arrays .heading; line = h .arrays .line }
-
   pub holds-of : Holds F E (c .session .keep) (c .table) (c .inbox) (c .store) (s .memory)
   holds-of =
       let v = h .shelved in
       let b = h .boxed in
       record {
-        lies = record { records = v .records; known = v .known; places = v .places; bytes = v .bytes; table = v .table; inbox = v .inbox; few = v .few };
-        box = record {
-          count = b .kept;
-          messages = b .messages;
-          laid = b .laid;
-          bodies = b .bodies;
-          row = b .row;
-          sum = b .sum;
-          small = b .small;
-          bytes = b .used;
-          placed = b .placed;
-          within = b .within;
-        };
-        marks = record {
-          mode = h .framed;
-          states = h .states;
-          sending = h .sending;
-          flags = h .flags;
-          five = record { few = h .arrays .sendingCount; size = h .arrays .sending };
-          size = h .arrays .flags;
-        };
+        lies = record { records = v .records; known = v .known; places = v .places; bytes = v .bytes; table = v .table; inbox = v .inbox };
+        box = record { count = b .kept; messages = b .messages; laid = b .laid; bodies = b .bodies; row = b .row; small = b .small; bytes = b .used };
+        marks = record { mode = h .framed; states = h .states; sending = h .sending; flags = h .flags };
       }
 
 -- ---------------------------------------------------------------- to the relation
 
 pub represents : (F : Fixed) (E : Shelf) (c : Cs) (s : on-lists.Session)
-    → Block (c .session .now .ours) (c .session .now .block) (c .session .now .proposals)
-    → FiveOk (c .session .say .signs)
+    → Entries (c .session .now .block) (c .session .now .proposals)
     → Holds F E (c .session .keep) (c .table) (c .inbox) (c .store) (s .memory)
-    → Rest (c .session .reading .heading) (c .session .line .bytes)
-    → c .session .reading .reader .head ≤ 80
-    → c .session .line .len ≤ 256
     → Says F c (s .out)
     → Awaits c (s .phase)
     → take (c .session .line .len) (c .session .line .bytes) ≡ s .part
     → c .session .line .«after_cr» ≡ s .afterCr
     → Represents F E c s
-represents F E c s b g h r head len y a part cr =
+represents F E c s b h y a part cr =
     let v = h .lies in
     let x = h .box in
     let k = h .marks in
     record {
-      arrays = record {
-        ours = b .five .size;
-        sending = k .five .size;
-        signs = g .size;
-        block = b .size;
-        flags = k .size;
-        heading = r .heading;
-        line = r .line;
-        oursCount = b .five .few;
-        sendingCount = k .five .few;
-        signsCount = g .few;
-        proposals = b .few;
-        entries = b .entries;
-        lineLen = len;
-        head = head;
-      };
-      shelved = record { records = v .records; known = v .known; places = v .places; bytes = v .bytes; table = v .table; inbox = v .inbox; few = v .few };
-      boxed = record {
-        kept = x .count;
-        messages = x .messages;
-        laid = x .laid;
-        bodies = x .bodies;
-        row = x .row;
-        sum = x .sum;
-        small = x .small;
-        used = x .bytes;
-        placed = x .placed;
-        within = x .within;
-      };
+      entries = b;
+      shelved = record { records = v .records; known = v .known; places = v .places; bytes = v .bytes; table = v .table; inbox = v .inbox };
+      boxed = record { kept = x .count; messages = x .messages; laid = x .laid; bodies = x .bodies; row = x .row; small = x .small; used = x .bytes };
       says = y;
       awaits = a;
       part = part;
@@ -187,6 +111,4 @@ pub refuse-law : (F : Fixed) (E : Shelf) (c : Cs) (s : on-lists.Session) (n : �
 unfolding refusedOf waitingOf waits firstText thenText
 refuse-law F E c s n h =
     represents F E (cs (refusedOf (c .session)) (c .table) (c .inbox) (c .store)) (on-lists.refused s n .session)
-    (block-of h) (signs-of h) (holds-of h) (rest-of h) (h .arrays .head) (omega arith)
-    (record { toGive = refl; some = λ e. absurd (let z : _≡_ {A = ℕ} 0 1 = cc in omega arith) })
-    (omega arith, refl) refl refl
+    (h .entries) (holds-of h) refl (omega arith, refl) refl refl

@@ -8,7 +8,7 @@ use native.Mathlib.Omega.{arith}
 use native.Mathlib.Numerals.{add-one}
 use lib.Dec.{eqb}
 use lib.ListN.{length, getD, drop, length-drop}
-use lib.Seq.{drop-cons, drop-drop, getD-drop, getD-take, length-take-le}
+use lib.Seq.{drop-cons, drop-drop, getD-drop, getD-take}
 use borrow.Author.Tests.{eqb-true, eqb-false}
 use Rattle.grammar.specs.Bytes.{Bytes, same}
 use Rattle.grammar.specs.Fields.{Form, plain, message, file, formIs, formNumber}
@@ -30,8 +30,11 @@ use Rattle.choice.proofs.Laws.{entries-length, entries-at}
 use Rattle.line_effect.specs.Judge.{plusFrom}
 use Rattle.session_memory.specs.State.{at, held}
 use Rattle.session_memory.specs.declared.Five.{Five}
-use Rattle.represents.specs.Represents.{Written, signsIn}
-use Rattle.represents.proofs.Lists.{FiveOk, entries-same, entries-snoc}
+use Rattle.represents.specs.Represents.{Written, Entries, signsIn}
+use Rattle.form_closed.specs.Facts.{FiveOk}
+use Rattle.form_closed.proofs.Laws.{held-length}
+use Rattle.represents.proofs.Lists.{entries-same, entries-snoc}
+use Rattle.form_test.specs.Form.{pluses}
 
 -- ---------------------------------------------------------------- a proposal as read fits its entry
 
@@ -81,7 +84,7 @@ module _ (block : Bytes) (n : ℕ) (size : length block ≡ 360) (few : n < 5) (
       (entries-same proposalOf proposalOf proposalSize more block 0 n (λ j h. ap proposalOf (other j (omega arith))))
       ∙ ap (λ (p : Proposal). entries proposalOf proposalSize block n ++ (p ∷ [])) (ap proposalOf here ∙ proposal-back q fits)
 
-  pub entries-more : Fits q → ((j : ℕ) → j < n → Written (entryAt proposalSize block j)) → (j : ℕ) → j < n + 1 → Written (entryAt proposalSize more j)
+  pub entries-more : Fits q → Entries block n → Entries more (n + 1)
   entries-more fits h j k = go (eqb j n) refl
     where
       go : (c : Bool) → eqb j n ≡ c → Written (entryAt proposalSize more j)
@@ -102,6 +105,18 @@ signs-back [] = refl
 signs-back (accept ∷ ss) = ap (λ (l : List Sign). accept ∷ l) (signs-back ss)
 signs-back (decline ∷ ss) = ap (λ (l : List Sign). decline ∷ l) (signs-back ss)
 signs-back (defer ∷ ss) = ap (λ (l : List Sign). defer ∷ l) (signs-back ss)
+
+-- as many are accepted as there are `+`
+pub accepted-pluses : {A : Type 0} (bs : List ℕ) (xs : List A) → length bs ≡ length xs → length (accepted (signsIn bs) xs) ≡ pluses bs
+accepted-pluses [] xs h = refl
+accepted-pluses (b ∷ bs) [] h = absurd (omega arith)
+accepted-pluses (b ∷ bs) (x ∷ xs) h = go (eqb b 43) (eqb b 45) (accepted-pluses bs xs (omega arith))
+  where
+    go : (c d : Bool) → length (accepted (signsIn bs) xs) ≡ pluses bs
+        → length (accepted (cond c accept (cond d decline defer) ∷ signsIn bs) (x ∷ xs)) ≡ cond c (suc (pluses bs)) (pluses bs)
+    go true d e = ap suc e
+    go false true e = e
+    go false false e = e
 
 -- i is k and some steps on, there stands a `+`, and from there on p and qs are accepted
 pub record Ahead (bs : List ℕ) (ps : List Proposal) (k i : ℕ) (p : Proposal) (qs : List Proposal) : Type 0 where
@@ -141,8 +156,8 @@ pub record Owing (signs : Five) (block : Bytes) (n i : ℕ) (p : Proposal) (qs :
   pub owed : accepted (signsIn (drop i (held signs))) (drop i (proposalsOf block n)) ≡ p ∷ qs
 
 module _ (signs : Five) (block : Bytes) (n : ℕ) (g : FiveOk signs) (same : signs .count ≡ n) where
-  held-length : length (held signs) ≡ n
-  held-length = length-take-le (signs .count) (signs .items) (omega (arith, g .few, g .size)) ∙ same
+  length-held : length (held signs) ≡ n
+  length-held = held-length signs g ∙ same
 
   held-at : (i : ℕ) → i < n → getD (held signs) i 0 ≡ getD (signs .items) i 0
   held-at i h = getD-take (signs .count) (signs .items) i 0 (omega arith)
@@ -150,7 +165,7 @@ module _ (signs : Five) (block : Bytes) (n : ℕ) (g : FiveOk signs) (same : sig
   pub owing : (k i : ℕ) (p : Proposal) (qs : List Proposal) → Ahead (drop k (held signs)) (drop k (proposalsOf block n)) k i p qs → Owing signs block n i p qs
   owing k i p qs h =
       let e = h .place in
-      let l : h .steps < n - k = subst (λ (j : ℕ). h .steps < j) (length-drop k (held signs) ∙ ap (λ (j : ℕ). j - k) held-length) (h .within) in
+      let l : h .steps < n - k = subst (λ (j : ℕ). h .steps < j) (length-drop k (held signs) ∙ ap (λ (j : ℕ). j - k) length-held) (h .within) in
       let w : i < n = omega arith in
       record {
         within = w;
@@ -162,6 +177,12 @@ module _ (signs : Five) (block : Bytes) (n : ℕ) (g : FiveOk signs) (same : sig
             ∙ h .owed;
       }
 
+  -- as many are owed as there are `+` from there on
+  pub owed-pluses : (i : ℕ) → length (accepted (signsIn (drop i (held signs))) (drop i (proposalsOf block n))) ≡ pluses (drop i (held signs))
+  owed-pluses i =
+      accepted-pluses (drop i (held signs)) (drop i (proposalsOf block n))
+      (length-drop i (held signs) ∙ ap (λ (j : ℕ). j - i) (length-held ∙ sym (proposals-length block n)) ∙ sym (length-drop i (proposalsOf block n)))
+
   -- the one under way, and those after it
   pub owed-now : (i : ℕ) → i < n → getD (signs .items) i 0 ≡ 43
       → accepted (signsIn (drop i (held signs))) (drop i (proposalsOf block n))
@@ -170,7 +191,7 @@ module _ (signs : Five) (block : Bytes) (n : ℕ) (g : FiveOk signs) (same : sig
   owed-now i h e =
       let none : Proposal = proposalOf [] in
       rw (
-        drop-cons (held signs) i 0 (omega (arith, held-length)),
+        drop-cons (held signs) i 0 (omega (arith, length-held)),
         held-at i h,
         e,
         drop-cons (entries proposalOf proposalSize block n) i none (omega (arith, entries-length proposalOf proposalSize block 0 n)),
@@ -181,7 +202,7 @@ module _ (signs : Five) (block : Bytes) (n : ℕ) (g : FiveOk signs) (same : sig
       (accepted (signsIn (drop i (held signs))) (drop i (proposalsOf block n)))
   next-found i =
       plus-law (drop i (held signs)) (drop i (proposalsOf block n)) i
-      (length-drop i (held signs) ∙ ap (λ (j : ℕ). j - i) (held-length ∙ sym (proposals-length block n)) ∙ sym (length-drop i (proposalsOf block n)))
+      (length-drop i (held signs) ∙ ap (λ (j : ℕ). j - i) (length-held ∙ sym (proposals-length block n)) ∙ sym (length-drop i (proposalsOf block n)))
 
 -- ---------------------------------------------------------------- where its transfer begins
 

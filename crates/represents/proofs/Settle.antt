@@ -2,21 +2,18 @@
 use mathlib.Core.Path.{_≡_, refl, sym, ap, _∙_, subst}
 use mathlib.Core.Bool.{Bool, true, false, cond}
 use mathlib.Core.List.{List, [], _∷_, _++_, map}
-use Prim.Native.Nat.{ℕ, suc, _≤_, _<_}
+use Prim.Native.Nat.{ℕ, suc}
 use native.Mathlib.Omega.{arith}
-use native.Mathlib.Nat.{not-suc-le-zero}
-use lib.ListN.{length, take, length-append}
+use lib.ListN.{length, take}
 use borrow.Author.Tests.{ne-eqb}
 use Rattle.grammar.specs.Bytes.{Bytes}
-use Rattle.grammar.specs.Turns.{fixedText, withCr, ourFF, ourFQ}
 use Rattle.grammar.specs.Answers.{Sign}
 use Rattle.mail.specs.Mail.{Record, proposalOf, recordAt, turnText, accepted, marked, declined}
 use Rattle.session.specs.Choices.{Shelf, chosen}
-use Rattle.session.proofs.Choices.{few}
 use Rattle.session.specs.Session as on-lists
 use Rattle.session.specs.Session.{Memory, Phase, Outcome, refuses, goesOn}
 use Rattle.transfer_step.specs.declared.Reader.{Reader}
-use Rattle.session_memory.specs.State.{held, fiveOf, noFive}
+use Rattle.session_memory.specs.State.{held, fiveOf}
 use Rattle.session_memory.specs.declared.Five.{Five}
 use Rattle.session_memory.specs.declared.Await.{Await}
 use Rattle.session_memory.specs.declared.Say.{Say}
@@ -29,17 +26,13 @@ use Rattle.line_effect.specs.Judge.{picked, flagged, settledKeep, sends, inPhas
 use Rattle.line_effect.specs.Judge as judge
 use Rattle.line_effect.specs.declared.Spoken.{Spoken}
 use Rattle.waiting.specs.Waiting.{waitingOf, firstText, thenText, blockText}
-use Rattle.pending.specs.Pending.{waits}
 use Rattle.receive_defined.specs.Receiving.{cs, unsaid, markAll}
 use Rattle.form_closed.specs.Fixed.{Fixed}
-use Rattle.represents.specs.Represents.{Awaits, Represents}
-use Rattle.represents.proofs.Lists.{FiveOk, five-ok}
+use Rattle.represents.specs.Represents.{Awaits, Represents, Entries}
 use Rattle.represents.proofs.Table.{records-mark, whole-mark, states-marked, states-declined, picked-accepted, flags-deferred, zerosAfter}
-use Rattle.form_closed.proofs.Laws.{picked-few, length-flagged}
 use Rattle.represents.proofs.Choices.{choose-law}
 use Rattle.represents.proofs.Says.{block-text}
-use Rattle.form_closed.proofs.Waiting.{some-turn}
-use Rattle.represents.proofs.Parts.{Lies, Holds, Block, Rest, represents}
+use Rattle.represents.proofs.Parts.{Lies, Holds, represents, no-entries}
 
 -- ---------------------------------------------------------------- the session's memory after marks
 
@@ -52,11 +45,7 @@ lies-mark F E t i st is v h =
       bytes = h .bytes;
       table = whole-mark is v t (h .table);
       inbox = h .inbox;
-      few = h .few;
     }
-
-pub five-none : FiveOk noFive
-five-none = record { few = omega arith; size = refl }
 
 module _ (F : Fixed) (E : Shelf) (k : Keep) (t i st : Bytes) (m : Memory) (h : Holds F E k t i st m) where
   -- what was being sent is forwarded
@@ -71,21 +60,19 @@ module _ (F : Fixed) (E : Shelf) (k : Keep) (t i st : Bytes) (m : Memory) (h : H
               ∙ ap (λ (is : List ℕ). marked is (m .states)) (h .marks .sending);
           sending = refl;
           flags = h .marks .flags;
-          five = five-none;
-          size = h .marks .size;
         };
       }
 
   pub holds-mode : (md : Bool) → Holds F E (judge.inMode md k) t i st (on-lists.withFramed md m)
   holds-mode md =
       let g = h .marks in
-      record { lies = h .lies; box = h .box; marks = record { mode = refl; states = g .states; sending = g .sending; flags = g .flags; five = g .five; size = g .size } }
+      record { lies = h .lies; box = h .box; marks = record { mode = refl; states = g .states; sending = g .sending; flags = g .flags } }
 
   -- the partner's signs on our records at these places
-  pub holds-answer : (is : List ℕ) (ss : List Sign) (z : ℕ) → k .sending .count ≡ 0 → length is ≤ 5
+  pub holds-answer : (is : List ℕ) (ss : List Sign) (z : ℕ) → k .sending .count ≡ 0
       → Holds F E (sends (fiveOf (picked 43 is (zerosAfter ss z))) (flagged (picked 61 is (zerosAfter ss z)) (k .deferred)) k)
       (markAll (held (fiveOf (picked 45 is (zerosAfter ss z)))) 2 t) i st (on-lists.answerMarks is ss m)
-  holds-answer is ss z none five =
+  holds-answer is ss z none =
       let zs = zerosAfter ss z in
       let before : m .sending ≡ [] = sym (h .marks .sending) ∙ ap (λ (n : ℕ). take n (k .sending .items)) none in
       record {
@@ -97,14 +84,12 @@ module _ (F : Fixed) (E : Shelf) (k : Keep) (t i st : Bytes) (m : Memory) (h : H
               ∙ ap (declined is ss) (h .marks .states);
           sending = held-five (picked 43 is zs) ∙ picked-accepted is ss z ∙ ap (λ (js : List ℕ). js ++ accepted ss is) (sym before);
           flags = flags-deferred is ss z (k .deferred) ∙ ap (on-lists.deferring is ss) (h .marks .flags);
-          five = five-ok (picked 43 is zs) (omega (arith, picked-few 43 is zs));
-          size = length-flagged (picked 61 is zs) (k .deferred) ∙ h .marks .size;
         };
       }
 
 -- ---------------------------------------------------------------- the relation again
 
-module _ (F : Fixed) (E : Shelf) (s : Session) (a : Bool) (i st : Bytes) (rest : Rest (s .reading .heading) (s .line .bytes)) where
+module _ (F : Fixed) (E : Shelf) (s : Session) (a : Bool) (i st : Bytes) where
   -- the session with these parts, its line empty and nothing given yet
   abbrev pub left : Await → Say → Keep → Reader → Session
   left w y k r =
@@ -117,13 +102,10 @@ module _ (F : Fixed) (E : Shelf) (s : Session) (a : Bool) (i st : Bytes) (rest :
   textOf w y k t = firstText (y .first) (y .signs) ++ thenText (y .then) (w .ours) (k .sending) t (F .titles) (F .names) (F .bodies)
 
   pub settled-is : (w : Await) (y : Say) (k : Keep) (r : Reader) (t : Bytes) (p : Phase) (m : Memory) (o : Bytes)
-      → Block (w .ours) (w .block) (w .proposals) → FiveOk (y .signs) → Holds F E k t i st m → r .head ≤ 80
-      → textOf w y k t ≡ o → (waits (unsaid y) ≡ true → 0 < length o) → Awaits (cs (left w y k r) t i st) p
+      → Entries (w .block) (w .proposals) → Holds F E k t i st m → textOf w y k t ≡ o → Awaits (cs (left w y k r) t i st) p
       → Represents F E (cs (left w y k r) t i st) (after p m o)
   unfolding waitingOf
-  settled-is w y k r t p m o b g h head text some await =
-      represents F E (cs (left w y k r) t i st) (after p m o) b g h rest head (omega arith)
-      (record { toGive = text; some = λ e. subst (λ (l : Bytes). 0 < length l) (sym text) (some e) }) await refl refl
+  settled-is w y k r t p m o b h text await = represents F E (cs (left w y k r) t i st) (after p m o) b h text await refl refl
 
   -- what is left stands for the outcome, which is no refusal
   abbrev pub Settles : Await → Say → Keep → Reader → Bytes → Outcome → Type 0
@@ -133,34 +115,22 @@ module _ (F : Fixed) (E : Shelf) (s : Session) (a : Bool) (i st : Bytes) (rest :
   -- ---------------------------------------------------------------- our turn
 
   module _ (w : Await) (y : Say) (k : Keep) (r : Reader) (t : Bytes) (m : Memory)
-      (b : Block (w .ours) (w .block) (w .proposals)) (g : FiveOk (y .signs)) (h : Holds F E k t i st m) (head : r .head ≤ 80) (none : k .sending .count ≡ 0) where
+      (b : Entries (w .block) (w .proposals)) (h : Holds F E k t i st m) where
     abbrev SpeaksAs : Spoken → Outcome → Type 0
     SpeaksAs v o = Settles (v .now) (v .say) k r t o
 
-    -- a piece behind the first
-    some-after : (x l : Bytes) → 0 < length l → 0 < length (x ++ l)
-    some-after x l e = simp length-append (omega arith)
-
-    speak-law : (ff : Bool) (is : List ℕ) → length is ≤ 5
-        → SpeaksAs (speaking (fiveOf is) ff w y) (on-lists.speaking E (firstText (y .first) (y .signs)) ff is m)
+    speak-law : (ff : Bool) (is : List ℕ) → SpeaksAs (speaking (fiveOf is) ff w y) (on-lists.speaking E (firstText (y .first) (y .signs)) ff is m)
     unfolding thenText proposalsOf
-    speak-law true [] l =
-        settled-is (inPhase 6 w) (saysThen 2 y) k r t on-lists.leaving m _ b g h head refl
-        (λ e. some-after (firstText (y .first) (y .signs)) (withCr (fixedText ourFQ)) (omega arith)) refl
-    speak-law false [] l =
-        settled-is (toTurn true w) (saysThen 1 y) k r t (on-lists.newTurn true) m _
-        (record { five = b .five; size = b .size; few = omega arith; entries = λ j e. absurd (not-suc-le-zero e) }) g h head refl
-        (λ e. some-after (firstText (y .first) (y .signs)) (withCr (fixedText ourFF)) (omega arith)) (refl, (refl, refl))
-    speak-law ff (j ∷ is) l =
+    speak-law true [] = settled-is (inPhase 6 w) (saysThen 2 y) k r t on-lists.leaving m _ b h refl refl
+    speak-law false [] = settled-is (toTurn true w) (saysThen 1 y) k r t (on-lists.newTurn true) m _ (no-entries (w .block)) h refl (refl, (refl, refl))
+    speak-law ff (j ∷ is) =
         subst
         (λ (c : Bool). SpeaksAs (cond c (cond ff (spoken (inPhase 6 w) (saysThen 2 y)) (spoken (toTurn true w) (saysThen 1 y))) (spoken (toAnswer (fiveOf (j ∷ is)) w) (saysThen 3 y)))
         (on-lists.speaking E (firstText (y .first) (y .signs)) ff (j ∷ is) m))
         (sym (ne-eqb (suc (length is)) 0 (λ e. omega arith)))
-        (settled-is (toAnswer (fiveOf (j ∷ is)) w) (saysThen 3 y) k r t (on-lists.aLine (on-lists.awaitsAnswer (j ∷ is))) m _
-        (record { five = five-ok (j ∷ is) l; size = b .size; few = b .few; entries = b .entries }) g h head
+        (settled-is (toAnswer (fiveOf (j ∷ is)) w) (saysThen 3 y) k r t (on-lists.aLine (on-lists.awaitsAnswer (j ∷ is))) m _ b h
         (ap (λ (x : Bytes). firstText (y .first) (y .signs) ++ x) (ap (blockText t) (held-five (j ∷ is)) ∙ ours))
-        (λ e. some-after (firstText (y .first) (y .signs)) _ (some-turn _))
-        (refl, (none, held-five (j ∷ is))))
+        (refl, held-five (j ∷ is)))
       where
         ours : blockText t (j ∷ is) ≡ turnText (map (λ (n : ℕ). proposalOf (recordAt (E .table) n)) (j ∷ is))
         ours =
@@ -172,7 +142,7 @@ module _ (F : Fixed) (E : Shelf) (s : Session) (a : Bool) (i st : Bytes) (rest :
     unfolding speakOf
     our-turn-law ff =
         subst (λ (f : Five). SpeaksAs (speaking f ff w y) (on-lists.ourTurn E (firstText (y .first) (y .signs)) ff m)) (sym choice)
-        (speak-law ff (chosen (E .table) (m .framed) (m .states) (m .deferred)) (few (E .table) (m .framed) (m .states) (m .deferred)))
+        (speak-law ff (chosen (E .table) (m .framed) (m .states) (m .deferred)))
       where
         choice : chooseOf t (k .framed) (k .deferred) ≡ fiveOf (chosen (E .table) (m .framed) (m .states) (m .deferred))
         choice =

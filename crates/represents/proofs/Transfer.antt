@@ -29,7 +29,8 @@ use Rattle.form_closed.specs.Fixed.{Fixed}
 use Rattle.represents.specs.Represents.{Awaits, Represents}
 use Rattle.represents.proofs.Inbox.{box-store}
 use Rattle.represents.proofs.Frame.{kept-behind}
-use Rattle.represents.proofs.Parts.{Holds, block-of, signs-of, holds-of, represents}
+use Rattle.represents.proofs.Parts.{Holds, holds-of, represents}
+use Rattle.form_closed.specs.Facts.{Good}
 
 -- ---------------------------------------------------------------- one byte as a portion
 
@@ -61,7 +62,7 @@ one-kept room r b hd st = (subst (λ (u : Run). Untouched r hd st u) (fed-one ro
 
 -- ---------------------------------------------------------------- the parts after a byte
 
-module _ (F : Fixed) (E : Shelf) (c : Cs) (v : on-lists.Session) (h : Represents F E c v) (b : ℕ) where
+module _ (F : Fixed) (E : Shelf) {nt ni ns : ℕ} (c : Cs) (g : Good F nt ni ns c) (v : on-lists.Session) (h : Represents F E c v) (b : ℕ) where
   abbrev pub s : Session
   s = c .session
 
@@ -86,11 +87,11 @@ module _ (F : Fixed) (E : Shelf) (c : Cs) (v : on-lists.Session) (h : Represents
 
   pub store-kept : Kept (s .keep .used + s .reading .reader .body) (s .keep .used + stepped .reader .body) (c .store) store′
   store-kept =
-      kept-behind (s .keep .used) (s .reading .reader .body) (stepped .reader .body) (c .store) behind′ (h .boxed .within)
+      kept-behind (s .keep .used) (s .reading .reader .body) (stepped .reader .body) (c .store) behind′ (g .box .within)
       (one-kept (roomOf behind) (s .reading .reader) b (s .reading .heading) behind)
 
   pub behind-back : drop (s .keep .used) store′ ≡ behind′
-  behind-back = drop-at (take (s .keep .used) (c .store)) behind′ (s .keep .used) (length-take-le (s .keep .used) (c .store) (h .boxed .within))
+  behind-back = drop-at (take (s .keep .used) (c .store)) behind′ (s .keep .used) (length-take-le (s .keep .used) (c .store) (g .box .within))
 
   pub room-same : roomOf behind′ ≡ roomOf behind
   room-same = ap (λ (n : ℕ). min n 65535) (one-kept (roomOf behind) (s .reading .reader) b (s .reading .heading) behind .size)
@@ -103,8 +104,8 @@ module _ (F : Fixed) (E : Shelf) (c : Cs) (v : on-lists.Session) (h : Represents
       let k = holds-of h in
       let l = k .lies in
       record {
-        lies = record { records = l .records; known = l .known; places = l .places; bytes = store-kept .size ∙ l .bytes; table = l .table; inbox = l .inbox; few = l .few };
-        box = box-store (s .keep .kept) (s .keep .used) (c .inbox) (c .store) behind′ (v .memory .inbox) (store-kept .size) (k .box);
+        lies = record { records = l .records; known = l .known; places = l .places; bytes = store-kept .size ∙ l .bytes; table = l .table; inbox = l .inbox };
+        box = box-store (s .keep .kept) (s .keep .used) (c .inbox) (c .store) behind′ (v .memory .inbox) (g .box .used) (g .box .within) (k .box);
         marks = k .marks;
       }
 
@@ -118,25 +119,16 @@ module _ (F : Fixed) (E : Shelf) (c : Cs) (v : on-lists.Session) (h : Represents
   goes-on p ps sc sc′ a k =
       represents F E (cs s′ (c .table) (c .inbox) store′)
       (on-lists.withPhase (on-lists.awaitsTransfer p ps sc′) (on-lists.withAfterCr false v))
-      (block-of h) (signs-of h) holds′ (record { heading = k .array; line = h .arrays .line }) (k .short) (h .arrays .lineLen)
-      (record { toGive = h .says .toGive; some = h .says .some }) (
+      (h .entries) holds′ (h .says) (
         a .0,
         a .1,
-        a .2,
-        a .3,
-        a .4,
-        a .5,
-        a .6,
         subst (λ (l : Bytes). Stands (roomOf l) (stepped .reader) heading′ l sc′) (sym behind-back)
             (subst (λ (n : ℕ). Stands n (stepped .reader) heading′ behind′ sc′) (sym room-same) k),
       )
       (h .part) refl
 
-  pub refused-here : (n : ℕ) (sc′ : Scan) → Stands (roomOf behind) (stepped .reader) heading′ behind′ sc′
-      → Represents F E (cs (refusedOf s′) (c .table) (c .inbox) store′) (on-lists.refused v n .session)
+  pub refused-here : (n : ℕ) → Represents F E (cs (refusedOf s′) (c .table) (c .inbox) store′) (on-lists.refused v n .session)
   unfolding refusedOf waitingOf waits firstText thenText
-  refused-here n sc′ k =
+  refused-here n =
       represents F E (cs (refusedOf s′) (c .table) (c .inbox) store′) (on-lists.refused v n .session)
-      (block-of h) (signs-of h) holds′ (record { heading = k .array; line = h .arrays .line }) (k .short) (omega arith)
-      (record { toGive = refl; some = λ e. absurd (let z : _≡_ {A = ℕ} 0 1 = cc in omega arith) })
-      (omega arith, refl) refl refl
+      (h .entries) holds′ refl (omega arith, refl) refl refl

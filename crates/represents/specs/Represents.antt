@@ -1,11 +1,12 @@
--- Lent memory and the state in it (Cs of crates/receive_defined) represent a session on lists (crates/session). One relation holds both what the
--- bytes mean and what keeps them in order.
+-- Lent memory and the state in it (Cs of crates/receive_defined) represent a session on lists (crates/session). The relation says what the bytes mean;
+-- what keeps them in order (sizes, counts within them, places and room for what is owed) is `Good` of crates/form_closed, which holds of any memory that
+-- passes the form test, whatever it means.
 use mathlib.Core.Path.{_≡_}
-use mathlib.Core.Bool.{true, false, cond}
+use mathlib.Core.Bool.{false, cond}
 use mathlib.Core.List.{List, [], _∷_}
 use Prim.Native.Nat.{ℕ, zero, suc, _+_, _*_, _≤_, _<_}
 use lib.Dec.{eqb}
-use lib.ListN.{length, getD, take, drop}
+use lib.ListN.{length, take, drop}
 use Rattle.grammar.specs.Bytes.{Bytes}
 use Rattle.grammar.specs.Turns.{Proposal}
 use Rattle.grammar.specs.Answers.{Sign, accept, decline, defer}
@@ -17,13 +18,11 @@ use Rattle.layout.specs.Layout.{entryAt, recordSize, entrySize, proposalSize, p
 use Rattle.transfer_read.specs.Feed.{roomOf}
 use Rattle.transfer_read.specs.Meaning.{Stands}
 use Rattle.session_memory.specs.State.{held}
-use Rattle.session_memory.specs.declared.Five.{Five}
 use Rattle.session_memory.specs.declared.Await.{Await}
 use Rattle.session_memory.specs.declared.Session.{Session}
 use Rattle.choice.specs.Decoded.{recordsOf, statesOf, knownBids, proposalsOf, placeCount, recordCount}
 use Rattle.waiting.specs.Waiting.{waitingOf}
 use Rattle.pending.specs.Pending.{waits}
-use Rattle.form_test.specs.Form.{usedBy}
 use Rattle.receive_defined.specs.Receiving.{Cs}
 use Rattle.represents.specs.Laid.{proposalBytes, messageBytes, bodiesBytes}
 use Rattle.form_closed.specs.Fixed.{Fixed}
@@ -69,22 +68,9 @@ owed s = accepted (signsIn (drop (s .now .current) (held (s .say .signs)))) (dro
 
 -- ---------------------------------------------------------------- the parts of the relation
 
--- The sizes of the arrays, and counts within them; every proposal of the block lies there as it is written.
-pub record Arrays (s : Session) : Type 0 where
-  pub ours : length (s .now .ours .items) ≡ 5
-  pub sending : length (s .keep .sending .items) ≡ 5
-  pub signs : length (s .say .signs .items) ≡ 5
-  pub block : length (s .now .block) ≡ 360
-  pub flags : length (s .keep .deferred) ≡ 64
-  pub heading : length (s .reading .heading) ≡ 80
-  pub line : length (s .line .bytes) ≡ 256
-  pub oursCount : s .now .ours .count ≤ 5
-  pub sendingCount : s .keep .sending .count ≤ 5
-  pub signsCount : s .say .signs .count ≤ 5
-  pub proposals : s .now .proposals ≤ 5
-  pub entries : (i : ℕ) → i < s .now .proposals → Written (entryAt proposalSize (s .now .block) i)
-  pub lineLen : s .line .len ≤ 256
-  pub head : s .reading .reader .head ≤ 80
+-- Every proposal of the block lies there as it is written.
+abbrev pub Entries : Bytes → ℕ → Type 0
+Entries block n = (i : ℕ) → i < n → Written (entryAt proposalSize block i)
 
 -- The table, known BIDs, inbox and store are those of the shelf; buffers of entries hold a whole number of them.
 pub record Shelved (F : Fixed) (E : Shelf) (c : Cs) : Type 0 where
@@ -94,7 +80,6 @@ pub record Shelved (F : Fixed) (E : Shelf) (c : Cs) : Type 0 where
   pub bytes : length (c .store) ≡ E .bytes
   pub table : length (c .table) ≡ recordCount (c .table) * recordSize
   pub inbox : length (c .inbox) ≡ E .places * entrySize
-  pub few : E .places ≤ 64
 
 -- The inbox up to its count is these messages, and their bodies lie in a row at the beginning of the store, each of 65,535 bytes at most.
 pub record Boxed (c : Cs) (ms : List Message) : Type 0 where
@@ -103,38 +88,31 @@ pub record Boxed (c : Cs) (ms : List Message) : Type 0 where
   pub laid : LaidFrom (c .inbox) 0 0 ms
   pub bodies : take (c .session .keep .used) (c .store) ≡ bodiesBytes ms
   pub row : InRow (c .inbox) 0 (c .session .keep .kept) 0
-  pub sum : usedBy (c .inbox) (c .session .keep .kept) ≡ c .session .keep .used
   pub small : c .session .keep .used ≤ c .session .keep .kept * 65535
   pub used : c .session .keep .used ≡ bodyBytes ms
-  pub placed : c .session .keep .kept ≤ placeCount (c .inbox)
-  pub within : c .session .keep .used ≤ length (c .store)
 
--- What waits is what is still to be given, and where something waits there is some.
-pub record Says (F : Fixed) (c : Cs) (out : Bytes) : Type 0 where
-  pub toGive : drop (c .session .say .pos) (waitingOf (c .session) (c .table) (F .titles) (F .names) (F .bodies)) ≡ out
-  pub some : waits (c .session .say) ≡ true → c .session .say .pos < length (waitingOf (c .session) (c .table) (F .titles) (F .names) (F .bodies))
+-- What waits is what is still to be given.
+abbrev pub Says : Fixed → Cs → Bytes → Type 0
+Says F c out = drop (c .session .say .pos) (waitingOf (c .session) (c .table) (F .titles) (F .names) (F .bodies)) ≡ out
 
--- The number of the line that is awaited, and what is held with it. Nothing is being sent where the partner's turn is not awaited.
+-- The number of the line that is awaited, and what is held with it.
 abbrev pub lineNumber : on-lists.Awaited → ℕ
 lineNumber (on-lists.awaitsSid caller) = cond caller 1 0
 lineNumber on-lists.awaitsPrompt = 2
 lineNumber (on-lists.awaitsTurn ff ps) = 3
 lineNumber (on-lists.awaitsAnswer is) = 4
 
-abbrev pub HeldFor : Await → Five → on-lists.Awaited → Type 0
-HeldFor w f (on-lists.awaitsSid caller) = f .count ≡ 0
-HeldFor w f on-lists.awaitsPrompt = f .count ≡ 0
-HeldFor w f (on-lists.awaitsTurn ff ps) = (w .ff ≡ ff) × (proposalsOf (w .block) (w .proposals) ≡ ps)
-HeldFor w f (on-lists.awaitsAnswer is) = (f .count ≡ 0) × (held (w .ours) ≡ is)
+abbrev pub HeldFor : Await → on-lists.Awaited → Type 0
+HeldFor w (on-lists.awaitsSid caller) = Unit {0}
+HeldFor w on-lists.awaitsPrompt = Unit {0}
+HeldFor w (on-lists.awaitsTurn ff ps) = (w .ff ≡ ff) × (proposalsOf (w .block) (w .proposals) ≡ ps)
+HeldFor w (on-lists.awaitsAnswer is) = held (w .ours) ≡ is
 
--- What is awaited. Nothing is being sent while a transfer is.
+-- What is awaited.
 abbrev pub Awaits : Cs → on-lists.Phase → Type 0
-Awaits c (on-lists.aLine a) = (c .session .now .phase ≡ lineNumber a) × HeldFor (c .session .now) (c .session .keep .sending) a
+Awaits c (on-lists.aLine a) = (c .session .now .phase ≡ lineNumber a) × HeldFor (c .session .now) a
 Awaits c (on-lists.awaitsTransfer p ps sc) =
-    (c .session .now .phase ≡ 5) × (c .session .keep .sending .count ≡ 0) × (owed (c .session) ≡ p ∷ ps)
-    × (c .session .now .current < c .session .now .proposals) × (c .session .say .signs .count ≡ c .session .now .proposals)
-    × (getD (c .session .say .signs .items) (c .session .now .current) 0 ≡ 43)
-    × (c .session .keep .kept + length (owed (c .session)) ≤ placeCount (c .inbox))
+    (c .session .now .phase ≡ 5) × (owed (c .session) ≡ p ∷ ps)
     × Stands (roomOf (drop (c .session .keep .used) (c .store))) (c .session .reading .reader) (c .session .reading .heading) (drop (c .session .keep .used) (c .store)) sc
 Awaits c on-lists.leaving = c .session .now .phase ≡ 6
 Awaits c on-lists.over = (7 ≤ c .session .now .phase) × (waits (c .session .say) ≡ false)
@@ -142,7 +120,7 @@ Awaits c on-lists.over = (7 ≤ c .session .now .phase) × (waits (c .session .s
 -- ---------------------------------------------------------------- the relation
 
 pub record Represents (F : Fixed) (E : Shelf) (c : Cs) (s : on-lists.Session) : Type 0 where
-  pub arrays : Arrays (c .session)
+  pub entries : Entries (c .session .now .block) (c .session .now .proposals)
   pub shelved : Shelved F E c
   pub boxed : Boxed c (s .memory .inbox)
   pub says : Says F c (s .out)
