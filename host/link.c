@@ -3,6 +3,42 @@
 
 #include <string.h>
 
+void link_start(struct link *link, const struct port *port, const struct options *options)
+{
+    memset(link, 0, sizeof *link);
+    link->port = *port;
+    link->doubles = options->telnet;
+    link->left_until_drop = options->drop_after;
+    patience_start(&link->patience, options);
+}
+
+void link_keep(struct link *link)
+{
+    link->early_end -= link->early_at;
+    memmove(link->early, link->early + link->early_at, link->early_end);
+    link->early_at = 0;
+    link->kept_telnet = link->telnet;
+    link->kept_after_cr = link->after_cr;
+    link->keeps = true;
+}
+
+void link_rewind(struct link *link, const struct options *options)
+{
+    link->telnet = link->kept_telnet;
+    link->after_cr = link->kept_after_cr;
+    link->early_at = 0;
+    link->keeps = false;
+    link->left_until_drop = options->drop_after;
+    link->sent = link->received = 0;
+    link->port.heard_at = link->port.left_at = moment_now();
+    patience_start(&link->patience, options);
+}
+
+void link_end(struct link *link)
+{
+    bytes_free(&link->told);
+}
+
 /* Counts bytes that pass, and says how many of n may. */
 static size_t let_pass(struct link *link, size_t n)
 {
@@ -32,21 +68,46 @@ static bool goes_on(struct link *link)
     return !link->over;
 }
 
-/* Fills the early bytes. A portion may hold nothing but telnet's commands. */
+/* Waits for early bytes and adds them to those that are kept. */
 static long hear(struct link *link, bool wait)
 {
     long n;
 
+    if (!link->keeps)
+        link->early_at = link->early_end = 0;
+    if (link->early_end == sizeof link->early) {
+        link->over = "too many bytes before a SID";
+        return PORT_SILENT;
+    }
     do {
-        n = port_read(&link->port, link->early, sizeof link->early, wait ? patience_left(&link->patience, &link->port) : 0);
-        link->early_at = 0;
-        link->early_end = n <= 0 ? 0 : link->doubles ? telnet_undouble(&link->telnet, link->early, (size_t)n) : (size_t)n;
+        n = port_read(&link->port, link->early + link->early_end, sizeof link->early - link->early_end,
+            wait ? patience_left(&link->patience, &link->port) : 0);
         if (n == PORT_GONE)
             return n;
         if (wait && !goes_on(link))
             return PORT_SILENT;
-    } while (wait && !link->early_end);
-    return (long)link->early_end;
+    } while (wait && n == PORT_SILENT);
+    link->early_end += (size_t)n;
+    return n;
+}
+
+/* Moves early bytes to a reader: without telnet's commands, and without the LF of a line that is over. */
+static size_t take_early(struct link *link, uint8_t *into, size_t room)
+{
+    size_t n = link->early_end - link->early_at;
+
+    if (n > room)
+        n = room;
+    memcpy(into, link->early + link->early_at, n);
+    link->early_at += n;
+    if (link->doubles)
+        n = telnet_undouble(&link->telnet, into, n);
+    if (n && link->after_cr) {
+        link->after_cr = false;
+        if (into[0] == '\n')
+            memmove(into, into + 1, --n);
+    }
+    return n;
 }
 
 long link_read(struct link *link, uint8_t *into, size_t room, bool wait)
@@ -55,15 +116,16 @@ long link_read(struct link *link, uint8_t *into, size_t room, bool wait)
 
     if (link->left_until_drop == 0)
         return PORT_GONE;
-    if (link->early_at == link->early_end) {
-        long n = hear(link, wait);
-        if (n <= 0)
-            return n;
+    /* A portion may hold nothing but telnet's commands. */
+    while (!heard.n) {
+        if (link->early_at == link->early_end) {
+            long n = hear(link, wait);
+            if (n <= 0)
+                return n;
+        }
+        heard.n = take_early(link, into, room);
     }
-    heard.n = link->early_end - link->early_at;
-    heard.n = let_pass(link, heard.n < room ? heard.n : room);
-    memcpy(into, link->early + link->early_at, heard.n);
-    link->early_at += heard.n;
+    heard.n = let_pass(link, heard.n);
     note(link, false, heard);
     return (long)heard.n;
 }
@@ -80,6 +142,22 @@ static bool write_all(struct link *link, struct part bytes)
     return true;
 }
 
+/* Takes off what the partner has been told already; false if that was something else. */
+static bool pass_over(struct link *link, struct part *bytes)
+{
+    size_t n = link->told.n < bytes->n ? link->told.n : bytes->n;
+
+    if (!n || link->keeps)
+        return true;
+    if (memcmp(link->told.at, bytes->at, n))
+        return false;
+    link->told.n -= n;
+    memmove(link->told.at, link->told.at + n, link->told.n);
+    bytes->at += n;
+    bytes->n -= n;
+    return true;
+}
+
 bool link_write(struct link *link, struct part bytes)
 {
     struct bytes doubled = { NULL, 0, 0 };
@@ -87,6 +165,10 @@ bool link_write(struct link *link, struct part bytes)
 
     bytes.n = let_pass(link, bytes.n);
     note(link, true, bytes);
+    if (link->keeps)
+        bytes_add(&link->told, bytes.at, bytes.n);
+    if (!pass_over(link, &bytes))
+        return false;
     if (link->doubles) {
         telnet_double(&doubled, bytes);
         bytes = part_all(&doubled);

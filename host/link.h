@@ -20,15 +20,28 @@ struct link {
     bool secret;             /* what passes now stands in no transcript */
     int64_t left_until_drop; /* bytes either way, then it drops; below 0: never */
     uint64_t sent, received;
-    /* Bytes that came and that nobody has taken yet. */
+    /* Bytes that came, as they came, from early_at on nobody has taken them yet. */
     uint8_t early[LINK_PORTION];
     size_t early_at, early_end;
-    const char *over; /* which limit ended the link, in words; NULL if none did */
+    bool after_cr;     /* an LF that comes next belongs to a line that is over */
+    bool keeps;        /* what is taken stays, for link_rewind; the state before it: */
+    struct telnet kept_telnet;
+    bool kept_after_cr;
+    struct bytes told; /* bytes that we shall say and the partner has already */
+    const char *over;  /* which limit ended the link, in words; NULL if none did */
 };
+
+/* An open port under the operator's limits; it has no transcript yet. */
+void link_start(struct link *link, const struct port *port, const struct options *options);
 
 /* Bytes of the partner. `wait` false: only what is there. Gives what port_read gives; PORT_SILENT with `wait`: a limit is reached. */
 long link_read(struct link *link, uint8_t *into, size_t room, bool wait);
 /* Writes all of it, unless the port is gone or a limit is reached. */
 bool link_write(struct link *link, struct part bytes);
+/* From here on what the partner says is kept, as far as there is room, and what we say. */
+void link_keep(struct link *link);
+/* Back to where link_keep was called: the same bytes come again, and what we said then isn't said a second time. Time counts anew. */
+void link_rewind(struct link *link, const struct options *options);
+void link_end(struct link *link);
 
 #endif

@@ -20,6 +20,9 @@ static const char help[] =
     "  list                 show both boxes\n"
     "  sessions             show what each session did, the newest first\n"
     "  release BID..        let held messages go\n"
+    "  admit CALL [FILE]    CALL may call; its password is FILE's first line (-: standard input)\n"
+    "  dismiss CALL         CALL may no more\n"
+    "  partners             show who may call, and who was there when\n"
     "  call [HOST:]PORT     call a partner over TCP\n"
     "  listen [HOST:]PORT   wait for partners to call over TCP, one at a time\n"
     "  stdio                a session on standard input and output\n"
@@ -38,6 +41,8 @@ static const char help[] =
     "  --once               listen: end after one session, with its exit code\n"
     "  --drop-after BYTES   drop the link after so many bytes, to see what happens\n"
     "  --rtscts             serial: hardware flow control\n"
+    "  --from CALL          stdio: who calls, as ax25d knows it; served if it is a partner\n"
+    "  --anyone             serve callers from outside without asking who they are\n"
     "Limits; 0: none\n"
     "  --timeout SECONDS    of silence, from the last byte that came or left (600)\n"
     "  --sid-limit SECONDS  until the partner's SID has come, login included (120)\n"
@@ -48,6 +53,8 @@ static const char help[] =
     "                       of the whole session (86400)\n"
     "  --login-limit BYTES  before a login is over (4096)\n"
     "  --linger SECONDS     after hanging up, for our last bytes (30)\n"
+    "  --delay SECONDS      until a caller who is no partner is hung up on (3)\n"
+    "  --callers COUNT      listen: at once, one of them in a session (32)\n"
     "Options of the others\n"
     "  --call CALL          init: our callsign, for BIDs of messages that have none\n"
     "  --partner CALL       init: the partner's callsign, for X-Forwarded-To\n"
@@ -111,6 +118,10 @@ static const struct option table[] = {
     OPTION("--linger", NUMBER, linger),
     OPTION("--rtscts", FLAG, flow),
     OPTION("--log", TEXT, log),
+    OPTION("--from", TEXT, from),
+    OPTION("--anyone", FLAG, anyone),
+    OPTION("--callers", NUMBER, callers),
+    OPTION("--delay", NUMBER, delay),
     OPTION("--room", NUMBER, room),
     OPTION("--drop-after", NUMBER, drop_after)
 };
@@ -170,6 +181,8 @@ static void defaults(struct options *options)
     options->least_rate = 10;
     options->login_limit = 4096;
     options->linger = 30;
+    options->delay = 3;
+    options->callers = 32;
     options->room = ROOM;
     options->drop_after = -1;
 }

@@ -13,10 +13,11 @@ struct options {
     /* import, export */
     bool text, as_is, outbox;
     /* sessions */
-    bool caller, called, telnet, once, progress, flow;
-    const char *login, *question, *transcript, *log;
-    long timeout, sid_limit, progress_limit, session_limit, linger; /* seconds; 0: no limit */
-    long least_rate, login_limit;                                   /* bytes a second, bytes */
+    bool caller, called, telnet, once, progress, flow, anyone;
+    bool asks; /* no option: callers from outside must log in */
+    const char *login, *question, *transcript, *log, *from;
+    long timeout, sid_limit, progress_limit, session_limit, linger, delay; /* seconds; 0: no limit */
+    long least_rate, login_limit, callers;                                 /* bytes a second, bytes, processes */
     long room, drop_after;
 };
 

@@ -28,6 +28,8 @@ bool tcp_call(struct port *port, const char *address);
 /* Gives the descriptor to accept on, or -1; says where it listens. `inside` tells whether only this machine can call there. */
 int tcp_listen(const char *address, bool *inside);
 bool tcp_accept(struct port *port, int listener);
+/* Whether the other end of this link is another machine, by TCP. */
+bool tcp_is_outside(int link);
 bool serial_open(struct port *port, const char *device, const char *bits, bool flow);
 void stdio_open(struct port *port);
 

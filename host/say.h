@@ -12,7 +12,8 @@ enum exit_code {
     BAD_PORT = 4,
     LINK_DROPPED = 5,
     REFUSED = 6,       /* by the library; the number is said */
-    BAD_FILE = 7       /* a message file */
+    BAD_FILE = 7,      /* a message file */
+    NOT_ADMITTED = 8   /* the caller is no partner */
 };
 
 #if defined(__GNUC__)

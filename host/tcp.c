@@ -130,6 +130,16 @@ static bool is_inside(const struct sockaddr *where)
     return where->sa_family == AF_INET6 && IN6_IS_ADDR_LOOPBACK(&((const struct sockaddr_in6 *)(const void *)where)->sin6_addr);
 }
 
+bool tcp_is_outside(int link)
+{
+    struct sockaddr_storage other;
+    socklen_t n = sizeof other;
+
+    if (getpeername(link, (struct sockaddr *)&other, &n))
+        return false;
+    return (other.ss_family == AF_INET || other.ss_family == AF_INET6) && !is_inside((const struct sockaddr *)&other);
+}
+
 int tcp_listen(const char *address, bool *inside)
 {
     struct addrinfo *found = look_up(address, AI_PASSIVE);

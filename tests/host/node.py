@@ -18,7 +18,7 @@ PLAIN = ROOT / "target" / "host" / "fringemole"
 SANITIZED = ROOT / "target" / "host-sanitized" / "fringemole"
 PATIENCE = 20  # seconds until a test gives up waiting
 
-DONE, FAILED, BAD_USAGE, BAD_BASE, BAD_PORT, LINK_DROPPED, REFUSED, BAD_FILE = range(8)
+DONE, FAILED, BAD_USAGE, BAD_BASE, BAD_PORT, LINK_DROPPED, REFUSED, BAD_FILE, NOT_ADMITTED = range(9)
 WAITING, FORWARDED, DECLINED, HELD = range(4)
 OUR_SID = b"[NOD-1-BFH$]\r"
 GREETING = OUR_SID + b">\r"
