@@ -73,6 +73,7 @@ static const char help[] =
     "  5  link dropped, or the partner silent too long\n"
     "  6  refusal; its number is said\n"
     "  7  bad message file; files that another message's BID or text kept from their place\n"
+    "  8  the caller is no partner\n"
     "SIGINT and SIGTERM end it by themselves (a shell shows 130 and 143).\n"
     "\n"
     "A session takes 64 waiting messages, the oldest first, knows 1,024 BIDs and keeps up to\n"

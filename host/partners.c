@@ -16,18 +16,30 @@ static bool read_call(const struct options *options, struct call *call)
     return right;
 }
 
+static bool first_line(FILE *file, const char *name, char *line, size_t room)
+{
+    bool right = fgets(line, (int)room, file) != NULL;
+
+    if (!right)
+        say("%s: no password in it", name);
+    return right;
+}
+
 /* A password is a file's first line: on the command line everybody on this machine could read it. */
 static bool read_password(const char *name, char *password, size_t room)
 {
-    FILE *file = strcmp(name, "-") ? fopen(name, "rb") : stdin;
-    bool right = file && fgets(password, (int)room, file);
+    FILE *file;
+    bool right;
 
-    if (!file)
+    if (!strcmp(name, "-"))
+        return first_line(stdin, "standard input", password, room);
+    file = fopen(name, "rb");
+    if (!file) {
         say("%s: %s", name, strerror(errno));
-    else if (!right)
-        say("%s: no password in it", name);
-    if (file && file != stdin)
-        fclose(file);
+        return false;
+    }
+    right = first_line(file, name, password, room);
+    fclose(file);
     return right;
 }
 

@@ -107,7 +107,7 @@ class Leaving(Timed):
         ours = Message(b"1_US", bytes(3000))
         node = self.node(program=PLAIN).add(ours)
         near, far = socket.socketpair(socket.AF_UNIX, socket.SOCK_SEQPACKET)
-        process = node.start("stdio", "--timeout", "1", "--login=N0DE", "--question=?", "--called", stdin=near, stdout=near,
+        process = node.start("stdio", "--timeout", "1", "--login=N0DE", "--question=?", "--anyone", stdin=near, stdout=near,
                              env=self.line(LINE_RATE="1500", LINE_AX25="256"))
         near.close()
         partner = Partner.of_socket(process, far)
