@@ -12,6 +12,7 @@ use Rattle.grammar.specs.Answers.{writeSign, Sign, accept, decline, defer}
 use Rattle.mail.specs.Mail.{Record, Message, accepted}
 use Rattle.session.specs.Choices.{chosen, answersTo, Shelf, bodyBytes, announced, haveBid, noRoomFor, withAccepted, answersAfter}
 use Rattle.session.proofs.Choices.{few, Places, chosen-places, one-sign-each}
+use Rattle.places.specs.Places.{entryLen, proposalLen, recordLen}
 use Rattle.layout.specs.Layout.{recordOf, messageOf, proposalOf}
 use Rattle.session_memory.specs.State.{held}
 use Rattle.session_memory.specs.declared.Five.{Five}
@@ -36,7 +37,7 @@ pub choose-ok : (table : Bytes) (md : Bool) (flags : Bytes) → FiveOk (chooseOf
 unfolding chooseOf recordsOf
 choose-ok table md flags =
     let T : List Record = recordsOf [] [] [] table in
-    let l : length T ≡ recordCount table = entries-length (recordOf [] [] []) 89 table 0 (recordCount table) in
+    let l : length T ≡ recordCount table = entries-length (recordOf [] [] []) recordLen table 0 (recordCount table) in
     five-of (chosen T md (statesOf table) flags) (few T md (statesOf table) flags)
     (places-octets md T (chosen T md (statesOf table) flags) (omega (arith, l)) (chosen-places T md (statesOf table) flags))
 
@@ -93,8 +94,8 @@ answers-ok w k table known inbox n h b =
     let ms : List Message = headsOf inbox (k .kept) in
     let ps : List Proposal = proposalsOf (w .block) (min 5 (w .proposals)) in
     let ss = answersTo E ms ps in
-    let l₁ : length ms ≡ k .kept = entries-length (λ (c : Bytes). messageOf c []) 155 inbox 0 (k .kept) in
-    let l₂ : length ps ≡ min 5 (w .proposals) = entries-length proposalOf 72 (w .block) 0 (min 5 (w .proposals)) in
+    let l₁ : length ms ≡ k .kept = entries-length (λ (c : Bytes). messageOf c []) entryLen inbox 0 (k .kept) in
+    let l₂ : length ps ≡ min 5 (w .proposals) = entries-length proposalOf proposalLen (w .block) 0 (min 5 (w .proposals)) in
     let l₃ = one-sign-each E ms ps in
     let l₄ : length (map writeSign ss) ≡ length ss = length-map ss writeSign in
     let p = answers-places E ms ps (omega arith) in

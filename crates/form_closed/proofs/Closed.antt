@@ -13,6 +13,7 @@ use Rattle.grammar.specs.Bytes.{Bytes}
 use Rattle.grammar.specs.Refusals.{badMemory, sessionEnded}
 use Rattle.grammar.proofs.Basics.{and2, no-both}
 use Rattle.buffer.specs.Put.{cut}
+use Rattle.places.specs.Places.{entryLen, knownLen, numbersStart, recordLen, sessionLen}
 use Rattle.layout.specs.Layout.{le8}
 use Rattle.layout.proofs.Laws.{octets}
 use Rattle.session_memory.specs.State.{at, flag, loadOf, loadSizes, saveOf, sizesOut, saveSizes, freshOf}
@@ -168,7 +169,7 @@ sizes-octets z =
     (octets-append (le8 (z .names)) _ (octets-le8 (z .names)) (octets-append (le8 (z .bodies)) _ (octets-le8 (z .bodies))
     (octets-append (le8 (z .known)) _ (octets-le8 (z .known)) (octets-append (le8 (z .inbox)) (le8 (z .store)) (octets-le8 (z .inbox)) (octets-le8 (z .store))))))))
 
-mark-written : (sm : Bytes) (z : Sizes) → 60 ≤ length sm → markOk (saveSizes sm z) ≡ true
+mark-written : (sm : Bytes) (z : Sizes) → numbersStart ≤ length sm → markOk (saveSizes sm z) ≡ true
 unfolding sizesOut
 mark-written sm z h = ap markOk (sizes-saved sm z h)
 
@@ -232,14 +233,14 @@ module _ (F : Fixed) (role : ℕ) (sm table inbox store : Bytes) where
       go true false c d q e = absurd (omega arith)
       go false b c d q e = absurd (omega arith)
 
-  sizes-in : sizesOk sm table (F .known) inbox ≡ true → (length sm ≡ 876) × (placeCount inbox ≤ 64)
+  sizes-in : sizesOk sm table (F .known) inbox ≡ true → (length sm ≡ sessionLen) × (placeCount inbox ≤ 64)
   unfolding sizesOk
   sizes-in e =
-      let e₁ = and2 (eqb (length sm) 876) _ e in
-      let e₂ = and2 (entriesOk (length table) 89 64) _ (e₁ .1) in
-      let e₃ = and2 (entriesOk (length (F .known)) 13 1024) _ (e₂ .1) in
-      let e₄ = and2 (eqb (length inbox % 155) 0) _ (e₃ .1) in
-      (eqb-true (length sm) 876 (e₁ .0), leb-true (length inbox / 155) 64 (e₄ .1))
+      let e₁ = and2 (eqb (length sm) sessionLen) _ e in
+      let e₂ = and2 (entriesOk (length table) recordLen 64) _ (e₁ .1) in
+      let e₃ = and2 (entriesOk (length (F .known)) knownLen 1024) _ (e₂ .1) in
+      let e₄ = and2 (eqb (length inbox % entryLen) 0) _ (e₃ .1) in
+      (eqb-true (length sm) sessionLen (e₁ .0), leb-true (length inbox / entryLen) 64 (e₄ .1))
 
   -- OPEN: what an accepted one leaves passes the test; the sizes are those of memory, below 2 ^ 64
   pub open-closed : Octets sm → Octets table → Octets inbox → Octets store → Sized lent → asked .reply .answer ≡ 0 → InForm F (asked .sm) table inbox store

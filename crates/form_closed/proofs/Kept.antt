@@ -11,6 +11,7 @@ use lib.Seq.{length-take-le, getD-take}
 use Rattle.grammar.specs.Bytes.{Bytes}
 use Rattle.grammar.proofs.Basics.{no-both}
 use Rattle.buffer.proofs.Laws.{put-length}
+use Rattle.places.specs.Places.{entryLen, fieldsSize, proposalLen}
 use Rattle.layout.specs.Layout.{entryAt, proposalSize, entryOut, le2, le4}
 use Rattle.layout.proofs.Laws.{entry-length, length-back}
 use Rattle.layout.proofs.Places.{part-in}
@@ -33,11 +34,11 @@ module _ (F : Fixed) (nt ni ns : ℕ) (s : Session) (table inbox st : Bytes)
     (B : Box (s .keep) inbox st) (U : Under (s .now) (s .say) (s .keep) (s .reading .reader) inbox st) (Z : s .keep .sending .count ≡ 0) (T : s .say .then ≡ 0)
     (M : Lent nt ni ns table inbox st) where
   -- the proposal that it answers, as it lies in the block
-  proposed-length : length (entryAt proposalSize (s .now .block) (s .now .current)) ≡ 72
+  proposed-length : length (entryAt proposalSize (s .now .block) (s .now .current)) ≡ proposalLen
   proposed-length =
-      let h : s .now .current * 72 + 72 ≤ length (s .now .block) = omega (arith, W .block, W .proposals, U .current) in
-      ap length (part-in (s .now .block) (s .now .current * 72) 72 h)
-      ∙ length-take-le 72 (drop (s .now .current * 72) (s .now .block)) (simp length-drop (omega arith))
+      let h : s .now .current * proposalLen + proposalLen ≤ length (s .now .block) = omega (arith, W .block, W .proposals, U .current) in
+      ap length (part-in (s .now .block) (s .now .current * proposalLen) proposalLen h)
+      ∙ length-take-le proposalLen (drop (s .now .current * proposalLen) (s .now .block)) (simp length-drop (omega arith))
 
   abbrev entry : Bytes
   entry = entryOut (entryAt proposalSize (s .now .block) (s .now .current)) (take (s .reading .reader .head) (s .reading .heading)) (s .keep .used) (s .reading .reader .body)
@@ -45,16 +46,16 @@ module _ (F : Fixed) (nt ni ns : ℕ) (s : Session) (table inbox st : Bytes)
   entry-octets : Octets entry
   entry-octets =
       let c : Bytes = entryAt proposalSize (s .now .block) (s .now .current) in
-      octets-append _ _ (octets-part c 0 68 (octets-part (s .now .block) (s .now .current * 72) 72 (W .octets)))
+      octets-append _ _ (octets-part c 0 fieldsSize (octets-part (s .now .block) (s .now .current * proposalLen) proposalLen (W .octets)))
       (octets-append _ _ (octets-field 80 (take (s .reading .reader .head) (s .reading .heading)) (octets-take (s .reading .reader .head) (s .reading .heading) (H .octets)))
       (octets-append (le4 (s .keep .used)) (le2 (s .reading .reader .body)) (octets-le4 (s .keep .used)) (octets-le2 (s .reading .reader .body))))
 
   kept-length : length (keptInbox s inbox) ≡ length inbox
   unfolding keptInbox
-  kept-length = put-length inbox (at (s .keep .kept * 155)) entry
+  kept-length = put-length inbox (at (s .keep .kept * entryLen)) entry
 
   kept-places : placeCount (keptInbox s inbox) ≡ placeCount inbox
-  kept-places = ap (λ (n : ℕ). n / 155) kept-length
+  kept-places = ap (λ (n : ℕ). n / entryLen) kept-length
 
   -- the place of this one
   one-plus : pluses (drop (s .now .current) (held (s .say .signs))) ≡ suc (pluses (drop (suc (s .now .current)) (held (s .say .signs))))
@@ -72,7 +73,7 @@ module _ (F : Fixed) (nt ni ns : ℕ) (s : Session) (table inbox st : Bytes)
   kept-used =
       let c : Bytes = entryAt proposalSize (s .now .block) (s .now .current) in
       let h : Bytes = take (s .reading .reader .head) (s .reading .heading) in
-      let l : 68 ≤ length c = omega (arith, proposed-length) in
+      let l : fieldsSize ≤ length c = omega (arith, proposed-length) in
       ap (usedBy (keptInbox s inbox)) (add-one (s .keep .kept))
       ∙ used-more inbox (s .keep .kept) entry (s .reading .reader .body)
       (entry-length c h (s .keep .used) (s .reading .reader .body) l) has-place (length-back c h (s .keep .used) (s .reading .reader .body) l (omega (arith, U .short)))
@@ -99,7 +100,7 @@ module _ (F : Fixed) (nt ni ns : ℕ) (s : Session) (table inbox st : Bytes)
         store = M .store;
         fits = M .fits;
         tableOctets = M .tableOctets;
-        inboxOctets = octets-put inbox (at (s .keep .kept * 155)) entry (M .inboxOctets) entry-octets;
+        inboxOctets = octets-put inbox (at (s .keep .kept * entryLen)) entry (M .inboxOctets) entry-octets;
         storeOctets = M .storeOctets;
       }
 

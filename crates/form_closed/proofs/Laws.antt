@@ -15,6 +15,7 @@ use Rattle.grammar.specs.Transfers.{partOf}
 use Rattle.grammar.proofs.Basics.{and2, both, all-append, all-replicate, octet}
 use Rattle.buffer.specs.Put.{putBytes, cut}
 use Rattle.buffer.specs.declared.Cursor.{Cursor}
+use Rattle.places.specs.Places.{entryLen, recordLen}
 use Rattle.layout.specs.Layout.{le2, le4, le8, entryAt, entrySize, bodyLength, fieldOut}
 use Rattle.layout.proofs.Places.{entry-written, entry-kept}
 use Rattle.session_memory.specs.State.{at, held, fiveOf}
@@ -91,7 +92,7 @@ octets-field n w o = octets-cons (omega arith) (octets-take n (w ++ replicate n 
 
 pub mark-octets : (is : List ℕ) (v : ℕ) (table : Bytes) → v < 256 → Octets table → Octets (markAll is v table)
 mark-octets [] v table h o = o
-mark-octets (i ∷ is) v table h o = mark-octets is v (set table (i * 89) v) h (octets-set table (i * 89) v h o)
+mark-octets (i ∷ is) v table h o = mark-octets is v (set table (i * recordLen) v) h (octets-set table (i * recordLen) v h o)
 
 pub flag-octets : (is : List ℕ) (flags : Bytes) → Octets flags → Octets (flagged is flags)
 flag-octets [] flags o = o
@@ -108,7 +109,7 @@ picked-octets c (x ∷ xs) (s ∷ ss) o = go (eqb s c) (picked-octets c xs ss (o
 
 pub length-mark : (is : List ℕ) (v : ℕ) (t : Bytes) → length (markAll is v t) ≡ length t
 length-mark [] v t = refl
-length-mark (i ∷ is) v t = length-mark is v (set t (i * 89) v) ∙ length-set t (i * 89) v
+length-mark (i ∷ is) v t = length-mark is v (set t (i * recordLen) v) ∙ length-set t (i * recordLen) v
 
 pub length-flagged : (is : List ℕ) (fl : List ℕ) → length (flagged is fl) ≡ length fl
 length-flagged [] fl = refl
@@ -211,14 +212,14 @@ used-kept d e i zero h = refl
 used-kept d e i (suc n) h = rw (h i (omega arith), used-kept d e (suc i) n (λ j k. h j (omega arith)))
 
 -- one entry more
-pub used-more : (inbox : Bytes) (k : ℕ) (c : Bytes) (n : ℕ) → length c ≡ 155 → k < length inbox / 155 → bodyLength c ≡ n
-    → usedBy (putBytes inbox (at (k * 155)) c) (suc k) ≡ usedBy inbox k + n
+pub used-more : (inbox : Bytes) (k : ℕ) (c : Bytes) (n : ℕ) → length c ≡ entryLen → k < length inbox / entryLen → bodyLength c ≡ n
+    → usedBy (putBytes inbox (at (k * entryLen)) c) (suc k) ≡ usedBy inbox k + n
 unfolding usedBy
 used-more inbox k c n l h b =
-    let m : k * 155 + 155 ≤ length inbox = omega arith in
-    let e : Bytes = putBytes inbox (at (k * 155)) c in
+    let m : k * entryLen + entryLen ≤ length inbox = omega arith in
+    let e : Bytes = putBytes inbox (at (k * entryLen)) c in
     used-snoc e 0 k
-    ∙ (let p = used-kept inbox e 0 k (λ j q. entry-kept 155 inbox k c l m j (omega arith)) in
-    let w : bodyLength (entryAt entrySize e k) ≡ n = ap bodyLength (entry-written 155 inbox k c l m) ∙ b in
+    ∙ (let p = used-kept inbox e 0 k (λ j q. entry-kept entryLen inbox k c l m j (omega arith)) in
+    let w : bodyLength (entryAt entrySize e k) ≡ n = ap bodyLength (entry-written entryLen inbox k c l m) ∙ b in
     let z : 0 + k ≡ k = omega arith in
     rw (z, p, w))

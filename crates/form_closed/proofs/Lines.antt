@@ -19,6 +19,7 @@ use Rattle.grammar.specs.Turns.{Proposal, TurnLine, saysFF, saysFQ, endsBlock, 
 use Rattle.grammar.proofs.AsRead.{Proper, TurnOk, turn-read-ok}
 use Rattle.fs_line.specs.Answers.{answerNumber, answerSigns}
 use Rattle.buffer.proofs.Laws.{put-length}
+use Rattle.places.specs.Places.{proposalLen}
 use Rattle.layout.specs.Layout.{proposalOut}
 use Rattle.transfer_step.specs.declared.Reader.{Reader}
 use Rattle.session_memory.specs.State.{at, held, fiveOf, noFive}
@@ -129,8 +130,8 @@ module _ (table known inbox store : Bytes) (w : Await) (y : Say) (k : Keep) (r :
             current = W .current;
             proposals = omega arith;
             ours = W .ours;
-            block = put-length (w .block) (at (w .proposals * 72)) c ∙ W .block;
-            octets = octets-put (w .block) (at (w .proposals * 72)) c (W .octets) (proposal-octets md q h);
+            block = put-length (w .block) (at (w .proposals * proposalLen)) c ∙ W .block;
+            octets = octets-put (w .block) (at (w .proposals * proposalLen)) c (W .octets) (proposal-octets md q h);
           }
 
       go : (a : Bool) → ltb (w .proposals) 5 ≡ a → JGood inbox store (cond a (wentOn (withProposal q w) y k r) (refusal proposalCount w y k r))

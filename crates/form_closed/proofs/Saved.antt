@@ -10,9 +10,11 @@ use lib.Seq.{getD-take}
 use borrow.Author.Tests.{eq-eqb, eqb-true}
 use Rattle.grammar.specs.Bytes.{Bytes}
 use Rattle.grammar.proofs.Basics.{and2, both}
+use Rattle.buffer.specs.Put.{putBytes}
+use Rattle.places.specs.Places.{arraysAt, numbersStart, sessionLen, sizeStore}
 use Rattle.layout.specs.Layout.{byteAt}
 use Rattle.layout.proofs.Laws.{octets, le8-small}
-use Rattle.session_memory.specs.State.{at, loadOf, loadSizes, saveOf, stateOut}
+use Rattle.session_memory.specs.State.{at, loadOf, loadSizes, arraysOut, numberPart, saveOf}
 use Rattle.session_memory.specs.declared.Session.{Session}
 use Rattle.session_memory.specs.declared.Sizes.{Sizes}
 use Rattle.session_memory.proofs.Laws.{save-length, save-first, save-sizes-kept, load-save}
@@ -21,14 +23,14 @@ use Rattle.receive_defined.specs.Receiving.{Cs, cs}
 use Rattle.form_closed.specs.Fixed.{Fixed}
 use Rattle.form_closed.specs.Facts.{Octets, Good}
 use Rattle.form_closed.proofs.Laws.{octets-put}
-use Rattle.form_closed.proofs.Test.{form-in, form-out, shaped, state-octets}
+use Rattle.form_closed.proofs.Test.{form-in, form-out, shaped, part-octets, arrays-octets}
 use Rattle.form_closed.specs.InForm.{InForm}
 
 -- ---------------------------------------------------------------- into facts
 
 -- The test beside the state: session memory has its size, its mark and the sizes of what is lent.
 pub record Marked (F : Fixed) (sm table inbox store : Bytes) : Type 0 where
-  pub size : length sm ≡ 876
+  pub size : length sm ≡ sessionLen
   pub mark : markOk sm ≡ true
   pub sizes : sameSizes (loadSizes sm) (lentSizes table (F .titles) (F .names) (F .bodies) (F .known) inbox store) ≡ true
 
@@ -57,32 +59,32 @@ module _ (F : Fixed) (sm table inbox store : Bytes) (I : InForm F sm table inbox
   pub parted : Marked F sm table inbox store × (stateOk (loadOf sm) table (F .titles) (F .names) (F .bodies) inbox store ≡ true)
   unfolding formOf
   parted =
-      let e₁ = and2 (eqb (length sm) 876) _ (I .form) in
+      let e₁ = and2 (eqb (length sm) sessionLen) _ (I .form) in
       let e₂ = and2 (markOk sm) _ (e₁ .1) in
       let e₃ = and2 (sameSizes (loadSizes sm) (lentSizes table (F .titles) (F .names) (F .bodies) (F .known) inbox store)) _ (e₂ .1) in
-      (record { size = eqb-true (length sm) 876 (e₁ .0); mark = e₂ .0; sizes = e₃ .0 }, e₃ .1)
+      (record { size = eqb-true (length sm) sessionLen (e₁ .0); mark = e₂ .0; sizes = e₃ .0 }, e₃ .1)
 
   store-fits : length store < 18446744073709551616
   unfolding loadSizes
   store-fits =
       let e = sizes-store (loadSizes sm) (lentSizes table (F .titles) (F .names) (F .bodies) (F .known) inbox store) (parted .0 .sizes) in
-      subst (λ (n : ℕ). n < 18446744073709551616) e (le8-small sm (octets sm (I .smOctets .each)) 52)
+      subst (λ (n : ℕ). n < 18446744073709551616) e (le8-small sm (octets sm (I .smOctets .each)) sizeStore)
 
   pub good : Good F (length table) (length inbox) (length store) (cs (loadOf sm) table inbox store)
   good = form-in F sm table inbox store (I .smOctets) (I .tableOctets) (I .inboxOctets) (I .storeOctets) store-fits (parted .1)
 
 -- ---------------------------------------------------------------- and back, for what is saved
 
-byte-saved : (sm : Bytes) (s : Session) → length sm ≡ 876 → (i : ℕ) → i < 60 → byteAt (saveOf sm s) i ≡ byteAt sm i
+byte-saved : (sm : Bytes) (s : Session) → length sm ≡ sessionLen → (i : ℕ) → i < numbersStart → byteAt (saveOf sm s) i ≡ byteAt sm i
 byte-saved sm s n i h =
-    sym (getD-take 60 (saveOf sm s) i 0 h) ∙ ap (λ (l : Bytes). byteAt l i) (save-first sm s (omega arith)) ∙ getD-take 60 sm i 0 h
+    sym (getD-take numbersStart (saveOf sm s) i 0 h) ∙ ap (λ (l : Bytes). byteAt l i) (save-first sm s (omega arith)) ∙ getD-take numbersStart sm i 0 h
 
-mark-saved : (sm : Bytes) (s : Session) → length sm ≡ 876 → markOk sm ≡ true → markOk (saveOf sm s) ≡ true
+mark-saved : (sm : Bytes) (s : Session) → length sm ≡ sessionLen → markOk sm ≡ true → markOk (saveOf sm s) ≡ true
 mark-saved sm s n e =
     rw (byte-saved sm s n 0 (omega arith), byte-saved sm s n 1 (omega arith), byte-saved sm s n 2 (omega arith), byte-saved sm s n 3 (omega arith)) e
 
 -- sm and the sizes of what was lent; c: what is left
-module _ (F : Fixed) (sm : Bytes) (nt ni ns : ℕ) (c : Cs) (g : Good F nt ni ns c) (o : Octets sm) (n : length sm ≡ 876) (m : markOk sm ≡ true)
+module _ (F : Fixed) (sm : Bytes) (nt ni ns : ℕ) (c : Cs) (g : Good F nt ni ns c) (o : Octets sm) (n : length sm ≡ sessionLen) (m : markOk sm ≡ true)
     (z : sameSizes (loadSizes sm) (record {
       table = nt;
       titles = length (F .titles);
@@ -94,13 +96,15 @@ module _ (F : Fixed) (sm : Bytes) (nt ni ns : ℕ) (c : Cs) (g : Good F nt ni ns
     }) ≡ true) where
   saved-octets : Octets (saveOf sm (c .session))
   unfolding saveOf
-  saved-octets = octets-put sm (at 60) (stateOut (c .session)) o (state-octets F nt ni ns c g)
+  saved-octets =
+      octets-put (putBytes sm (at numbersStart) (numberPart (c .session))) (at arraysAt) (arraysOut (c .session))
+      (octets-put sm (at numbersStart) (numberPart (c .session)) o (part-octets F nt ni ns c g)) (arrays-octets F nt ni ns c g)
 
   pub saved-form : InForm F (saveOf sm (c .session)) (c .table) (c .inbox) (c .store)
   unfolding formOf
   saved-form =
       record {
-        form = both (eqb (length (saveOf sm (c .session))) 876) _ (eq-eqb (length (saveOf sm (c .session))) 876 (save-length sm (c .session) ∙ n))
+        form = both (eqb (length (saveOf sm (c .session))) sessionLen) _ (eq-eqb (length (saveOf sm (c .session))) sessionLen (save-length sm (c .session) ∙ n))
             (both (markOk (saveOf sm (c .session))) _ (mark-saved sm (c .session) n m) (both _ _ sized kept));
         smOctets = saved-octets;
         tableOctets = g .lent .tableOctets;

@@ -1,4 +1,4 @@
--- The form test says its facts, and back: `form-in`, `form-out`; and a state with these facts can be saved (`shaped`, `state-octets`). Idea: the
+-- The form test says its facts, and back: `form-in`, `form-out`; and a state with these facts can be saved (`shaped`, `part-octets`, `arrays-octets`). Idea: the
 -- test is taken apart and put together again, conjunct by conjunct. Assumes nothing.
 use mathlib.Core.Path.{_≡_, refl, ap}
 use mathlib.Core.Bool.{Bool, true, false, cond, not, _&&_, _||_}
@@ -10,9 +10,10 @@ use borrow.Author.Tests.{eq-eqb, eqb-true, eqb-false, ltb-true, ltb-false, lt-lt
 use Rattle.grammar.specs.Bytes.{Bytes}
 use Rattle.grammar.specs.Transfers.{partOf}
 use Rattle.grammar.proofs.Basics.{and2, both, or-second}
+use Rattle.places.specs.Places.{arraysAt, blockAt, blockLen, currentAt, deferredAt, deferredLen, firstAt, headingAt, headingLen, lengthAt, lineAt, lineLen, offsetAt, oursAt, phaseAt, placeAt, sendingAt, signsAt, sumAt, thenAt}
 use Rattle.layout.specs.Layout.{byteAt, le2, le4, le8}
 use Rattle.layout.proofs.Laws.{octets}
-use Rattle.session_memory.specs.State.{at, flag, held, fiveAt, arrayAt, fiveOut, loadAwait, loadSay, loadKeep, loadReading, loadLine, loadOf, smallOut, numbersOut, arraysOut, stateOut}
+use Rattle.session_memory.specs.State.{at, flag, held, fiveAt, arrayAt, fiveOut, loadAwait, loadSay, loadKeep, loadReading, loadLine, loadOf, smallOut, numbersOut, arraysOut, numberPart}
 use Rattle.session_memory.specs.declared.Five.{Five}
 use Rattle.session_memory.specs.declared.Session.{Session}
 use Rattle.session_memory.proofs.Laws.{Shaped, load-shaped}
@@ -142,30 +143,30 @@ form-in F sm table inbox store o ot oi os fits e =
     let n₅ = and2 (leb (s .now .proposals) 5) _ (n₄ .1) in
     record {
       now = record {
-        phase = b 60;
-        current = b 67;
+        phase = b phaseAt;
+        current = b currentAt;
         proposals = leb-true (s .now .proposals) 5 (n₅ .0);
-        ours = five-in sm 69 o (leb-true (s .now .ours .count) 5 (n₂ .0)) (h .now .ours);
+        ours = five-in sm oursAt o (leb-true (s .now .ours .count) 5 (n₂ .0)) (h .now .ours);
         block = h .now .block;
-        octets = array-octets 360 sm 516 o;
+        octets = array-octets blockLen sm (arraysAt + blockAt) o;
       };
-      say = record { first = b 64; then = b 65; pos = h .say .pos; signs = five-in sm 81 o (leb-true (s .say .signs .count) 5 (n₃ .0)) (h .say .signs) };
+      say = record { first = b firstAt; then = b thenAt; pos = h .say .pos; signs = five-in sm signsAt o (leb-true (s .say .signs .count) 5 (n₃ .0)) (h .say .signs) };
       keep = record {
-        sending = five-in sm 75 o (leb-true (s .keep .sending .count) 5 (n₄ .0)) (h .keep .sending);
+        sending = five-in sm sendingAt o (leb-true (s .keep .sending .count) 5 (n₄ .0)) (h .keep .sending);
         flags = h .keep .deferred;
-        octets = array-octets 64 sm 116 o;
+        octets = array-octets deferredLen sm (arraysAt + deferredAt) o;
       };
       reader = record {
-        place = b 87;
-        len = b 88;
+        place = b placeAt;
+        len = b lengthAt;
         head = leb-true (s .reading .reader .head) 80 (n₅ .1);
-        off = b 90;
+        off = b offsetAt;
         left = h .reading .left;
-        sum = b 91;
+        sum = b sumAt;
         body = h .reading .body;
       };
-      heading = record { size = h .reading .heading; octets = array-octets 80 sm 180 o };
-      line = record { len = leb-true (s .line .len) 256 (n₁ .0); size = h .line .bytes; octets = array-octets 256 sm 260 o };
+      heading = record { size = h .reading .heading; octets = array-octets headingLen sm (arraysAt + headingAt) o };
+      line = record { len = leb-true (s .line .len) 256 (n₁ .0); size = h .line .bytes; octets = array-octets lineLen sm (arraysAt + lineAt) o };
       box = box-in s inbox store (e₂ .0);
       awaited = awaited-in s inbox store (e₃ .0);
       waiting = λ w. ltb-true (s .say .pos) (length (waitingOf s table (F .titles) (F .names) (F .bodies))) (or-second (not (waits (s .say))) _ (ap not w) (e₃ .1));
@@ -241,13 +242,12 @@ module _ (F : Fixed) (nt ni ns : ℕ) (c : Cs) (g : Good F nt ni ns c) where
       (octets-append (le4 (s .reading .reader .body)) _ (octets-le4 (s .reading .reader .body))
       (octets-append (le8 (s .say .pos)) (le8 (s .keep .used)) (octets-le8 (s .say .pos)) (octets-le8 (s .keep .used)))))
 
-  arrays-octets : Octets (arraysOut (c .session))
+  pub arrays-octets : Octets (arraysOut (c .session))
   unfolding arraysOut
   arrays-octets =
       let s : Session = c .session in
       octets-append (s .keep .deferred) _ (g .keep .octets)
       (octets-append (s .reading .heading) _ (g .heading .octets) (octets-append (s .line .bytes) (s .now .block) (g .line .octets) (g .now .octets)))
 
-  pub state-octets : Octets (stateOut (c .session))
-  state-octets =
-      octets-append (smallOut (c .session)) _ small-octets (octets-append (numbersOut (c .session)) (arraysOut (c .session)) numbers-octets arrays-octets)
+  pub part-octets : Octets (numberPart (c .session))
+  part-octets = octets-append (smallOut (c .session)) (numbersOut (c .session)) small-octets numbers-octets

@@ -18,6 +18,8 @@ use Rattle.demand2.specs.ReadBack.{ReadsBack}
 use Rattle.demand2.proofs.ReadBack as read-back
 use Rattle.demand2.proofs.ReadBack.{reads-back}
 use Rattle.demand3.specs.Demand.{Good, allProposable, noneWith, distinctBids}
+use Rattle.places.specs.Places.{atMax, bidMax, callMax, recordBid, recordBody, recordBodyLength, recordForm, recordFrom, recordName, recordNameLength, recordSizeAt, recordTitle, recordTitleLength, recordTo, recordType}
+use Rattle.places.specs.Places as places
 use Rattle.layout.specs.Layout.{byteAt, le2At, le4At, fieldIn, entryAt, recordSize, recordOf}
 use Rattle.choice.specs.Decoded.{entriesFrom, entries, recordCount, recordsOf}
 use Rattle.choice.proofs.Laws.{entries-length, entries-at}
@@ -38,37 +40,37 @@ module _ (c titles names bodies : Bytes) (h : recordOk c titles names bodies ≡
   unfolding numbersOk fieldsOk
   record-proposable =
       let n₁ = and2 (leb (byteAt c 0) 2) _ numbers .1 in
-      let n₂ = and2 (leb (byteAt c 1) 2) _ n₁ .1 in
-      let n₃ = and2 (isType (byteAt c 2)) (leb (le4At c 69) 999999) n₂ in
+      let n₂ = and2 (leb (byteAt c recordForm) 2) _ n₁ .1 in
+      let n₃ = and2 (isType (byteAt c recordType)) (leb (le4At c recordSizeAt) 999999) n₂ in
       let f = and2 (fieldsOk c) (textsOk c titles names bodies) rest-ok .0 in
-      let f₁ = and2 (lengthOk c 3 6 && isCall (fieldIn 6 3 c)) _ f in
-      let f₂ = and2 (lengthOk c 10 38 && isAt (fieldIn 38 10 c)) _ (f₁ .1) in
-      let f₃ = and2 (lengthOk c 49 6 && isCall (fieldIn 6 49 c)) (lengthOk c 56 12 && isBid (fieldIn 12 56 c)) (f₂ .1) in
-      both (isType (byteAt c 2) && ltb (le4At c 69) 1000000) _
-      (both (isType (byteAt c 2)) (ltb (le4At c 69) 1000000) (n₃ .0) (lt-ltb (le4At c 69) 1000000 (let z = leb-true (le4At c 69) 999999 (n₃ .1) in omega arith)))
-      (both (isCall (fieldIn 6 3 c) && isAt (fieldIn 38 10 c)) _
-      (both (isCall (fieldIn 6 3 c)) (isAt (fieldIn 38 10 c)) (and2 (lengthOk c 3 6) (isCall (fieldIn 6 3 c)) (f₁ .0) .1) (and2 (lengthOk c 10 38) (isAt (fieldIn 38 10 c)) (f₂ .0) .1))
-      (both (isCall (fieldIn 6 49 c)) (isBid (fieldIn 12 56 c)) (and2 (lengthOk c 49 6) (isCall (fieldIn 6 49 c)) (f₃ .0) .1) (and2 (lengthOk c 56 12) (isBid (fieldIn 12 56 c)) (f₃ .1) .1)))
+      let f₁ = and2 (lengthOk c recordFrom callMax && isCall (fieldIn callMax recordFrom c)) _ f in
+      let f₂ = and2 (lengthOk c places.recordAt atMax && isAt (fieldIn atMax places.recordAt c)) _ (f₁ .1) in
+      let f₃ = and2 (lengthOk c recordTo callMax && isCall (fieldIn callMax recordTo c)) (lengthOk c recordBid bidMax && isBid (fieldIn bidMax recordBid c)) (f₂ .1) in
+      both (isType (byteAt c recordType) && ltb (le4At c recordSizeAt) 1000000) _
+      (both (isType (byteAt c recordType)) (ltb (le4At c recordSizeAt) 1000000) (n₃ .0) (lt-ltb (le4At c recordSizeAt) 1000000 (let z = leb-true (le4At c recordSizeAt) 999999 (n₃ .1) in omega arith)))
+      (both (isCall (fieldIn callMax recordFrom c) && isAt (fieldIn atMax places.recordAt c)) _
+      (both (isCall (fieldIn callMax recordFrom c)) (isAt (fieldIn atMax places.recordAt c)) (and2 (lengthOk c recordFrom callMax) (isCall (fieldIn callMax recordFrom c)) (f₁ .0) .1) (and2 (lengthOk c places.recordAt atMax) (isAt (fieldIn atMax places.recordAt c)) (f₂ .0) .1))
+      (both (isCall (fieldIn callMax recordTo c)) (isBid (fieldIn bidMax recordBid c)) (and2 (lengthOk c recordTo callMax) (isCall (fieldIn callMax recordTo c)) (f₃ .0) .1) (and2 (lengthOk c recordBid bidMax) (isBid (fieldIn bidMax recordBid c)) (f₃ .1) .1)))
 
   abbrev r : Record
   r = recordOf titles names bodies c
 
   -- its title, its name and its body, as open has looked at them
   record Texts : Type 0 where
-    pub title : headingOk titles (le4At c 73) (byteAt c 77) (not (eqb (byteAt c 1) 2)) ≡ true
-    pub name : headingOk names (le4At c 78) (byteAt c 82) (eqb (byteAt c 1) 2) ≡ true
+    pub title : headingOk titles (le4At c recordTitle) (byteAt c recordTitleLength) (not (eqb (byteAt c recordForm) 2)) ≡ true
+    pub name : headingOk names (le4At c recordName) (byteAt c recordNameLength) (eqb (byteAt c recordForm) 2) ≡ true
     pub body : isBody (r .form) (r .body) ≡ true
 
   texts : Texts
   unfolding textsOk
   texts =
       let t = and2 (fieldsOk c) (textsOk c titles names bodies) rest-ok .1 in
-      let t₁ = and2 (headingOk titles (le4At c 73) (byteAt c 77) (not (eqb (byteAt c 1) 2))) _ t in
-      let t₂ = and2 (headingOk names (le4At c 78) (byteAt c 82) (eqb (byteAt c 1) 2)) _ (t₁ .1) in
+      let t₁ = and2 (headingOk titles (le4At c recordTitle) (byteAt c recordTitleLength) (not (eqb (byteAt c recordForm) 2))) _ t in
+      let t₂ = and2 (headingOk names (le4At c recordName) (byteAt c recordNameLength) (eqb (byteAt c recordForm) 2)) _ (t₁ .1) in
       record {
         title = t₁ .0;
         name = t₂ .0;
-        body = and2 (within bodies (le4At c 83) (le2At c 87)) (isBody (r .form) (r .body)) (t₂ .1) .1;
+        body = and2 (within bodies (le4At c recordBody) (le2At c recordBodyLength)) (isBody (r .form) (r .body)) (t₂ .1) .1;
       }
 
   -- "Forms 0 and 1 need a title, form 2 a name"
@@ -81,15 +83,15 @@ module _ (c titles names bodies : Bytes) (h : recordOk c titles names bodies ≡
       go false q = q
 
   heading-is : isHeading (headingFor (r .form) r) ≡ true
-  heading-is = go (eqb (byteAt c 1) 1) (eqb (byteAt c 1) 2) refl refl
+  heading-is = go (eqb (byteAt c recordForm) 1) (eqb (byteAt c recordForm) 2) refl refl
     where
-      title : eqb (byteAt c 1) 2 ≡ false → isHeading (r .title) ≡ true
-      title e = needed-is titles (le4At c 73) (byteAt c 77) (subst (λ (b : Bool). headingOk titles (le4At c 73) (byteAt c 77) (not b) ≡ true) e (texts .title))
+      title : eqb (byteAt c recordForm) 2 ≡ false → isHeading (r .title) ≡ true
+      title e = needed-is titles (le4At c recordTitle) (byteAt c recordTitleLength) (subst (λ (b : Bool). headingOk titles (le4At c recordTitle) (byteAt c recordTitleLength) (not b) ≡ true) e (texts .title))
 
-      go : (a b : Bool) → eqb (byteAt c 1) 1 ≡ a → eqb (byteAt c 1) 2 ≡ b → isHeading (headingFor (cond a message (cond b file plain)) r) ≡ true
-      go true true p q = let y = eqb-true (byteAt c 1) 1 p in let z = eqb-true (byteAt c 1) 2 q in absurd (omega arith)
+      go : (a b : Bool) → eqb (byteAt c recordForm) 1 ≡ a → eqb (byteAt c recordForm) 2 ≡ b → isHeading (headingFor (cond a message (cond b file plain)) r) ≡ true
+      go true true p q = let y = eqb-true (byteAt c recordForm) 1 p in let z = eqb-true (byteAt c recordForm) 2 q in absurd (omega arith)
       go true false p q = title q
-      go false true p q = needed-is names (le4At c 78) (byteAt c 82) (subst (λ (b : Bool). headingOk names (le4At c 78) (byteAt c 82) b ≡ true) q (texts .name))
+      go false true p q = needed-is names (le4At c recordName) (byteAt c recordNameLength) (subst (λ (b : Bool). headingOk names (le4At c recordName) (byteAt c recordNameLength) b ≡ true) q (texts .name))
       go false false p q = title q
 
   record-sendable : sendable (r .form) (headingFor (r .form) r) (r .body) ≡ true
@@ -128,37 +130,37 @@ module _ (table titles names bodies : Bytes) where
         (record-proposable (entryAt recordSize table i) titles names bodies (record-ok i (omega arith))) (all-proposable n (suc i) (omega arith))
 
     -- a BID is none of the BIDs before it
-    among-at : (b : Bytes) (n i : ℕ) → among b (entriesFrom (fieldIn 12 56) recordSize table i n) ≡ false → (j : ℕ) → i ≤ j → j < i + n
-        → sameBid (fieldIn 12 56 (entryAt recordSize table j)) b ≡ false
+    among-at : (b : Bytes) (n i : ℕ) → among b (entriesFrom (fieldIn bidMax recordBid) recordSize table i n) ≡ false → (j : ℕ) → i ≤ j → j < i + n
+        → sameBid (fieldIn bidMax recordBid (entryAt recordSize table j)) b ≡ false
     among-at b zero i e j h g = absurd (omega arith)
     among-at b (suc n) i e j h g =
-        let p = or2 (sameBid (fieldIn 12 56 (entryAt recordSize table i)) b) (among b (entriesFrom (fieldIn 12 56) recordSize table (suc i) n)) e in
+        let p = or2 (sameBid (fieldIn bidMax recordBid (entryAt recordSize table i)) b) (among b (entriesFrom (fieldIn bidMax recordBid) recordSize table (suc i) n)) e in
         go (p .0) (eqb j i) refl (among-at b n (suc i) (p .1) j)
       where
-        go : sameBid (fieldIn 12 56 (entryAt recordSize table i)) b ≡ false → (d : Bool) → eqb j i ≡ d
-            → (suc i ≤ j → j < suc i + n → sameBid (fieldIn 12 56 (entryAt recordSize table j)) b ≡ false) → sameBid (fieldIn 12 56 (entryAt recordSize table j)) b ≡ false
-        go p true q ih = ap (λ (x : ℕ). sameBid (fieldIn 12 56 (entryAt recordSize table x)) b) (eqb-true j i q) ∙ p
+        go : sameBid (fieldIn bidMax recordBid (entryAt recordSize table i)) b ≡ false → (d : Bool) → eqb j i ≡ d
+            → (suc i ≤ j → j < suc i + n → sameBid (fieldIn bidMax recordBid (entryAt recordSize table j)) b ≡ false) → sameBid (fieldIn bidMax recordBid (entryAt recordSize table j)) b ≡ false
+        go p true q ih = ap (λ (x : ℕ). sameBid (fieldIn bidMax recordBid (entryAt recordSize table x)) b) (eqb-true j i q) ∙ p
         go p false q ih = let z = eqb-false j i q in ih (omega arith) (omega arith)
 
-    apart : (i k : ℕ) → i < k → k < recordCount table → sameBid (fieldIn 12 56 (entryAt recordSize table i)) (fieldIn 12 56 (entryAt recordSize table k)) ≡ false
+    apart : (i k : ℕ) → i < k → k < recordCount table → sameBid (fieldIn bidMax recordBid (entryAt recordSize table i)) (fieldIn bidMax recordBid (entryAt recordSize table k)) ≡ false
     unfolding placeOk
     apart i k h g =
-        let b = fieldIn 12 56 (entryAt recordSize table k) in
+        let b = fieldIn bidMax recordBid (entryAt recordSize table k) in
         among-at b k 0
-        (not-true (among b (entries (fieldIn 12 56) recordSize table k)) (and2 (recordOk (entryAt recordSize table k) titles names bodies) _ (ok k g) .1)) i
+        (not-true (among b (entries (fieldIn bidMax recordBid) recordSize table k)) (and2 (recordOk (entryAt recordSize table k) titles names bodies) _ (ok k g) .1)) i
         (omega arith) (omega arith)
 
     none-with : (i n j : ℕ) → i < j → j + n ≤ recordCount table
-        → noneWith (fieldIn 12 56 (entryAt recordSize table i)) (entriesFrom (recordOf titles names bodies) recordSize table j n) ≡ true
+        → noneWith (fieldIn bidMax recordBid (entryAt recordSize table i)) (entriesFrom (recordOf titles names bodies) recordSize table j n) ≡ true
     none-with i zero j h g = refl
     none-with i (suc n) j h g =
-        both (not (sameBid (fieldIn 12 56 (entryAt recordSize table i)) (fieldIn 12 56 (entryAt recordSize table j)))) _
+        both (not (sameBid (fieldIn bidMax recordBid (entryAt recordSize table i)) (fieldIn bidMax recordBid (entryAt recordSize table j)))) _
         (ap not (apart i j h (omega arith))) (none-with i n (suc j) (omega arith) (omega arith))
 
     distinct : (n i : ℕ) → i + n ≤ recordCount table → distinctBids (entriesFrom (recordOf titles names bodies) recordSize table i n) ≡ true
     distinct zero i h = refl
     distinct (suc n) i h =
-        both (noneWith (fieldIn 12 56 (entryAt recordSize table i)) (entriesFrom (recordOf titles names bodies) recordSize table (suc i) n)) _
+        both (noneWith (fieldIn bidMax recordBid (entryAt recordSize table i)) (entriesFrom (recordOf titles names bodies) recordSize table (suc i) n)) _
         (none-with i n (suc i) (omega arith) (omega arith)) (distinct n (suc i) (omega arith))
 
   -- THE LAWS of a table without a fault

@@ -14,6 +14,7 @@ use Rattle.session.specs.Session as on-lists
 use Rattle.log.specs.Log.{Event, log}
 use Rattle.demand3.specs.Demand as on-lists-run
 use Rattle.demand3.proofs.Demand.{demand-3}
+use Rattle.places.specs.Places.{entryLen}
 use Rattle.choice.specs.Decoded.{statesOf}
 use Rattle.form_test.specs.Form.{formOf}
 use Rattle.represents.specs.Laid.{entriesBytes, bodiesBytes}
@@ -78,10 +79,10 @@ module _ (role : ℕ) (M : Memory) (e : openedBy role M .reply .answer ≡ 0) (c
   count-logged : messageCount (finally role M cs) ≡ length (logged role M cs .book .kept)
   count-logged = ran .held .represents .boxed .kept ∙ ap (λ (ms : List Message). length ms) kept-logged
 
-  entries-logged : take (length (logged role M cs .book .kept) * 155) (finally role M cs .inbox) ≡ entriesBytes 0 (logged role M cs .book .kept)
+  entries-logged : take (length (logged role M cs .book .kept) * entryLen) (finally role M cs .inbox) ≡ entriesBytes 0 (logged role M cs .book .kept)
   entries-logged =
       let r = ran .held .represents in
-      subst (λ (ms : List Message). take (length ms * 155) (finally role M cs .inbox) ≡ entriesBytes 0 ms) kept-logged
+      subst (λ (ms : List Message). take (length ms * entryLen) (finally role M cs .inbox) ≡ entriesBytes 0 ms) kept-logged
       (entries-laid (finally role M cs .inbox) 0 0 kept (r .boxed .laid) (omega (arith, r .boxed .kept, in-order .box .placed, r .shelved .places, r .shelved .inbox)))
 
   bodies-logged : take (length (bodiesBytes (logged role M cs .book .kept))) (finally role M cs .store) ≡ bodiesBytes (logged role M cs .book .kept)

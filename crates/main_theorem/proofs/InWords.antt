@@ -10,6 +10,7 @@ use Rattle.session.specs.Session as on-lists
 use Rattle.log.specs.Log.{Event, log}
 use Rattle.demand3.specs.Demand as on-lists-run
 use Rattle.demand3.specs.Demand.{Good}
+use Rattle.places.specs.Places.{recordLen}
 use Rattle.layout.specs.Layout.{stateOf}
 use Rattle.choice.specs.Decoded.{recordCount, statesOf}
 use Rattle.form_closed.specs.Fixed.{Fixed}
@@ -64,7 +65,7 @@ in-words role M e cs =
     whole-end = ran role M e cs .held .represents .shelved .table
 
     count : recordCount (m .table) ≡ recordCount (end .table)
-    count = ap (λ (n : ℕ). min 64 (n / 89)) (sym (ran role M e cs .held .spared .table .size))
+    count = ap (λ (n : ℕ). min 64 (n / recordLen)) (sym (ran role M e cs .held .spared .table .size))
 
     fate : (i : ℕ) → i < recordCount (m .table) → Fate i (done role M cs) (getD st i 0) (getD (statesOf (end .table)) i 0)
     fate i h =

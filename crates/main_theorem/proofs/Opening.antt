@@ -12,6 +12,7 @@ use Rattle.grammar.proofs.Basics.{and2}
 use Rattle.session.specs.Choices.{Shelf}
 use Rattle.session.specs.Session as on-lists
 use Rattle.demand3.specs.Demand.{Good}
+use Rattle.places.specs.Places.{entryLen, knownLen, recordLen, sessionLen}
 use Rattle.session_memory.specs.State.{sessionSize, loadOf, saveOf, saveSizes, freshOf}
 use Rattle.session_memory.specs.declared.Session.{Session}
 use Rattle.session_memory.proofs.Laws.{Sized, load-save, load-sizes, sizes-length, save-sizes-kept, fresh-shaped}
@@ -37,10 +38,10 @@ use Rattle.form_closed.specs.Facts.{Octets}
 -- ---------------------------------------------------------------- what open has looked at
 
 pub record Accepted (role : ℕ) (F : Fixed) (m : Lent) : Type 0 where
-  pub session : length (m .sm) ≡ 876
-  pub table : (length (m .table) ≡ recordCount (m .table) * 89) × (length (m .table) ≤ 5696)
+  pub session : length (m .sm) ≡ sessionLen
+  pub table : (length (m .table) ≡ recordCount (m .table) * recordLen) × (length (m .table) ≤ 64 * recordLen)
   pub known : length (F .known) ≤ 13312
-  pub inbox : (length (m .inbox) ≡ placeCount (m .inbox) * 155) × (placeCount (m .inbox) ≤ 64)
+  pub inbox : (length (m .inbox) ≡ placeCount (m .inbox) * entryLen) × (placeCount (m .inbox) ≤ 64)
   pub fault : tableFault (m .table) (F .titles) (F .names) (F .bodies) ≡ 255
   pub left : openedOn role F m .sm ≡ saveOf (saveSizes (m .sm) (sizesOf F m)) (freshOf (eqb role 1))
 
@@ -68,11 +69,11 @@ module _ (role : ℕ) (F : Fixed) (m : Lent) where
           → tested a b c d .reply .answer ≡ 0 → Accepted role F m
       go true true true true p q r s k =
           let q₁ = and2 (eqb (length (m .sm)) sessionSize) _ q in
-          let q₂ = and2 (entriesOk (length (m .table)) 89 64) _ (q₁ .1) in
-          let q₃ = and2 (entriesOk (length (F .known)) 13 1024) (entriesOk (length (m .inbox)) 155 64) (q₂ .1) in
-          let t = entries-are (length (m .table)) 89 64 (q₂ .0) in
-          let w = entries-are (length (F .known)) 13 1024 (q₃ .0) in
-          let i = entries-are (length (m .inbox)) 155 64 (q₃ .1) in
+          let q₂ = and2 (entriesOk (length (m .table)) recordLen 64) _ (q₁ .1) in
+          let q₃ = and2 (entriesOk (length (F .known)) knownLen 1024) (entriesOk (length (m .inbox)) entryLen 64) (q₂ .1) in
+          let t = entries-are (length (m .table)) recordLen 64 (q₂ .0) in
+          let w = entries-are (length (F .known)) knownLen 1024 (q₃ .0) in
+          let i = entries-are (length (m .inbox)) entryLen 64 (q₃ .1) in
           record {
             session = eqb-true (length (m .sm)) sessionSize (q₁ .0);
             table = (omega arith, omega arith);
@@ -178,7 +179,7 @@ open-law role M e =
         let i = a .inbox in
         record { table = omega arith; titles = M .titles .short; names = M .names .short; bodies = M .bodies .short; known = omega arith; inbox = omega arith; store = M .store .short }
 
-    n : length (saveSizes (m .sm) (sizesOf F m)) ≡ 876
+    n : length (saveSizes (m .sm) (sizesOf F m)) ≡ sessionLen
     n = sizes-length (m .sm) (sizesOf F m) ∙ a .session
 
     back : loadOf (fresh role F m) ≡ freshOf caller

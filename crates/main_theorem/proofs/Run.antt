@@ -17,6 +17,7 @@ use Rattle.session.specs.Session as on-lists
 use Rattle.session.specs.Calls as on-lists-calls
 use Rattle.log.specs.Log.{Event, took, gave}
 use Rattle.demand3.specs.Demand as on-lists-run
+use Rattle.places.specs.Places.{sessionLen}
 use Rattle.session_memory.specs.State.{loadOf, loadSizes}
 use Rattle.session_memory.specs.declared.Sizes.{Sizes}
 use Rattle.pending.specs.Pending.{overOf}
@@ -45,7 +46,7 @@ pub other-form : (sm : Bytes) (z : Sizes) (o : Other z) → loadSizes sm ≡ z
 unfolding formOf
 other-form sm z o e =
     let y = lentSizes (o .table) (o .fixed .titles) (o .fixed .names) (o .fixed .bodies) (o .fixed .known) (o .inbox) (o .store) in
-    and-false (eqb (length sm) 876) _
+    and-false (eqb (length sm) sessionLen) _
     (and-false (markOk sm) _
     (ap (λ (b : Bool). b && stateOk (loadOf sm) (o .table) (o .fixed .titles) (o .fixed .names) (o .fixed .bodies) (o .inbox) (o .store)) (ap (λ (x : Sizes). sameSizes x y) e ∙ o .another)))
 

@@ -1,12 +1,12 @@
 -- A session is its numbers, which the code holds, and four arrays, which stay in session memory: m is that part of it (crates/places, "the arrays of the state").
-use mathlib.Core.List.{[], _++_}
+use mathlib.Core.List.{[]}
 use Prim.Native.Nat.{ℕ}
 use lib.Dec.{eqb}
 use Rattle.grammar.specs.Bytes.{Bytes}
 use Rattle.places.specs.Places.{phaseAt, ffAt, framedAt, afterCrAt, firstAt, thenAt, keptAt, currentAt, proposalsAt, oursAt, sendingAt, signsAt, placeAt, lengthAt, headAt, offsetAt, sumAt, lineLengthAt, leftAt, bodyAt, posAt, usedAt, deferredAt, deferredLen, headingAt, headingLen, lineAt, lineLen, blockAt, blockLen}
 use Rattle.layout.specs.Layout.{byteAt, le2At, le4At, le8At}
 use Rattle.transfer_step.specs.declared.Reader.{Reader}
-use Rattle.session_memory.specs.State.{fiveAt, smallOut, numbersOut}
+use Rattle.session_memory.specs.State.{fiveAt, numberPart}
 use Rattle.session_memory.specs.declared.Await.{Await}
 use Rattle.session_memory.specs.declared.Say.{Say}
 use Rattle.session_memory.specs.declared.Keep.{Keep}
@@ -82,6 +82,6 @@ numbersAt sm = record { now = awaitNumbers sm; say = sayNumbers sm; keep = keepN
 
 -- ---------------------------------------------------------------- written
 
--- the first two parts of what a save writes; they don't look at the arrays
+-- what a save writes for the numbers; it doesn't look at the arrays
 unfoldable pub numberBytes : Numbers → Bytes
-numberBytes h = smallOut (sessionOf h [] [] [] []) ++ numbersOut (sessionOf h [] [] [] [])
+numberBytes h = numberPart (sessionOf h [] [] [] [])

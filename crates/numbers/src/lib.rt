@@ -268,5 +268,12 @@ pub fn save(sm: &mut [u8], h: Numbers)
     ensures { λ _. ⌜ now (sm .exit) ≡ putBytes (now (sm .entry)) (at numbersStart) (numberBytes h) ⌝ }
 {
     let a = as_bytes(h);
-    let _c = buffer::put(sm, Cursor { at: places::NUMBERS, skip: 0 }, &a);
+    let _c = buffer::put(
+        sm,
+        Cursor {
+            at: places::NUMBERS,
+            skip: 0,
+        },
+        &a,
+    );
 }

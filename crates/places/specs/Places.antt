@@ -1,5 +1,5 @@
 -- Where each thing lies in lent memory, and how long it is (docs/MEMORY.md has the same as tables).
-use Prim.Native.Nat.{ℕ, _+_}
+use Prim.Native.Nat.{ℕ, _+_, _-_}
 
 -- ---------------------------------------------------------------- The longest field of each kind; 01, "Fields"
 
@@ -138,7 +138,7 @@ sizeInbox = 44
 abbrev pub sizeStore : ℕ
 sizeStore = 52
 
--- ---------------------------------------------------------------- Session memory: the numbers of the state
+-- ---------------------------------------------------------------- Session memory: the numbers of the state. Bytes between numbersEnd and arraysAt are free: no call reads or writes them
 
 abbrev pub numbersStart : ℕ
 numbersStart = 60
@@ -212,10 +212,16 @@ usedAt = 108
 abbrev pub numbersEnd : ℕ
 numbersEnd = 116
 
--- ---------------------------------------------------------------- Session memory: the arrays of the state, which stay there; where each begins among them, and how long it is
+abbrev pub numbersLen : ℕ
+numbersLen = numbersEnd - numbersStart
+
+-- ---------------------------------------------------------------- Session memory: the arrays of the state, which stay there; where each begins among them, and how long it is. Bytes from arraysEnd on are free, too
 
 abbrev pub arraysAt : ℕ
-arraysAt = 116
+arraysAt = 160
+
+abbrev pub freeLen : ℕ
+freeLen = arraysAt - numbersEnd
 
 abbrev pub deferredLen : ℕ
 deferredLen = 64
@@ -248,4 +254,4 @@ abbrev pub arraysEnd : ℕ
 arraysEnd = arraysAt + arraysLen
 
 abbrev pub sessionLen : ℕ
-sessionLen = arraysEnd
+sessionLen = 1024

@@ -44,21 +44,21 @@ pub const RECORD_TO: u8 = STATES + TO;
 
 pub const RECORD_BID: u8 = STATES + BID;
 
-pub const RECORD_SIZE: u8 = STATES + PROPOSAL_SIZE;
+pub const RECORD_SIZE_FIELD: u8 = STATES + PROPOSAL_SIZE;
 
 pub const RECORD_TITLE: u8 = STATES + PROPOSAL;
 
-pub const RECORD_TITLE_LENGTH: u8 = RECORD_TITLE + 4;
+pub const RECORD_TITLE_LEN: u8 = RECORD_TITLE + 4;
 
-pub const RECORD_NAME: u8 = RECORD_TITLE_LENGTH + 1;
+pub const RECORD_NAME: u8 = RECORD_TITLE_LEN + 1;
 
-pub const RECORD_NAME_LENGTH: u8 = RECORD_NAME + 4;
+pub const RECORD_NAME_LEN: u8 = RECORD_NAME + 4;
 
-pub const RECORD_BODY: u8 = RECORD_NAME_LENGTH + 1;
+pub const RECORD_BODY: u8 = RECORD_NAME_LEN + 1;
 
-pub const RECORD_BODY_LENGTH: u8 = RECORD_BODY + 4;
+pub const RECORD_BODY_LEN: u8 = RECORD_BODY + 4;
 
-pub const RECORD: u8 = RECORD_BODY_LENGTH + 2;
+pub const RECORD: u8 = RECORD_BODY_LEN + 2;
 
 // A known BID: a field.
 pub const KNOWN: u8 = 1 + BID_MAX;
@@ -68,9 +68,9 @@ pub const ENTRY_HEADING: u8 = FIELDS;
 
 pub const ENTRY_BODY: u8 = ENTRY_HEADING + 1 + HEADING_MAX;
 
-pub const ENTRY_BODY_LENGTH: u8 = ENTRY_BODY + 4;
+pub const ENTRY_BODY_LEN: u8 = ENTRY_BODY + 4;
 
-pub const ENTRY: u8 = ENTRY_BODY_LENGTH + 2;
+pub const ENTRY: u8 = ENTRY_BODY_LEN + 2;
 
 // Session memory: the mark, the sizes that open kept.
 pub const MARK: usize = 0;
@@ -89,7 +89,7 @@ pub const SIZE_INBOX: usize = 44;
 
 pub const SIZE_STORE: usize = 52;
 
-// Session memory: the numbers of the state.
+// Session memory: the numbers of the state. Bytes between NUMBERS_END and ARRAYS are free: no call reads or writes them.
 pub const NUMBERS: usize = 60;
 
 pub const PHASE: usize = 60;
@@ -138,8 +138,12 @@ pub const USED: usize = 108;
 
 pub const NUMBERS_END: usize = 116;
 
-// Session memory: the arrays of the state, which stay there; where each begins among them, and how long it is.
-pub const ARRAYS: usize = 116;
+pub const NUMBERS_LENGTH: usize = NUMBERS_END - NUMBERS;
+
+// Session memory: the arrays of the state, which stay there; where each begins among them, and how long it is. Bytes from ARRAYS_END on are free, too.
+pub const ARRAYS: usize = 160;
+
+pub const FREE: usize = ARRAYS - NUMBERS_END;
 
 pub const DEFERRED_LENGTH: usize = 64;
 
@@ -161,4 +165,4 @@ pub const ARRAYS_LENGTH: usize = BLOCK + BLOCK_LENGTH;
 
 pub const ARRAYS_END: usize = ARRAYS + ARRAYS_LENGTH;
 
-pub const SESSION: usize = ARRAYS_END;
+pub const SESSION: usize = 1024;

@@ -14,6 +14,7 @@ use Rattle.grammar.specs.Transfers.{partOf}
 use Rattle.mail.specs.Mail.{Message}
 use Rattle.session.specs.Choices.{bodyBytes}
 use Rattle.buffer.specs.Put.{putBytes}
+use Rattle.places.specs.Places.{entryLen, fieldsSize}
 use Rattle.layout.specs.Layout.{le2, le4, fieldOut, fieldsOut, entryAt, entrySize, messageOf, proposalOf, bodyStart, bodyLength, entryOut}
 use Rattle.layout.proofs.Places.{part-in, part-kept, part-here}
 use Rattle.layout.proofs.Laws.{withContent, entry-length, message-back, start-back, length-back, inbox-back, inbox-kept}
@@ -124,7 +125,7 @@ laid-snoc e i start (x ∷ ms) m l h = (
 
 -- what is kept of a message of n bytes has a place behind the last one
 pub record Fitting (kept used : ℕ) (inbox store : Bytes) (places n : ℕ) : Type 0 where
-  pub size : length inbox ≡ places * 155
+  pub size : length inbox ≡ places * entryLen
   pub few : places ≤ 64
   pub free : kept < places
   pub limit : n ≤ 65535
@@ -133,9 +134,9 @@ pub record Fitting (kept used : ℕ) (inbox store : Bytes) (places n : ℕ) : Ty
 
 -- any entry x that says where its body begins and how long it is
 module _ (kept used : ℕ) (inbox store : Bytes) (ms : List Message) (places n : ℕ) (g : Fitting kept used inbox store places n)
-    (x : Bytes) (l : length x ≡ 155) (s : bodyStart x ≡ used) (b : bodyLength x ≡ n) (w : x ≡ messageBytes (messageOf x (take n (drop used store))) used) where
+    (x : Bytes) (l : length x ≡ entryLen) (s : bodyStart x ≡ used) (b : bodyLength x ≡ n) (w : x ≡ messageBytes (messageOf x (take n (drop used store))) used) where
   abbrev grown : Bytes
-  grown = putBytes inbox (at (kept * 155)) x
+  grown = putBytes inbox (at (kept * entryLen)) x
 
   here : entryAt entrySize grown (0 + kept) ≡ x
   here = ap (entryAt entrySize grown) (zero-add kept) ∙ inbox-back inbox places kept x (g .size) (g .free) l
@@ -173,20 +174,20 @@ module _ (kept used : ℕ) (inbox store : Bytes) (ms : List Message) (places n :
 
 -- the fields that an entry begins with are those of the proposal that it is read as
 fields-written : (c : Bytes) → Written c
-    → partOf c 0 68 ≡ fieldsOut (formNumber (proposalOf c .form)) (proposalOf c .type) (proposalOf c .from) (proposalOf c .at) (proposalOf c .to) (proposalOf c .bid)
+    → partOf c 0 fieldsSize ≡ fieldsOut (formNumber (proposalOf c .form)) (proposalOf c .type) (proposalOf c .from) (proposalOf c .at) (proposalOf c .to) (proposalOf c .bid)
 fields-written c e =
     let p = proposalOf c in
     let f = fieldsOut (formNumber (p .form)) (p .type) (p .from) (p .at) (p .to) (p .bid) in
-    ap (λ (x : Bytes). partOf x 0 68) (sym e) ∙ part-here f (le4 (p .size)) 68 (simp (length-append, length-take, length-replicate) (omega arith))
+    ap (λ (x : Bytes). partOf x 0 fieldsSize) (sym e) ∙ part-here f (le4 (p .size)) fieldsSize (simp (length-append, length-take, length-replicate) (omega arith))
 
 -- THE ENTRY of a message: c begins with its proposal's fields
 pub box-more : (kept used : ℕ) (inbox store : Bytes) (ms : List Message) (places n : ℕ) (c heading : Bytes) → Fitting kept used inbox store places n
-    → 68 ≤ length c → length heading ≤ 80 → Written c → Box kept used inbox store ms
-    → Box (kept + 1) (used + n) (putBytes inbox (at (kept * 155)) (entryOut c heading used n)) store
+    → fieldsSize ≤ length c → length heading ≤ 80 → Written c → Box kept used inbox store ms
+    → Box (kept + 1) (used + n) (putBytes inbox (at (kept * entryLen)) (entryOut c heading used n)) store
     (ms ++ (withContent (proposalOf c) heading (take n (drop used store)) ∷ []))
 box-more kept used inbox store ms places n c heading g fields short e h =
     subst
-    (λ (m : Message). Box (kept + 1) (used + n) (putBytes inbox (at (kept * 155)) (entryOut c heading used n)) store (ms ++ (m ∷ [])))
+    (λ (m : Message). Box (kept + 1) (used + n) (putBytes inbox (at (kept * entryLen)) (entryOut c heading used n)) store (ms ++ (m ∷ [])))
     read-back
     (box-entry kept used inbox store ms places n g (entryOut c heading used n) (entry-length c heading used n fields)
     (start-back c heading used n fields (omega (arith, h .small, g .free, g .few)))

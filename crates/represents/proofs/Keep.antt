@@ -16,6 +16,7 @@ use Rattle.session.specs.Choices.{Shelf}
 use Rattle.session.specs.Session as on-lists
 use Rattle.session.specs.Session.{Memory, Outcome}
 use Rattle.buffer.specs.Put.{putBytes}
+use Rattle.places.specs.Places.{entryLen, proposalLen}
 use Rattle.layout.specs.Layout.{byteAt, entryAt, entrySize, proposalSize, proposalOf, entryOut}
 use Rattle.layout.proofs.Places.{part-in}
 use Rattle.layout.proofs.Laws.{withContent, entry-length}
@@ -109,21 +110,21 @@ module _ (F : Fixed) (E : Shelf) {nt ni ns : ℕ} (c : Cs) (g : Good F nt ni ns 
         room = omega (arith, g .box .within, store-kept F E c g v h b .size);
       }
 
-  entry-size : length entry ≡ 72
+  entry-size : length entry ≡ proposalLen
   entry-size =
-      let e : entry ≡ take 72 (drop (u .now .current * 72) (u .now .block)) = part-in (u .now .block) (u .now .current * 72) 72 (omega (arith, under .current, g .now .block, g .now .proposals)) in
-      rw e (length-take-le 72 (drop (u .now .current * 72) (u .now .block)) (rw (length-drop (u .now .current * 72) (u .now .block)) (omega (arith, under .current, g .now .block, g .now .proposals))))
+      let e : entry ≡ take proposalLen (drop (u .now .current * proposalLen) (u .now .block)) = part-in (u .now .block) (u .now .current * proposalLen) proposalLen (omega (arith, under .current, g .now .block, g .now .proposals)) in
+      rw e (length-take-le proposalLen (drop (u .now .current * proposalLen) (u .now .block)) (rw (length-drop (u .now .current * proposalLen) (u .now .block)) (omega (arith, under .current, g .now .block, g .now .proposals))))
 
   title-short : length title ≤ 80
   title-short = rw (length-take (u .reading .reader .head) (u .reading .heading)) (omega (arith, k .array))
 
-  entry-fits : length (entryOut entry title (u .keep .used) n) ≡ 155
+  entry-fits : length (entryOut entry title (u .keep .used) n) ≡ entryLen
   entry-fits = entry-length entry title (u .keep .used) n (omega (arith, entry-size))
 
-  pub inbox-kept : Kept (u .keep .kept * 155) ((u .keep .kept + 1) * 155) (c .inbox) inbox′
+  pub inbox-kept : Kept (u .keep .kept * entryLen) ((u .keep .kept + 1) * entryLen) (c .inbox) inbox′
   inbox-kept =
-      subst (λ (j : ℕ). Kept (u .keep .kept * 155) j (c .inbox) inbox′) (omega (arith, entry-fits))
-      (kept-put (c .inbox) (entryOut entry title (u .keep .used) n) (u .keep .kept * 155) (omega (arith, entry-fits, h .shelved .inbox, places)))
+      subst (λ (j : ℕ). Kept (u .keep .kept * entryLen) j (c .inbox) inbox′) (omega (arith, entry-fits))
+      (kept-put (c .inbox) (entryOut entry title (u .keep .used) n) (u .keep .kept * entryLen) (omega (arith, entry-fits, h .shelved .inbox, places)))
 
   holds″ : Holds F E (keptKeep u) (c .table) inbox′ st m′
   holds″ =
@@ -134,7 +135,7 @@ module _ (F : Fixed) (E : Shelf) {nt ni ns : ℕ} (c : Cs) (g : Good F nt ni ns 
         lies = record {
           records = l .records;
           known = l .known;
-          places = ap (λ (x : ℕ). x / 155) same ∙ l .places;
+          places = ap (λ (x : ℕ). x / entryLen) same ∙ l .places;
           bytes = l .bytes;
           table = l .table;
           inbox = same ∙ l .inbox;

@@ -7,21 +7,22 @@ use lib.ListN.{length, take, drop}
 use lib.Seq.{length-take-le, take-add, drop-drop}
 use Rattle.grammar.specs.Bytes.{Bytes}
 use Rattle.mail.specs.Mail.{Message}
+use Rattle.places.specs.Places.{entryLen}
 use Rattle.layout.proofs.Places.{part-in}
 use Rattle.represents.specs.Laid.{messageBytes, entriesBytes, bodiesBytes}
 use Rattle.represents.specs.Represents.{LaidFrom}
 
-pub entries-laid : (inbox : Bytes) (i start : ℕ) (ms : List Message) → LaidFrom inbox i start ms → (i + length ms) * 155 ≤ length inbox
-    → take (length ms * 155) (drop (i * 155) inbox) ≡ entriesBytes start ms
+pub entries-laid : (inbox : Bytes) (i start : ℕ) (ms : List Message) → LaidFrom inbox i start ms → (i + length ms) * entryLen ≤ length inbox
+    → take (length ms * entryLen) (drop (i * entryLen) inbox) ≡ entriesBytes start ms
 entries-laid inbox i start [] l h = refl
 entries-laid inbox i start (m ∷ ms) l h =
-    let rest = drop (i * 155) inbox in
-    let more : suc (length ms) * 155 ≡ 155 + length ms * 155 = omega arith in
-    let next : i * 155 + 155 ≡ suc i * 155 = omega arith in
+    let rest = drop (i * entryLen) inbox in
+    let more : suc (length ms) * entryLen ≡ entryLen + length ms * entryLen = omega arith in
+    let next : i * entryLen + entryLen ≡ suc i * entryLen = omega arith in
     ap (λ (n : ℕ). take n rest) more
-    ∙ take-add 155 (length ms * 155) rest
-    ∙ ap (λ (e : Bytes). e ++ take (length ms * 155) (drop 155 rest)) (sym (part-in inbox (i * 155) 155 (omega arith)) ∙ l .0)
-    ∙ ap (λ (r : Bytes). messageBytes m start ++ take (length ms * 155) r) (drop-drop 155 (i * 155) inbox ∙ ap (λ (n : ℕ). drop n inbox) next)
+    ∙ take-add entryLen (length ms * entryLen) rest
+    ∙ ap (λ (e : Bytes). e ++ take (length ms * entryLen) (drop entryLen rest)) (sym (part-in inbox (i * entryLen) entryLen (omega arith)) ∙ l .0)
+    ∙ ap (λ (r : Bytes). messageBytes m start ++ take (length ms * entryLen) r) (drop-drop entryLen (i * entryLen) inbox ∙ ap (λ (n : ℕ). drop n inbox) next)
     ∙ ap (λ (r : Bytes). messageBytes m start ++ r) (entries-laid inbox (suc i) (start + length (m .body)) ms (l .1) (omega arith))
 
 pub bodies-laid : (store : Bytes) (used : ℕ) (ms : List Message) → used ≤ length store → take used store ≡ bodiesBytes ms

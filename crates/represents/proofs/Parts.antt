@@ -10,6 +10,7 @@ use Rattle.grammar.specs.Bytes.{Bytes}
 use Rattle.session.specs.Choices.{Shelf}
 use Rattle.session.specs.Session as on-lists
 use Rattle.session.specs.Session.{Memory}
+use Rattle.places.specs.Places.{entryLen}
 use Rattle.session_memory.specs.State.{held}
 use Rattle.session_memory.specs.declared.Five.{Five}
 use Rattle.session_memory.specs.declared.Await.{Await}
@@ -34,7 +35,7 @@ pub record Lies (F : Fixed) (E : Shelf) (t i st : Bytes) : Type 0 where
   pub places : placeCount i ≡ E .places
   pub bytes : length st ≡ E .bytes
   pub table : Whole t
-  pub inbox : length i ≡ E .places * 155
+  pub inbox : length i ≡ E .places * entryLen
 
 -- mode, states, records being sent and flags
 pub record Marked (md : Bool) (f : Five) (fl : List ℕ) (t : Bytes) (mode′ : Bool) (states′ sending′ flags′ : List ℕ) : Type 0 where

@@ -20,6 +20,7 @@ use Rattle.grammar.proofs.Fields.{call-field, at-field, bid-field}
 use Rattle.mail.specs.Mail.{accepted}
 use Rattle.session.specs.Session.{isPlain}
 use Rattle.buffer.specs.Put.{putBytes}
+use Rattle.places.specs.Places.{proposalLen}
 use Rattle.layout.specs.Layout.{byteAt, entryAt, proposalSize, proposalOf}
 use Rattle.layout.proofs.Places.{entry-written}
 use Rattle.layout.proofs.Laws.{Fits, written, proposal-length, proposal-back, block-kept}
@@ -65,13 +66,13 @@ form-small file = omega arith
 
 module _ (block : Bytes) (n : ℕ) (size : length block ≡ 360) (few : n < 5) (q : Proposal) where
   abbrev more : Bytes
-  more = putBytes block (at (n * 72)) (written q)
+  more = putBytes block (at (n * proposalLen)) (written q)
 
-  long : length (written q) ≡ 72
+  long : length (written q) ≡ proposalLen
   long = proposal-length (formNumber (q .form)) (q .type) (q .from) (q .at) (q .to) (q .bid) (q .size)
 
   here : entryAt proposalSize more n ≡ written q
-  here = entry-written 72 block n (written q) long (omega (arith, size))
+  here = entry-written proposalLen block n (written q) long (omega (arith, size))
 
   other : (j : ℕ) → j < n → entryAt proposalSize more j ≡ entryAt proposalSize block j
   other j h = block-kept block n size few (written q) long j (λ e. omega arith)

@@ -17,6 +17,7 @@ use Rattle.transfer_step.specs.declared.Outcome.the-variants.{Whole, Malformed,
 use Rattle.transfer_read.specs.Feed.{roomOf}
 use Rattle.transfer_read.specs.Meaning.{FedAs, Stands, Kept}
 use Rattle.transfer_read.proofs.Untouched.{kept-same, kept-then}
+use Rattle.places.specs.Places.{entryLen}
 use Rattle.session_memory.specs.declared.Session.{Session}
 use Rattle.pending.specs.Pending.{waits}
 use Rattle.receive_defined.specs.Receiving.{Cs, cs, Moved, moved, transferMoved, transferStepOf, keepOf, keptInbox, refusedOf}
@@ -80,7 +81,7 @@ module _ (F : Fixed) (E : Shelf) {nt ni ns : ℕ} (c : Cs) (g : Good F nt ni ns 
         represents = e .represents;
         spared = record {
           table = e .table;
-          inbox = subst (λ (i : ℕ). Kept (u .keep .kept * 155) (i * 155) (c .inbox) (keptInbox u (c .inbox))) (sym (e .count)) (inbox-kept F E c g v h b quiet p ps sc last a k);
+          inbox = subst (λ (i : ℕ). Kept (u .keep .kept * entryLen) (i * entryLen) (c .inbox) (keptInbox u (c .inbox))) (sym (e .count)) (inbox-kept F E c g v h b quiet p ps sc last a k);
           store = reached (reachOf (keepOf u (c .table) .session)) (omega (arith, e .spent, reach-least (keepOf u (c .table) .session)));
         };
       }

@@ -1,5 +1,5 @@
--- 01, "Session memory: bytes of one fixed size, written in docs/". 876 bytes: the mark FM01 and the sizes that open kept (60 bytes), then
--- the state (816 bytes). docs/MEMORY.md has the places as a table.
+-- 01, "Session memory: bytes of one fixed size, written in docs/". The mark FM01 and the sizes that open kept, the numbers of the state, its
+-- arrays; bytes behind the numbers and behind the arrays are free, nobody reads or writes them. docs/MEMORY.md has the places as a table.
 use mathlib.Core.Bool.{Bool, true, false, cond}
 use mathlib.Core.List.{List, [], _∷_, _++_}
 use Prim.Native.Nat.{ℕ, _+_, _-_}
@@ -116,12 +116,13 @@ numbersOut s =
 unfoldable pub arraysOut : Session → Bytes
 arraysOut s = s .keep .deferred ++ (s .reading .heading ++ (s .line .bytes ++ s .now .block))
 
-abbrev pub stateOut : Session → Bytes
-stateOut s = smallOut s ++ (numbersOut s ++ arraysOut s)
+-- The numbers, one after the other.
+abbrev pub numberPart : Session → Bytes
+numberPart s = smallOut s ++ numbersOut s
 
--- Session memory after the state is saved; the first 60 bytes stay.
+-- Session memory after the state is saved: its numbers, and its arrays. The mark and the sizes stay, and so does every free byte.
 unfoldable pub saveOf : Bytes → Session → Bytes
-saveOf sm s = putBytes sm (at numbersStart) (stateOut s)
+saveOf sm s = putBytes (putBytes sm (at numbersStart) (numberPart s)) (at arraysAt) (arraysOut s)
 
 unfoldable pub sizesOut : Sizes → Bytes
 sizesOut z =
