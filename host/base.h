@@ -1,12 +1,15 @@
 /* The message base: one SQLite file.
  *
- *   outbox   one row a message that goes to the partner, with its state
- *   inbox    one row a message that the library kept
- *   known    BIDs of all that ever was in one of them; the newest has the greatest number
+ *   outbox   one row a message that goes to the partner, with its state; when it came and went, to whom, in which session
+ *   inbox    one row a message that the library kept; when it came, from whom, in which session, and whether it is a copy of a BID
+ *            that the base had already
+ *   known    BIDs of all that ever was in one of them, for good; what was seen last has the greatest number
+ *   partner  who may call (partner.h)
+ *   session  one row a session (history.h)
  *   station  our callsign and the partner's, either may be empty
  *
- * A base that is open for changes is locked: no other process gets in until it is closed or its process has ended. What a commit has said
- * is on the disk. Each function says what is wrong, and answers false (or NULL) then. */
+ * Reading and short changes go on beside a session; a second session doesn't. What a commit has said is on the disk. Each function says
+ * what is wrong, and answers false (or NULL) then. */
 #ifndef BASE_H
 #define BASE_H
 
@@ -16,26 +19,45 @@ struct base;
 
 enum box { OUTBOX, INBOX };
 
-bool base_make(const char *path, const char *call, const char *partner);
-struct base *base_open(const char *path, bool for_changes);
-void base_close(struct base *base);
+/* READING works where nothing can be written, too; it sees the base as it is at its first question. */
+enum base_use { READING, CHANGING };
 
+/* In a file that isn't there, or is empty. */
+bool base_make(const char *path, const char *call, const char *partner);
+/* An older base is lifted to today's version first, at once and whole. */
+struct base *base_open(const char *path, enum base_use use);
+void base_close(struct base *base);
+/* One session at a time: from here until base_close, or the end of the process, no other gets this. */
+bool base_lock_session(struct base *base);
+
+/* A change by itself is a transaction; within begin and commit it is part of that one. */
 bool base_begin(struct base *base);
 bool base_commit(struct base *base);
 void base_undo(struct base *base);
 
-/* Within begin and commit. */
+/* In which session a message came or went: its number (history.h) and the partner's callsign. */
+struct passage {
+    long long session;
+    struct part partner;
+};
+
 bool base_add(struct base *base, const struct message *message);
-bool base_keep(struct base *base, const struct message *message);
-bool base_mark(struct base *base, long long number, enum state state);
+/* A message whose BID is known becomes a copy. */
+bool base_keep(struct base *base, const struct message *message, const struct passage *passage);
+bool base_mark(struct base *base, long long number, enum state state, const struct passage *passage);
+bool base_defer(struct base *base, long long number, const struct passage *passage);
+bool base_hold(struct base *base, long long number);
 /* A held message waits again; `found` tells whether there was one. */
 bool base_release(struct base *base, struct part bid, bool *found);
 
 /* Whether this BID is known; -1 if the base can't say. */
 int base_knows(struct base *base, struct part bid);
+/* Whether just this message is in one of the boxes, its announced size and state aside; -1 if the base can't say. */
+int base_has(struct base *base, const struct message *message);
 /* The number that the next message of the outbox gets. */
 bool base_next(struct base *base, long long *number);
 bool base_count_known(struct base *base, long long *count);
+bool base_count_waiting(struct base *base, long long *count);
 /* Our callsign or the partner's, added to a store. */
 bool base_call(struct base *base, struct bytes *call);
 bool base_partner(struct base *base, struct bytes *partner);
@@ -44,7 +66,8 @@ bool base_partner(struct base *base, struct bytes *partner);
 typedef bool message_function(void *context, const struct message *message);
 typedef bool bid_function(void *context, struct part bid);
 bool base_each(struct base *base, enum box box, message_function *function, void *context);
-/* For one session: the oldest that wait, and the newest known BIDs beside theirs. */
+/* For one session: of what waits the oldest, those behind that were deferred; and the known BIDs beside theirs that are likeliest to come
+ * again. */
 bool base_waiting(struct base *base, message_function *function, void *context);
 bool base_known(struct base *base, bid_function *function, void *context);
 

@@ -1,4 +1,4 @@
-/* The commands that fill, show and empty the boxes of a base. */
+/* The commands on the boxes of a base. */
 #ifndef BOXES_H
 #define BOXES_H
 
@@ -8,6 +8,7 @@
 enum exit_code boxes_import(const struct options *options);
 enum exit_code boxes_export(const struct options *options);
 enum exit_code boxes_list(const struct options *options);
+enum exit_code boxes_sessions(const struct options *options);
 enum exit_code boxes_release(const struct options *options);
 
 #endif

@@ -63,6 +63,8 @@ const char *message_fault(const struct message *message)
 
     if (taken(message))
         return NULL;
+    if (message->form > PACKED_FILE)
+        return "a form is 0 (plain text), 1 (packed message) or 2 (packed file)";
     rule = fault_of_a_part(message);
     if (rule)
         return rule;
@@ -74,4 +76,14 @@ const char *message_fault(const struct message *message)
     if (!taken(&one))
         return "an announced size is 0 to 999,999";
     return "a body has at most 65,535 bytes, a plain one without 0x1A";
+}
+
+bool bid_is_right(struct part bid)
+{
+    struct message one, plain;
+
+    memset(&plain, 0, sizeof plain);
+    one = good(&plain);
+    one.bid = bid;
+    return taken(&one);
 }

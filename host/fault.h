@@ -6,5 +6,6 @@
 
 /* NULL, or the rule of document 01 that the message breaks. */
 const char *message_fault(const struct message *message);
+bool bid_is_right(struct part bid);
 
 #endif

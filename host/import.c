@@ -1,19 +1,24 @@
-/* import: all messages of all files, or, if one of them is bad, none. */
+/* import: all messages of all files, or, if one of them is bad, none; but one whose BID is in the base already is passed over.
+ * All files are read first, so that the base is changed in one short transaction, beside a session too. */
 #include "base.h"
 #include "boxes.h"
 #include "fault.h"
 #include "letter.h"
+#include "stop.h"
 
 #include <errno.h>
+#include <fcntl.h>
 #include <stdio.h>
+#include <stdlib.h>
 #include <string.h>
+#include <unistd.h>
 
 struct import {
     struct base *base;
-    bool text;
+    bool text, as_is;
     const char *file;
     int place; /* of the message in the file, from 1 */
-    long count;
+    long count, there, clashing;
 };
 
 static enum exit_code bad(const struct import *import, const char *what)
@@ -22,55 +27,76 @@ static enum exit_code bad(const struct import *import, const char *what)
     return BAD_FILE;
 }
 
-/* A person's line ends as they look on the air: CR LF and LF become CR. */
-static void to_air(struct bytes *air, struct part body)
-{
-    size_t i;
-
-    for (i = 0; i < body.n; i++) {
-        if (body.at[i] != '\n')
-            bytes_add(air, body.at + i, 1);
-        else if (!i || body.at[i - 1] != '\r')
-            bytes_add(air, "\r", 1);
-    }
-}
+/* ---- one message */
 
 static enum exit_code add(struct import *import, const struct message *message)
 {
     const char *fault = message_fault(message);
-    int known;
 
     if (fault)
         return bad(import, fault);
-    known = base_knows(import->base, message->bid);
-    if (known > 0)
-        return bad(import, "its BID is in the base already");
-    if (known < 0 || !base_add(import->base, message))
+    if (!base_add(import->base, message))
         return BAD_BASE;
     import->count++;
     return DONE;
 }
 
-/* 003: "a generated BID have the form nnn_BBS". */
+/* A message whose BID is known isn't taken. If it is in the base as it is here, all is well; else somebody must hear of it. */
+static enum exit_code pass_over(struct import *import, const struct message *message)
+{
+    int has = base_has(import->base, message);
+
+    if (has < 0)
+        return BAD_BASE;
+    if (has) {
+        import->there++;
+    } else {
+        import->clashing++;
+        bad(import, "its BID is in the base already, with another message; passed over");
+    }
+    return DONE;
+}
+
+/* 003: "a generated BID have the form nnn_BBS". The next number whose BID is free; when a BID has no room for more digits they begin again. */
+static enum exit_code make_bid(struct import *import, struct part call, struct bytes *bid)
+{
+    long long number, limit = 1, tries;
+    size_t digits;
+    int known = 1;
+
+    for (digits = 1 + call.n; digits < FRINGEMOLE_MAX_BID; digits++)
+        limit *= 10;
+    if (!base_next(import->base, &number))
+        return BAD_BASE;
+    for (tries = 0; known > 0 && tries < limit; tries++, number++) {
+        char text[32];
+        int n = snprintf(text, sizeof text, "%lld_", number % limit);
+        bid->n = 0;
+        bytes_add(bid, text, (size_t)n);
+        bytes_add(bid, call.at, call.n);
+        known = base_knows(import->base, part_all(bid));
+    }
+    return known < 0 ? BAD_BASE : known ? bad(import, "no BID, and every number is taken") : DONE;
+}
+
 static enum exit_code add_without_bid(struct import *import, struct message *message)
 {
-    struct bytes bid = { NULL, 0, 0 };
+    struct bytes bid = { NULL, 0, 0 }, call = { NULL, 0, 0 };
     enum exit_code code = BAD_BASE;
-    long long number;
 
-    if (base_next(import->base, &number)) {
-        char text[32];
-        int n = snprintf(text, sizeof text, "%lld_", number);
-        bytes_add(&bid, text, (size_t)n);
-        if (base_call(import->base, &bid)) {
-            message->bid = part_all(&bid);
-            code = bid.n > (size_t)n ? add(import, message) : bad(import, "no BID, and the base has no callsign to make one (init --call)");
-        }
+    if (base_call(import->base, &call))
+        code = call.n ? make_bid(import, part_all(&call), &bid) : bad(import, "no BID, and the base has no callsign to make one (init --call)");
+    if (code == DONE) {
+        message->bid = part_all(&bid);
+        code = add(import, message);
     }
     message->bid = part_of("");
     bytes_free(&bid);
+    bytes_free(&call);
     return code;
 }
+
+/* ---- a letter: the message and its copies */
 
 /* The copies for cc get BIDs of their own. */
 static enum exit_code add_copies(struct import *import, const struct letter *letter)
@@ -100,28 +126,69 @@ static bool partner_has(struct import *import, struct part list, bool *has)
     return right;
 }
 
-static enum exit_code add_letter(struct import *import, struct letter *letter)
+/* Nobody has the copies, whoever has the message: they wait, or are held with it. */
+static enum exit_code add_message(struct import *import, const struct letter *letter)
 {
-    struct bytes air = { NULL, 0, 0 };
-    struct message *message = &letter->message;
+    struct message message = letter->message;
     enum exit_code code;
     bool has;
+    int known;
 
     if (!partner_has(import, letter->forwarded_to, &has))
         return BAD_BASE;
     if (has)
-        message->state = FORWARDED;
-    if (import->text) {
+        message.state = FORWARDED;
+    known = message.bid.n ? base_knows(import->base, message.bid) : 0;
+    if (known)
+        return known < 0 ? BAD_BASE : pass_over(import, &message);
+    code = message.bid.n ? add(import, &message) : add_without_bid(import, &message);
+    return code == DONE ? add_copies(import, letter) : code;
+}
+
+/* A person's line ends as they look on the air: CR LF and LF become CR. */
+static void to_air(struct bytes *air, struct part body)
+{
+    size_t i;
+
+    for (i = 0; i < body.n; i++) {
+        if (body.at[i] != '\n')
+            bytes_add(air, body.at + i, 1);
+        else if (!i || body.at[i - 1] != '\r')
+            bytes_add(air, "\r", 1);
+    }
+}
+
+static bool has_byte(struct part bytes, uint8_t byte)
+{
+    return bytes.n && memchr(bytes.at, byte, bytes.n);
+}
+
+/* Bytes of a packed body are no line ends, whichever they are. */
+static enum exit_code add_letter(struct import *import, struct letter *letter)
+{
+    struct bytes air = { NULL, 0, 0 };
+    struct message *message = &letter->message;
+    bool plain = message->form == PLAIN_TEXT;
+    enum exit_code code;
+
+    if (plain && !import->text && !import->as_is && has_byte(message->body, '\n') && !has_byte(message->body, '\r'))
+        return bad(import, "its lines end with LF, and on the air with CR: import it with --text (with --as-is it goes out as it stands)");
+    if (plain && import->text) {
         bool announced = message->size != message->body.n;
         to_air(&air, message->body);
         message->body = part_all(&air);
         message->size = announced ? message->size : (uint32_t)air.n;
     }
-    code = message->bid.n ? add(import, message) : add_without_bid(import, message);
-    if (code == DONE)
-        code = add_copies(import, letter);
+    code = add_message(import, letter);
     bytes_free(&air);
     return code;
+}
+
+/* ---- files */
+
+static bool begins_with(struct part file, const char *mark, size_t n)
+{
+    return file.n >= n && memcmp(file.at, mark, n) == 0;
 }
 
 static enum exit_code add_all(struct import *import, struct part file)
@@ -129,7 +196,10 @@ static enum exit_code add_all(struct import *import, struct part file)
     enum exit_code code = DONE;
     struct letter letter;
 
-    for (import->place = 1; code == DONE && letter_follows(&file); import->place++) {
+    import->place = 1;
+    if (begins_with(file, "\xEF\xBB\xBF", 3) || begins_with(file, "\xFF\xFE", 2) || begins_with(file, "\xFE\xFF", 2))
+        return bad(import, "the file begins with a byte order mark (BOM); save it without one, not as UTF-16");
+    for (; code == DONE && letter_follows(&file); import->place++) {
         const char *wrong = letter_read(&file, &letter);
         code = wrong ? bad(import, wrong) : add_letter(import, &letter);
     }
@@ -138,53 +208,68 @@ static enum exit_code add_all(struct import *import, struct part file)
 
 static bool read_all(const char *name, struct bytes *into)
 {
-    FILE *file = strcmp(name, "-") ? fopen(name, "rb") : stdin;
-    uint8_t piece[4096];
-    size_t n;
-    bool right;
+    int file = strcmp(name, "-") ? open(name, O_RDONLY | O_CLOEXEC) : STDIN_FILENO;
+    uint8_t piece[65536];
+    ssize_t n = -1;
 
-    if (!file) {
+    while (file >= 0 && !stop_asked() && (n = read(file, piece, sizeof piece)) > 0)
+        bytes_add(into, piece, (size_t)n);
+    if (n < 0 && !stop_asked())
         say("%s: %s", name, strerror(errno));
-        return false;
-    }
-    while ((n = fread(piece, 1, sizeof piece, file)) > 0)
-        bytes_add(into, piece, n);
-    right = !ferror(file);
-    if (!right)
-        say("%s: %s", name, strerror(errno));
-    if (file != stdin)
-        fclose(file);
-    return right;
+    if (file >= 0 && file != STDIN_FILENO)
+        close(file);
+    return n == 0;
 }
 
-static enum exit_code add_files(struct import *import, const struct options *options)
+/* The base is opened when all of them are read: standard input may take its time. */
+static enum exit_code add_files(struct import *import, const struct options *options, const struct bytes *files)
 {
-    enum exit_code code = DONE;
+    enum exit_code code = BAD_BASE;
     int i;
 
-    for (i = 0; code == DONE && i < options->count; i++) {
-        struct bytes file = { NULL, 0, 0 };
-        import->file = options->arguments[i];
-        code = read_all(import->file, &file) ? add_all(import, part_all(&file)) : BAD_FILE;
-        bytes_free(&file);
+    import->base = base_open(options->base, CHANGING);
+    if (import->base && base_begin(import->base)) {
+        code = DONE;
+        for (i = 0; code == DONE && i < options->count; i++) {
+            import->file = options->arguments[i];
+            code = add_all(import, part_all(&files[i]));
+        }
+        if (code == DONE && !base_commit(import->base))
+            code = BAD_BASE;
+        if (code != DONE)
+            base_undo(import->base);
     }
+    base_close(import->base);
     return code;
+}
+
+static enum exit_code sum_up(const struct import *import)
+{
+    say("%ld imported", import->count);
+    if (import->there)
+        say("%ld in the base already", import->there);
+    if (import->clashing)
+        say("%ld passed over: another message has their BID", import->clashing);
+    return import->clashing ? BAD_FILE : DONE;
 }
 
 enum exit_code boxes_import(const struct options *options)
 {
-    struct import import = { base_open(options->base, true), options->text, NULL, 0, 0 };
-    enum exit_code code = BAD_BASE;
+    struct import import = { NULL, options->text, options->as_is, NULL, 0, 0, 0, 0 };
+    struct bytes *files = calloc((size_t)options->count, sizeof *files);
+    enum exit_code code = DONE;
+    int i;
 
-    if (import.base && base_begin(import.base)) {
-        code = add_files(&import, options);
-        if (code == DONE && !base_commit(import.base))
-            code = BAD_BASE;
-        if (code == DONE)
-            say("%ld imported", import.count);
-        else
-            base_undo(import.base);
-    }
-    base_close(import.base);
+    if (!files)
+        give_up("no memory");
+    for (i = 0; code == DONE && i < options->count; i++)
+        code = read_all(options->arguments[i], &files[i]) ? DONE : BAD_FILE;
+    if (code == DONE)
+        code = add_files(&import, options, files);
+    if (code == DONE)
+        code = sum_up(&import);
+    for (i = 0; i < options->count; i++)
+        bytes_free(&files[i]);
+    free(files);
     return code;
 }

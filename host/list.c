@@ -1,9 +1,13 @@
-/* list: both boxes as tables. release: held messages wait again. */
+/* list: both boxes as tables. sessions: what each session did. release: held messages wait again. */
 #include "base.h"
 #include "boxes.h"
+#include "history.h"
+#include "refusal.h"
+#include "stop.h"
 #include "text.h"
 
 #include <stdio.h>
+#include <time.h>
 
 static void show_field(struct part field, size_t width)
 {
@@ -34,23 +38,33 @@ static void show_head(void *shown, const char *box)
     *has_rows = true;
 }
 
+/* Nobody reads on where output fails, or we are asked to stop. */
+static bool goes_on(void)
+{
+    return !ferror(stdout) && !stop_asked();
+}
+
 static bool show_outgoing(void *shown, const struct message *message)
 {
     show_head(shown, "outbox");
     show_message(message, message->state <= HELD ? state_names[message->state] : "?");
-    return true;
+    return goes_on();
 }
 
+/* A copy is of a BID that the base had already. */
 static bool show_incoming(void *shown, const struct message *message)
 {
+    char copy[32];
+
     show_head(shown, "inbox");
-    show_message(message, "kept");
-    return true;
+    snprintf(copy, sizeof copy, "copy %lld", message->copy);
+    show_message(message, message->copy ? copy : "kept");
+    return goes_on();
 }
 
 enum exit_code boxes_list(const struct options *options)
 {
-    struct base *base = base_open(options->base, false);
+    struct base *base = base_open(options->base, READING);
     bool out = false, in = false, right;
     long long known = 0;
 
@@ -64,13 +78,66 @@ enum exit_code boxes_list(const struct options *options)
     if (right)
         printf("%lld BIDs known\n", known);
     base_close(base);
-    return right ? DONE : BAD_BASE;
+    return right ? DONE : goes_on() ? BAD_BASE : FAILED;
 }
+
+/* ---- sessions */
+
+/* As UTC has it. */
+static void show_time(long long seconds)
+{
+    time_t time = (time_t)seconds;
+    struct tm parts;
+    char text[32] = "?";
+
+    if (gmtime_r(&time, &parts))
+        strftime(text, sizeof text, "%Y-%m-%d %H:%M:%S", &parts);
+    printf("%-21s", text);
+}
+
+static bool show_session(void *shown, const struct history *session)
+{
+    bool *has_rows = shown;
+
+    if (!*has_rows)
+        puts("   no  began (UTC)          seconds  role    partner  forwarded declined deferred kept    sent received  end");
+    *has_rows = true;
+    printf("%5lld  ", session->number);
+    show_time(session->began);
+    if (session->ended)
+        printf("%7lld", session->ended - session->began);
+    else
+        printf("%7s", "");
+    printf("  %-8s", session->role == FRINGEMOLE_CALLER ? "caller" : "called");
+    show_field(session->partner, 9);
+    printf("%9lu %8lu %8lu %4lu %7lu %8lu  ", session->forwarded, session->declined, session->deferred, session->kept, session->sent,
+        session->received);
+    text_show(stdout, session->ended ? session->ending : part_of("not ended"));
+    if (session->refusal) {
+        printf(", %u: %s: ", session->refusal, refusal_words(session->refusal));
+        text_show(stdout, session->line);
+    }
+    putchar('\n');
+    return goes_on();
+}
+
+enum exit_code boxes_sessions(const struct options *options)
+{
+    struct base *base = base_open(options->base, READING);
+    bool any = false, right = base && history_each(base, show_session, &any);
+
+    if (right && !any)
+        puts("no sessions yet");
+    base_close(base);
+    return right ? DONE : goes_on() ? BAD_BASE : FAILED;
+}
+
+/* ---- release */
 
 /* All of them, or none. */
 enum exit_code boxes_release(const struct options *options)
 {
-    struct base *base = base_open(options->base, true);
+    struct base *base = base_open(options->base, CHANGING);
     bool right = base && base_begin(base), found = true;
     int i;
 

@@ -3,27 +3,31 @@
 
 #include <string.h>
 
-/* Reads byte by byte, so that nothing that follows the question is taken. */
-static bool hear(struct link *link, const char *question)
+/* Reads byte by byte, so that nothing that follows the question is taken, and up to `limit` bytes, of which it keeps the last. */
+static bool hear(struct link *link, struct part question, long limit)
 {
     struct bytes heard = { NULL, 0, 0 };
-    size_t n = strlen(question);
-    bool found = n == 0;
+    bool found = question.n == 0;
     uint8_t byte;
 
-    while (!found && link_read(link, &byte, 1, true) == 1) {
+    while (!found && limit-- > 0 && link_read(link, &byte, 1, true) == 1) {
+        if (heard.n == question.n)
+            memmove(heard.at, heard.at + 1, --heard.n);
         bytes_add(&heard, &byte, 1);
-        found = heard.n >= n && memcmp(heard.at + heard.n - n, question, n) == 0;
+        found = heard.n == question.n && memcmp(heard.at, question.at, question.n) == 0;
     }
     bytes_free(&heard);
     return found;
 }
 
-bool login(struct link *link, const char *question, const char *answer)
+bool login(struct link *link, const struct options *options)
 {
-    if (!hear(link, question)) {
-        say("the partner never asked \"%s\"", question);
+    bool right;
+
+    if (!hear(link, part_of(options->question), options->login_limit)) {
+        say("the partner never asked \"%s\"%s%s", options->question, link->over ? ": " : "", link->over ? link->over : "");
         return false;
     }
-    return link_write(link, part_of(answer)) && link_write(link, part_of("\r"));
+    right = link_write(link, part_of(options->login)) && link_write(link, part_of("\r"));
+    return right;
 }

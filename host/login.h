@@ -4,6 +4,6 @@
 
 #include "link.h"
 
-bool login(struct link *link, const char *question, const char *answer);
+bool login(struct link *link, const struct options *options);
 
 #endif

@@ -15,6 +15,7 @@ struct message {
     uint8_t state, form, type;
     struct part from, at, to, bid, title, name, body;
     uint32_t size; /* as announced in a proposal */
+    long long copy; /* of the inbox: 0 the first of its BID, then 1, 2 .. */
 };
 
 extern const char *const state_names[4], *const form_names[3];

@@ -3,9 +3,11 @@
 #include "fringemole.h"
 #include "say.h"
 
+#include <stddef.h>
 #include <stdio.h>
 #include <string.h>
 
+#define VERSION "1.0"
 #define ROOM ((long)FRINGEMOLE_MAX_MESSAGES * FRINGEMOLE_MAX_BODY) /* each message that a session can keep, at its longest */
 
 static const char help[] =
@@ -16,11 +18,15 @@ static const char help[] =
     "  import FILE..        put the messages of files into the outbox (-: standard input)\n"
     "  export FOLDER        write each message of the inbox to a file of its own\n"
     "  list                 show both boxes\n"
+    "  sessions             show what each session did, the newest first\n"
     "  release BID..        let held messages go\n"
+    "  admit CALL [FILE]    CALL may call; its password is FILE's first line (-: standard input)\n"
+    "  dismiss CALL         CALL may no more\n"
+    "  partners             show who may call, and who was there when\n"
     "  call [HOST:]PORT     call a partner over TCP\n"
     "  listen [HOST:]PORT   wait for partners to call over TCP, one at a time\n"
     "  stdio                a session on standard input and output\n"
-    "  serial DEVICE BITS   a session on a serial device, at 1200 or 9600 bit/s\n"
+    "  serial DEVICE BITS   a session on a serial device, at 300 to 230400 bit/s\n"
     "HOST is 127.0.0.1 if it is left out. PORT 0 listens where there is room.\n"
     "\n"
     "Options of a session\n"
@@ -29,73 +35,138 @@ static const char help[] =
     "  --question TEXT      the question (\"Callsign : \")\n"
     "  --telnet             FF bytes are doubled on the wire\n"
     "  --transcript[=FILE]  show both directions as they look on the air (FILE is added to)\n"
+    "  --log FILE           add what is said to FILE instead of standard error\n"
     "  --progress           progress lines also where standard error is no terminal\n"
-    "  --timeout SECONDS    hang up after this silence (600; 0: never)\n"
     "  --room BYTES         for bodies that come in, in one session (4194240)\n"
     "  --once               listen: end after one session, with its exit code\n"
     "  --drop-after BYTES   drop the link after so many bytes, to see what happens\n"
+    "  --rtscts             serial: hardware flow control\n"
+    "  --from CALL          stdio: who calls, as ax25d knows it; served if it is a partner\n"
+    "  --anyone             serve callers from outside without asking who they are\n"
+    "Limits; 0: none\n"
+    "  --timeout SECONDS    of silence, from the last byte that came or left (600)\n"
+    "  --sid-limit SECONDS  until the partner's SID has come, login included (120)\n"
+    "  --progress-limit SECONDS\n"
+    "                       without progress in the protocol (600)\n"
+    "  --least-rate BYTES   a second, in transfers, that count as progress (10)\n"
+    "  --session-limit SECONDS\n"
+    "                       of the whole session (86400)\n"
+    "  --login-limit BYTES  before a login is over (4096)\n"
+    "  --linger SECONDS     after hanging up, for our last bytes (30)\n"
+    "  --delay SECONDS      until a caller who is no partner is hung up on (3)\n"
+    "  --callers COUNT      listen: at once, one of them in a session (32)\n"
     "Options of the others\n"
     "  --call CALL          init: our callsign, for BIDs of messages that have none\n"
     "  --partner CALL       init: the partner's callsign, for X-Forwarded-To\n"
-    "  --text               import: line ends of the bodies become CR, as on the air\n"
+    "  --text               import: line ends of plain bodies become CR, as on the air\n"
+    "  --as-is              import: plain bodies whose lines end with LF stay as they are\n"
     "  --outbox             export: the outbox instead\n"
+    "\n"
+    "--help and --version need no base.\n"
     "\n"
     "Exit codes\n"
     "  0  done; a session ended by FQ\n"
-    "  1  failed: no memory, no transcript file\n"
+    "  1  failed: no memory, output or transcript that can't be written\n"
     "  2  bad usage\n"
     "  3  bad base: not there, not a base, in use, a message that breaks the rules\n"
     "  4  bad port\n"
     "  5  link dropped, or the partner silent too long\n"
     "  6  refusal; its number is said\n"
-    "  7  bad message file\n"
+    "  7  bad message file; files that another message's BID or text kept from their place\n"
+    "  8  the caller is no partner\n"
+    "SIGINT and SIGTERM end it by themselves (a shell shows 130 and 143).\n"
     "\n"
-    "A session takes the 64 oldest waiting messages, knows the 1,024 newest BIDs and keeps\n"
-    "up to 64 messages. What is left waits for the next session.\n";
+    "A session takes 64 waiting messages, the oldest first, knows 1,024 BIDs and keeps up to\n"
+    "64 messages. What is left waits for the next session.\n";
 
 void options_help(void)
 {
     fputs(help, stdout);
 }
 
+void options_version(void)
+{
+    puts("fringemole " VERSION);
+}
+
 struct option {
     const char *name;
-    bool *flag;         /* set, or */
-    const char **text;  /* gets the word that follows, or */
-    long *number;       /* gets the number that follows */
+    enum { FLAG, TEXT, NUMBER } kind; /* set, or takes the word or the number that follows */
+    size_t place;                     /* of its field */
 };
 
-static bool take_value(const struct option *option, const char *value)
+#define OPTION(name, kind, field) { name, kind, offsetof(struct options, field) }
+
+static const struct option table[] = {
+    OPTION("--call", TEXT, call),
+    OPTION("--partner", TEXT, partner),
+    OPTION("--text", FLAG, text),
+    OPTION("--as-is", FLAG, as_is),
+    OPTION("--outbox", FLAG, outbox),
+    OPTION("--caller", FLAG, caller),
+    OPTION("--called", FLAG, called),
+    OPTION("--telnet", FLAG, telnet),
+    OPTION("--once", FLAG, once),
+    OPTION("--progress", FLAG, progress),
+    OPTION("--login", TEXT, login),
+    OPTION("--question", TEXT, question),
+    OPTION("--timeout", NUMBER, timeout),
+    OPTION("--sid-limit", NUMBER, sid_limit),
+    OPTION("--progress-limit", NUMBER, progress_limit),
+    OPTION("--session-limit", NUMBER, session_limit),
+    OPTION("--least-rate", NUMBER, least_rate),
+    OPTION("--login-limit", NUMBER, login_limit),
+    OPTION("--linger", NUMBER, linger),
+    OPTION("--rtscts", FLAG, flow),
+    OPTION("--log", TEXT, log),
+    OPTION("--from", TEXT, from),
+    OPTION("--anyone", FLAG, anyone),
+    OPTION("--callers", NUMBER, callers),
+    OPTION("--delay", NUMBER, delay),
+    OPTION("--room", NUMBER, room),
+    OPTION("--drop-after", NUMBER, drop_after)
+};
+
+static const struct option *find(const char *name, size_t n)
 {
-    if (option->text)
-        *option->text = value;
-    else if (!part_number(part_of(value), option->number)) {
-        say("%s: not a number: %s", option->name, value);
-        return false;
+    size_t i;
+
+    for (i = 0; i < sizeof table / sizeof table[0]; i++) {
+        if (strlen(table[i].name) == n && !memcmp(table[i].name, name, n))
+            return &table[i];
     }
-    return true;
+    return NULL;
+}
+
+static bool take_value(struct options *options, const struct option *option, const char *value)
+{
+    char *field = (char *)options + option->place;
+
+    if (option->kind == TEXT) {
+        *(const char **)(void *)field = value;
+        return true;
+    }
+    if (part_number(part_of(value), (long *)(void *)field))
+        return true;
+    say("%s: not a number: %s", option->name, value);
+    return false;
 }
 
 /* Takes the option at words[*at] and its value, and leaves *at at the last word it took. */
-static bool take_option(const struct option *table, char **words, int count, int *at)
+static bool take_option(struct options *options, char **words, int count, int *at)
 {
     const char *word = words[*at], *equals = strchr(word, '=');
-    size_t n = equals ? (size_t)(equals - word) : strlen(word);
+    const struct option *option = find(word, equals ? (size_t)(equals - word) : strlen(word));
 
-    for (; table->name; table++) {
-        if (strlen(table->name) != n || memcmp(table->name, word, n))
-            continue;
-        if (table->flag && !equals) {
-            *table->flag = true;
-            return true;
-        }
-        if (!table->flag && equals)
-            return take_value(table, equals + 1);
-        if (!table->flag && *at + 1 < count)
-            return take_value(table, words[++*at]);
-        break;
+    if (option && option->kind == FLAG && !equals) {
+        *(bool *)(void *)((char *)options + option->place) = true;
+        return true;
     }
-    say(table->name ? "%s: wrong use; see --help" : "%s: no such option; see --help", word);
+    if (option && option->kind != FLAG && equals)
+        return take_value(options, option, equals + 1);
+    if (option && option->kind != FLAG && *at + 1 < count)
+        return take_value(options, option, words[++*at]);
+    say(option ? "%s: wrong use; see --help" : "%s: no such option; see --help", word);
     return false;
 }
 
@@ -105,6 +176,14 @@ static void defaults(struct options *options)
     options->call = options->partner = "";
     options->question = "Callsign : ";
     options->timeout = 600;
+    options->sid_limit = 120;
+    options->progress_limit = 600;
+    options->session_limit = 86400;
+    options->least_rate = 10;
+    options->login_limit = 4096;
+    options->linger = 30;
+    options->delay = 3;
+    options->callers = 32;
     options->room = ROOM;
     options->drop_after = -1;
 }
@@ -122,21 +201,12 @@ static void take_word(struct options *options, char **words, char *word)
 
 bool options_read(struct options *options, int count, char **words)
 {
-    const struct option table[] = {
-        { "--call", NULL, &options->call, NULL }, { "--partner", NULL, &options->partner, NULL },
-        { "--text", &options->text, NULL, NULL }, { "--outbox", &options->outbox, NULL, NULL },
-        { "--caller", &options->caller, NULL, NULL }, { "--called", &options->called, NULL, NULL },
-        { "--telnet", &options->telnet, NULL, NULL }, { "--once", &options->once, NULL, NULL },
-        { "--progress", &options->progress, NULL, NULL }, { "--login", NULL, &options->login, NULL },
-        { "--question", NULL, &options->question, NULL }, { "--timeout", NULL, NULL, &options->timeout },
-        { "--room", NULL, NULL, &options->room }, { "--drop-after", NULL, NULL, &options->drop_after }, { NULL, NULL, NULL, NULL }
-    };
     int at;
 
     defaults(options);
     options->arguments = words;
     for (at = 0; at < count; at++) {
-        if (!strcmp(words[at], "--help")) {
+        if (!strcmp(words[at], "--help") || !strcmp(words[at], "--version")) {
             options->command = words[at];
             return true;
         }
@@ -146,7 +216,7 @@ bool options_read(struct options *options, int count, char **words)
             options->transcript = words[at] + 13;
         else if (words[at][0] != '-' || !words[at][1])
             take_word(options, words, words[at]);
-        else if (!take_option(table, words, count, &at))
+        else if (!take_option(options, words, count, &at))
             return false;
     }
     return true;

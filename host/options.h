@@ -11,15 +11,19 @@ struct options {
     /* init */
     const char *call, *partner;
     /* import, export */
-    bool text, outbox;
+    bool text, as_is, outbox;
     /* sessions */
-    bool caller, called, telnet, once, progress;
-    const char *login, *question, *transcript;
-    long timeout, room, drop_after;
+    bool caller, called, telnet, once, progress, flow, anyone;
+    bool asks; /* no option: callers from outside must log in */
+    const char *login, *question, *transcript, *log, *from;
+    long timeout, sid_limit, progress_limit, session_limit, linger, delay; /* seconds; 0: no limit */
+    long least_rate, login_limit, callers;                                 /* bytes a second, bytes, processes */
+    long room, drop_after;
 };
 
-/* False after it has said what is wrong. With --help, command is "--help". */
+/* False after it has said what is wrong. With --help or --version that is the command. */
 bool options_read(struct options *options, int count, char **words);
 void options_help(void);
+void options_version(void);
 
 #endif

@@ -1,36 +1,39 @@
 #include "port.h"
+#include "stop.h"
 
 #include <errno.h>
 #include <poll.h>
+#include <string.h>
 #include <sys/socket.h>
-#include <termios.h>
-#include <time.h>
 #include <unistd.h>
 
-#define LAST_SECONDS 2 /* how long a partner has to take our last bytes */
+#define PORTION 4096          /* of a write: what a pipe that is ready takes without waiting */
+#define LAST (2 * SECOND)     /* of silence, once our last bytes have left: the partner doesn't close */
+#define TICK (SECOND / 4)     /* between two looks at what has left */
 
-static long milliseconds(void)
+void port_start(struct port *port, int in, int out)
 {
-    struct timespec now;
-
-    clock_gettime(CLOCK_MONOTONIC, &now);
-    return (long)now.tv_sec * 1000 + now.tv_nsec / 1000000;
+    memset(port, 0, sizeof *port);
+    port->in = in;
+    port->out = out;
+    port->portion = PORTION;
+    port->heard_at = port->left_at = moment_now();
 }
 
-/* Waits until the descriptor is ready; false if it isn't in time. */
-static bool ready(int descriptor, short what, long seconds)
+/* Waits until the descriptor is ready; false if it isn't in time, or we are asked to stop. */
+static bool ready(int descriptor, short what, milliseconds time)
 {
-    struct pollfd wait = { descriptor, what, 0 };
-    long end = milliseconds() + seconds * 1000;
+    struct pollfd wait[2] = { { descriptor, what, 0 }, { stop_descriptor(), POLLIN, 0 } };
+    milliseconds end = moment_now() + time;
 
     for (;;) {
-        long left = seconds < 0 ? 60000 : end - milliseconds();
-        int found = poll(&wait, 1, left > 60000 ? 60000 : left > 0 ? (int)left : 0);
-        if (found > 0)
-            return true;
-        if (found < 0 && errno != EINTR)
+        milliseconds left = end - moment_now();
+        int found = poll(wait, 2, left > 0 ? (int)left : 0);
+        if (stop_asked())
+            return false;
+        if (found > 0 || (found < 0 && errno != EINTR))
             return true; /* the read or write that follows meets the fault */
-        if (seconds >= 0 && left <= 0)
+        if (left <= 0)
             return false;
     }
 }
@@ -40,51 +43,89 @@ static bool try_again(void)
     return errno == EINTR || errno == EAGAIN || errno == EWOULDBLOCK;
 }
 
-long port_read(const struct port *port, uint8_t *into, size_t room, long seconds)
+long port_read(struct port *port, uint8_t *into, size_t room, milliseconds time)
 {
-    while (ready(port->in, POLLIN, seconds)) {
-        ssize_t n = read(port->in, into, room);
-        if (n > 0)
-            return (long)n;
-        if (n == 0 || !try_again())
-            return PORT_GONE;
-    }
-    return PORT_SILENT;
+    ssize_t n;
+
+    if (!ready(port->in, POLLIN, time))
+        return PORT_SILENT;
+    n = read(port->in, into, room);
+    if (n > 0)
+        port->heard_at = moment_now();
+    return n > 0 ? (long)n : n < 0 && try_again() ? PORT_SILENT : PORT_GONE;
 }
 
-bool port_write(const struct port *port, struct part bytes, long seconds)
+/* On a socket that isn't ours alone (inetd's) a write must not wait, whatever poll has said. */
+static ssize_t put(const struct port *port, const uint8_t *at, size_t n)
 {
-    while (bytes.n) {
-        ssize_t n;
-        if (!ready(port->out, POLLOUT, seconds))
-            return false;
-        n = write(port->out, bytes.at, bytes.n);
-        if (n < 0 && !try_again())
-            return false;
-        if (n > 0) {
-            bytes.at += n;
-            bytes.n -= (size_t)n;
-        }
-    }
-    return true;
+#if defined(MSG_DONTWAIT)
+    if (port->kind == STREAM || port->kind == PACKETS)
+        return send(port->out, at, n, MSG_DONTWAIT | MSG_NOSIGNAL);
+#endif
+    return write(port->out, at, n);
 }
 
-/* A socket that is closed with unread bytes in it drops what is still on its way: first wait until the partner has closed too. */
-void port_hang_up(struct port *port)
+long port_write(struct port *port, struct part bytes, milliseconds time)
 {
-    if (port->socket) {
-        uint8_t unread[256];
+    size_t most = bytes.n < port->portion ? bytes.n : port->portion;
+    ssize_t n;
+
+    if (!ready(port->out, POLLOUT, time))
+        return PORT_SILENT;
+    n = put(port, bytes.at, most);
+    if (n < 0 && errno == EMSGSIZE && most > 1) {
+        port->portion = most / 2; /* a packet has its own limit */
+        return PORT_SILENT;
+    }
+    if (n > 0)
+        port->taken += (uint64_t)n;
+    return n > 0 ? (long)n : n == 0 || try_again() ? PORT_SILENT : PORT_GONE;
+}
+
+bool port_look(struct port *port)
+{
+    uint64_t left;
+
+    port->held = queue_held(port);
+    left = port->taken > port->held ? port->taken - port->held : 0;
+    if (left > port->left) {
+        port->left = left;
+        port->left_at = moment_now();
+    }
+    return !port->carrier || serial_has_carrier(port->in);
+}
+
+/* A socket that is closed with unread bytes in it drops what is still on its way, AX.25 drops it in any case: so first see it leave, and
+ * wait until the partner has closed too. */
+static void see_off(struct port *port, milliseconds end)
+{
+    uint8_t unread[PORTION];
+    long n = PORT_SILENT;
+
+    port->heard_at = moment_now();
+    while (n != PORT_GONE && moment_now() < end && port_look(port) && !stop_asked()) {
+        milliseconds quiet = moment_now() - (port->heard_at > port->left_at ? port->heard_at : port->left_at);
+        if (port->held == 0 && (port->kind == LINE || quiet >= LAST))
+            break;
+        n = port_read(port, unread, sizeof unread, TICK);
+    }
+}
+
+void port_hang_up(struct port *port, milliseconds time)
+{
+    if (port->kind == STREAM)
         shutdown(port->out, SHUT_WR);
-        while (port_read(port, unread, sizeof unread, LAST_SECONDS) > 0) {
-        }
-    } else if (isatty(port->out)) {
-        tcdrain(port->out);
-    }
+    if (port->kind != PIPE)
+        see_off(port, moment_now() + time);
+    if (port->kind == LINE && port->held == 0)
+        tcdrain(port->out); /* what the device itself still has */
     port_drop(port);
 }
 
 void port_drop(struct port *port)
 {
+    if (port->kind == LINE)
+        serial_close(port);
     close(port->in);
     if (port->out != port->in)
         close(port->out);

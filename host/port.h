@@ -3,31 +3,52 @@
 #define PORT_H
 
 #include "bytes.h"
+#include "moment.h"
+
+#include <termios.h>
 
 struct port {
     int in, out; /* one descriptor twice, but for standard input and output */
-    bool socket;
+    enum { PIPE, STREAM, PACKETS, LINE } kind; /* pipes and files; TCP; packets as AX.25 has them; a serial line */
+    struct termios before; /* a line's mode when it was opened */
+    bool carrier;          /* the line has one, and its loss ends the link */
+    size_t portion;        /* the most bytes that one write may have */
+    /* What has left: bytes that the system took less those that it still holds. */
+    uint64_t taken, left;
+    size_t held;
+    milliseconds heard_at, left_at; /* when a byte last came, when one last left */
 };
 
-/* What port_read gives beside a count of bytes. */
-#define PORT_SILENT 0 /* nothing came in time */
+/* What port_read and port_write give beside a count of bytes. */
+#define PORT_SILENT 0 /* nothing came, nothing was taken in time */
 #define PORT_GONE (-1)
 
 /* Each says what is wrong and answers false then. HOST may be left out: it is 127.0.0.1. */
 bool tcp_call(struct port *port, const char *address);
-/* Gives the descriptor to accept on, or -1; says where it listens. */
-int tcp_listen(const char *address);
+/* Gives the descriptor to accept on, or -1; says where it listens. `inside` tells whether only this machine can call there. */
+int tcp_listen(const char *address, bool *inside);
 bool tcp_accept(struct port *port, int listener);
-bool serial_open(struct port *port, const char *device, const char *bits);
+/* Whether the other end of this link is another machine, by TCP. */
+bool tcp_is_outside(int link);
+bool serial_open(struct port *port, const char *device, const char *bits, bool flow);
 void stdio_open(struct port *port);
 
-/* Seconds below 0: for ever. */
-long port_read(const struct port *port, uint8_t *into, size_t room, long seconds);
-/* Writes all of it, unless the port takes nothing for so long or is gone. */
-bool port_write(const struct port *port, struct part bytes, long seconds);
-/* Ends the link; what was written still goes out. */
-void port_hang_up(struct port *port);
+void port_start(struct port *port, int in, int out);
+/* Bytes that came, as many as there are within the time. */
+long port_read(struct port *port, uint8_t *into, size_t room, milliseconds time);
+/* Writes what the system takes of it within the time. */
+long port_write(struct port *port, struct part bytes, milliseconds time);
+/* Looks what has left meanwhile; false if the line has lost its carrier. */
+bool port_look(struct port *port);
+/* Ends the link; what was written still goes out, if it does within the time. */
+void port_hang_up(struct port *port, milliseconds time);
 /* Ends the link as a failing radio does. */
 void port_drop(struct port *port);
+
+/* What the system still holds of the bytes that it took. */
+size_t queue_held(const struct port *port);
+bool serial_has_carrier(int line);
+/* Drops DTR for a moment and gives the line back as it was. */
+void serial_close(struct port *port);
 
 #endif

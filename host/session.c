@@ -1,6 +1,10 @@
 #include "session.h"
+#include "heard.h"
+#include "history.h"
+#include "lend.h"
 #include "refusal.h"
-#include "shelf.h"
+
+#include <string.h>
 
 /* How much is given before we look whether the partner says something: a whole turn, or a piece of a transfer. */
 #define PIECE 1024
@@ -11,85 +15,154 @@ static bool has_ended(const struct shelf *shelf)
     return fringemole_receive_in(&shelf->lent, NULL, 0).answer == FRINGEMOLE_ENDED;
 }
 
-static enum exit_code refused(struct link *link, unsigned number)
+/* One session under way. */
+struct session {
+    struct base *base;
+    struct link *link;
+    struct shelf shelf;
+    struct passage passage;
+    struct heard heard;     /* the partner's line under way */
+    struct history history; /* the row that tells of it */
+};
+
+/* How it ended, for the operator and for its row. */
+static enum exit_code ended(struct session *session, const char *how, enum exit_code code)
 {
-    progress_end(&link->progress);
-    transcript_end_line(&link->transcript);
-    say("refusal %u: %s", number, refusal_words(number));
-    return REFUSED;
+    progress_end(&session->link->progress);
+    transcript_end_line(&session->link->transcript);
+    session->history.ending = part_of(how);
+    return code;
 }
 
-static enum exit_code dropped(struct link *link, const char *how)
+static enum exit_code refused(struct session *session, unsigned number)
 {
-    progress_end(&link->progress);
-    transcript_end_line(&link->transcript);
-    say("the link dropped: %s", link->left_until_drop == 0 ? "--drop-after" : how);
+    enum exit_code code = ended(session, "refused", REFUSED);
+
+    session->history.refusal = number;
+    session->history.line = heard_line(&session->heard);
+    say("refusal %u: %s", number, refusal_words(number));
+    return code;
+}
+
+static enum exit_code dropped(struct session *session, const char *how)
+{
+    if (session->link->left_until_drop == 0)
+        how = "--drop-after";
+    else if (session->link->over)
+        how = session->link->over;
+    ended(session, how, LINK_DROPPED);
+    say("the link dropped: %s", how);
     return LINK_DROPPED;
 }
 
-/* Gives, writes, reads, receives, until the end. What a receive changed is on the disk before the next byte is given. */
-static enum exit_code converse(struct shelf *shelf, struct base *base, struct link *link)
+static enum exit_code not_saved(struct session *session)
 {
-    uint8_t out[PIECE], in[PIECE];
+    return ended(session, "the base took no change", BAD_BASE);
+}
 
-    for (;;) {
-        struct fringemole_reply given = fringemole_give_in(&shelf->lent, out, sizeof out, 0), heard;
+/* Takes bytes of the partner. What changed is on the disk when it answers. */
+static enum exit_code take(struct session *session, struct part bytes, bool *over)
+{
+    struct fringemole_reply reply = fringemole_receive_in(&session->shelf.lent, bytes.at, bytes.n);
+
+    *over = true;
+    bytes.n = reply.count;
+    heard_add(&session->heard, bytes);
+    if (!shelf_save(&session->shelf, session->base, &session->passage))
+        return not_saved(session);
+    if (reply.answer != FRINGEMOLE_OK)
+        return refused(session, reply.answer);
+    *over = false;
+    return DONE;
+}
+
+/* Gives, writes, reads, receives, until the end. What a receive changed is on the disk before the next byte is given. */
+static enum exit_code converse(struct session *session)
+{
+    struct link *link = session->link;
+    uint8_t out[PIECE], in[PIECE];
+    bool speaking = false, over = false;
+
+    while (!over) {
+        struct fringemole_reply given = fringemole_give_in(&session->shelf.lent, out, sizeof out, 0);
+        enum exit_code code;
         long n;
         if (given.answer != FRINGEMOLE_OK)
-            return refused(link, given.answer);
+            return refused(session, given.answer);
+        patience_watch(&link->patience, session->shelf.session, given.count > 0 && !speaking);
+        speaking = given.count == sizeof out;
         if (given.count && !link_write(link, (struct part){ out, given.count }))
-            return dropped(link, "the port takes no more bytes");
-        if (has_ended(shelf))
-            return DONE;
-        n = link_read(link, in, sizeof in, given.count < sizeof out);
-        if (n == PORT_GONE)
-            return dropped(link, "the partner is gone");
-        if (n == PORT_SILENT && given.count < sizeof out)
-            return dropped(link, "the partner is silent");
+            return dropped(session, "the partner is gone");
+        if (has_ended(&session->shelf))
+            return ended(session, "FQ", DONE);
+        n = link_read(link, in, sizeof in, !speaking);
+        if (n == PORT_GONE || link->over)
+            return dropped(session, "the partner is gone");
         if (n == PORT_SILENT)
             continue;
-        heard = fringemole_receive_in(&shelf->lent, in, (size_t)n);
-        if (!shelf_save(shelf, base))
-            return BAD_BASE;
-        if (heard.answer != FRINGEMOLE_OK)
-            return refused(link, heard.answer);
+        code = take(session, (struct part){ in, (size_t)n }, &over);
+        if (over)
+            return code;
     }
+    return DONE;
 }
 
-static void sum_up(const struct shelf *shelf, const struct link *link)
+/* What the session did, to its row and to the operator. */
+static bool sum_up(struct session *session)
 {
+    struct history *history = &session->history;
+    long long waiting = 0;
     size_t place, in_state[3] = { 0, 0, 0 };
 
-    for (place = 0; place < shelf_records(shelf); place++)
-        in_state[shelf->states[place] % 3]++;
-    say("%lu forwarded, %lu declined, %lu still waiting; %lu kept; %lu bytes sent, %lu received", (unsigned long)in_state[FORWARDED],
-        (unsigned long)in_state[DECLINED], (unsigned long)in_state[WAITING], (unsigned long)shelf->kept, (unsigned long)link->sent,
-        (unsigned long)link->received);
+    for (place = 0; place < shelf_records(&session->shelf); place++)
+        in_state[session->shelf.states[place] % 3]++;
+    history->forwarded = in_state[FORWARDED];
+    history->declined = in_state[DECLINED];
+    history->deferred = shelf_deferred(&session->shelf);
+    history->kept = session->shelf.kept;
+    history->sent = session->link->sent;
+    history->received = session->link->received;
+    if (!base_count_waiting(session->base, &waiting))
+        return false;
+    say("%lu forwarded, %lu declined, %lld still waiting; %lu kept; %lu bytes sent, %lu received", history->forwarded, history->declined,
+        waiting, history->kept, history->sent, history->received);
+    return true;
 }
 
-static enum exit_code bad_record(const struct shelf *shelf, unsigned place)
+/* The row's end and what was deferred, in one transaction. */
+static bool close_row(struct session *session)
 {
-    if (place < shelf_records(shelf))
-        say("message %lld of the base breaks the rules (refusal 1 at record %u)", shelf->numbers[place], place);
-    else
-        say("the base holds what the library doesn't take (refusal 1)");
-    return BAD_BASE;
+    if (!base_begin(session->base))
+        return false;
+    if (shelf_save_deferred(&session->shelf, session->base, &session->passage) && history_end(session->base, &session->history)
+        && base_commit(session->base))
+        return true;
+    base_undo(session->base);
+    return false;
 }
 
-enum exit_code session_run(struct base *base, struct link *link, uint8_t role, size_t room)
+static enum exit_code run(struct session *session, const struct session_terms *terms)
 {
-    struct shelf shelf;
-    enum exit_code code = BAD_BASE;
+    enum exit_code code;
 
-    shelf_start(&shelf, room);
-    if (shelf_fill(&shelf, base)) {
-        struct fringemole_reply opened = shelf_open(&shelf, role);
-        code = opened.answer == FRINGEMOLE_OK ? converse(&shelf, base, link) : bad_record(&shelf, opened.place);
-        progress_end(&link->progress);
-        transcript_end_line(&link->transcript);
-        if (opened.answer == FRINGEMOLE_OK)
-            sum_up(&shelf, link);
-    }
-    shelf_clear(&shelf);
+    if (!lend(&session->shelf, session->base, terms->role, terms->room)
+        || !history_begin(session->base, terms->partner, terms->role, &session->history.number))
+        return BAD_BASE;
+    session->passage.session = session->history.number;
+    session->passage.partner = terms->partner;
+    code = converse(session);
+    return sum_up(session) && close_row(session) ? code : BAD_BASE;
+}
+
+enum exit_code session_run(struct base *base, struct link *link, const struct session_terms *terms)
+{
+    struct session session;
+    enum exit_code code;
+
+    memset(&session, 0, sizeof session);
+    session.base = base;
+    session.link = link;
+    code = run(&session, terms);
+    shelf_clear(&session.shelf);
     return code;
 }

@@ -6,7 +6,13 @@
 #include "link.h"
 #include "say.h"
 
-/* Runs it to its end and hangs up. Gives DONE if it ended by FQ. */
-enum exit_code session_run(struct base *base, struct link *link, uint8_t role, size_t room);
+struct session_terms {
+    uint8_t role;        /* FRINGEMOLE_CALLED or _CALLER */
+    size_t room;         /* for bodies that come in */
+    struct part partner; /* its callsign; empty if nobody told */
+};
+
+/* Runs it to its end, on a base that is locked for a session. Gives DONE if it ended by FQ. */
+enum exit_code session_run(struct base *base, struct link *link, const struct session_terms *terms);
 
 #endif

@@ -1,5 +1,4 @@
 #include "shelf.h"
-#include "say.h"
 
 #include <string.h>
 
@@ -112,23 +111,6 @@ bool shelf_know(struct shelf *shelf, struct part bid)
     return true;
 }
 
-static bool take_message(void *shelf, const struct message *message)
-{
-    if (!shelf_add(shelf, message))
-        say("message %lld of the base: its body is over %d bytes", message->number, FRINGEMOLE_MAX_BODY);
-    return message->body.n <= FRINGEMOLE_MAX_BODY;
-}
-
-static bool take_bid(void *shelf, struct part bid)
-{
-    return shelf_know(shelf, bid);
-}
-
-bool shelf_fill(struct shelf *shelf, struct base *base)
-{
-    return base_waiting(base, take_message, shelf) && base_known(base, take_bid, shelf);
-}
-
 struct fringemole_reply shelf_open(struct shelf *shelf, uint8_t role)
 {
     struct fringemole_memory lent = {
@@ -139,6 +121,11 @@ struct fringemole_reply shelf_open(struct shelf *shelf, uint8_t role)
 
     shelf->lent = lent;
     return fringemole_open_in(&shelf->lent, role);
+}
+
+struct part shelf_bid(const struct shelf *shelf, size_t place)
+{
+    return get_field(shelf->table.at + place * FRINGEMOLE_RECORD_SIZE + FRINGEMOLE_RECORD_BID);
 }
 
 /* ---- saving */
@@ -159,24 +146,24 @@ static bool changed(const struct shelf *shelf)
     return shelf->session[FRINGEMOLE_SESSION_KEPT] != shelf->kept;
 }
 
-static bool write_changes(const struct shelf *shelf, struct base *base)
+static bool write_changes(const struct shelf *shelf, struct base *base, const struct passage *passage)
 {
     size_t place;
 
     for (place = 0; place < shelf_records(shelf); place++) {
         uint8_t state = state_now(shelf, place);
-        if (state != shelf->states[place] && !base_mark(base, shelf->numbers[place], state))
+        if (state != shelf->states[place] && !base_mark(base, shelf->numbers[place], state, passage))
             return false;
     }
     for (place = shelf->kept; place < shelf->session[FRINGEMOLE_SESSION_KEPT]; place++) {
         struct message message = kept_message(shelf, place);
-        if (!base_keep(base, &message))
+        if (!base_keep(base, &message, passage))
             return false;
     }
     return true;
 }
 
-bool shelf_save(struct shelf *shelf, struct base *base)
+bool shelf_save(struct shelf *shelf, struct base *base, const struct passage *passage)
 {
     size_t place;
 
@@ -184,13 +171,38 @@ bool shelf_save(struct shelf *shelf, struct base *base)
         return true;
     if (!base_begin(base))
         return false;
-    if (!write_changes(shelf, base) || !base_commit(base)) {
+    if (!write_changes(shelf, base, passage) || !base_commit(base)) {
         base_undo(base);
         return false;
     }
     for (place = 0; place < shelf_records(shelf); place++)
         shelf->states[place] = state_now(shelf, place);
     shelf->kept = shelf->session[FRINGEMOLE_SESSION_KEPT];
+    return true;
+}
+
+static bool is_deferred(const struct shelf *shelf, size_t place)
+{
+    return shelf->session[FRINGEMOLE_SESSION_DEFERRED + place] == 1 && state_now(shelf, place) == WAITING;
+}
+
+size_t shelf_deferred(const struct shelf *shelf)
+{
+    size_t place, count = 0;
+
+    for (place = 0; place < shelf_records(shelf); place++)
+        count += is_deferred(shelf, place);
+    return count;
+}
+
+bool shelf_save_deferred(const struct shelf *shelf, struct base *base, const struct passage *passage)
+{
+    size_t place;
+
+    for (place = 0; place < shelf_records(shelf); place++) {
+        if (is_deferred(shelf, place) && !base_defer(base, shelf->numbers[place], passage))
+            return false;
+    }
     return true;
 }
 

@@ -1,4 +1,4 @@
-/* The shelf of one session: the memory that is lent to the library, filled from the base, and saved to it. */
+/* The shelf of one session: the memory that is lent to the library, filled from the base (lend.h), and saved to it. */
 #ifndef SHELF_H
 #define SHELF_H
 
@@ -20,13 +20,16 @@ void shelf_start(struct shelf *shelf, size_t room);
 /* False if there is no place, or the body is over 65,535 bytes. */
 bool shelf_add(struct shelf *shelf, const struct message *message);
 bool shelf_know(struct shelf *shelf, struct part bid);
-bool shelf_fill(struct shelf *shelf, struct base *base);
 /* Sets up lent memory, then opens. Add nothing after that. */
 struct fringemole_reply shelf_open(struct shelf *shelf, uint8_t role);
 /* Writes to the base what receive changed since the last time, in one transaction; none if nothing changed. */
-bool shelf_save(struct shelf *shelf, struct base *base);
+bool shelf_save(struct shelf *shelf, struct base *base, const struct passage *passage);
+/* How many records the partner deferred; and their rows told so. */
+size_t shelf_deferred(const struct shelf *shelf);
+bool shelf_save_deferred(const struct shelf *shelf, struct base *base, const struct passage *passage);
 void shelf_clear(struct shelf *shelf);
 
 size_t shelf_records(const struct shelf *shelf);
+struct part shelf_bid(const struct shelf *shelf, size_t place);
 
 #endif

@@ -1,16 +1,22 @@
 #include "port.h"
 #include "say.h"
+#include "stop.h"
 
+#include <arpa/inet.h>
 #include <errno.h>
 #include <netdb.h>
 #include <netinet/in.h>
 #include <netinet/tcp.h>
+#include <poll.h>
 #include <stdio.h>
 #include <string.h>
 #include <sys/socket.h>
 #include <unistd.h>
 
 #define LOOPBACK "127.0.0.1"
+#define LOOPBACK_NET 127 /* the first byte of each IPv4 address of this machine's own */
+#define LAST_PORT 65535
+#define WAITING_CALLS 64
 
 /* HOST:PORT, [HOST]:PORT for a HOST with colons, :PORT or PORT. */
 static bool split(const char *address, char *host, size_t room, const char **service)
@@ -32,6 +38,16 @@ static bool split(const char *address, char *host, size_t room, const char **ser
     return true;
 }
 
+/* A number that is too large would be taken for another. */
+static bool is_service(const char *service)
+{
+    long number;
+
+    if (strspn(service, "0123456789") != strlen(service))
+        return true; /* a name */
+    return part_number(part_of(service), &number) && number <= LAST_PORT;
+}
+
 static struct addrinfo *look_up(const char *address, int flags)
 {
     struct addrinfo hints, *found = NULL;
@@ -44,6 +60,10 @@ static struct addrinfo *look_up(const char *address, int flags)
     hints.ai_flags = flags;
     if (!split(address, host, sizeof host, &service)) {
         say("%s: not an address HOST:PORT", address);
+        return NULL;
+    }
+    if (!is_service(service)) {
+        say("%s: a port number is at most %d", address, LAST_PORT);
         return NULL;
     }
     fault = getaddrinfo(host, service, &hints, &found);
@@ -64,8 +84,8 @@ static void use_socket(struct port *port, int s)
 
     if (s >= 0)
         setsockopt(s, IPPROTO_TCP, TCP_NODELAY, &yes, sizeof yes);
-    port->in = port->out = s;
-    port->socket = true;
+    port_start(port, s, s);
+    port->kind = STREAM;
 }
 
 bool tcp_call(struct port *port, const char *address)
@@ -102,17 +122,36 @@ static void say_where(int s)
         say("listening on %s%s%s:%s", strchr(host, ':') ? "[" : "", host, strchr(host, ':') ? "]" : "", service);
 }
 
-int tcp_listen(const char *address)
+/* Whether nobody but this machine can call there. */
+static bool is_inside(const struct sockaddr *where)
+{
+    if (where->sa_family == AF_INET)
+        return ntohl(((const struct sockaddr_in *)(const void *)where)->sin_addr.s_addr) >> 24 == LOOPBACK_NET;
+    return where->sa_family == AF_INET6 && IN6_IS_ADDR_LOOPBACK(&((const struct sockaddr_in6 *)(const void *)where)->sin6_addr);
+}
+
+bool tcp_is_outside(int link)
+{
+    struct sockaddr_storage other;
+    socklen_t n = sizeof other;
+
+    if (getpeername(link, (struct sockaddr *)&other, &n))
+        return false;
+    return (other.ss_family == AF_INET || other.ss_family == AF_INET6) && !is_inside((const struct sockaddr *)&other);
+}
+
+int tcp_listen(const char *address, bool *inside)
 {
     struct addrinfo *found = look_up(address, AI_PASSIVE);
     int s, yes = 1;
 
     if (!found)
         return -1;
+    *inside = is_inside(found->ai_addr);
     s = socket_for(found);
     if (s >= 0)
         setsockopt(s, SOL_SOCKET, SO_REUSEADDR, &yes, sizeof yes);
-    if (s < 0 || bind(s, found->ai_addr, found->ai_addrlen) || listen(s, 4)) {
+    if (s < 0 || bind(s, found->ai_addr, found->ai_addrlen) || listen(s, WAITING_CALLS)) {
         say("%s: %s", address, strerror(errno));
         if (s >= 0)
             close(s);
@@ -129,9 +168,11 @@ bool tcp_accept(struct port *port, int listener)
     int s;
 
     do {
-        s = accept(listener, NULL, NULL);
-    } while (s < 0 && (errno == EINTR || errno == ECONNABORTED));
-    if (s < 0)
+        struct pollfd wait[2] = { { listener, POLLIN, 0 }, { stop_descriptor(), POLLIN, 0 } };
+        poll(wait, 2, -1);
+        s = stop_asked() ? -1 : accept(listener, NULL, NULL);
+    } while (s < 0 && !stop_asked() && (errno == EINTR || errno == ECONNABORTED));
+    if (s < 0 && !stop_asked())
         say("accept: %s", strerror(errno));
     use_socket(port, s);
     return s >= 0;

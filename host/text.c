@@ -1,4 +1,5 @@
 #include "text.h"
+#include "say.h"
 
 /* How many bytes the UTF-8 letter at the front has; 0 if there is none, or a control. */
 static size_t letter(struct part bytes)
@@ -63,4 +64,17 @@ size_t text_show(FILE *to, struct part bytes)
         bytes.n -= n;
     }
     return columns;
+}
+
+char *text_copy(struct part bytes)
+{
+    char *text = NULL;
+    size_t n;
+    FILE *to = open_memstream(&text, &n);
+
+    if (to)
+        text_show(to, bytes);
+    if (!to || fclose(to))
+        give_up("no memory");
+    return text;
 }

@@ -10,4 +10,7 @@
 /* Gives how many columns it took. */
 size_t text_show(FILE *to, struct part bytes);
 
+/* The same as a string, to be freed. */
+char *text_copy(struct part bytes);
+
 #endif

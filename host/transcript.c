@@ -10,21 +10,30 @@ bool transcript_open(struct transcript *transcript, const char *name)
     memset(transcript, 0, sizeof *transcript);
     if (!name)
         return true;
+    transcript->name = strcmp(name, "-") ? name : "standard error";
     transcript->to = strcmp(name, "-") ? fopen(name, "a") : stderr;
     if (!transcript->to)
         say("%s: %s", name, strerror(errno));
     return transcript->to != NULL;
 }
 
+static void fail(struct transcript *transcript)
+{
+    if (!transcript->failed)
+        say("the transcript is not whole: %s: %s", transcript->name, strerror(errno));
+    transcript->failed = true;
+}
+
 void transcript_end_line(struct transcript *transcript)
 {
     struct part line = { transcript->line, transcript->n };
 
-    if (transcript->to && transcript->n) {
+    if (transcript->to && transcript->n && !transcript->failed) {
         fputs(transcript->ours ? "us:       " : "partner:  ", transcript->to);
         text_show(transcript->to, line);
         fputc('\n', transcript->to);
-        fflush(transcript->to);
+        if (fflush(transcript->to) || ferror(transcript->to))
+            fail(transcript);
     }
     transcript->n = 0;
 }
@@ -51,9 +60,10 @@ void transcript_add(struct transcript *transcript, bool ours, struct part bytes)
     }
 }
 
-void transcript_close(struct transcript *transcript)
+bool transcript_close(struct transcript *transcript)
 {
     transcript_end_line(transcript);
-    if (transcript->to && transcript->to != stderr)
-        fclose(transcript->to);
+    if (transcript->to && transcript->to != stderr && fclose(transcript->to))
+        fail(transcript);
+    return !transcript->failed;
 }

@@ -11,6 +11,8 @@
 
 struct transcript {
     FILE *to; /* NULL: none is kept */
+    const char *name;
+    bool failed; /* it took a line not; that is said once, and the session goes on */
     bool ours;
     size_t n;
     uint8_t line[TRANSCRIPT_COLUMNS];
@@ -21,6 +23,7 @@ bool transcript_open(struct transcript *transcript, const char *name);
 void transcript_add(struct transcript *transcript, bool ours, struct part bytes);
 /* Writes the line under way. */
 void transcript_end_line(struct transcript *transcript);
-void transcript_close(struct transcript *transcript);
+/* False if not all of it got to its file. */
+bool transcript_close(struct transcript *transcript);
 
 #endif

@@ -25,7 +25,7 @@ extern "C" {
 #endif
 
 /* ---- sizes in bytes, and limits */
-#define FRINGEMOLE_SESSION_SIZE 876  /* session memory, exactly; no need to clear it before open */
+#define FRINGEMOLE_SESSION_SIZE 1024 /* session memory, exactly; no need to clear it before open */
 #define FRINGEMOLE_RECORD_SIZE 89    /* a record of the table; 0 to 64 of them */
 #define FRINGEMOLE_KNOWN_SIZE 13     /* a known BID; 0 to 1,024 of them */
 #define FRINGEMOLE_ENTRY_SIZE 155    /* a message of the inbox; 0 to 64 places */
@@ -92,7 +92,12 @@ enum { /* our role */
 #define FRINGEMOLE_ENTRY_BODY_LEN 153    /* 2 bytes */
 
 /* ---- in session memory a host may read: */
+#define FRINGEMOLE_SESSION_PHASE 60      /* what is awaited, 1 byte: up to FRINGEMOLE_LAST_SID_PHASE the partner's SID */
 #define FRINGEMOLE_SESSION_KEPT 66       /* how many messages of the inbox are kept, 1 byte; 0 after an accepted open */
+#define FRINGEMOLE_SESSION_BODY 96       /* body bytes so far of the message that is coming in, 4 bytes */
+#define FRINGEMOLE_SESSION_DEFERRED 160  /* a flag a record, 64 bytes: 1 if the partner has deferred it in this session */
+/* Bytes 116 to 159 and 920 to 1,023 of it are free: no call reads or writes them, but later versions will. */
+#define FRINGEMOLE_LAST_SID_PHASE 1
 
 /* ---- the numbers given back */
 enum {

@@ -83,6 +83,7 @@ static struct fringemole_memory random_memory(void)
     size_t places = once_in(32) ? FRINGEMOLE_MAX_MESSAGES : below(8), room = below(900);
     struct fringemole_memory m = memory_with(places, room);
 
+    fill(m.session, m.session_len);
     fill(m.inbox, m.inbox_len);
     fill(m.store, m.store_len);
     fill_table(&m);
@@ -129,10 +130,17 @@ static void forget(struct before *copy)
     }
 }
 
-/* What a call may write: bits by the buffers' order; of the table, states only. */
+/* What a call may write: bits by the buffers' order; of the table, states only, and of session memory no free byte. */
 #define SESSION_ONLY 0x01
 #define TABLE 0x02
 #define BY_RECEIVE 0xC3
+
+static void free_bytes_stand(const struct fringemole_memory *m, const uint8_t *session)
+{
+    must(memcmp(m->session + FREE, session + FREE, DEFERRED_FLAGS - FREE) == 0
+            && memcmp(m->session + LAST_FREE, session + LAST_FREE, FRINGEMOLE_SESSION_SIZE - LAST_FREE) == 0,
+        "a free byte of session memory changed");
+}
 
 static void only_changed(const struct fringemole_memory *m, const struct before *copy, unsigned may)
 {
@@ -145,6 +153,7 @@ static void only_changed(const struct fringemole_memory *m, const struct before 
             must(sizes[i] == 0 || memcmp(bytes[i], copy->bytes[i], sizes[i]) == 0, "a byte changed that may not");
         }
     }
+    free_bytes_stand(m, copy->bytes[0]);
     for (j = 0; may & TABLE && j < m->table_len; j++) {
         must(m->table[j] == copy->bytes[1][j] || j % FRINGEMOLE_RECORD_SIZE == FRINGEMOLE_RECORD_STATE, "more than a state changed");
     }
@@ -224,12 +233,12 @@ static void scribble_number(uint8_t *session)
 {
     static const uint8_t small[] = { 0, 0, 1, 2, 3, 4, 5, 6, 7, 63, 64, 80, 81, 255 };
     static const unsigned long large[] = { 0, 1, 2, 255, 256, 257, 65535, 65536, 0xFFFFFFFF };
-    static const uint8_t wide[] = { 92, 94, 96, 100, 108 };
+    static const uint8_t wide[] = { LINE_BYTES, BLOCK_LEFT, BODY_BYTES, GIVEN, USED };
     unsigned long value = large[below(sizeof large / sizeof *large)];
-    size_t at = wide[below(sizeof wide)], other = AWAITED + below(32);
+    size_t at = wide[below(sizeof wide)], other = AWAITED + below(READING_SUM + 1 - AWAITED);
 
     if (once_in(3)) {
-        put_number(session, at, at < 96 ? 2 : 4, value);
+        put_number(session, at, at < BODY_BYTES ? 2 : 4, value);
     } else {
         session[other] = small[below(sizeof small)];
     }
@@ -281,9 +290,12 @@ static void step(struct fringemole_memory *m)
 static void play(void)
 {
     struct fringemole_memory m = random_memory();
+    struct before copy = copy_of(&m);
     struct fringemole_reply reply = fringemole_open_in(&m, (uint8_t)below(2));
     size_t quiet = below(12), changed = 5 + below(20);
 
+    only_changed(&m, &copy, SESSION_ONLY);
+    forget(&copy);
     must(reply.answer == FRINGEMOLE_OK && reply.place == 0 && reply.count == 0, "open refused good memory");
     intact = 1;
     over = 0;

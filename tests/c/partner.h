@@ -10,6 +10,15 @@
 #define AWAITED 60
 #define FRAMED 62
 #define OUR_PROPOSALS 69
+#define READING_SUM 91
+#define LINE_BYTES 92
+#define BLOCK_LEFT 94
+#define BODY_BYTES 96
+#define GIVEN 100
+#define USED 108
+#define FREE 116
+#define DEFERRED_FLAGS 160
+#define LAST_FREE 920
 
 /* ---- random numbers (splitmix64) */
 

@@ -44,7 +44,7 @@ class Base:
             self.sent[message.bid] = (message.form, message.type, message.title, body)
             letters.append(letter(message, body, len(body)))
         if letters:
-            self.node.run("import", "-", given=b"".join(letters))
+            self.node.run("import", "-", "--as-is", given=b"".join(letters))
 
     def look(self):
         """Reads what has changed. A mark is final, and what was kept before stays."""

@@ -6,6 +6,7 @@ import select
 import shutil
 import socket
 import sqlite3
+import stat
 import subprocess
 import sys
 import tempfile
@@ -17,7 +18,7 @@ PLAIN = ROOT / "target" / "host" / "fringemole"
 SANITIZED = ROOT / "target" / "host-sanitized" / "fringemole"
 PATIENCE = 20  # seconds until a test gives up waiting
 
-DONE, FAILED, BAD_USAGE, BAD_BASE, BAD_PORT, LINK_DROPPED, REFUSED, BAD_FILE = range(8)
+DONE, FAILED, BAD_USAGE, BAD_BASE, BAD_PORT, LINK_DROPPED, REFUSED, BAD_FILE, NOT_ADMITTED = range(9)
 WAITING, FORWARDED, DECLINED, HELD = range(4)
 OUR_SID = b"[NOD-1-BFH$]\r"
 GREETING = OUR_SID + b">\r"
@@ -214,6 +215,12 @@ class Folder(unittest.TestCase):
 
     def node(self, name="node", **more):
         return Node(self.folder, name, **more)
+
+    def shim(self, name):
+        """A library of this folder, to load before the C library (LD_PRELOAD)."""
+        made = self.folder / (name + ".so")
+        subprocess.run(["cc", "-shared", "-fPIC", "-o", made, ROOT / "tests" / "host" / (name + ".c"), "-ldl"], check=True)
+        return str(made)
 
     def says_why(self, answer, code, *words):
         """A command ended with this code and said these words."""

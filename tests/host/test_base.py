@@ -1,4 +1,6 @@
 """The base, wrong ways to use it, and usage."""
+import signal
+
 from node import *
 
 
@@ -13,13 +15,13 @@ class Bases(Folder):
         other = self.folder / "other.base"
         sqlite3.connect(other).executescript("CREATE TABLE a (b); PRAGMA application_id = 7")
         newer = self.node("newer")
-        newer.ask("PRAGMA user_version = 2")
+        newer.ask("PRAGMA user_version = 3")
         missing = self.node("missing")
         missing.path.unlink()
         (self.folder / "folder.base").mkdir()
         half = self.node("half").path.read_bytes()
         bad = {"no message base": [self.made("text", b"not a base\n" * 100), Node(self.folder, "other"), self.made("empty", b"")],
-               "version 2": [newer], "make a base with init": [missing], "unable to open": [Node(self.folder, "folder")],
+               "version 3": [newer], "make a base with init": [missing], "unable to open": [Node(self.folder, "folder")],
                "half.base: ": [self.made("half", half[:len(half) // 2])]}
         for why, nodes in bad.items():
             for node in nodes:
@@ -30,7 +32,7 @@ class Bases(Folder):
     def test_init(self):
         "init leaves what is there alone, and says where it can't make a base"
         node = self.node().add(Message(b"1_A"))
-        self.says_why(node.run("init"), BAD_BASE, "File exists")
+        self.says_why(node.run("init"), BAD_BASE, "there is a base already")
         self.assertEqual(len(node.outbox()), 1)
         node.path = self.folder / "no" / "where"
         self.says_why(node.run("init"), BAD_BASE, "No such file")
@@ -46,31 +48,60 @@ class Bases(Folder):
                 self.assertIn(code, (DONE, BAD_BASE, LINK_DROPPED), err)
                 self.assertNotIn("Sanitizer", err)
 
+    ROWS = [("bid = ?", b"with space", "with space", "a BID has"), ("type = ?", "T", "2_A", "a type is"), ("body = ?", b"x" * 65536, "2_A", "a body has"),
+            ("body = ?", b"\x1a", "2_A", "a body has"), ("size = ?", 1000000, "2_A", "an announced size is"), ("size = ?", 1 << 32, "2_A", "an announced size is"),
+            ("title = ?", b"", "2_A", "a title has"), ("form = ?", 256, "2_A", "a form is"), ("\"from\" = ?", b"A.B", "2_A", "from has")]
+
     def test_bad_row(self):
-        "a row that breaks 01's rules is named by its number, and no session takes place"
-        for number, (sql, value) in enumerate([("UPDATE outbox SET bid = ? WHERE number = 2", b"with space"), ("UPDATE outbox SET type = ? WHERE number = 2", "T"),
-                                               ("UPDATE outbox SET body = ? WHERE number = 2", b"x" * 65536), ("UPDATE outbox SET body = ? WHERE number = 2", b"\x1a"),
-                                               ("UPDATE outbox SET size = ? WHERE number = 2", 1000000), ("UPDATE outbox SET title = ? WHERE number = 2", b"")]):
-            with self.subTest(sql):
-                node = self.node("node%d" % number).add(Message(b"1_A", form="plain"), Message(b"2_A", form="plain"))
-                node.ask(sql, value)
-                code, out, err = node.run("stdio")
-                self.says_why((code, err), BAD_BASE, "message 2 of the base")
-                self.assertEqual(out, b"")
-        node.ask("UPDATE outbox SET state = 1")
-        node.ask("INSERT INTO known (bid) VALUES (?)", b"with space")
-        self.says_why(node.run("stdio"), BAD_BASE, "the base holds what the library doesn't take (refusal 1)")
+        "a row that breaks 01's rules is named by its BID and the rule, and held; the other messages go"
+        for number, (what, value, bid, rule) in enumerate(self.ROWS):
+            with self.subTest(what):
+                node = self.node("node%d" % number).add(*[Message(b"%d_A" % i, form="plain") for i in range(1, 4)])
+                node.ask("UPDATE outbox SET " + what + " WHERE number = 2", value)
+                partner = node.stdio()
+                partner.hears(GREETING)
+                partner.says(b"[TST-1-F$]\rFF\r")
+                partner.hears(Message(b"1_A", form="plain").proposal() + Message(b"3_A", form="plain").proposal() + b"F>\r")
+                partner.says(b"FS --\rFF\r")
+                partner.hears(b"FQ\r")
+                self.says_why(partner.ends(), DONE, "BID " + bid + ", is held: " + rule)
+                self.assertEqual(node.ask("SELECT state FROM outbox ORDER BY number"), [(DECLINED,), (HELD,), (DECLINED,)])
+
+    def test_many_bad_rows(self):
+        "bad rows take nobody's place: behind 100 of them the others still go"
+        node = self.node(program=PLAIN).add(*[Message(b"%03d" % i, form="plain") for i in range(102)])
+        node.ask("UPDATE outbox SET type = 'T' WHERE number <= 100")
+        partner = node.stdio()
+        partner.hears(GREETING)
+        partner.says(b"[TST-1-F$]\rFF\r")
+        partner.hears(Message(b"100", form="plain").proposal() + Message(b"101", form="plain").proposal() + b"F>\r")
+        partner.hang_up()
+        self.says_why(partner.ends(), LINK_DROPPED, "BID 099, is held", "2 still waiting")
+
+    def test_bad_known(self):
+        "a known BID that is none is named and left out"
+        node = self.node()
+        node.ask("INSERT INTO known (bid) VALUES (?), (?)", b"with space", b"1_T")
+        partner = node.stdio()
+        partner.hears(GREETING)
+        partner.says(b"[TST-1-F$]\r" + Message(b"1_T", form="plain").proposal() + b"F>\r")
+        partner.hears(b"FS -\r")
+        partner.hang_up()
+        self.says_why(partner.ends(), LINK_DROPPED, "left out: with space")
 
     def test_lock(self):
-        "a base in a session is locked; when the session's process is killed it is free"
+        "one session at a time; when its process is killed the base is free"
         node = self.node()
         partner = node.stdio()
         partner.hears(GREETING)
-        for words in (("list",), ("stdio",)):
-            self.says_why(node.run(*words), BAD_BASE, "in use by another process")
+        for words in (("stdio",), ("call", "1"), ("listen", "0")):
+            self.says_why(node.run(*words), BAD_BASE, "in use by another session")
         partner.process.kill()
         partner.rest()
-        node.right("list")
+        partner = node.stdio()
+        partner.hears(GREETING)
+        partner.hang_up()
+        self.assertEqual(partner.ends()[0], LINK_DROPPED)
 
     def test_no_commit(self):
         "where the base takes no change, the partner is told nothing and the session ends with 3"
@@ -117,9 +148,33 @@ class Usage(Folder):
         code, out, err = self.node().run("call", "--help")
         self.assertEqual((code, err), (DONE, ""))
         text = out.decode()
-        for word in ("init", "import", "export", "list", "release", "call", "listen", "stdio", "serial", "--caller", "--called", "--login", "--question",
-                     "--telnet", "--transcript", "--progress", "--timeout", "--room", "--once", "--drop-after", "--call", "--partner", "--text", "--outbox"):
+        for word in ("init", "import", "export", "list", "sessions", "release", "call", "listen", "stdio", "serial", "--caller", "--called", "--login", "--question",
+                     "--telnet", "--transcript", "--progress", "--timeout", "--room", "--once", "--drop-after", "--rtscts", "--log", "--sid-limit", "--progress-limit",
+                     "--least-rate", "--session-limit", "--login-limit", "--linger", "--delay", "--callers", "--from", "--anyone", "admit", "dismiss", "partners", "--call", "--partner", "--text", "--as-is", "--outbox"):
             self.assertIn("\n  " + word, text.replace(", --called", "\n  --called"))
-        for number in range(8):
+        for number in range(9):
             self.assertIn("\n  %d  " % number, text.split("Exit codes")[1])
         self.assertTrue(all(len(line) < 96 for line in text.splitlines()))
+
+
+class Stopped(Folder):
+    def test_signals(self):
+        "SIGINT and SIGTERM end every command that waits with a sentence, by the signal itself; a session's row tells of it"
+        for number, (words, name) in enumerate([(("stdio",), "SIGTERM"), (("stdio",), "SIGINT"), (("listen", "0"), "SIGTERM"), (("import", "-"), "SIGINT")]):
+            with self.subTest((words, name)):
+                node = self.node("node%d" % number)
+                process = node.start(*words, stdin=subprocess.PIPE)
+                if words[0] == "stdio":
+                    Partner.of_process(process).hears(GREETING)
+                elif words[0] == "listen":
+                    process.stderr.readline()
+                else:
+                    process.stdin.write(Message(b"1_A").file())
+                    process.stdin.flush()
+                    time.sleep(0.5)
+                process.send_signal(getattr(signal, name))
+                process.wait(PATIENCE)
+                said = process.communicate()[1].decode()
+                self.says_why((process.returncode, said), -getattr(signal, name), "ended by " + name)
+                self.assertEqual(node.ask("SELECT ending FROM session"), [(name,)] if words[0] == "stdio" else [])
+                self.assertEqual(node.outbox(), [])

@@ -67,16 +67,6 @@ class Exact(Folder):
             self.assertEqual(made.read_bytes(), (script.parent / made.relative_to(self.folder)).read_bytes(), made)
         self.assertEqual(len(list(self.folder.rglob("*.msg"))), len(list(script.parent.rglob("*.msg"))))
 
-    def test_export_again(self):
-        "a file that is there already is left as it is"
-        node = self.node().add(Message(b"1_A"))
-        (self.folder / "out").mkdir()
-        (self.folder / "out" / "1_A.msg").write_bytes(b"mine")
-        code, _, err = node.run("export", self.folder / "out", "--outbox")
-        self.says_why((code, err), DONE, "0 exported, 1 were there already")
-        self.assertEqual((self.folder / "out" / "1_A.msg").read_bytes(), b"mine")
-
-
 class Keywords(Folder):
     def imported(self, *files, options=(), init=()):
         node = self.node(options=init)
@@ -99,7 +89,7 @@ class Keywords(Folder):
             with self.subTest(end):
                 head = HEAD.replace(b"\r\n", end) + b"X-BID: %d_A" % number + end
                 node = self.node(str(number))
-                node.right("import", "-", input=head + end + b"a" + end + b"b" + end + b"/EX")
+                node.right("import", "-", "--as-is", input=head + end + b"a" + end + b"b" + end + b"/EX")
                 self.assertEqual(node.outbox()[0][-1], b"a" + end + b"b")
 
     def test_several(self):
@@ -172,7 +162,6 @@ class Bad(Folder):
             "shorter than X-Length": letter(HEAD + bid + b"X-Length: 999\r\n"), "no /EX where": letter(HEAD + bid + b"X-Length: 3\r\n"),
             "X-Length is no number": letter(HEAD + bid + b"X-Length: x\r\n"), "cc is not": letter(HEAD + bid + b"cc: nobody\r\n"),
             "no callsign": letter(HEAD), "one letter": letter(HEAD + bid + b"X-msgtype: PB\r\n"), "type is P or B": letter(HEAD + bid + b"X-msgtype: T\r\n"),
-            "already": letter(),
         }
         for words, file in wrong.items():
             with self.subTest(words):

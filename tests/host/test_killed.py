@@ -1,8 +1,10 @@
 """Links that drop and processes that are killed at random moments: nothing that a partner was told of is lost, nothing is doubled.
 
 Two nodes exchange mail through a relay. After a random number of bytes, either way, one node or both are killed (SIGKILL), or the link is
-cut; then the bases are held to what passed the relay. After some such sessions one is left alone, and must settle everything.
+cut; then the bases are held to what passed the relay. Beside the session somebody lists and imports, and may be killed too. After some such
+sessions one is left alone, and must settle everything.
 """
+import contextlib
 import random
 import threading
 
@@ -84,14 +86,14 @@ class Killed(Folder):
         sizes = [self.dice.choice([0, 1, 200, 256, 257, self.dice.randrange(6000)]) for _ in range(count)]
         return [Message(b"%d_%s" % (i, who), self.dice.randbytes(size), title=b"message %d of %s" % (i, who)) for i, size in enumerate(sizes)]
 
-    def session(self, nodes, limit, action):
-        """One session; gives the relay, with what passed."""
+    def session(self, nodes, limit, action, beside=()):
+        """One session; gives the relay, with what passed. Processes that run beside it are killed with the others."""
         called, port = nodes["south"].listen("--once", "--timeout", "10")
         delay = self.dice.random() * 0.006 * (action != "cut")
 
         def at_limit():
             time.sleep(delay)
-            for process in {"cut": [], "north": [caller], "south": [called], "both": [caller, called]}[action]:
+            for process in {"cut": [], "north": [caller], "south": [called], "both": [caller, called, *beside]}[action]:
                 process.kill()
         relay = Relay(port, limit, at_limit)
         caller = nodes["north"].start("call", str(relay.port), "--timeout", "10")
@@ -122,9 +124,18 @@ class Killed(Folder):
         mail = {"north": self.letters(b"N", 7) + [common], "south": self.letters(b"S", 4) + [common]}
         nodes = {name: self.node("%s%d" % (name, number), program=PLAIN).add(*mail[name]) for name in mail}
         total = sum(len(m.transfer()) + 40 for letters in mail.values() for m in letters)
-        for _ in range(self.dice.randrange(1, 4)):
+        for number in range(self.dice.randrange(1, 4)):
             action = self.dice.choice(["cut", "north", "south", "both"])
-            self.hold(nodes, mail, self.session(nodes, self.dice.randrange(1, total), action))
+            more = Message(b"%d_MORE" % number, self.dice.randbytes(300))
+            importing, listing = (nodes["south"].start(*words, stdin=subprocess.PIPE) for words in (("import", "-"), ("list",)))
+            importing.stdin.write(more.file())
+            importing.stdin.close()
+            relay = self.session(nodes, self.dice.randrange(1, total), action, [importing, listing])
+            self.assertIn((importing.wait(PATIENCE), action), [(DONE, action), (-9, "both")])
+            self.assertIn((listing.wait(PATIENCE), action), [(DONE, action), (-9, "both")])
+            self.assertTrue(importing.returncode or more.bid in nodes["south"].states(), "imported, and lost")
+            mail["south"] += [more] if more.bid in nodes["south"].states() else []
+            self.hold(nodes, mail, relay)
         for _ in range(2):  # the first settles everything, the second has nothing to do
             relay = self.session(nodes, None, "cut")
             self.assertEqual([code for code, _ in self.ends], [DONE, DONE], self.ends)
@@ -138,6 +149,41 @@ class Killed(Folder):
         for number in range(ROUNDS):
             with self.subTest(seed=SEED, round=number):
                 self.one_round(number)
+
+    def test_each_write(self):
+        "killed before each of its calls that write: what the partner was told of is in the base, and nothing is marked that the partner hasn't"
+        shim = self.shim("killed")
+        ours, theirs = Message(b"1_US", b"ours", form="plain"), Message(b"1_T", b"theirs", form="plain")
+        steps = [(GREETING, b"[TST-1-F$]\r" + theirs.proposal() + b"F>\r"), (b"FS +\r", theirs.transfer()), (ours.proposal() + b"F>\r", b"FS +\r"),
+                 (ours.transfer(), b"FF\r"), (b"FQ\r", b"")]
+        fresh = self.node("fresh", program=PLAIN).add(ours)
+        for moment in range(1, 200):
+            shutil.copy(fresh.path, self.folder / ("at%d.base" % moment))
+            node = self.node("at%d" % moment, program=PLAIN)
+            partner = Partner.of_process(node.start("stdio", stdin=subprocess.PIPE, env=dict(os.environ, LD_PRELOAD=shim, KILL_AT=str(moment))))
+            heard = self.play(partner, steps)
+            partner.process.wait(PATIENCE)
+            with contextlib.suppress(BrokenPipeError):
+                partner.rest()
+            if heard > 2:  # the turn after its message
+                self.assertEqual(node.inbox(), [theirs.row()], moment)
+            if heard > 4:  # FQ, which says that its FF came
+                self.assertEqual(node.states(), {b"1_US": FORWARDED}, moment)
+            if heard < 4:
+                self.assertEqual(node.states(), {b"1_US": WAITING}, moment)
+            if partner.process.returncode == DONE:
+                break
+        self.assertGreater(moment, 12)
+
+    def play(self, partner, steps):
+        """Gives how many of the node's turns were heard whole."""
+        for number, (heard, said) in enumerate(steps):
+            try:
+                partner.hears(heard)
+                partner.says(said)
+            except (AssertionError, BrokenPipeError):
+                return number
+        return len(steps)
 
     def test_told(self):
         "killed as soon as the partner hears the turn that follows its message: the message is in the base"
@@ -155,12 +201,11 @@ class Killed(Folder):
 
     def test_synced(self):
         "what a receive changed is synced to the disk before the next byte is given, and nothing is synced where nothing changed"
-        shim = self.folder / "synced.so"
-        subprocess.run(["cc", "-shared", "-fPIC", "-o", shim, ROOT / "tests" / "host" / "synced.c", "-ldl"], check=True)
+        shim = self.shim("synced")
         node, theirs = self.node(program=PLAIN).add(Message(b"1_US"), Message(b"2_US")), Message(b"1_T", b"x")
         read, write = os.pipe()
         os.dup2(write, 9)
-        process = node.start("stdio", stdin=subprocess.PIPE, pass_fds=[9], env=dict(os.environ, LD_PRELOAD=str(shim)))
+        process = node.start("stdio", stdin=subprocess.PIPE, pass_fds=[9], env=dict(os.environ, LD_PRELOAD=shim))
         os.close(write)
         os.close(9)
         partner = Partner.of_process(process)
@@ -176,5 +221,8 @@ class Killed(Folder):
         self.assertEqual(partner.ends()[0], DONE)
         with open(read, "rb") as events:
             order = events.read().decode()
-        # greeting, FS; the message is kept, our block; the decline, our transfer; the mark, FQ
-        self.assertRegex(order, r"^S*WWS{4,}WS{4,}WS{4,}W")
+        # The session's row; greeting, FS; the message is kept, our block; the decline, our transfer; the mark, FQ; the row's end.
+        self.assertRegex(order, r"^[PSD]*P+S[SD]*WWP+S+WP+S+WP+S+WP+S")
+        # Before bytes go onto the link, all that was written is synced; the log of the base is a new file, so its folder was synced too.
+        self.assertNotRegex(order, r"P[^S]*W")
+        self.assertIn("D", order.split("W")[0])

@@ -63,7 +63,8 @@ class Tcp(Folder):
                                (("call", "127.0.0.1:"), "not an address"), (("call", "127.0.0.1:port"), "127.0.0.1:port: "),
                                (("listen", str(taken.getsockname()[1])), "in use"), (("listen", "192.0.2.1:0"), "192.0.2.1:0: "),
                                (("serial", "/dev/none", "1200"), "/dev/none: No such file"), (("serial", self.folder / "file", "9600"), "file: "),
-                               (("serial", "/dev/tty", "300"), "1200 or 9600")]:
+                               (("serial", "/dev/tty", "300.5"), "300.5: no speed"), (("call", "127.0.0.1:65536"), "at most 65535"),
+                               (("listen", "65536"), "at most 65535"), (("listen", "99999999999999999999"), "at most 65535")]:
                 with self.subTest(words):
                     self.says_why(node.run(*words), BAD_PORT, why)
 
@@ -187,11 +188,18 @@ class Serial(Folder):
         self.addCleanup(os.close, slave)
         return master, slave
 
+    def opened(self, node, line, bits="9600", *options, **more):
+        """A process that has its line."""
+        process = node.start("serial", os.ttyname(line), bits, *options, **more)
+        said = process.stderr.readline().decode()
+        self.assertIn("open at %s bit/s" % bits, said)
+        return process
+
     def session(self, bits, speed):
         master, slave = self.terminal()
         theirs, ours = Message(b"%s_T" % bits.encode(), EVERY * 2), Message(b"%s_US" % bits.encode(), EVERY[::-1] * 2)
         node = self.node("node" + bits).add(ours)
-        partner = Partner.of_terminal(node.start("serial", os.ttyname(slave), bits), master)
+        partner = Partner.of_terminal(self.opened(node, slave, bits), master)
         partner.hears(GREETING)
         modes = termios.tcgetattr(slave)
         self.assertEqual((modes[4], modes[5]), (speed, speed))
@@ -208,15 +216,82 @@ class Serial(Folder):
         partner.hang_up()
 
     def test_speeds(self):
-        "a session at 1200 and at 9600 bit/s on a pseudo-terminal that was cooked, every byte value both ways"
-        self.session("1200", termios.B1200)
-        self.session("9600", termios.B9600)
+        "sessions from 300 to 230400 bit/s on a pseudo-terminal that was cooked, every byte value both ways"
+        for bits in ("300", "1200", "9600", "19200", "57600", "230400"):
+            self.session(bits, getattr(termios, "B" + bits))
+
+    def test_given_back(self):
+        "the line's mode is as it was, after a session, a dropped one and one that SIGTERM ended"
+        master, slave = self.terminal()
+        before = termios.tcgetattr(slave)
+        for number, (said, code) in enumerate(((b"[TST-1-F$]\rFF\r", DONE), (b"Hello\r", REFUSED), (b"", -15))):
+            partner = Partner.of_terminal(self.opened(self.node("node%d" % number), slave), master)
+            partner.hears(GREETING)
+            self.assertNotEqual(termios.tcgetattr(slave), before)
+            partner.write(said)
+            if code == -15:
+                partner.process.terminate()
+            self.assertEqual(partner.process.wait(PATIENCE), code)
+            self.assertEqual(termios.tcgetattr(slave), before, code)
+            partner.process.communicate()
+            termios.tcflush(master, termios.TCIOFLUSH)
+
+    def test_flow(self):
+        "--rtscts and only that switches hardware flow control on"
+        for options, flow in (((), 0), (("--rtscts",), termios.CRTSCTS)):
+            master, slave = self.terminal()
+            partner = Partner.of_terminal(self.opened(self.node("node%d" % len(options)), slave, "9600", *options), master)
+            partner.hears(GREETING)
+            self.assertEqual(termios.tcgetattr(slave)[2] & termios.CRTSCTS, flow)
+            partner.process.kill()
+            partner.process.communicate()
+
+    def test_locked(self):
+        "a second process doesn't get the line, and leaves the first its mode"
+        master, slave = self.terminal()
+        first = Partner.of_terminal(self.opened(self.node("first"), slave), master)
+        first.hears(GREETING)
+        mode = termios.tcgetattr(slave)
+        self.says_why(self.node("second").run("serial", os.ttyname(slave), "1200"), BAD_PORT, "in use by another process")
+        self.assertEqual(termios.tcgetattr(slave), mode)
+        first.process.kill()
+        first.process.communicate()
+        third = Partner.of_terminal(self.opened(self.node("third"), slave), master)
+        third.hears(GREETING)
+
+    def test_stale(self):
+        "what lay on the line before the node opened it is no part of the session"
+        master, slave = self.terminal()
+        tty.setraw(slave)
+        os.write(master, b"CONNECTED to F0FBB\rgarbage\r")
+        time.sleep(0.2)
+        partner = Partner.of_terminal(self.opened(self.node(), slave), master)
+        partner.hears(GREETING)
+        partner.says(PLAIN_SID + b"FF\r")
+        partner.hears(b"FQ\r")
+        self.assertEqual(partner.process.wait(PATIENCE), DONE)
+
+    def test_carrier(self):
+        "where the line has carrier, its loss is a dropped link"
+        shim, carrier = self.folder / "line.so", self.folder / "carrier"
+        subprocess.run(["cc", "-shared", "-fPIC", "-o", shim, ROOT / "tests" / "host" / "line.c", "-ldl"], check=True)
+        carrier.touch()
+        master, slave = self.terminal()
+        node = self.node(program=PLAIN)
+        partner = Partner.of_terminal(self.opened(node, slave, env=dict(os.environ, LD_PRELOAD=str(shim), LINE_CARRIER=str(carrier))), master)
+        partner.hears(GREETING)
+        partner.says(PLAIN_SID)
+        time.sleep(1)
+        self.assertIsNone(partner.process.poll())
+        carrier.unlink()
+        self.assertEqual(partner.process.wait(PATIENCE), LINK_DROPPED)
+        self.assertIn("the carrier is lost", partner.process.stderr.read().decode())
 
     def test_hang_up(self):
         "a serial line that goes away is a dropped link"
         master, slave = os.openpty()
         node = self.node()
-        partner = Partner.of_terminal(node.start("serial", os.ttyname(slave), "9600", "--caller"), master)
+        partner = Partner.of_terminal(self.opened(node, slave, "9600", "--caller"), master)
         partner.says(b"[TST-1-F$")
         while not select.select([], [master], [], 0)[1]:
             pass
@@ -231,8 +306,8 @@ class Serial(Folder):
         (left, left_line), (right, right_line) = self.terminal(), self.terminal()
         for line in (left_line, right_line):
             tty.setraw(line)
-        called = south.start("serial", os.ttyname(right_line), "9600", "--called")
-        caller = north.start("serial", os.ttyname(left_line), "9600", "--caller")
+        caller = self.opened(north, left_line, "9600", "--caller")
+        called = self.opened(south, right_line, "9600", "--called")
 
         def pass_on(from_, to):
             with contextlib.suppress(OSError):
@@ -247,3 +322,73 @@ class Serial(Folder):
             process.communicate()
         self.assertEqual((north.states(), south.states()), ({b"1_N": FORWARDED}, {b"1_S": FORWARDED}))
         self.assertEqual((south.inbox(), north.inbox()), ([Message(b"1_N", EVERY * 4).row()], [Message(b"1_S", EVERY).row()]))
+
+
+class Unsaid(Folder):
+    """What is said to the operator never goes onto the link."""
+
+    def inetd(self, node, *options, base=None, **more):
+        """As inetd starts it: one socket is standard input, output and error."""
+        near, far = socket.socketpair()
+        node.started.append(subprocess.Popen([node.program, base or node.path, "stdio", *options], stdin=near, stdout=near, stderr=near, **more))
+        near.close()
+        return Partner.of_socket(node.started[-1], far)
+
+    def test_inetd(self):
+        "with standard error on the socket only the protocol's bytes are sent, whatever happens"
+        node = self.node()
+        partner = self.inetd(node, "--transcript", "--progress")
+        partner.hears(GREETING)
+        partner.says(PLAIN_SID + b"FF\r")
+        partner.hears(b"FQ\r")
+        partner.hears_end()
+        partner = self.inetd(node)
+        partner.hears(GREETING)
+        partner.says(b"Hello\r")
+        partner.hears_end()
+        for options, base in ((("--nonsense",), None), ((), "/nowhere/base"), (("--transcript=/nowhere/air",), None), (("--timeout", "1"), "/dev/null")):
+            with self.subTest(options):
+                self.inetd(node, *options, base=base).hears_end()
+
+    def test_log(self):
+        "--log takes what is said instead"
+        node, log = self.node(), self.folder / "log"
+        partner = self.inetd(node, "--log", str(log))
+        partner.hears(GREETING)
+        partner.says(b"Hello\r")
+        partner.hears_end()
+        partner.process.wait(PATIENCE)
+        self.assertIn("refusal 3", log.read_text())
+        self.assertEqual(log.stat().st_mode & 0o77, 0)
+
+    def test_pipe(self):
+        "the same where standard output and error are one pipe, or the serial line itself is standard error"
+        node = self.node()
+        process = subprocess.Popen([node.program, node.path, "stdio"], stdin=subprocess.PIPE, stdout=subprocess.PIPE, stderr=subprocess.STDOUT)
+        node.started.append(process)
+        self.assertEqual(process.communicate(b"Hello\r", timeout=PATIENCE)[0], GREETING)
+        master, slave = os.openpty()
+        tty.setraw(slave)
+        process = subprocess.Popen([node.program, node.path, "serial", os.ttyname(slave), "9600"], stderr=slave)
+        node.started.append(process)
+        partner = Partner.of_terminal(process, master)
+        partner.hears(GREETING)
+        partner.says(b"Hello\r")
+        self.assertEqual(process.wait(PATIENCE), REFUSED)
+        os.close(slave)
+        partner.hears_end()
+
+    def test_closed(self):
+        "with standard descriptors closed no file or link of ours takes their place"
+        node = self.node().add(Message(b"1_US"))
+        for closed in ("2>&-", "2>&- 1>&-", "2>&- 1>&- 0<&-"):
+            with self.subTest(closed), socket.create_server(("127.0.0.1", 0)) as server:
+                server.settimeout(PATIENCE)
+                process = subprocess.Popen(["sh", "-c", 'exec "$0" "$1" call "$2" ' + closed, node.program, node.path, str(server.getsockname()[1])])
+                node.started.append(process)
+                partner = Partner.of_socket(process, server.accept()[0])
+                partner.says(b"Hello\r")
+                partner.hears_end()
+                self.assertEqual(process.wait(PATIENCE), REFUSED)
+        self.assertEqual(node.ask("PRAGMA integrity_check"), [("ok",)])
+        self.assertEqual(node.states(), {b"1_US": WAITING})

@@ -144,17 +144,24 @@ class Limits(Sessions):
             partner.says(b"FS " + b"=" * len(block) + b"\rFF\r")
 
     def test_64(self):
-        "a session takes the 64 oldest; with more, half of them plain and half packed"
+        "a session takes 64, the oldest first; with more, half of them plain and half packed"
         node = self.node().add(*[Message(b"%03d" % i, form="plain") for i in range(66)])
         self.assertEqual(self.proposed(node), [b"%03d" % i for i in range(64)])
-        node.ask("UPDATE outbox SET state = 1 WHERE number <= 60")
-        self.assertEqual(self.proposed(node), [b"%03d" % i for i in range(60, 66)])
-        node.ask("UPDATE outbox SET state = 0")
+        node.ask("UPDATE outbox SET deferred = 0")
         node.add(*[Message(b"P%03d" % i) for i in range(40)])
         self.assertEqual(self.proposed(node), [b"%03d" % i for i in range(32)])
         self.assertEqual(self.proposed(node, FRAMED_SID), [b"P%03d" % i for i in range(32)])
+        node.ask("UPDATE outbox SET deferred = 0")
         node.ask("UPDATE outbox SET state = 1 WHERE form = 1 AND number > 70")
         self.assertEqual(self.proposed(node), [b"%03d" % i for i in range(60)])
+
+    def test_deferred(self):
+        "what was deferred last time goes behind the others: nothing is starved, however often the partner defers all"
+        node = self.node().add(*[Message(b"%03d" % i, form="plain") for i in range(150)])
+        self.assertEqual(self.proposed(node), [b"%03d" % i for i in range(64)])
+        self.assertEqual(self.proposed(node), [b"%03d" % i for i in range(64, 128)])
+        self.assertEqual(self.proposed(node), [b"%03d" % i for i in [*range(128, 150), *range(42)]])
+        self.assertEqual(self.proposed(node), [b"%03d" % i for i in [*range(42, 64), *range(64, 106)]])
 
     def signs(self, node, *bids):
         partner = self.called(node)

@@ -48,7 +48,7 @@ class Node:
 
     def put(self, *messages):
         """Puts messages into the outbox."""
-        self.run("import", "-", given=b"".join(message.letter() for message in messages))
+        self.run("import", "-", "--as-is", given=b"".join(message.letter() for message in messages))
         return self
 
     def start(self, *words):

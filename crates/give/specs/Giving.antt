@@ -8,6 +8,7 @@ use Rattle.grammar.specs.Bytes.{Bytes}
 use Rattle.grammar.specs.Refusals.{badMemory}
 use Rattle.buffer.specs.Put.{putBytes, cut}
 use Rattle.session_memory.specs.State.{loadOf, saveOf}
+use Rattle.session_memory.specs.Setters.{withPos, withSay}
 use Rattle.session_memory.specs.declared.Session.{Session}
 use Rattle.waiting.specs.Waiting.{waitingOf}
 use Rattle.pending.specs.Pending.{hasToGive, silentOf}
@@ -28,13 +29,7 @@ reply answer place count = record { answer = answer; place = place; count = coun
 unfoldable pub handedOf : Session → ℕ → ℕ → Session
 handedOf s n total =
     cond (ltb (s .say .pos + n) total)
-    (record {
-      now = s .now;
-      say = record { first = s .say .first; then = s .say .then; pos = s .say .pos + n; signs = s .say .signs };
-      keep = s .keep;
-      reading = s .reading;
-      line = s .line;
-    })
+    (withSay (withPos (s .say .pos + n) (s .say)) s)
     (silentOf s)
 
 -- w: what waits, given bytes included; place and the room after it in the buffer

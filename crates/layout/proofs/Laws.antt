@@ -2,9 +2,9 @@
 use Prim.Native.Nat.{ℕ, zero, suc, _+_, _-_, _*_, _/_, _%_, _<_, _≤_, min}
 use mathlib.Core.Path.{_≡_, refl, sym, ap, _∙_}
 use mathlib.Core.Bool.{true}
-use mathlib.Core.List.{[], _∷_, _++_, append-assoc}
+use mathlib.Core.List.{[], _∷_, _++_, append-assoc, append-nil}
 use native.Mathlib.Omega.{arith}
-use native.Mathlib.Nat.{div-div-eq-div-mul}
+use native.Mathlib.Nat.{add-zero, div-div-eq-div-mul}
 use lib.ListN.{length, take, replicate, length-append, length-take, length-replicate}
 use lib.Seq.{length-take-le}
 use borrow.Author.Tests.{ltb-true}
@@ -17,9 +17,10 @@ use Rattle.mail.specs.Mail.{Message}
 use Rattle.mail.specs.Mail as mail
 use Rattle.buffer.specs.Put.{putBytes}
 use Rattle.buffer.proofs.Laws.{cursor}
-use Rattle.layout.specs.Layout.{byteAt, le2At, le4At, le8At, le2, le4, le8, fieldIn, fieldOut, entryAt, proposalOut, proposalOf, messageOf, bodyStart, bodyLength, entryOut, proposalSize, entrySize}
+use Rattle.places.specs.Places.{callMax, atMax, bidMax, headingMax, formAt, typeAt, fromAt, atAt, toAt, bidAt, fieldsSize, proposalSizeAt, proposalLen, entryLen, blockLen}
+use Rattle.layout.specs.Layout.{Fields, byteAt, le2At, le4At, le8At, le2, le4, le8, fieldIn, fieldOut, entryAt, fieldsAt, fieldsOut, proposalWith, proposalAt, proposalOut, proposalOf, messageWith, messageOf, bodyStart, bodyLength, entryOut, proposalSize, entrySize}
 use Rattle.layout.proofs.Writing.{field-padded}
-use Rattle.layout.proofs.Places.{le2-skip, le4-skip, part-skip, field-skip, part-in, byte-kept, field-kept, part-here, entry-written, entry-kept}
+use Rattle.layout.proofs.Places.{byte-later, le2-skip, le4-skip, le4-later, part-skip, field-skip, field-later, part-in, byte-kept, field-kept, part-here, entry-written, entry-kept}
 
 -- ---------------------------------------------------------------- numbers
 
@@ -82,12 +83,33 @@ field-here n w r h k =
     rw (← field-padded n n w h (omega arith), append-assoc w z r, e, f)
     (part-skip (length w ∷ []) (w ++ (z ++ r)) 1 refl 0 (length w) ∙ part-here w (z ++ r) (length w) refl)
 
--- ---------------------------------------------------------------- proposals
+-- ---------------------------------------------------------------- the fields of a message, from any place on
 
 form-back : (f : Form) → formIs (formNumber f) ≡ f
 form-back plain = refl
 form-back message = refl
 form-back file = refl
+
+same-fields : {f g : Form} {t u : ℕ} {a b c d w x y z : Bytes} → f ≡ g → t ≡ u → a ≡ w → b ≡ x → c ≡ y → d ≡ z
+    → _≡_ {A = Fields} (record { form = f; type = t; from = a; at = b; to = c; bid = d }) (record { form = g; type = u; from = w; at = x; to = y; bid = z })
+same-fields e₁ e₂ e₃ e₄ e₅ e₆ = rw (e₁, e₂, e₃, e₄, e₅, e₆)
+
+pub fields-length : (form type : ℕ) (from at to bid : Bytes) → length (fieldsOut form type from at to bid) ≡ fieldsSize
+fields-length form type from at to bid = simp (length-append, length-take, length-replicate) (omega arith)
+
+-- behind a piece l of k bytes
+pub fields-skip : (l r : Bytes) (k : ℕ) → length l ≡ k → (b : ℕ) → fieldsAt (k + b) (l ++ r) ≡ fieldsAt b r
+fields-skip l r k h b =
+    same-fields (ap formIs (byte-later l r k h b formAt)) (byte-later l r k h b typeAt) (field-later l r k h b fromAt callMax) (field-later l r k h b atAt atMax)
+    (field-later l r k h b toAt callMax) (field-later l r k h b bidAt bidMax)
+
+-- within the first k bytes of s, whatever stands after them
+pub fields-kept : (k : ℕ) (s r : Bytes) → k ≤ length s → (b : ℕ) → b + fieldsSize ≤ k → fieldsAt b (take k s ++ r) ≡ fieldsAt b s
+fields-kept k s r h b g =
+    same-fields (ap formIs (byte-kept k s r h (b + formAt) (omega arith))) (byte-kept k s r h (b + typeAt) (omega arith)) (field-kept k s r h (b + fromAt) callMax (omega arith))
+    (field-kept k s r h (b + atAt) atMax (omega arith)) (field-kept k s r h (b + toAt) callMax (omega arith)) (field-kept k s r h (b + bidAt) bidMax (omega arith))
+
+-- ---------------------------------------------------------------- proposals, in session memory or in a record
 
 -- what is written for a proposal
 abbrev pub written : Proposal → Bytes
@@ -95,103 +117,110 @@ written p = proposalOut (formNumber (p .form)) (p .type) (p .from) (p .at) (p .t
 
 -- its fields fit their places
 pub record Fits (p : Proposal) : Type 0 where
-  pub from : length (p .from) ≤ 6
-  pub at : length (p .at) ≤ 38
-  pub to : length (p .to) ≤ 6
-  pub bid : length (p .bid) ≤ 12
+  pub from : length (p .from) ≤ callMax
+  pub at : length (p .at) ≤ atMax
+  pub to : length (p .to) ≤ callMax
+  pub bid : length (p .bid) ≤ bidMax
   pub size : p .size < 4294967296
 
-pub proposal-length : (form type : ℕ) (from at to bid : Bytes) (size : ℕ) → length (proposalOut form type from at to bid size) ≡ 72
-proposal-length form type from at to bid size = simp (length-append, length-take, length-replicate) (omega arith)
+pub proposal-length : (form type : ℕ) (from at to bid : Bytes) (size : ℕ) → length (proposalOut form type from at to bid size) ≡ proposalLen
+proposal-length form type from at to bid size = length-append (fieldsOut form type from at to bid) (le4 size) ∙ (omega (arith, fields-length form type from at to bid))
 
-same-proposal : {f g : Form} {t u : ℕ} {a b c d w x y z : Bytes} {m n : ℕ} → f ≡ g → t ≡ u → a ≡ w → b ≡ x → c ≡ y → d ≡ z → m ≡ n
-    → _≡_ {A = Proposal} (record { form = f; type = t; from = a; at = b; to = c; bid = d; size = m })
-    (record { form = g; type = u; from = w; at = x; to = y; bid = z; size = n })
-same-proposal e₁ e₂ e₃ e₄ e₅ e₆ e₇ = rw (e₁, e₂, e₃, e₄, e₅, e₆, e₇)
+same-proposal : {f g : Fields} {m n : ℕ} → f ≡ g → m ≡ n → proposalWith f m ≡ proposalWith g n
+same-proposal e₁ e₂ = rw (e₁, e₂)
 
--- behind the two numbers, piece by piece
-pub proposal-back : (p : Proposal) → Fits p → proposalOf (written p) ≡ p
-proposal-back p h =
-    let n = le4 (p .size) in
-    let d = fieldOut 12 (p .bid) ++ n in
-    let c = fieldOut 6 (p .to) ++ d in
-    let b = fieldOut 38 (p .at) ++ c in
-    let a = fieldOut 6 (p .from) ++ b in
+-- first: behind the two numbers, piece by piece
+proposal-first : (p : Proposal) (r : Bytes) → Fits p → proposalAt 0 (written p ++ r) ≡ p
+proposal-first p r h =
+    let n = le4 (p .size) ++ r in
+    let d = fieldOut bidMax (p .bid) ++ n in
+    let c = fieldOut callMax (p .to) ++ d in
+    let b = fieldOut atMax (p .at) ++ c in
+    let a = fieldOut callMax (p .from) ++ b in
     let s : Bytes = formNumber (p .form) ∷ p .type ∷ [] in
-    let e : written p ≡ s ++ a = simp append-assoc in
-    let to-at : (i m : ℕ) → fieldIn m (2 + (7 + i)) (s ++ a) ≡ fieldIn m i b = λ i m. field-skip s a 2 refl (7 + i) m ∙ field-skip (fieldOut 6 (p .from)) b 7 (field-length 6 (p .from)) i m in
-    let to-to : (i m : ℕ) → fieldIn m (2 + (7 + (39 + i))) (s ++ a) ≡ fieldIn m i c = λ i m. to-at (39 + i) m ∙ field-skip (fieldOut 38 (p .at)) c 39 (field-length 38 (p .at)) i m in
-    let to-bid : (i m : ℕ) → fieldIn m (2 + (7 + (39 + (7 + i)))) (s ++ a) ≡ fieldIn m i d = λ i m. to-to (7 + i) m ∙ field-skip (fieldOut 6 (p .to)) d 7 (field-length 6 (p .to)) i m in
-    ap proposalOf e
-    ∙ (same-proposal (form-back (p .form)) refl
-    (field-skip s a 2 refl 0 6 ∙ field-here 6 (p .from) b (h .from) (omega arith))
-    (to-at 0 38 ∙ field-here 38 (p .at) c (h .at) (omega arith))
-    (to-to 0 6 ∙ field-here 6 (p .to) d (h .to) (omega arith))
-    (to-bid 0 12 ∙ field-here 12 (p .bid) n (h .bid) (omega arith))
-    (le4-skip s a 2 refl 66 ∙ le4-skip (fieldOut 6 (p .from)) b 7 (field-length 6 (p .from)) 59 ∙ le4-skip (fieldOut 38 (p .at)) c 39 (field-length 38 (p .at)) 20
-    ∙ le4-skip (fieldOut 6 (p .to)) d 7 (field-length 6 (p .to)) 13 ∙ le4-skip (fieldOut 12 (p .bid)) n 13 (field-length 12 (p .bid)) 0 ∙ le4-here (p .size) [] (h .size)))
+    let e : written p ++ r ≡ s ++ a = simp append-assoc in
+    let from-long = field-length callMax (p .from) in
+    let at-long = field-length atMax (p .at) in
+    let to-long = field-length callMax (p .to) in
+    let to-at : (i m : ℕ) → fieldIn m (2 + (7 + i)) (s ++ a) ≡ fieldIn m i b = λ i m. field-skip s a 2 refl (7 + i) m ∙ field-skip (fieldOut callMax (p .from)) b 7 from-long i m in
+    let to-to : (i m : ℕ) → fieldIn m (2 + (7 + (39 + i))) (s ++ a) ≡ fieldIn m i c = λ i m. to-at (39 + i) m ∙ field-skip (fieldOut atMax (p .at)) c 39 at-long i m in
+    let to-bid : (i m : ℕ) → fieldIn m (2 + (7 + (39 + (7 + i)))) (s ++ a) ≡ fieldIn m i d = λ i m. to-to (7 + i) m ∙ field-skip (fieldOut callMax (p .to)) d 7 to-long i m in
+    ap (proposalAt 0) e
+    ∙ same-proposal
+    (same-fields (form-back (p .form)) refl
+    (field-skip s a 2 refl 0 callMax ∙ field-here callMax (p .from) b (h .from) (omega arith))
+    (to-at 0 atMax ∙ field-here atMax (p .at) c (h .at) (omega arith))
+    (to-to 0 callMax ∙ field-here callMax (p .to) d (h .to) (omega arith))
+    (to-bid 0 bidMax ∙ field-here bidMax (p .bid) n (h .bid) (omega arith)))
+    (le4-skip s a 2 refl 66 ∙ le4-skip (fieldOut callMax (p .from)) b 7 from-long 59 ∙ le4-skip (fieldOut atMax (p .at)) c 39 at-long 20
+    ∙ le4-skip (fieldOut callMax (p .to)) d 7 to-long 13 ∙ le4-skip (fieldOut bidMax (p .bid)) n 13 (field-length bidMax (p .bid)) 0 ∙ le4-here (p .size) r (h .size))
+
+-- WHAT IS WRITTEN IS READ BACK, from any place on
+pub proposal-at : (l : Bytes) (b : ℕ) → length l ≡ b → (p : Proposal) (r : Bytes) → Fits p → proposalAt b (l ++ (written p ++ r)) ≡ p
+proposal-at l b n p r h =
+    let t = written p ++ r in
+    ap (λ (k : ℕ). proposalAt k (l ++ t)) (sym (add-zero b)) ∙ same-proposal (fields-skip l t b n 0) (le4-later l t b n 0 proposalSizeAt) ∙ proposal-first p r h
+
+pub proposal-back : (p : Proposal) → Fits p → proposalOf (written p) ≡ p
+proposal-back p h = ap proposalOf (sym (append-nil (written p))) ∙ proposal-first p [] h
 
 -- the same where it stands as entry i of a block of five; the others are as before
-module _ (block : Bytes) (i : ℕ) (n : length block ≡ 360) (k : i < 5) where
-  pub block-back : (p : Proposal) → Fits p → proposalOf (entryAt proposalSize (putBytes block (cursor (i * 72) 0) (written p)) i) ≡ p
+module _ (block : Bytes) (i : ℕ) (n : length block ≡ blockLen) (k : i < 5) where
+  pub block-back : (p : Proposal) → Fits p → proposalOf (entryAt proposalSize (putBytes block (cursor (i * proposalLen) 0) (written p)) i) ≡ p
   block-back p h =
-      ap proposalOf (entry-written 72 block i (written p) (proposal-length (formNumber (p .form)) (p .type) (p .from) (p .at) (p .to) (p .bid) (p .size)) (omega arith))
+      ap proposalOf (entry-written proposalLen block i (written p) (proposal-length (formNumber (p .form)) (p .type) (p .from) (p .at) (p .to) (p .bid) (p .size)) (omega arith))
       ∙ proposal-back p h
 
-  pub block-kept : (c : Bytes) → length c ≡ 72 → (j : ℕ) → (j ≡ i → ⊥)
-      → entryAt proposalSize (putBytes block (cursor (i * 72) 0) c) j ≡ entryAt proposalSize block j
-  block-kept c h j ne = entry-kept 72 block i c h (omega arith) j ne
+  pub block-kept : (c : Bytes) → length c ≡ proposalLen → (j : ℕ) → (j ≡ i → ⊥)
+      → entryAt proposalSize (putBytes block (cursor (i * proposalLen) 0) c) j ≡ entryAt proposalSize block j
+  block-kept c h j ne = entry-kept proposalLen block i c h (omega arith) j ne
 
 -- ---------------------------------------------------------------- messages of the inbox
 
-same-message : {f g : Form} {t u : ℕ} {a b c d h w x y z k : Bytes} (o : Bytes) → f ≡ g → t ≡ u → a ≡ w → b ≡ x → c ≡ y → d ≡ z → h ≡ k
-    → _≡_ {A = Message} (record { form = f; type = t; from = a; at = b; to = c; bid = d; heading = h; body = o })
-    (record { form = g; type = u; from = w; at = x; to = y; bid = z; heading = k; body = o })
-same-message o e₁ e₂ e₃ e₄ e₅ e₆ e₇ = rw (e₁, e₂, e₃, e₄, e₅, e₆, e₇)
+same-message : {f g : Fields} {h k : Bytes} (o : Bytes) → f ≡ g → h ≡ k → messageWith f h o ≡ messageWith g k o
+same-message o e₁ e₂ = rw (e₁, e₂)
 
 -- the message of a proposal's fields with a heading and a body
 abbrev pub withContent : Proposal → Bytes → Bytes → Message
 withContent p heading body = mail.messageOf p (record { heading = heading; body = body })
 
-module _ (c heading : Bytes) (start n : ℕ) (h : 68 ≤ length c) where
+module _ (c heading : Bytes) (start n : ℕ) (h : fieldsSize ≤ length c) where
   rest : Bytes
-  rest = fieldOut 80 heading ++ (le4 start ++ le2 n)
+  rest = fieldOut headingMax heading ++ (le4 start ++ le2 n)
 
-  fields : partOf c 0 68 ≡ take 68 c
-  fields = part-in c 0 68 h
+  fields : partOf c 0 fieldsSize ≡ take fieldsSize c
+  fields = part-in c 0 fieldsSize h
 
-  fields-length : length (take 68 c) ≡ 68
-  fields-length = length-take-le 68 c h
+  fields-long : length (take fieldsSize c) ≡ fieldsSize
+  fields-long = length-take-le fieldsSize c h
 
-  pub entry-length : length (entryOut c heading start n) ≡ 155
+  pub entry-length : length (entryOut c heading start n) ≡ entryLen
   entry-length = rw fields (simp (length-append, length-take, length-replicate) (omega arith))
 
-  pub message-back : (body : Bytes) → length heading ≤ 80 → messageOf (entryOut c heading start n) body ≡ withContent (proposalOf c) heading body
+  pub message-back : (body : Bytes) → length heading ≤ headingMax → messageOf (entryOut c heading start n) body ≡ withContent (proposalOf c) heading body
   unfolding rest
   message-back body k =
-      let f : (b m : ℕ) → b + 1 + m ≤ 68 → fieldIn m b (take 68 c ++ rest) ≡ fieldIn m b c = λ b m g. field-kept 68 c rest h b m g in
       ap (λ (l : Bytes). messageOf (l ++ rest) body) fields
-      ∙ same-message body (ap formIs (byte-kept 68 c rest h 0 (omega arith))) (byte-kept 68 c rest h 1 (omega arith))
-      (f 2 6 (omega arith)) (f 9 38 (omega arith)) (f 48 6 (omega arith)) (f 55 12 (omega arith))
-      (field-skip (take 68 c) rest 68 fields-length 0 80 ∙ field-here 80 heading (le4 start ++ le2 n) k (omega arith))
+      ∙ same-message body (fields-kept fieldsSize c rest h 0 (omega arith))
+      (field-skip (take fieldsSize c) rest fieldsSize fields-long 0 headingMax ∙ field-here headingMax heading (le4 start ++ le2 n) k (omega arith))
 
   pub start-back : start < 4294967296 → bodyStart (entryOut c heading start n) ≡ start
   unfolding rest
   start-back k =
       ap (λ (l : Bytes). bodyStart (l ++ rest)) fields
-      ∙ le4-skip (take 68 c) rest 68 fields-length 81 ∙ le4-skip (fieldOut 80 heading) (le4 start ++ le2 n) 81 (field-length 80 heading) 0 ∙ le4-here start (le2 n) k
+      ∙ le4-skip (take fieldsSize c) rest fieldsSize fields-long 81 ∙ le4-skip (fieldOut headingMax heading) (le4 start ++ le2 n) 81 (field-length headingMax heading) 0 ∙ le4-here start (le2 n) k
 
   pub length-back : n < 65536 → bodyLength (entryOut c heading start n) ≡ n
   unfolding rest
   length-back k =
       ap (λ (l : Bytes). bodyLength (l ++ rest)) fields
-      ∙ le2-skip (take 68 c) rest 68 fields-length 85 ∙ le2-skip (fieldOut 80 heading) (le4 start ++ le2 n) 81 (field-length 80 heading) 4
+      ∙ le2-skip (take fieldsSize c) rest fieldsSize fields-long 85 ∙ le2-skip (fieldOut headingMax heading) (le4 start ++ le2 n) 81 (field-length headingMax heading) 4
       ∙ le2-skip (le4 start) (le2 n) 4 refl 0 ∙ le2-here n [] k
 
 -- written as entry k of an inbox of m entries, it is read there, and the others are as before
-module _ (inbox : Bytes) (m k : ℕ) (c : Bytes) (n : length inbox ≡ m * 155) (h : k < m) (l : length c ≡ 155) where
-  pub inbox-back : entryAt entrySize (putBytes inbox (cursor (k * 155) 0) c) k ≡ c
-  inbox-back = entry-written 155 inbox k c l (omega arith)
+module _ (inbox : Bytes) (m k : ℕ) (c : Bytes) (n : length inbox ≡ m * entryLen) (h : k < m) (l : length c ≡ entryLen) where
+  pub inbox-back : entryAt entrySize (putBytes inbox (cursor (k * entryLen) 0) c) k ≡ c
+  inbox-back = entry-written entryLen inbox k c l (omega arith)
 
-  pub inbox-kept : (j : ℕ) → (j ≡ k → ⊥) → entryAt entrySize (putBytes inbox (cursor (k * 155) 0) c) j ≡ entryAt entrySize inbox j
-  inbox-kept j ne = entry-kept 155 inbox k c l (omega arith) j ne
+  pub inbox-kept : (j : ℕ) → (j ≡ k → ⊥) → entryAt entrySize (putBytes inbox (cursor (k * entryLen) 0) c) j ≡ entryAt entrySize inbox j
+  inbox-kept j ne = entry-kept entryLen inbox k c l (omega arith) j ne

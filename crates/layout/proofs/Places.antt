@@ -28,8 +28,8 @@ module _ (l r : Bytes) (k : ℕ) (h : length l ≡ k) where
   pub byte-skip : (b : ℕ) → byteAt (l ++ r) (k + b) ≡ byteAt r b
   byte-skip b = rw (← h) (getD-append-add l r b 0)
 
-  -- the same at a later byte of the number
-  byte-later : (b i : ℕ) → byteAt (l ++ r) (k + b + i) ≡ byteAt r (b + i)
+  -- the same at a later byte of the number, or of the entry
+  pub byte-later : (b i : ℕ) → byteAt (l ++ r) (k + b + i) ≡ byteAt r (b + i)
   byte-later b i = rw (add-assoc k b i) (byte-skip (b + i))
 
   pub le2-skip : (b : ℕ) → le2At (l ++ r) (k + b) ≡ le2At r b
@@ -50,6 +50,12 @@ module _ (l r : Bytes) (k : ℕ) (h : length l ≡ k) where
 
   pub field-skip : (b n : ℕ) → fieldIn n (k + b) (l ++ r) ≡ fieldIn n b r
   field-skip b n = rw (byte-skip b, add-assoc k b 1) (part-skip (b + 1) (min n (byteAt r b)))
+
+  pub le4-later : (b i : ℕ) → le4At (l ++ r) (k + b + i) ≡ le4At r (b + i)
+  le4-later b i = ap (le4At (l ++ r)) (add-assoc k b i) ∙ le4-skip (b + i)
+
+  pub field-later : (b i n : ℕ) → fieldIn n (k + b + i) (l ++ r) ≡ fieldIn n (b + i) r
+  field-later b i n = ap (λ (j : ℕ). fieldIn n j (l ++ r)) (add-assoc k b i) ∙ field-skip (b + i) n
 
 -- ---------------------------------------------------------------- within a piece p, whatever stands after it
 

@@ -1,27 +1,28 @@
--- 01, "Lent memory": the places in a record of the table, a known BID, a message of the inbox and a proposal in session memory. Entries
--- are bytes of one fixed size, numbers little end first, a field its length and then its bytes.
+-- 01, "Lent memory": what a record of the table, a known BID, a message of the inbox and a proposal in session memory hold, at the places of
+-- crates/places. Entries are bytes of one fixed size, numbers little end first, a field its length and then its bytes.
 use mathlib.Core.List.{[], _∷_, _++_}
 use Prim.Native.Nat.{ℕ, _+_, _*_, _/_, _%_, min}
 use lib.ListN.{length, getD, take, replicate}
 use Rattle.grammar.specs.Bytes.{Bytes}
-use Rattle.grammar.specs.Fields.{formIs}
+use Rattle.grammar.specs.Fields.{Form, formIs}
 use Rattle.grammar.specs.Turns.{Proposal}
 use Rattle.grammar.specs.Transfers.{partOf}
 use Rattle.mail.specs.Mail.{Record, Message}
+use Rattle.places.specs.Places.{callMax, atMax, bidMax, headingMax, formAt, typeAt, fromAt, atAt, toAt, bidAt, fieldsSize, proposalSizeAt, proposalLen, statesLen, recordTitle, recordTitleLength, recordName, recordNameLength, recordBody, recordBodyLength, recordLen, knownLen, entryHeading, entryBody, entryBodyLength, entryLen}
 
 -- ---------------------------------------------------------------- sizes of entries
 
 abbrev pub recordSize : ℕ
-recordSize = 89
+recordSize = recordLen
 
 abbrev pub knownSize : ℕ
-knownSize = 13
+knownSize = knownLen
 
 abbrev pub entrySize : ℕ
-entrySize = 155
+entrySize = entryLen
 
 abbrev pub proposalSize : ℕ
-proposalSize = 72
+proposalSize = proposalLen
 
 -- ---------------------------------------------------------------- numbers and fields
 
@@ -61,69 +62,81 @@ fieldOut n w = length w % 256 ∷ take n (w ++ replicate n 0)
 abbrev pub entryAt : ℕ → Bytes → ℕ → Bytes
 entryAt size s i = partOf s (i * size) size
 
--- A record: state 0, form 1, type 2, from 3, at 10, to 49, BID 56, size 69, title 73 and 77, name 78 and 82, body 83 and 87
-abbrev pub recordOf : Bytes → Bytes → Bytes → Bytes → Record
-recordOf titles names bodies c =
+-- ---------------------------------------------------------------- the fields of a message, wherever they begin
+
+pub record Fields : Type 0 where
+  pub form : Form
+  pub type : ℕ
+  pub from : Bytes
+  pub at : Bytes
+  pub to : Bytes
+  pub bid : Bytes
+
+-- Read from a place b on.
+abbrev pub fieldsAt : ℕ → Bytes → Fields
+fieldsAt b c =
     record {
-      form = formIs (byteAt c 1);
-      type = byteAt c 2;
-      from = fieldIn 6 3 c;
-      at = fieldIn 38 10 c;
-      to = fieldIn 6 49 c;
-      bid = fieldIn 12 56 c;
-      size = le4At c 69;
-      title = partOf titles (le4At c 73) (byteAt c 77);
-      name = partOf names (le4At c 78) (byteAt c 82);
-      body = partOf bodies (le4At c 83) (le2At c 87);
+      form = formIs (byteAt c (b + formAt));
+      type = byteAt c (b + typeAt);
+      from = fieldIn callMax (b + fromAt) c;
+      at = fieldIn atMax (b + atAt) c;
+      to = fieldIn callMax (b + toAt) c;
+      bid = fieldIn bidMax (b + bidAt) c;
     }
 
-abbrev pub stateOf : Bytes → ℕ → ℕ
-stateOf table i = byteAt table (i * recordSize)
-
--- A known BID: length 0, bytes 1
-abbrev pub knownOf : Bytes → Bytes
-knownOf c = fieldIn 12 0 c
-
--- The fields of a message, as a proposal in session memory and an inbox entry begin: form 0, type 1, from 2, at 9, to 48, BID 55.
--- A proposal: these, size 68
-abbrev pub proposalOf : Bytes → Proposal
-proposalOf c =
-    record {
-      form = formIs (byteAt c 0);
-      type = byteAt c 1;
-      from = fieldIn 6 2 c;
-      at = fieldIn 38 9 c;
-      to = fieldIn 6 48 c;
-      bid = fieldIn 12 55 c;
-      size = le4At c 68;
-    }
-
+-- Written.
 abbrev pub fieldsOut : ℕ → ℕ → Bytes → Bytes → Bytes → Bytes → Bytes
-fieldsOut form type from at to bid = form ∷ type ∷ (fieldOut 6 from ++ (fieldOut 38 at ++ (fieldOut 6 to ++ fieldOut 12 bid)))
+fieldsOut form type from at to bid = form ∷ type ∷ (fieldOut callMax from ++ (fieldOut atMax at ++ (fieldOut callMax to ++ fieldOut bidMax bid)))
+
+-- ---------------------------------------------------------------- a proposal: the fields, the announced size
+
+abbrev pub proposalWith : Fields → ℕ → Proposal
+proposalWith f size = record { form = f .form; type = f .type; from = f .from; at = f .at; to = f .to; bid = f .bid; size = size }
+
+abbrev pub proposalAt : ℕ → Bytes → Proposal
+proposalAt b c = proposalWith (fieldsAt b c) (le4At c (b + proposalSizeAt))
 
 abbrev pub proposalOut : ℕ → ℕ → Bytes → Bytes → Bytes → Bytes → ℕ → Bytes
 proposalOut form type from at to bid size = fieldsOut form type from at to bid ++ le4 size
 
--- An inbox entry: the fields, heading 68, body start 149 and length 153
+-- In session memory.
+abbrev pub proposalOf : Bytes → Proposal
+proposalOf c = proposalAt 0 c
+
+-- ---------------------------------------------------------------- a record: its state, a proposal's parts, title, name and body
+
+abbrev pub recordWith : Proposal → Bytes → Bytes → Bytes → Record
+recordWith p title name body =
+    record { form = p .form; type = p .type; from = p .from; at = p .at; to = p .to; bid = p .bid; size = p .size; title = title; name = name; body = body }
+
+abbrev pub recordOf : Bytes → Bytes → Bytes → Bytes → Record
+recordOf titles names bodies c =
+    recordWith (proposalAt statesLen c) (partOf titles (le4At c recordTitle) (byteAt c recordTitleLength))
+    (partOf names (le4At c recordName) (byteAt c recordNameLength)) (partOf bodies (le4At c recordBody) (le2At c recordBodyLength))
+
+abbrev pub stateOf : Bytes → ℕ → ℕ
+stateOf table i = byteAt table (i * recordSize)
+
+-- ---------------------------------------------------------------- a known BID
+
+abbrev pub knownOf : Bytes → Bytes
+knownOf c = fieldIn bidMax 0 c
+
+-- ---------------------------------------------------------------- an inbox entry: the fields, the heading, the body's start and length
+
+abbrev pub messageWith : Fields → Bytes → Bytes → Message
+messageWith f heading body =
+    record { form = f .form; type = f .type; from = f .from; at = f .at; to = f .to; bid = f .bid; heading = heading; body = body }
+
 abbrev pub messageOf : Bytes → Bytes → Message
-messageOf c body =
-    record {
-      form = formIs (byteAt c 0);
-      type = byteAt c 1;
-      from = fieldIn 6 2 c;
-      at = fieldIn 38 9 c;
-      to = fieldIn 6 48 c;
-      bid = fieldIn 12 55 c;
-      heading = fieldIn 80 68 c;
-      body = body;
-    }
+messageOf c body = messageWith (fieldsAt 0 c) (fieldIn headingMax entryHeading c) body
 
 abbrev pub bodyStart : Bytes → ℕ
-bodyStart c = le4At c 149
+bodyStart c = le4At c entryBody
 
 abbrev pub bodyLength : Bytes → ℕ
-bodyLength c = le2At c 153
+bodyLength c = le2At c entryBodyLength
 
 -- What is kept of a proposal c with its heading, and a body of n bytes from start on.
 abbrev pub entryOut : Bytes → Bytes → ℕ → ℕ → Bytes
-entryOut c heading start n = partOf c 0 68 ++ (fieldOut 80 heading ++ (le4 start ++ le2 n))
+entryOut c heading start n = partOf c 0 fieldsSize ++ (fieldOut headingMax heading ++ (le4 start ++ le2 n))

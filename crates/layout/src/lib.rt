@@ -4,13 +4,13 @@ ghost use mathlib.Core.Path.{_≡_};
 ghost use Rattle.layout.specs.Layout.{byteAt, fieldIn, entryAt};
 
 // The sizes of entries.
-pub const RECORD: u8 = 89;
+pub const RECORD: u8 = places::RECORD;
 
-pub const KNOWN: u8 = 13;
+pub const KNOWN: u8 = places::KNOWN;
 
-pub const ENTRY: u8 = 155;
+pub const ENTRY: u8 = places::ENTRY;
 
-pub const PROPOSAL: u8 = 72;
+pub const PROPOSAL: u8 = places::PROPOSAL;
 
 // The byte at a place; 0 past the end.
 pub fn byte_at(s: &[u8], at: usize) -> u8

@@ -10,6 +10,9 @@ ghost use lib.ListN.{length, take, drop};
 ghost use Rattle.buffer.specs.Put.{Puts};
 ghost use Rattle.layout.specs.Layout.{fieldOut, fieldsOut, proposalOut, entryOut};
 
+// The bytes of a message's fields.
+const FIELDS: usize = places::FIELDS as usize;
+
 // A field as it stands in an entry: its length, its bytes, zeros up to n bytes.
 fn put_field(buf: &mut [u8], c: Cursor, w: &[u8], n: u8) -> Cursor
     ensures { λ r. ⌜ Puts (now (buf .entry)) c (fieldOut n (now (w .entry))) r (now (buf .exit)) ⌝ }
@@ -40,10 +43,10 @@ fn put_fields(
 {
     let start = [form, kind];
     let c1 = buffer::put(buf, c, &start);
-    let c2 = put_field(buf, c1, from, 6);
-    let c3 = put_field(buf, c2, at, 38);
-    let c4 = put_field(buf, c3, to, 6);
-    put_field(buf, c4, bid, 12)
+    let c2 = put_field(buf, c1, from, places::CALL_MAX);
+    let c3 = put_field(buf, c2, at, places::AT_MAX);
+    let c4 = put_field(buf, c3, to, places::CALL_MAX);
+    put_field(buf, c4, bid, places::BID_MAX)
 }
 
 // A proposal in session memory.
@@ -76,8 +79,8 @@ pub fn put_entry(
 ) -> Cursor
     ensures { λ r. ⌜ Puts (now (buf .entry)) c (entryOut (now (proposal .entry)) (now (heading .entry)) start n) r (now (buf .exit)) ⌝ }
 {
-    let c1 = buffer::put(buf, c, part(proposal, 0, 68));
-    let c2 = put_field(buf, c1, heading, 80);
+    let c1 = buffer::put(buf, c, part(proposal, 0, FIELDS));
+    let c2 = put_field(buf, c1, heading, places::HEADING_MAX);
     let s = bytes4(start);
     let c3 = buffer::put(buf, c2, &s);
     let l = bytes2(n);

@@ -19,6 +19,7 @@ use Rattle.layout.specs.Layout.{byteAt, entryAt, proposalSize, proposalOut}
 use Rattle.transfer_step.specs.declared.Reader.{Reader}
 use Rattle.transfer_step.specs.Step.{startOf}
 use Rattle.session_memory.specs.State.{at, held, fiveOf, noFive}
+use Rattle.session_memory.specs.Setters.{withPhase, withFf, withCurrent, withProposals, withOurs, withFirst, withThen, withSigns, withFramed, withSending}
 use Rattle.session_memory.specs.declared.Five.{Five}
 use Rattle.session_memory.specs.declared.Await.{Await}
 use Rattle.session_memory.specs.declared.Say.{Say}
@@ -44,34 +45,34 @@ abbrev pub wentOn : Await → Say → Keep → Reader → Judged
 wentOn w y k r = judged 0 notOurTurn noMarks w y k r
 
 abbrev pub inPhase : ℕ → Await → Await
-inPhase p w = record { phase = p; ff = w .ff; current = w .current; proposals = w .proposals; ours = w .ours; block = w .block }
+inPhase p w = withPhase p w
 
 -- The partner's turn is awaited, with no line of it yet; ff: our turn just now was FF.
 abbrev pub toTurn : Bool → Await → Await
-toTurn ff w = record { phase = phaseTurn; ff = ff; current = w .current; proposals = 0; ours = w .ours; block = w .block }
+toTurn ff w = withPhase phaseTurn (withFf ff (withProposals 0 (w .block) w))
 
 -- The FS line on our records at these places is awaited.
 abbrev pub toAnswer : Five → Await → Await
-toAnswer places w = record { phase = phaseFs; ff = w .ff; current = w .current; proposals = w .proposals; ours = places; block = w .block }
+toAnswer places w = withPhase phaseFs (withOurs places w)
 
 -- The transfer of the proposal at this place of the block is awaited.
 abbrev pub toTransfer : ℕ → Await → Await
-toTransfer i w = record { phase = phaseTransfer; ff = w .ff; current = i; proposals = w .proposals; ours = w .ours; block = w .block }
+toTransfer i w = withPhase phaseTransfer (withCurrent i w)
 
 abbrev pub saysFirst : ℕ → Say → Say
-saysFirst n y = record { first = n; then = y .then; pos = y .pos; signs = y .signs }
+saysFirst n y = withFirst n y
 
 abbrev pub saysThen : ℕ → Say → Say
-saysThen n y = record { first = y .first; then = n; pos = y .pos; signs = y .signs }
+saysThen n y = withThen n y
 
 abbrev pub saysSigns : Five → Say → Say
-saysSigns f y = record { first = pieceSigns; then = y .then; pos = y .pos; signs = f }
+saysSigns f y = withFirst pieceSigns (withSigns f y)
 
 abbrev pub inMode : Bool → Keep → Keep
-inMode md k = record { framed = md; kept = k .kept; used = k .used; sending = k .sending; deferred = k .deferred }
+inMode md k = withFramed md k
 
 abbrev pub sends : Five → Bytes → Keep → Keep
-sends f flags k = record { framed = k .framed; kept = k .kept; used = k .used; sending = f; deferred = flags }
+sends f flags k = withSending f flags k
 
 -- ---------------------------------------------------------------- SID and text lines
 
@@ -121,14 +122,8 @@ endLine w y k r table known inbox store =
 
 abbrev pub withProposal : Proposal → Await → Await
 withProposal q w =
-    record {
-      phase = w .phase;
-      ff = w .ff;
-      current = w .current;
-      proposals = w .proposals + 1;
-      ours = w .ours;
-      block = putBytes (w .block) (at (w .proposals * proposalSize)) (proposalOut (formNumber (q .form)) (q .type) (q .from) (q .at) (q .to) (q .bid) (q .size));
-    }
+    withProposals (w .proposals + 1)
+    (putBytes (w .block) (at (w .proposals * proposalSize)) (proposalOut (formNumber (q .form)) (q .type) (q .from) (q .at) (q .to) (q .bid) (q .size))) w
 
 unfoldable pub proposalLine : Proposal → Await → Say → Keep → Reader → Judged
 proposalLine q w y k r = cond (ltb (w .proposals) blockLimit) (wentOn (withProposal q w) y k r) (refusal proposalCount w y k r)

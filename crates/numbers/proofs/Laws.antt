@@ -2,22 +2,22 @@
 use Prim.Native.Nat.{ℕ, suc, _+_, _-_, _<_, _≤_}
 use mathlib.Core.Path.{_≡_, refl, sym, ap, _∙_}
 use mathlib.Core.Bool.{Bool}
-use mathlib.Core.List.{[], _∷_, _++_, append-assoc, append-nil}
+use mathlib.Core.List.{[], _∷_, _++_}
 use native.Mathlib.Omega.{arith}
-use lib.ListN.{length, take, drop, getD, set, length-append, length-take, length-drop, take-append-drop, drop-of-length-le}
+use lib.ListN.{length, take, drop, getD, length-append, length-drop, take-append-drop}
 use lib.Dec.{eqb}
-use lib.Seq.{drop-at, drop-drop, take-all, length-take-le, take-append-le, take-take, getD-take, getD-drop}
+use lib.Seq.{drop-append-le, drop-at, drop-drop, take-add, take-all, length-take-le, take-append-le, take-take, getD-take, getD-drop}
 use Rattle.grammar.specs.Bytes.{Bytes}
 use Rattle.buffer.specs.Put.{putBytes}
+use Rattle.places.specs.Places.{numbersStart, numbersEnd, numbersLen, arraysAt, freeLen, deferredLen, headingLen, lineLen, blockLen, deferredAt, headingAt, lineAt, blockAt, arraysLen, arraysEnd, sessionLen}
 use Rattle.layout.specs.Layout.{byteAt, le2, le4, le8}
 use Rattle.layout.proofs.Places.{put-fits}
-use Rattle.session_memory.specs.State.{at, flag, fiveOut, arrayAt, fiveAt, loadOf, loadAwait, loadSay, loadKeep, loadReading, loadLine, smallOut, numbersOut, arraysOut, stateOut, saveOf}
+use Rattle.session_memory.specs.State.{at, flag, fiveOut, arrayAt, fiveAt, loadOf, loadAwait, loadSay, loadKeep, loadReading, loadLine, smallOut, numbersOut, arraysOut, numberPart, saveOf}
 use Rattle.session_memory.specs.declared.Five.{Five}
 use Rattle.session_memory.specs.declared.Say.{Say}
 use Rattle.transfer_step.specs.declared.Reader.{Reader}
-use Rattle.session_memory.proofs.Laws.{array-in, same-five, same-await, same-say, same-keep, same-reading, same-line, same-session}
+use Rattle.session_memory.proofs.Laws.{array-in, saved, same-five, same-await, same-say, same-keep, same-reading, same-line, same-session}
 use Rattle.region.specs.Region.{region, lent}
-use Rattle.region.proofs.Laws.{lent-length}
 use Rattle.numbers.specs.declared.AwaitNumbers.{AwaitNumbers}
 use Rattle.numbers.specs.declared.KeepNumbers.{KeepNumbers}
 use Rattle.numbers.specs.declared.LineNumbers.{LineNumbers}
@@ -69,65 +69,74 @@ pub same-numbers : {a b : AwaitNumbers} {c d : Say} {e f : KeepNumbers} {g h : R
     → _≡_ {A = Numbers} (record { now = a; say = c; keep = e; reader = g; line = i }) (record { now = b; say = d; keep = f; reader = h; line = j })
 same-numbers e₁ e₂ e₃ e₄ e₅ = rw (e₁, e₂, e₃, e₄, e₅)
 
--- an array of the whole memory is a region of its last 760 bytes
-array-region : (n b : ℕ) (sm : Bytes) → 116 + b + n ≤ length sm → arrayAt n sm (116 + b) ≡ region b n (drop 116 sm)
+-- an array of the whole memory is a region of the arrays' part
+region-in : (a n b k : ℕ) (m : Bytes) → b + k ≤ n → a + n ≤ length m → region b k (region a n m) ≡ take k (drop (a + b) m)
 unfolding region
-array-region n b sm h = array-in n sm (116 + b) h ∙ ap (take n) (sym (drop-drop b 116 sm))
+region-in a n b k m h l =
+    let x : Bytes = take n (drop a m) in
+    let y : Bytes = drop n (drop a m) in
+    let e : length x ≡ n = length-take-le n (drop a m) (simp length-drop (omega arith)) in
+    sym (take-append-le k (drop b x) y (simp length-drop (omega (arith, e)))) ∙ ap (take k) (sym (drop-append-le b x y (omega (arith, e))))
+    ∙ ap (λ (z : Bytes). take k (drop b z)) (take-append-drop n (drop a m)) ∙ ap (take k) (drop-drop b a m)
+
+array-region : (n b : ℕ) (sm : Bytes) → b + n ≤ arraysLen → arraysEnd ≤ length sm → arrayAt n sm (arraysAt + b) ≡ region b n (region arraysAt arraysLen sm)
+array-region n b sm h l = array-in n sm (arraysAt + b) (omega arith) ∙ sym (region-in arraysAt arraysLen b n sm h l)
 
 -- A LOAD IS THE NUMBERS AND THE ARRAYS
-pub load-whole : (sm : Bytes) → length sm ≡ 876 → loadOf sm ≡ wholeOf (numbersAt sm) (drop 116 sm)
+pub load-whole : (sm : Bytes) → length sm ≡ sessionLen → loadOf sm ≡ wholeOf (numbersAt sm) (region arraysAt arraysLen sm)
 unfolding loadOf loadAwait loadSay loadKeep loadReading loadLine wholeOf numbersAt awaitNumbers sayNumbers keepNumbers readerNumbers lineNumbers
 load-whole sm n =
-    rw (array-region 64 0 sm (omega arith), array-region 80 64 sm (omega arith), array-region 256 144 sm (omega arith), array-region 360 400 sm (omega arith))
+    rw (
+      array-region deferredLen deferredAt sm (omega arith) (omega arith),
+      array-region headingLen headingAt sm (omega arith) (omega arith),
+      array-region lineLen lineAt sm (omega arith) (omega arith),
+      array-region blockLen blockAt sm (omega arith) (omega arith),
+    )
 
 -- ---------------------------------------------------------------- written
 
-pub out-length : (h : Numbers) → length (numberBytes h) ≡ 56
+pub out-length : (h : Numbers) → length (numberBytes h) ≡ numbersLen
 unfolding numberBytes smallOut numbersOut
 out-length h = refl
 
 -- the arrays, one after the other, are the memory
-arrays-are : (h : Numbers) (m : Bytes) → length m ≡ 760 → arraysOut (wholeOf h m) ≡ m
+arrays-are : (h : Numbers) (m : Bytes) → length m ≡ arraysLen → arraysOut (wholeOf h m) ≡ m
 unfolding arraysOut wholeOf region
 arrays-are h m n =
-    let e₄ : take 360 (drop 400 m) ≡ drop 400 m = take-all 360 (drop 400 m) (simp length-drop (omega arith)) in
-    let e₃ : take 256 (drop 144 m) ++ drop 400 m ≡ drop 144 m = ap (λ (l : Bytes). take 256 (drop 144 m) ++ l) (sym (drop-drop 256 144 m)) ∙ take-append-drop 256 (drop 144 m) in
-    let e₂ : take 80 (drop 64 m) ++ drop 144 m ≡ drop 64 m = ap (λ (l : Bytes). take 80 (drop 64 m) ++ l) (sym (drop-drop 80 64 m)) ∙ take-append-drop 80 (drop 64 m) in
-    rw (e₄, e₃, e₂) (take-append-drop 64 m)
+    let e₄ : take blockLen (drop blockAt m) ≡ drop blockAt m = take-all blockLen (drop blockAt m) (simp length-drop (omega arith)) in
+    let e₃ : take lineLen (drop lineAt m) ++ drop blockAt m ≡ drop lineAt m =
+    ap (λ (l : Bytes). take lineLen (drop lineAt m) ++ l) (sym (drop-drop lineLen lineAt m)) ∙ take-append-drop lineLen (drop lineAt m) in
+    let e₂ : take headingLen (drop headingAt m) ++ drop lineAt m ≡ drop headingAt m =
+    ap (λ (l : Bytes). take headingLen (drop headingAt m) ++ l) (sym (drop-drop headingLen headingAt m)) ∙ take-append-drop headingLen (drop headingAt m) in
+    rw (e₄, e₃, e₂) (take-append-drop deferredLen m)
 
-state-is : (h : Numbers) (m : Bytes) → length m ≡ 760 → stateOut (wholeOf h m) ≡ numberBytes h ++ m
+numbers-same : (h : Numbers) (m : Bytes) → numberPart (wholeOf h m) ≡ numberBytes h
 unfolding numberBytes smallOut numbersOut wholeOf
-state-is h m n = ap (λ (l : Bytes). smallOut (wholeOf h m) ++ (numbersOut (wholeOf h m) ++ l)) (arrays-are h m n)
-
--- what was in the first 116 bytes but not in the first 60 does not matter
-first-60 : (sm w : Bytes) → length sm ≡ 876 → take 60 (lent 116 760 sm w) ≡ take 60 sm
-unfolding lent
-first-60 sm w n =
-    take-append-le 60 (take 116 sm) (w ++ drop 760 (drop 116 sm)) (simp length-take (omega arith)) ∙ take-take 60 116 sm (omega arith)
-
-after-116 : (sm w : Bytes) → length sm ≡ 876 → drop 116 (lent 116 760 sm w) ≡ w
-unfolding lent
-after-116 sm w n =
-    drop-at (take 116 sm) (w ++ drop 760 (drop 116 sm)) 116 (length-take-le 116 sm (omega arith))
-    ∙ ap (λ (l : Bytes). w ++ l) (drop-of-length-le (drop 116 sm) {i = 760} (simp length-drop (omega arith))) ∙ append-nil w
+numbers-same h m = refl
 
 -- SAVING THE NUMBERS, where w stands in the place of the arrays, SAVES THE WHOLE SESSION
-pub save-whole : (sm : Bytes) (h : Numbers) (w : Bytes) → length sm ≡ 876 → length w ≡ 760
-    → putBytes (lent 116 760 sm w) (at 60) (numberBytes h) ≡ saveOf sm (wholeOf h w)
-unfolding saveOf
+pub save-whole : (sm : Bytes) (h : Numbers) (w : Bytes) → length sm ≡ sessionLen → length w ≡ arraysLen
+    → putBytes (lent arraysAt arraysLen sm w) (at numbersStart) (numberBytes h) ≡ saveOf sm (wholeOf h w)
+unfolding lent
 save-whole sm h w n k =
     let o = out-length h in
-    let d : Bytes = lent 116 760 sm w in
-    let l : length d ≡ 876 = lent-length 116 760 sm w (omega arith) k ∙ n in
-    let p : length (stateOut (wholeOf h w)) ≡ 816 = ap length (state-is h w k) ∙ length-append (numberBytes h) w ∙ (omega arith) in
-    let e : 60 + length (numberBytes h) ≡ 116 = omega arith in
-    put-fits d 60 (numberBytes h) (omega arith)
-    ∙ ap (λ (x : Bytes). x ++ (numberBytes h ++ drop (60 + length (numberBytes h)) d)) (first-60 sm w n)
-    ∙ ap (λ (i : ℕ). take 60 sm ++ (numberBytes h ++ drop i d)) e
-    ∙ ap (λ (x : Bytes). take 60 sm ++ (numberBytes h ++ x)) (after-116 sm w n)
-    ∙ ap (λ (x : Bytes). take 60 sm ++ x) (sym (state-is h w k) ∙ sym (append-nil (stateOut (wholeOf h w))))
-    ∙ ap (λ (x : Bytes). take 60 sm ++ (stateOut (wholeOf h w) ++ x)) (sym (drop-of-length-le sm {i = 60 + length (stateOut (wholeOf h w))} (omega arith)))
-    ∙ sym (put-fits sm 60 (stateOut (wholeOf h w)) (omega arith))
+    let f : Bytes = take arraysAt sm in
+    let r : Bytes = w ++ drop arraysLen (drop arraysAt sm) in
+    let l : length f ≡ arraysAt = length-take-le arraysAt sm (omega arith) in
+    let z : length (f ++ r) ≡ sessionLen = simp (length-append, length-drop) (omega arith) in
+    let a = arrays-are h w k in
+    let front : take numbersStart (f ++ r) ≡ take numbersStart sm = take-append-le numbersStart f r (omega (arith, l)) ∙ take-take numbersStart arraysAt sm (omega arith) in
+    let mid : drop numbersEnd f ≡ take freeLen (drop numbersEnd sm) =
+    ap (drop numbersEnd) (take-add numbersEnd freeLen sm) ∙ drop-at (take numbersEnd sm) (take freeLen (drop numbersEnd sm)) numbersEnd (length-take-le numbersEnd sm (omega arith)) in
+    let back : drop numbersEnd (f ++ r) ≡ take freeLen (drop numbersEnd sm) ++ (w ++ drop arraysEnd sm) =
+    drop-append-le numbersEnd f r (omega (arith, l)) ∙ ap (λ (x : Bytes). x ++ r) mid ∙ ap (λ (x : Bytes). take freeLen (drop numbersEnd sm) ++ (w ++ x)) (drop-drop arraysLen arraysAt sm) in
+    put-fits (f ++ r) numbersStart (numberBytes h) (omega arith)
+    ∙ ap (λ (i : ℕ). take numbersStart (f ++ r) ++ (numberBytes h ++ drop i (f ++ r))) (ap (λ (i : ℕ). numbersStart + i) o)
+    ∙ ap (λ (x : Bytes). x ++ (numberBytes h ++ drop numbersEnd (f ++ r))) front
+    ∙ ap (λ (x : Bytes). take numbersStart sm ++ (numberBytes h ++ x)) back
+    ∙ ap (λ (x : Bytes). take numbersStart sm ++ (numberBytes h ++ (take freeLen (drop numbersEnd sm) ++ (x ++ drop arraysEnd sm)))) (sym a)
+    ∙ ap (λ (x : Bytes). take numbersStart sm ++ (x ++ (take freeLen (drop numbersEnd sm) ++ (arraysOut (wholeOf h w) ++ drop arraysEnd sm)))) (sym (numbers-same h w))
+    ∙ sym (saved sm (wholeOf h w) n (ap length a ∙ k))
 
 -- ---------------------------------------------------------------- the bytes of the numbers, from the bytes of each
 

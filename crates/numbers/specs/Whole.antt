@@ -1,11 +1,12 @@
--- A session is its numbers, which the code holds, and four arrays, which stay in session memory: m is its last 760 bytes.
-use mathlib.Core.List.{[], _++_}
+-- A session is its numbers, which the code holds, and four arrays, which stay in session memory: m is that part of it (crates/places, "the arrays of the state").
+use mathlib.Core.List.{[]}
 use Prim.Native.Nat.{ℕ}
 use lib.Dec.{eqb}
 use Rattle.grammar.specs.Bytes.{Bytes}
+use Rattle.places.specs.Places.{phaseAt, ffAt, framedAt, afterCrAt, firstAt, thenAt, keptAt, currentAt, proposalsAt, oursAt, sendingAt, signsAt, placeAt, lengthAt, headAt, offsetAt, sumAt, lineLengthAt, leftAt, bodyAt, posAt, usedAt, deferredAt, deferredLen, headingAt, headingLen, lineAt, lineLen, blockAt, blockLen}
 use Rattle.layout.specs.Layout.{byteAt, le2At, le4At, le8At}
 use Rattle.transfer_step.specs.declared.Reader.{Reader}
-use Rattle.session_memory.specs.State.{fiveAt, smallOut, numbersOut}
+use Rattle.session_memory.specs.State.{fiveAt, numberPart}
 use Rattle.session_memory.specs.declared.Await.{Await}
 use Rattle.session_memory.specs.declared.Say.{Say}
 use Rattle.session_memory.specs.declared.Keep.{Keep}
@@ -18,16 +19,16 @@ use Rattle.numbers.specs.declared.Numbers.{Numbers}
 
 -- where the arrays stand in m
 abbrev pub deferredIn : Bytes → Bytes
-deferredIn m = region 0 64 m
+deferredIn m = region deferredAt deferredLen m
 
 abbrev pub headingIn : Bytes → Bytes
-headingIn m = region 64 80 m
+headingIn m = region headingAt headingLen m
 
 abbrev pub lineIn : Bytes → Bytes
-lineIn m = region 144 256 m
+lineIn m = region lineAt lineLen m
 
 abbrev pub blockIn : Bytes → Bytes
-blockIn m = region 400 360 m
+blockIn m = region blockAt blockLen m
 
 abbrev pub awaitOf : AwaitNumbers → Bytes → Await
 awaitOf w block = record { phase = w .phase; ff = w .ff; current = w .current; proposals = w .proposals; ours = w .ours; block = block }
@@ -53,34 +54,34 @@ wholeOf h m = sessionOf h (deferredIn m) (headingIn m) (lineIn m) (blockIn m)
 -- ---------------------------------------------------------------- read
 
 unfoldable pub awaitNumbers : Bytes → AwaitNumbers
-awaitNumbers sm = record { phase = byteAt sm 60; ff = eqb (byteAt sm 61) 1; current = byteAt sm 67; proposals = byteAt sm 68; ours = fiveAt sm 69 }
+awaitNumbers sm = record { phase = byteAt sm phaseAt; ff = eqb (byteAt sm ffAt) 1; current = byteAt sm currentAt; proposals = byteAt sm proposalsAt; ours = fiveAt sm oursAt }
 
 unfoldable pub sayNumbers : Bytes → Say
-sayNumbers sm = record { first = byteAt sm 64; then = byteAt sm 65; pos = le8At sm 100; signs = fiveAt sm 81 }
+sayNumbers sm = record { first = byteAt sm firstAt; then = byteAt sm thenAt; pos = le8At sm posAt; signs = fiveAt sm signsAt }
 
 unfoldable pub keepNumbers : Bytes → KeepNumbers
-keepNumbers sm = record { framed = eqb (byteAt sm 62) 1; kept = byteAt sm 66; used = le8At sm 108; sending = fiveAt sm 75 }
+keepNumbers sm = record { framed = eqb (byteAt sm framedAt) 1; kept = byteAt sm keptAt; used = le8At sm usedAt; sending = fiveAt sm sendingAt }
 
 unfoldable pub readerNumbers : Bytes → Reader
 readerNumbers sm =
     record {
-      place = byteAt sm 87;
-      len = byteAt sm 88;
-      head = byteAt sm 89;
-      off = byteAt sm 90;
-      left = le2At sm 94;
-      sum = byteAt sm 91;
-      body = le4At sm 96;
+      place = byteAt sm placeAt;
+      len = byteAt sm lengthAt;
+      head = byteAt sm headAt;
+      off = byteAt sm offsetAt;
+      left = le2At sm leftAt;
+      sum = byteAt sm sumAt;
+      body = le4At sm bodyAt;
     }
 
 unfoldable pub lineNumbers : Bytes → LineNumbers
-lineNumbers sm = record { «after_cr» = eqb (byteAt sm 63) 1; len = le2At sm 92 }
+lineNumbers sm = record { «after_cr» = eqb (byteAt sm afterCrAt) 1; len = le2At sm lineLengthAt }
 
 unfoldable pub numbersAt : Bytes → Numbers
 numbersAt sm = record { now = awaitNumbers sm; say = sayNumbers sm; keep = keepNumbers sm; reader = readerNumbers sm; line = lineNumbers sm }
 
 -- ---------------------------------------------------------------- written
 
--- the first two parts of what a save writes; they don't look at the arrays
+-- what a save writes for the numbers; it doesn't look at the arrays
 unfoldable pub numberBytes : Numbers → Bytes
-numberBytes h = smallOut (sessionOf h [] [] [] []) ++ numbersOut (sessionOf h [] [] [] [])
+numberBytes h = numberPart (sessionOf h [] [] [] [])

@@ -1,4 +1,4 @@
-// The numbers of a session's state; its four arrays stay in session memory, from byte 116 on.
+// The numbers of a session's state; its four arrays stay in session memory.
 use buffer::Cursor;
 use number_write::bytes2;
 use number_write::bytes4;
@@ -10,6 +10,7 @@ ghost use mathlib.Core.Path.{_≡_};
 ghost use Prim.Native.Nat.{_+_, _<_, _≤_};
 ghost use lib.ListN.{length};
 ghost use Rattle.buffer.specs.Put.{putBytes};
+ghost use Rattle.places.specs.Places.{numbersStart, sessionLen};
 ghost use Rattle.layout.specs.Layout.{byteAt, le2At, le4At, le8At};
 ghost use Rattle.session_memory.specs.State.{at, flag, fiveAt};
 ghost use Rattle.numbers.specs.Whole.{awaitNumbers, sayNumbers, keepNumbers, readerNumbers, lineNumbers, numbersAt, numberBytes};
@@ -103,74 +104,74 @@ fn five(s: &[u8], i: usize) -> Five
 
 // What is awaited.
 fn load_await(sm: &[u8]) -> AwaitNumbers
-    requires { ⌜ length (now sm) ≡ 876 ⌝ }
+    requires { ⌜ length (now sm) ≡ sessionLen ⌝ }
     ensures { λ r. ⌜ r ≡ awaitNumbers (now (sm .entry)) ⌝ }
 {
     AwaitNumbers {
-        phase: byte(sm, 60),
-        ff: byte(sm, 61) == 1,
-        current: byte(sm, 67),
-        proposals: byte(sm, 68),
-        ours: five(sm, 69),
+        phase: byte(sm, places::PHASE),
+        ff: byte(sm, places::FF) == 1,
+        current: byte(sm, places::CURRENT),
+        proposals: byte(sm, places::PROPOSALS),
+        ours: five(sm, places::OURS),
     }
 }
 
 // What waits for give.
 fn load_say(sm: &[u8]) -> Say
-    requires { ⌜ length (now sm) ≡ 876 ⌝ }
+    requires { ⌜ length (now sm) ≡ sessionLen ⌝ }
     ensures { λ r. ⌜ r ≡ sayNumbers (now (sm .entry)) ⌝ }
 {
     Say {
-        first: byte(sm, 64),
-        then: byte(sm, 65),
-        pos: eight(sm, 100),
-        signs: five(sm, 81),
+        first: byte(sm, places::FIRST),
+        then: byte(sm, places::THEN),
+        pos: eight(sm, places::POS),
+        signs: five(sm, places::SIGNS),
     }
 }
 
 // What is kept and sent.
 fn load_keep(sm: &[u8]) -> KeepNumbers
-    requires { ⌜ length (now sm) ≡ 876 ⌝ }
+    requires { ⌜ length (now sm) ≡ sessionLen ⌝ }
     ensures { λ r. ⌜ r ≡ keepNumbers (now (sm .entry)) ⌝ }
 {
     KeepNumbers {
-        framed: byte(sm, 62) == 1,
-        kept: byte(sm, 66),
-        used: eight(sm, 108),
-        sending: five(sm, 75),
+        framed: byte(sm, places::FRAMED) == 1,
+        kept: byte(sm, places::KEPT),
+        used: eight(sm, places::USED),
+        sending: five(sm, places::SENDING),
     }
 }
 
 // The transfer under way.
 fn load_reader(sm: &[u8]) -> Reader
-    requires { ⌜ length (now sm) ≡ 876 ⌝ }
+    requires { ⌜ length (now sm) ≡ sessionLen ⌝ }
     ensures { λ r. ⌜ r ≡ readerNumbers (now (sm .entry)) ⌝ }
 {
     Reader {
-        place: byte(sm, 87),
-        len: byte(sm, 88),
-        head: byte(sm, 89),
-        off: byte(sm, 90),
-        left: two(sm, 94),
-        sum: byte(sm, 91),
-        body: four(sm, 96),
+        place: byte(sm, places::PLACE),
+        len: byte(sm, places::LENGTH),
+        head: byte(sm, places::HEAD),
+        off: byte(sm, places::OFFSET),
+        left: two(sm, places::LEFT),
+        sum: byte(sm, places::SUM),
+        body: four(sm, places::BODY),
     }
 }
 
 // The line under way.
 fn load_line(sm: &[u8]) -> LineNumbers
-    requires { ⌜ length (now sm) ≡ 876 ⌝ }
+    requires { ⌜ length (now sm) ≡ sessionLen ⌝ }
     ensures { λ r. ⌜ r ≡ lineNumbers (now (sm .entry)) ⌝ }
 {
     LineNumbers {
-        after_cr: byte(sm, 63) == 1,
-        len: two(sm, 92),
+        after_cr: byte(sm, places::AFTER_CR) == 1,
+        len: two(sm, places::LINE_LENGTH),
     }
 }
 
 // The numbers in session memory.
 pub fn load(sm: &[u8]) -> Numbers
-    requires { ⌜ length (now sm) ≡ 876 ⌝ }
+    requires { ⌜ length (now sm) ≡ sessionLen ⌝ }
     ensures { λ r. ⌜ r ≡ numbersAt (now (sm .entry)) ⌝ }
 {
     Numbers {
@@ -264,8 +265,15 @@ fn as_bytes(h: Numbers) -> [u8; 56]
 
 // The numbers into session memory.
 pub fn save(sm: &mut [u8], h: Numbers)
-    ensures { λ _. ⌜ now (sm .exit) ≡ putBytes (now (sm .entry)) (at 60) (numberBytes h) ⌝ }
+    ensures { λ _. ⌜ now (sm .exit) ≡ putBytes (now (sm .entry)) (at numbersStart) (numberBytes h) ⌝ }
 {
     let a = as_bytes(h);
-    let _c = buffer::put(sm, Cursor { at: 60, skip: 0 }, &a);
+    let _c = buffer::put(
+        sm,
+        Cursor {
+            at: places::NUMBERS,
+            skip: 0,
+        },
+        &a,
+    );
 }

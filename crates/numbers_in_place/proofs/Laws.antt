@@ -53,13 +53,13 @@ module _ (sm : Bytes) (n : length sm ≡ sessionLen) (small : (i : ℕ) → byte
       ∙ ap (λ (x : Bytes). pieces a (bytesFrom sm oursAt 6) (bytesFrom sm sendingAt 6) x r l f b p u) (five-back sm signsAt (omega arith))
 
   -- the phase is as it was
-  phase-stays : (l : Bytes) → sets sm places.numbersAt (phase ∷ l) ≡ sets sm ffAt l
-  phase-stays l = skipped 1 places.numbersAt sm sm l (agrees-same places.numbersAt sm)
+  phase-stays : (l : Bytes) → sets sm places.numbersStart (phase ∷ l) ≡ sets sm ffAt l
+  phase-stays l = skipped 1 places.numbersStart sm sm l (agrees-same places.numbersStart sm)
 
   -- the numbers h saved are these bytes written from the flags on
-  saved-as : (h : Numbers) (l : Bytes) → numberBytes h ≡ phase ∷ l → putBytes sm (at places.numbersAt) (numberBytes h) ≡ sets sm ffAt l
+  saved-as : (h : Numbers) (l : Bytes) → numberBytes h ≡ phase ∷ l → putBytes sm (at places.numbersStart) (numberBytes h) ≡ sets sm ffAt l
   saved-as h l e =
-      put-sets sm places.numbersAt (numberBytes h) (omega (arith, out-length h)) ∙ ap (sets sm places.numbersAt) e ∙ phase-stays l
+      put-sets sm places.numbersStart (numberBytes h) (omega (arith, out-length h)) ∙ ap (sets sm places.numbersStart) e ∙ phase-stays l
 
   -- ---------------------------------------------------------------- the line
 
@@ -91,7 +91,7 @@ module _ (sm : Bytes) (n : length sm ≡ sessionLen) (small : (i : ℕ) → byte
   written-after [] i k m h a = a
   written-after (x ∷ l) i k m h a = written-after l (suc i) k (set m i x) (omega arith) (agrees-set k i x m sm (omega arith) a)
 
-  pub line-saved : (k : ℕ) → sets flagged lineLengthAt (le2 k) ≡ putBytes sm (at places.numbersAt) (numberBytes (withLine k (numbersAt sm)))
+  pub line-saved : (k : ℕ) → sets flagged lineLengthAt (le2 k) ≡ putBytes sm (at places.numbersStart) (numberBytes (withLine k (numbersAt sm)))
   line-saved k =
       sym
       (saved-as (withLine k (numbersAt sm)) (ff ∷ framed ∷ 0 ∷ (bytesFrom sm firstAt 28 ++ (le2 k ++ (bytesFrom sm leftAt 22 ++ [])))) (line-bytes k)
@@ -121,7 +121,7 @@ module _ (sm : Bytes) (n : length sm ≡ sessionLen) (small : (i : ℕ) → byte
       ∙ ap (λ (x : Bytes). pieces a o d g (small-out r) (bytesFrom sm lineLengthAt 2) (le2 (r .left)) (le4 (r .body)) (bytesFrom sm posAt 8) x) (le8-back sm small usedAt)
 
   pub reader-saved : (r : Reader) → sets (sets flagged placeAt (small-out r)) leftAt (sizes-out r)
-      ≡ putBytes sm (at places.numbersAt) (numberBytes (withReader r (numbersAt sm)))
+      ≡ putBytes sm (at places.numbersStart) (numberBytes (withReader r (numbersAt sm)))
   reader-saved r =
       let m : Bytes = sets flagged placeAt (small-out r) in
       let k : Bytes = bytesFrom sm posAt 16 ++ [] in
@@ -155,7 +155,7 @@ module _ (sm : Bytes) (n : length sm ≡ sessionLen) (small : (i : ℕ) → byte
 
   -- the flags and the pieces from their place on, then how many bytes are given
   pub say-saved : (first then pos : ℕ) → sets (sets sm ffAt (ff ∷ framed ∷ after-cr ∷ first ∷ then ∷ [])) posAt (le8 pos)
-      ≡ putBytes sm (at places.numbersAt) (numberBytes (withSay first then pos (numbersAt sm)))
+      ≡ putBytes sm (at places.numbersStart) (numberBytes (withSay first then pos (numbersAt sm)))
   say-saved first then pos =
       let w : Bytes = ff ∷ framed ∷ after-cr ∷ first ∷ then ∷ [] in
       let m : Bytes = sets sm ffAt w in
@@ -168,7 +168,7 @@ module _ (sm : Bytes) (n : length sm ≡ sessionLen) (small : (i : ℕ) → byte
 
   -- the same by two writes
   pub say-put : (first then pos : ℕ) → putBytes (putBytes sm (at ffAt) (ff ∷ framed ∷ after-cr ∷ first ∷ then ∷ [])) (at posAt) (le8 pos)
-      ≡ putBytes sm (at places.numbersAt) (numberBytes (withSay first then pos (numbersAt sm)))
+      ≡ putBytes sm (at places.numbersStart) (numberBytes (withSay first then pos (numbersAt sm)))
   say-put first then pos =
       let w : Bytes = ff ∷ framed ∷ after-cr ∷ first ∷ then ∷ [] in
       let l : length (sets sm ffAt w) ≡ length sm = length-sets sm ffAt w in
@@ -184,13 +184,13 @@ module _ (sm : Bytes) (n : length sm ≡ sessionLen) (small : (i : ℕ) → byte
     starts = ap (λ (x : ℕ). set (set (set sm ffAt x) framedAt g) afterCrAt 0) e ∙ ap (λ (x : ℕ). set (set (set sm ffAt ff) framedAt x) afterCrAt 0) h
 
     pub line-put : (k : ℕ) (l : Bytes) → l ≡ le2 k
-        → set (set started lineLengthAt (getD l 0 0)) (lineLengthAt + 1) (getD l 1 0) ≡ putBytes sm (at places.numbersAt) (numberBytes (withLine k (numbersAt sm)))
+        → set (set started lineLengthAt (getD l 0 0)) (lineLengthAt + 1) (getD l 1 0) ≡ putBytes sm (at places.numbersStart) (numberBytes (withLine k (numbersAt sm)))
     line-put k l d =
         ap (λ (x : Bytes). set (set started lineLengthAt (getD x 0 0)) (lineLengthAt + 1) (getD x 1 0)) d ∙ ap (λ (x : Bytes). sets x lineLengthAt (le2 k)) starts ∙ line-saved k
 
     pub reader-put : (r : Reader) (l b : Bytes) → l ≡ le2 (r .left) → b ≡ le4 (r .body)
         → sets (sets started placeAt (small-out r)) leftAt (getD l 0 0 ∷ getD l 1 0 ∷ getD b 0 0 ∷ getD b 1 0 ∷ getD b 2 0 ∷ getD b 3 0 ∷ [])
-        ≡ putBytes sm (at places.numbersAt) (numberBytes (withReader r (numbersAt sm)))
+        ≡ putBytes sm (at places.numbersStart) (numberBytes (withReader r (numbersAt sm)))
     reader-put r l b d i =
         let m : Bytes = sets started placeAt (small-out r) in
         ap (λ (x : Bytes). sets m leftAt (getD x 0 0 ∷ getD x 1 0 ∷ getD b 0 0 ∷ getD b 1 0 ∷ getD b 2 0 ∷ getD b 3 0 ∷ [])) d

@@ -25,7 +25,7 @@ fn flag(b: u8) -> u8
 // The line under way has len bytes, and the last byte was no CR.
 pub fn put_line(sm: &mut [u8], len: usize)
     requires { ⌜ length (now sm) ≡ sessionLen ⌝ }
-    ensures { λ _. ⌜ now (sm .exit) ≡ putBytes (now (sm .entry)) (at places.numbersAt) (numberBytes (withLine len (numbersAt (now (sm .entry))))) ⌝ }
+    ensures { λ _. ⌜ now (sm .exit) ≡ putBytes (now (sm .entry)) (at places.numbersStart) (numberBytes (withLine len (numbersAt (now (sm .entry))))) ⌝ }
 {
     let ff = flag(sm[places::FF]);
     let framed = flag(sm[places::FRAMED]);
@@ -40,7 +40,7 @@ pub fn put_line(sm: &mut [u8], len: usize)
 // The transfer under way is read so far, and the last byte was no CR.
 pub fn put_reader(sm: &mut [u8], r: Reader)
     requires { ⌜ length (now sm) ≡ sessionLen ⌝ }
-    ensures { λ _. ⌜ now (sm .exit) ≡ putBytes (now (sm .entry)) (at places.numbersAt) (numberBytes (withReader r (numbersAt (now (sm .entry))))) ⌝ }
+    ensures { λ _. ⌜ now (sm .exit) ≡ putBytes (now (sm .entry)) (at places.numbersStart) (numberBytes (withReader r (numbersAt (now (sm .entry))))) ⌝ }
 {
     let ff = flag(sm[places::FF]);
     let framed = flag(sm[places::FRAMED]);

@@ -10,6 +10,7 @@ use Rattle.grammar.specs.Fields.{formIs, isCall, isAt, isBid, isHeading, isBody
 use Rattle.grammar.specs.Turns.{isType}
 use Rattle.grammar.specs.Transfers.{partOf}
 use Rattle.session.specs.Choices.{among}
+use Rattle.places.specs.Places.{atMax, bidMax, callMax, recordAt, recordBid, recordBody, recordBodyLength, recordForm, recordFrom, recordName, recordNameLength, recordSizeAt, recordTitle, recordTitleLength, recordTo, recordType}
 use Rattle.layout.specs.Layout.{byteAt, le2At, le4At, fieldIn, entryAt, recordSize, knownSize, entrySize}
 use Rattle.session_memory.specs.State.{sessionSize, saveOf, saveSizes, freshOf}
 use Rattle.entries.specs.Decoded.{entries, recordCount, knownCount}
@@ -25,13 +26,13 @@ lengthOk c at n = leb (byteAt c at) n
 
 -- "a state (0 waiting, 1 forwarded, 2 declined)", "a form (0 .., 1 .., 2 ..)", "a type (P or B)", "announced size 0 to 999,999"
 unfoldable pub numbersOk : Bytes → Bool
-numbersOk c = leb (byteAt c 0) 2 && (leb (byteAt c 1) 2 && (isType (byteAt c 2) && leb (le4At c 69) 999999))
+numbersOk c = leb (byteAt c 0) 2 && (leb (byteAt c recordForm) 2 && (isType (byteAt c recordType) && leb (le4At c recordSizeAt) 999999))
 
 -- "from, at, to, BID"
 unfoldable pub fieldsOk : Bytes → Bool
 fieldsOk c =
-    (lengthOk c 3 6 && isCall (fieldIn 6 3 c)) && ((lengthOk c 10 38 && isAt (fieldIn 38 10 c))
-    && ((lengthOk c 49 6 && isCall (fieldIn 6 49 c)) && (lengthOk c 56 12 && isBid (fieldIn 12 56 c))))
+    (lengthOk c recordFrom callMax && isCall (fieldIn callMax recordFrom c)) && ((lengthOk c recordAt atMax && isAt (fieldIn atMax recordAt c))
+    && ((lengthOk c recordTo callMax && isCall (fieldIn callMax recordTo c)) && (lengthOk c recordBid bidMax && isBid (fieldIn bidMax recordBid c))))
 
 -- "Title, name and body are a start and a length in three lent stores."
 unfoldable pub within : Bytes → ℕ → ℕ → Bool
@@ -43,8 +44,8 @@ headingOk s start len needed = within s start len && cond (eqb len 0) (not neede
 
 unfoldable pub textsOk : Bytes → Bytes → Bytes → Bytes → Bool
 textsOk c titles names bodies =
-    headingOk titles (le4At c 73) (byteAt c 77) (not (eqb (byteAt c 1) 2)) && (headingOk names (le4At c 78) (byteAt c 82) (eqb (byteAt c 1) 2)
-    && (within bodies (le4At c 83) (le2At c 87) && isBody (formIs (byteAt c 1)) (partOf bodies (le4At c 83) (le2At c 87))))
+    headingOk titles (le4At c recordTitle) (byteAt c recordTitleLength) (not (eqb (byteAt c recordForm) 2)) && (headingOk names (le4At c recordName) (byteAt c recordNameLength) (eqb (byteAt c recordForm) 2)
+    && (within bodies (le4At c recordBody) (le2At c recordBodyLength) && isBody (formIs (byteAt c recordForm)) (partOf bodies (le4At c recordBody) (le2At c recordBodyLength))))
 
 unfoldable pub recordOk : Bytes → Bytes → Bytes → Bytes → Bool
 recordOk c titles names bodies = numbersOk c && (fieldsOk c && textsOk c titles names bodies)
@@ -53,7 +54,7 @@ recordOk c titles names bodies = numbersOk c && (fieldsOk c && textsOk c titles 
 unfoldable pub placeOk : Bytes → Bytes → Bytes → Bytes → ℕ → Bool
 placeOk table titles names bodies i =
     recordOk (entryAt recordSize table i) titles names bodies
-    && not (among (fieldIn 12 56 (entryAt recordSize table i)) (entries (fieldIn 12 56) recordSize table i))
+    && not (among (fieldIn bidMax recordBid (entryAt recordSize table i)) (entries (fieldIn bidMax recordBid) recordSize table i))
 
 -- The first bad one of n records from place i on; 255 where there is none.
 abbrev pub faultFrom : Bytes → Bytes → Bytes → Bytes → ℕ → ℕ → ℕ
@@ -70,7 +71,7 @@ tableFault table titles names bodies = faultFrom table titles names bodies 0 (re
 abbrev pub bidsOk : Bytes → ℕ → ℕ → Bool
 bidsOk known i zero = true
 bidsOk known i (suc n) =
-    (lengthOk (entryAt knownSize known i) 0 12 && isBid (fieldIn 12 0 (entryAt knownSize known i))) && bidsOk known (suc i) n
+    (lengthOk (entryAt knownSize known i) 0 bidMax && isBid (fieldIn bidMax 0 (entryAt knownSize known i))) && bidsOk known (suc i) n
 
 unfoldable pub knownOk : Bytes → Bool
 knownOk known = bidsOk known 0 (knownCount known)

@@ -1,6 +1,7 @@
 -- Whether bytes wait for give, and whether the session has ended, as session memory says it.
 use mathlib.Core.Bool.{Bool, true, false, cond, not}
 use lib.Dec.{eqb, ltb}
+use Rattle.session_memory.specs.Setters.{withFirst, withThen, withPos, withSay}
 use Rattle.session_memory.specs.declared.Say.{Say}
 use Rattle.session_memory.specs.declared.Session.{Session}
 
@@ -18,11 +19,4 @@ hasToGive s = cond (overOf s) false (waits (s .say))
 
 -- Nothing waits any more.
 unfoldable pub silentOf : Session → Session
-silentOf s =
-    record {
-      now = s .now;
-      say = record { first = 0; then = 0; pos = 0; signs = s .say .signs };
-      keep = s .keep;
-      reading = s .reading;
-      line = s .line;
-    }
+silentOf s = withSay (withFirst 0 (withThen 0 (withPos 0 (s .say)))) s

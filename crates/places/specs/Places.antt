@@ -1,28 +1,5 @@
 -- Where each thing lies in lent memory, and how long it is (docs/MEMORY.md has the same as tables).
-use Prim.Native.Nat.{ℕ, _+_}
-
--- ---------------------------------------------------------------- The fields of a message, from where they begin; a proposal and an inbox entry begin with them, a record after its state
-
-abbrev pub formAt : ℕ
-formAt = 0
-
-abbrev pub typeAt : ℕ
-typeAt = 1
-
-abbrev pub fromAt : ℕ
-fromAt = 2
-
-abbrev pub atAt : ℕ
-atAt = 9
-
-abbrev pub toAt : ℕ
-toAt = 48
-
-abbrev pub bidAt : ℕ
-bidAt = 55
-
-abbrev pub fieldsSize : ℕ
-fieldsSize = 68
+use Prim.Native.Nat.{ℕ, _+_, _-_}
 
 -- ---------------------------------------------------------------- The longest field of each kind; 01, "Fields"
 
@@ -37,6 +14,29 @@ bidMax = 12
 
 abbrev pub headingMax : ℕ
 headingMax = 80
+
+-- ---------------------------------------------------------------- The fields of a message, from where they begin; a proposal and an inbox entry begin with them, a record after its states. A field is a byte for its length, then room for the longest
+
+abbrev pub formAt : ℕ
+formAt = 0
+
+abbrev pub typeAt : ℕ
+typeAt = formAt + 1
+
+abbrev pub fromAt : ℕ
+fromAt = typeAt + 1
+
+abbrev pub atAt : ℕ
+atAt = fromAt + 1 + callMax
+
+abbrev pub toAt : ℕ
+toAt = atAt + 1 + atMax
+
+abbrev pub bidAt : ℕ
+bidAt = toAt + 1 + callMax
+
+abbrev pub fieldsSize : ℕ
+fieldsSize = bidAt + 1 + bidMax
 
 -- ---------------------------------------------------------------- A proposal in session memory: the fields, the announced size
 
@@ -75,19 +75,28 @@ recordSizeAt = statesLen + proposalSizeAt
 abbrev pub recordTitle : ℕ
 recordTitle = statesLen + proposalLen
 
+abbrev pub recordTitleLength : ℕ
+recordTitleLength = recordTitle + 4
+
 abbrev pub recordName : ℕ
-recordName = recordTitle + 5
+recordName = recordTitleLength + 1
+
+abbrev pub recordNameLength : ℕ
+recordNameLength = recordName + 4
 
 abbrev pub recordBody : ℕ
-recordBody = recordName + 5
+recordBody = recordNameLength + 1
+
+abbrev pub recordBodyLength : ℕ
+recordBodyLength = recordBody + 4
 
 abbrev pub recordLen : ℕ
-recordLen = recordBody + 6
+recordLen = recordBodyLength + 2
 
--- ---------------------------------------------------------------- A known BID
+-- ---------------------------------------------------------------- A known BID: a field
 
 abbrev pub knownLen : ℕ
-knownLen = bidMax + 1
+knownLen = 1 + bidMax
 
 -- ---------------------------------------------------------------- A message of the inbox: the fields, the heading, the body's start and length
 
@@ -95,10 +104,13 @@ abbrev pub entryHeading : ℕ
 entryHeading = fieldsSize
 
 abbrev pub entryBody : ℕ
-entryBody = entryHeading + 81
+entryBody = entryHeading + 1 + headingMax
+
+abbrev pub entryBodyLength : ℕ
+entryBodyLength = entryBody + 4
 
 abbrev pub entryLen : ℕ
-entryLen = entryBody + 6
+entryLen = entryBodyLength + 2
 
 -- ---------------------------------------------------------------- Session memory: the mark, the sizes that open kept
 
@@ -126,10 +138,10 @@ sizeInbox = 44
 abbrev pub sizeStore : ℕ
 sizeStore = 52
 
--- ---------------------------------------------------------------- Session memory: the numbers of the state
+-- ---------------------------------------------------------------- Session memory: the numbers of the state. Bytes between numbersEnd and arraysAt are free: no call reads or writes them
 
-abbrev pub numbersAt : ℕ
-numbersAt = 60
+abbrev pub numbersStart : ℕ
+numbersStart = 60
 
 abbrev pub phaseAt : ℕ
 phaseAt = 60
@@ -200,28 +212,46 @@ usedAt = 108
 abbrev pub numbersEnd : ℕ
 numbersEnd = 116
 
--- ---------------------------------------------------------------- Session memory: the arrays of the state, which stay there; where each begins among them, and how long it is
+abbrev pub numbersLen : ℕ
+numbersLen = numbersEnd - numbersStart
+
+-- ---------------------------------------------------------------- Session memory: the arrays of the state, which stay there; where each begins among them, and how long it is. Bytes from arraysEnd on are free, too
 
 abbrev pub arraysAt : ℕ
-arraysAt = 116
+arraysAt = 160
+
+abbrev pub freeLen : ℕ
+freeLen = arraysAt - numbersEnd
+
+abbrev pub deferredLen : ℕ
+deferredLen = 64
+
+abbrev pub headingLen : ℕ
+headingLen = 80
+
+abbrev pub lineLen : ℕ
+lineLen = 256
+
+abbrev pub blockLen : ℕ
+blockLen = 360
 
 abbrev pub deferredAt : ℕ
 deferredAt = 0
 
 abbrev pub headingAt : ℕ
-headingAt = 64
+headingAt = deferredAt + deferredLen
 
 abbrev pub lineAt : ℕ
-lineAt = 144
+lineAt = headingAt + headingLen
 
 abbrev pub blockAt : ℕ
-blockAt = 400
+blockAt = lineAt + lineLen
 
 abbrev pub arraysLen : ℕ
-arraysLen = 760
+arraysLen = blockAt + blockLen
 
 abbrev pub arraysEnd : ℕ
 arraysEnd = arraysAt + arraysLen
 
 abbrev pub sessionLen : ℕ
-sessionLen = 876
+sessionLen = 1024

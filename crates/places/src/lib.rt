@@ -1,20 +1,5 @@
 // Where each thing lies in lent memory, and how long it is (docs/MEMORY.md has the same as tables). crates/places/specs has the same names.
 
-// The fields of a message, from where they begin; a proposal and an inbox entry begin with them, a record after its state.
-pub const FORM: u8 = 0;
-
-pub const TYPE: u8 = 1;
-
-pub const FROM: u8 = 2;
-
-pub const AT: u8 = 9;
-
-pub const TO: u8 = 48;
-
-pub const BID: u8 = 55;
-
-pub const FIELDS: u8 = 68;
-
 // The longest field of each kind; 01, "Fields".
 pub const CALL_MAX: u8 = 6;
 
@@ -24,45 +9,68 @@ pub const BID_MAX: u8 = 12;
 
 pub const HEADING_MAX: u8 = 80;
 
-// A proposal in session memory: the fields, the announced size.
-pub const PROPOSAL_SIZE: u8 = 68;
+// The fields of a message, from where they begin; a proposal and an inbox entry begin with them, a record after its states. A field is a byte for its length, then room for the longest.
+pub const FORM: u8 = 0;
 
-pub const PROPOSAL: u8 = 72;
+pub const TYPE: u8 = FORM + 1;
+
+pub const FROM: u8 = TYPE + 1;
+
+pub const AT: u8 = FROM + 1 + CALL_MAX;
+
+pub const TO: u8 = AT + 1 + AT_MAX;
+
+pub const BID: u8 = TO + 1 + CALL_MAX;
+
+pub const FIELDS: u8 = BID + 1 + BID_MAX;
+
+// A proposal in session memory: the fields, the announced size.
+pub const PROPOSAL_SIZE: u8 = FIELDS;
+
+pub const PROPOSAL: u8 = PROPOSAL_SIZE + 4;
 
 // A record of the table: its state, then a proposal's parts, then where title, name and body lie, each a start of 4 bytes and a length.
 pub const STATES: u8 = 1;
 
-pub const RECORD_FORM: u8 = 1;
+pub const RECORD_FORM: u8 = STATES + FORM;
 
-pub const RECORD_TYPE: u8 = 2;
+pub const RECORD_TYPE: u8 = STATES + TYPE;
 
-pub const RECORD_FROM: u8 = 3;
+pub const RECORD_FROM: u8 = STATES + FROM;
 
-pub const RECORD_AT: u8 = 10;
+pub const RECORD_AT: u8 = STATES + AT;
 
-pub const RECORD_TO: u8 = 49;
+pub const RECORD_TO: u8 = STATES + TO;
 
-pub const RECORD_BID: u8 = 56;
+pub const RECORD_BID: u8 = STATES + BID;
 
-pub const RECORD_SIZE: u8 = 69;
+pub const RECORD_SIZE_FIELD: u8 = STATES + PROPOSAL_SIZE;
 
-pub const RECORD_TITLE: u8 = 73;
+pub const RECORD_TITLE: u8 = STATES + PROPOSAL;
 
-pub const RECORD_NAME: u8 = 78;
+pub const RECORD_TITLE_LEN: u8 = RECORD_TITLE + 4;
 
-pub const RECORD_BODY: u8 = 83;
+pub const RECORD_NAME: u8 = RECORD_TITLE_LEN + 1;
 
-pub const RECORD: u8 = 89;
+pub const RECORD_NAME_LEN: u8 = RECORD_NAME + 4;
 
-// A known BID.
-pub const KNOWN: u8 = 13;
+pub const RECORD_BODY: u8 = RECORD_NAME_LEN + 1;
+
+pub const RECORD_BODY_LEN: u8 = RECORD_BODY + 4;
+
+pub const RECORD: u8 = RECORD_BODY_LEN + 2;
+
+// A known BID: a field.
+pub const KNOWN: u8 = 1 + BID_MAX;
 
 // A message of the inbox: the fields, the heading, the body's start and length.
-pub const ENTRY_HEADING: u8 = 68;
+pub const ENTRY_HEADING: u8 = FIELDS;
 
-pub const ENTRY_BODY: u8 = 149;
+pub const ENTRY_BODY: u8 = ENTRY_HEADING + 1 + HEADING_MAX;
 
-pub const ENTRY: u8 = 155;
+pub const ENTRY_BODY_LEN: u8 = ENTRY_BODY + 4;
+
+pub const ENTRY: u8 = ENTRY_BODY_LEN + 2;
 
 // Session memory: the mark, the sizes that open kept.
 pub const MARK: usize = 0;
@@ -81,7 +89,7 @@ pub const SIZE_INBOX: usize = 44;
 
 pub const SIZE_STORE: usize = 52;
 
-// Session memory: the numbers of the state.
+// Session memory: the numbers of the state. Bytes between NUMBERS_END and ARRAYS are free: no call reads or writes them.
 pub const NUMBERS: usize = 60;
 
 pub const PHASE: usize = 60;
@@ -130,19 +138,31 @@ pub const USED: usize = 108;
 
 pub const NUMBERS_END: usize = 116;
 
-// Session memory: the arrays of the state, which stay there; where each begins among them, and how long it is.
-pub const ARRAYS: usize = 116;
+pub const NUMBERS_LENGTH: usize = NUMBERS_END - NUMBERS;
+
+// Session memory: the arrays of the state, which stay there; where each begins among them, and how long it is. Bytes from ARRAYS_END on are free, too.
+pub const ARRAYS: usize = 160;
+
+pub const FREE: usize = ARRAYS - NUMBERS_END;
+
+pub const DEFERRED_LENGTH: usize = 64;
+
+pub const HEADING_LENGTH: usize = 80;
+
+pub const LINE_ROOM: usize = 256;
+
+pub const BLOCK_LENGTH: usize = 360;
 
 pub const DEFERRED: usize = 0;
 
-pub const HEADING: usize = 64;
+pub const HEADING: usize = DEFERRED + DEFERRED_LENGTH;
 
-pub const LINE: usize = 144;
+pub const LINE: usize = HEADING + HEADING_LENGTH;
 
-pub const BLOCK: usize = 400;
+pub const BLOCK: usize = LINE + LINE_ROOM;
 
-pub const ARRAYS_LENGTH: usize = 760;
+pub const ARRAYS_LENGTH: usize = BLOCK + BLOCK_LENGTH;
 
-pub const ARRAYS_END: usize = 876;
+pub const ARRAYS_END: usize = ARRAYS + ARRAYS_LENGTH;
 
-pub const SESSION: usize = 876;
+pub const SESSION: usize = 1024;

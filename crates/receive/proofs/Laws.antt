@@ -16,10 +16,10 @@ use Rattle.form_test.specs.Form.{formOf}
 use Rattle.give.specs.Giving.{reply}
 use Rattle.receive_defined.specs.Receiving.{Cs, cs, moved, Run, run, stops, receiveFrom, Received, receiveOf}
 use Rattle.receive_defined.specs.Portion.{portionOf, Roomy}
-use Rattle.lent.specs.Represents.{Fixed}
-use Rattle.lent.proofs.FormLaws.{Octets, octets-nil, octets-cons, octets-drop}
-use Rattle.lent.proofs.FormFacts.{Good}
-use Rattle.lent.proofs.FormSaved.{good}
+use Rattle.form_closed.specs.Fixed.{Fixed}
+use Rattle.form_closed.specs.Facts.{Octets, Good}
+use Rattle.form_closed.proofs.Laws.{octets-nil, octets-cons, octets-drop}
+use Rattle.form_closed.proofs.Saved.{good}
 use Rattle.receive.specs.Sound.{Sound}
 use Rattle.receive.proofs.Portions.{good-roomy, further, portion-count, portion-law, portion-good}
 

@@ -8,10 +8,10 @@ use Rattle.grammar.specs.Bytes.{Bytes}
 use Rattle.receive_defined.specs.Receiving.{Cs}
 use Rattle.receive_defined.specs.Portion.{portionOf, Roomy}
 use Rattle.receive_defined.proofs.Portions.{Each, portion-keeps}
-use Rattle.lent.specs.Represents.{Fixed}
-use Rattle.lent.proofs.FormLaws.{Octets, octets-first, octets-rest}
-use Rattle.lent.proofs.FormFacts.{Good}
-use Rattle.lent.proofs.FormBytes.{byte-ok}
+use Rattle.form_closed.specs.Fixed.{Fixed}
+use Rattle.form_closed.specs.Facts.{Octets, Good}
+use Rattle.form_closed.proofs.Laws.{octets-first, octets-rest}
+use Rattle.form_closed.proofs.Bytes.{byte-ok}
 
 -- The form test bounds the numbers that grow.
 pub good-roomy : (F : Fixed) (nt ni ns : ℕ) (c : Cs) → Good F nt ni ns c → Roomy c

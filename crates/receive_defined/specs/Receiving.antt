@@ -17,6 +17,7 @@ use Rattle.transfer_step.specs.declared.Outcome.the-variants.{More, Whole, Malf
 use Rattle.transfer_step.specs.Step.{stepOf}
 use Rattle.transfer_read.specs.Feed.{headingPut, storePut, roomOf}
 use Rattle.session_memory.specs.State.{at, held, loadOf, saveOf}
+use Rattle.session_memory.specs.Setters.{withFirst, withThen, withPos, withKept, withReader, withBytes, withAfterCr, withNow, withSay, withKeep, withReading, withLine}
 use Rattle.session_memory.specs.declared.Await.{Await}
 use Rattle.session_memory.specs.declared.Say.{Say}
 use Rattle.session_memory.specs.declared.Keep.{Keep}
@@ -58,27 +59,15 @@ markAll (i ∷ is) v table = markAll is v (set table (i * recordSize) v)
 -- "After a refusal nothing more is sent": the session is over, nothing waits, and what is kept stands
 unfoldable pub refusedOf : Session → Session
 refusedOf s =
-    record {
-      now = inPhase 7 (s .now);
-      say = record { first = 0; then = 0; pos = 0; signs = s .say .signs };
-      keep = s .keep;
-      reading = s .reading;
-      line = record { «after_cr» = false; len = 0; bytes = s .line .bytes };
-    }
+    withNow (inPhase 7 (s .now)) (withSay (withFirst 0 (withThen 0 (withPos 0 (s .say)))) (withLine (withAfterCr false (withBytes 0 (s .line .bytes) (s .line))) s))
 
 -- What is said is not given yet.
 abbrev pub unsaid : Say → Say
-unsaid y = record { first = y .first; then = y .then; pos = 0; signs = y .signs }
+unsaid y = withPos 0 y
 
 abbrev pub settledOf : Session → Judged → Bool → Await → Say → Session
 settledOf s j afterCr w y =
-    record {
-      now = w;
-      say = unsaid y;
-      keep = j .keep;
-      reading = record { reader = j .reader; heading = s .reading .heading };
-      line = record { «after_cr» = afterCr; len = 0; bytes = s .line .bytes };
-    }
+    withNow w (withSay (unsaid y) (withKeep (j .keep) (withReading (withReader (j .reader) (s .reading)) (withLine (withAfterCr afterCr (withBytes 0 (s .line .bytes) (s .line))) s))))
 
 -- our turn, if it is
 abbrev pub spokenOf : Session → Judged → Bool → Bytes → Session
@@ -104,14 +93,7 @@ settleOf s j afterCr table =
 -- ---------------------------------------------------------------- a byte of a line
 
 abbrev pub longer : Session → ℕ → Session
-longer s b =
-    record {
-      now = s .now;
-      say = s .say;
-      keep = s .keep;
-      reading = s .reading;
-      line = record { «after_cr» = false; len = s .line .len + 1; bytes = set (s .line .bytes) (s .line .len) b };
-    }
+longer s b = withLine (withAfterCr false (withBytes (s .line .len + 1) (set (s .line .bytes) (s .line .len) b) (s .line))) s
 
 abbrev pub lineMoved : LineByte → Session → ℕ → Bytes → Bytes → Bytes → ℕ → Settled
 lineMoved dropped s b table known inbox store = settled 0 s table
@@ -126,14 +108,7 @@ lineStepOf s b table known inbox store = lineMoved (lineByte false (s .line .len
 -- ---------------------------------------------------------------- a whole transfer
 
 abbrev pub keptKeep : Session → Keep
-keptKeep s =
-    record {
-      framed = s .keep .framed;
-      kept = s .keep .kept + 1;
-      used = s .keep .used + s .reading .reader .body;
-      sending = s .keep .sending;
-      deferred = s .keep .deferred;
-    }
+keptKeep s = withKept (s .keep .kept + 1) (s .keep .used + s .reading .reader .body) (s .keep)
 
 -- the next accepted proposal's transfer, or our turn
 abbrev pub nextJudged : Session → ℕ → Judged
@@ -158,14 +133,7 @@ keepOf s table = settleOf s (nextJudged s (nextAccepted (s .say .signs) (s .now 
 
 -- the reading goes on
 abbrev pub reading : Session → Reader → Bytes → Session
-reading s r heading =
-    record {
-      now = s .now;
-      say = s .say;
-      keep = s .keep;
-      reading = record { reader = r; heading = heading };
-      line = record { «after_cr» = false; len = s .line .len; bytes = s .line .bytes };
-    }
+reading s r heading = withReading (record { reader = r; heading = heading }) (withLine (withAfterCr false (s .line)) s)
 
 -- s: the session with the reading after the byte
 abbrev pub transferMoved : Outcome → Session → Bytes → Bytes → Bytes → Moved
@@ -189,14 +157,7 @@ transferStepOf c b = transferStep c b (stepOf (roomOf (drop (c .session .keep .u
 -- ---------------------------------------------------------------- a byte
 
 abbrev pub lfDropped : Session → Session
-lfDropped s =
-    record {
-      now = s .now;
-      say = s .say;
-      keep = s .keep;
-      reading = s .reading;
-      line = record { «after_cr» = false; len = s .line .len; bytes = s .line .bytes };
-    }
+lfDropped s = withLine (withAfterCr false (s .line)) s
 
 abbrev pub lineByteOf : Bytes → Cs → ℕ → Moved
 lineByteOf known c b =

@@ -1,20 +1,22 @@
--- Session memory: what is saved is loaded again, a save leaves the mark and the sizes as they were, and every state that is loaded is in shape.
+-- Session memory: what is saved is loaded again, a save leaves the mark, the sizes and the free bytes as they were, and every state that is
+-- loaded is in shape.
 use Prim.Native.Nat.{ℕ, _+_, _-_, _<_, _≤_}
 use mathlib.Core.Path.{_≡_, refl, sym, ap, _∙_}
 use mathlib.Core.Bool.{Bool, true, false}
-use mathlib.Core.List.{List, [], _∷_, _++_, append-nil}
+use mathlib.Core.List.{List, [], _∷_, _++_, append-assoc, append-nil}
 use native.Mathlib.Omega.{arith}
 use native.Mathlib.Nat.{add-assoc}
 use lib.Dec.{eqb}
 use lib.ListN.{length, take, drop, getD, replicate, length-append, length-drop, length-replicate, drop-of-length-le}
-use lib.Seq.{take-append-seam, take-at, take-all, length-take-le}
+use lib.Seq.{take-append-seam, take-append-add, take-at, take-all, drop-append-add, drop-drop, length-take-le}
 use Rattle.grammar.specs.Bytes.{Bytes, all}
 use Rattle.grammar.specs.Transfers.{partOf}
 use Rattle.grammar.proofs.Basics.{octet}
 use Rattle.buffer.specs.Put.{putBytes}
 use Rattle.buffer.proofs.Laws.{put-length}
+use Rattle.places.specs.Places.{markAt, sizeTable, sizeTitles, sizeNames, sizeBodies, sizeKnown, sizeInbox, sizeStore, numbersStart, oursAt, sendingAt, signsAt, lineLengthAt, leftAt, bodyAt, posAt, usedAt, numbersEnd, numbersLen, arraysAt, freeLen, deferredLen, headingLen, lineLen, blockLen, deferredAt, headingAt, lineAt, blockAt, arraysLen, arraysEnd, sessionLen}
 use Rattle.layout.specs.Layout.{byteAt, le8At}
-use Rattle.layout.proofs.Places.{byte-skip, le2-skip, le4-skip, le8-skip, part-skip, part-in, part-here, put-fits, le8-kept}
+use Rattle.layout.proofs.Places.{byte-skip, le2-skip, le4-skip, le8-skip, part-skip, part-in, part-front, part-here, part-before, part-after, put-fits, le8-kept}
 use Rattle.layout.proofs.Laws.{le2-here, le4-here, le8-here, le2-small, le4-small, le8-small, octets}
 use Rattle.session_memory.specs.declared.Five.{Five}
 use Rattle.session_memory.specs.declared.Await.{Await}
@@ -24,13 +26,13 @@ use Rattle.session_memory.specs.declared.Reading.{Reading}
 use Rattle.session_memory.specs.declared.Line.{Line}
 use Rattle.session_memory.specs.declared.Session.{Session}
 use Rattle.session_memory.specs.declared.Sizes.{Sizes}
-use Rattle.session_memory.specs.State.{at, held, fiveOf, flag, fiveAt, arrayAt, loadAwait, loadSay, loadKeep, loadReading, loadLine, loadOf, loadSizes, smallOut, numbersOut, arraysOut, stateOut, saveOf, sizesOut, saveSizes, freshOf}
+use Rattle.session_memory.specs.State.{at, held, fiveOf, flag, fiveAt, arrayAt, loadAwait, loadSay, loadKeep, loadReading, loadLine, loadOf, loadSizes, smallOut, numbersOut, arraysOut, numberPart, saveOf, sizesOut, saveSizes, freshOf}
 
 -- ---------------------------------------------------------------- a state in shape: arrays of their sizes, numbers that fit their bytes
 
 pub record AwaitShape (a : Await) : Type 0 where
   pub ours : length (a .ours .items) ≡ 5
-  pub block : length (a .block) ≡ 360
+  pub block : length (a .block) ≡ blockLen
 
 pub record SayShape (a : Say) : Type 0 where
   pub pos : a .pos < 18446744073709551616
@@ -39,16 +41,16 @@ pub record SayShape (a : Say) : Type 0 where
 pub record KeepShape (k : Keep) : Type 0 where
   pub used : k .used < 18446744073709551616
   pub sending : length (k .sending .items) ≡ 5
-  pub deferred : length (k .deferred) ≡ 64
+  pub deferred : length (k .deferred) ≡ deferredLen
 
 pub record ReadingShape (r : Reading) : Type 0 where
   pub left : r .reader .left < 65536
   pub body : r .reader .body < 4294967296
-  pub heading : length (r .heading) ≡ 80
+  pub heading : length (r .heading) ≡ headingLen
 
 pub record LineShape (l : Line) : Type 0 where
   pub len : l .len < 65536
-  pub bytes : length (l .bytes) ≡ 256
+  pub bytes : length (l .bytes) ≡ lineLen
 
 pub record Shaped (s : Session) : Type 0 where
   pub now : AwaitShape (s .now)
@@ -134,106 +136,126 @@ five-items (a ∷ b ∷ c ∷ d ∷ []) h = absurd (omega arith)
 five-items (a ∷ b ∷ c ∷ d ∷ e ∷ []) h = refl
 five-items (a ∷ b ∷ c ∷ d ∷ e ∷ f ∷ l) h = absurd (omega arith)
 
-state-length : (s : Session) → Shaped s → length (stateOut s) ≡ 816
-unfolding smallOut numbersOut arraysOut
-state-length s h = simp length-append (omega (arith, h .now .block, h .keep .deferred, h .reading .heading, h .line .bytes))
+part-length : (s : Session) → length (numberPart s) ≡ numbersLen
+unfolding smallOut numbersOut
+part-length s = refl
 
--- behind the first 60 bytes f
-module _ (f : Bytes) (n : length f ≡ 60) (s : Session) (h : Shaped s) where
-  byte : (b : ℕ) → byteAt (f ++ stateOut s) (60 + b) ≡ byteAt (stateOut s) b
-  byte b = byte-skip f (stateOut s) 60 n b
+arrays-length : (s : Session) → Shaped s → length (arraysOut s) ≡ arraysLen
+unfolding arraysOut
+arrays-length s h = simp length-append (omega (arith, h .now .block, h .keep .deferred, h .reading .heading, h .line .bytes))
+
+-- behind the mark and the sizes f: the numbers, free bytes g, the arrays, free bytes t
+module _ (f g t : Bytes) (n : length f ≡ numbersStart) (k : length g ≡ freeLen) (s : Session) (h : Shaped s) where
+  rest : Bytes
+  rest = numberPart s ++ (g ++ (arraysOut s ++ t))
+
+  rest-length : numbersLen ≤ length rest
+  unfolding rest
+  rest-length = rw (length-append (numberPart s) (g ++ (arraysOut s ++ t))) (omega (arith, part-length s))
+
+  byte : (b : ℕ) → byteAt (f ++ rest) (numbersStart + b) ≡ byteAt rest b
+  byte b = byte-skip f rest numbersStart n b
 
   -- five numbers among the single bytes: where they stand is the hypothesis
-  five : (b : ℕ) (g : Five) → b + 6 ≤ 816 → length (g .items) ≡ 5 → byteAt (stateOut s) b ≡ g .count
-      → take 5 (drop (b + 1) (stateOut s)) ≡ getD (g .items) 0 0 ∷ getD (g .items) 1 0 ∷ getD (g .items) 2 0 ∷ getD (g .items) 3 0 ∷ getD (g .items) 4 0 ∷ []
-      → fiveAt (f ++ stateOut s) (60 + b) ≡ g
-  five b g k l e i =
+  five : (b : ℕ) (x : Five) → b + 6 ≤ numbersLen → length (x .items) ≡ 5 → byteAt rest b ≡ x .count
+      → take 5 (drop (b + 1) rest) ≡ getD (x .items) 0 0 ∷ getD (x .items) 1 0 ∷ getD (x .items) 2 0 ∷ getD (x .items) 3 0 ∷ getD (x .items) 4 0 ∷ []
+      → fiveAt (f ++ rest) (numbersStart + b) ≡ x
+  five b x q l e i =
       same-five (byte b ∙ e)
-      (rw (add-assoc 60 b 1)
-      (array-skip 5 f (stateOut s) 60 n (b + 1) ∙ array-in 5 (stateOut s) (b + 1) (omega (arith, state-length s h)) ∙ i ∙ five-items (g .items) l))
+      (rw (add-assoc numbersStart b 1)
+      (array-skip 5 f rest numbersStart n (b + 1) ∙ array-in 5 rest (b + 1) (omega (arith, rest-length)) ∙ i ∙ five-items (x .items) l))
 
-  -- the arrays stand behind the 32 single bytes and 24 bytes of numbers
-  array : (k b : ℕ) → arrayAt k (f ++ stateOut s) (60 + (32 + (24 + b))) ≡ arrayAt k (arraysOut s) b
-  unfolding smallOut numbersOut
-  array k b =
-      array-skip k f (stateOut s) 60 n (32 + (24 + b))
-      ∙ array-skip k (smallOut s) (numbersOut s ++ arraysOut s) 32 refl (24 + b)
-      ∙ array-skip k (numbersOut s) (arraysOut s) 24 refl b
+  -- the arrays stand behind the numbers and the free bytes, whatever stands after them
+  array : (m b : ℕ) → b + m ≤ arraysLen → arrayAt m (f ++ rest) (numbersStart + (numbersLen + (freeLen + b))) ≡ arrayAt m (arraysOut s) b
+  unfolding rest
+  array m b q =
+      array-skip m f rest numbersStart n (numbersLen + (freeLen + b))
+      ∙ array-skip m (numberPart s) (g ++ (arraysOut s ++ t)) numbersLen (part-length s) (freeLen + b)
+      ∙ array-skip m g (arraysOut s ++ t) freeLen k b
+      ∙ ap (putBytes (replicate m 0) (at 0)) (part-front (arraysOut s) t b m (omega (arith, arrays-length s h)))
 
   -- the arrays behind each other
-  deferred-back : arrayAt 64 (f ++ stateOut s) 116 ≡ s .keep .deferred
+  deferred-back : arrayAt deferredLen (f ++ rest) (arraysAt + deferredAt) ≡ s .keep .deferred
   unfolding arraysOut
-  deferred-back = array 64 0 ∙ array-here 64 (s .keep .deferred) (s .reading .heading ++ (s .line .bytes ++ s .now .block)) (h .keep .deferred)
+  deferred-back =
+      array deferredLen 0 (omega arith) ∙ array-here deferredLen (s .keep .deferred) (s .reading .heading ++ (s .line .bytes ++ s .now .block)) (h .keep .deferred)
 
-  after-deferred : (k b : ℕ) → arrayAt k (f ++ stateOut s) (60 + (32 + (24 + (64 + b)))) ≡ arrayAt k (s .reading .heading ++ (s .line .bytes ++ s .now .block)) b
+  after-deferred : (m b : ℕ) → deferredLen + b + m ≤ arraysLen
+      → arrayAt m (f ++ rest) (numbersStart + (numbersLen + (freeLen + (deferredLen + b)))) ≡ arrayAt m (s .reading .heading ++ (s .line .bytes ++ s .now .block)) b
   unfolding arraysOut
-  after-deferred k b =
-      array k (64 + b) ∙ array-skip k (s .keep .deferred) (s .reading .heading ++ (s .line .bytes ++ s .now .block)) 64 (h .keep .deferred) b
+  after-deferred m b q =
+      array m (deferredLen + b) q ∙ array-skip m (s .keep .deferred) (s .reading .heading ++ (s .line .bytes ++ s .now .block)) deferredLen (h .keep .deferred) b
 
-  heading-back : arrayAt 80 (f ++ stateOut s) 180 ≡ s .reading .heading
-  heading-back = after-deferred 80 0 ∙ array-here 80 (s .reading .heading) (s .line .bytes ++ s .now .block) (h .reading .heading)
+  heading-back : arrayAt headingLen (f ++ rest) (arraysAt + headingAt) ≡ s .reading .heading
+  heading-back = after-deferred headingLen 0 (omega arith) ∙ array-here headingLen (s .reading .heading) (s .line .bytes ++ s .now .block) (h .reading .heading)
 
-  after-heading : (k b : ℕ) → arrayAt k (f ++ stateOut s) (60 + (32 + (24 + (64 + (80 + b))))) ≡ arrayAt k (s .line .bytes ++ s .now .block) b
-  after-heading k b =
-      after-deferred k (80 + b) ∙ array-skip k (s .reading .heading) (s .line .bytes ++ s .now .block) 80 (h .reading .heading) b
+  after-heading : (m b : ℕ) → deferredLen + (headingLen + b) + m ≤ arraysLen
+      → arrayAt m (f ++ rest) (numbersStart + (numbersLen + (freeLen + (deferredLen + (headingLen + b))))) ≡ arrayAt m (s .line .bytes ++ s .now .block) b
+  after-heading m b q =
+      after-deferred m (headingLen + b) q ∙ array-skip m (s .reading .heading) (s .line .bytes ++ s .now .block) headingLen (h .reading .heading) b
 
-  bytes-back : arrayAt 256 (f ++ stateOut s) 260 ≡ s .line .bytes
-  bytes-back = after-heading 256 0 ∙ array-here 256 (s .line .bytes) (s .now .block) (h .line .bytes)
+  bytes-back : arrayAt lineLen (f ++ rest) (arraysAt + lineAt) ≡ s .line .bytes
+  bytes-back = after-heading lineLen 0 (omega arith) ∙ array-here lineLen (s .line .bytes) (s .now .block) (h .line .bytes)
 
-  block-back : arrayAt 360 (f ++ stateOut s) 516 ≡ s .now .block
+  block-back : arrayAt blockLen (f ++ rest) (arraysAt + blockAt) ≡ s .now .block
   block-back =
-      after-heading 360 256 ∙ array-skip 360 (s .line .bytes) (s .now .block) 256 (h .line .bytes) 0
-      ∙ array-in 360 (s .now .block) 0 (omega (arith, h .now .block)) ∙ take-all 360 (s .now .block) (omega (arith, h .now .block))
+      after-heading blockLen lineLen (omega arith) ∙ array-skip blockLen (s .line .bytes) (s .now .block) lineLen (h .line .bytes) 0
+      ∙ array-in blockLen (s .now .block) 0 (omega (arith, h .now .block)) ∙ take-all blockLen (s .now .block) (omega (arith, h .now .block))
 
-  await-back : loadAwait (f ++ stateOut s) ≡ s .now
-  unfolding loadAwait smallOut
+  await-back : loadAwait (f ++ rest) ≡ s .now
+  unfolding loadAwait smallOut rest
   await-back =
       same-await (byte 0) (ap (λ (x : ℕ). eqb x 1) (byte 1) ∙ flag-back (s .now .ff)) (byte 7) (byte 8)
       (five 9 (s .now .ours) (omega arith) (h .now .ours) refl refl) block-back
 
-  say-back : loadSay (f ++ stateOut s) ≡ s .say
-  unfolding loadSay smallOut numbersOut
+  say-back : loadSay (f ++ rest) ≡ s .say
+  unfolding loadSay smallOut numbersOut rest
   say-back =
-      same-say (byte 4) (byte 5) (le8-skip f (stateOut s) 60 n 40 ∙ le8-here (s .say .pos) [] (h .say .pos))
+      same-say (byte 4) (byte 5) (le8-skip f rest numbersStart n 40 ∙ le8-here (s .say .pos) [] (h .say .pos))
       (five 21 (s .say .signs) (omega arith) (h .say .signs) refl refl)
 
-  keep-back : loadKeep (f ++ stateOut s) ≡ s .keep
-  unfolding loadKeep smallOut numbersOut
+  keep-back : loadKeep (f ++ rest) ≡ s .keep
+  unfolding loadKeep smallOut numbersOut rest
   keep-back =
       same-keep (ap (λ (x : ℕ). eqb x 1) (byte 2) ∙ flag-back (s .keep .framed)) (byte 6)
-      (le8-skip f (stateOut s) 60 n 48 ∙ le8-here (s .keep .used) [] (h .keep .used))
+      (le8-skip f rest numbersStart n 48 ∙ le8-here (s .keep .used) [] (h .keep .used))
       (five 15 (s .keep .sending) (omega arith) (h .keep .sending) refl refl) deferred-back
 
-  reading-back : loadReading (f ++ stateOut s) ≡ s .reading
-  unfolding loadReading smallOut numbersOut
+  reading-back : loadReading (f ++ rest) ≡ s .reading
+  unfolding loadReading smallOut numbersOut rest
   reading-back =
       same-reading (byte 27) (byte 28) (byte 29) (byte 30)
-      (le2-skip f (stateOut s) 60 n 34 ∙ le2-here (s .reading .reader .left) [] (h .reading .left)) (byte 31)
-      (le4-skip f (stateOut s) 60 n 36 ∙ le4-here (s .reading .reader .body) [] (h .reading .body)) heading-back
+      (le2-skip f rest numbersStart n 34 ∙ le2-here (s .reading .reader .left) [] (h .reading .left)) (byte 31)
+      (le4-skip f rest numbersStart n 36 ∙ le4-here (s .reading .reader .body) [] (h .reading .body)) heading-back
 
-  line-back : loadLine (f ++ stateOut s) ≡ s .line
-  unfolding loadLine smallOut numbersOut
+  line-back : loadLine (f ++ rest) ≡ s .line
+  unfolding loadLine smallOut numbersOut rest
   line-back =
       same-line (ap (λ (x : ℕ). eqb x 1) (byte 3) ∙ flag-back (s .line .«after_cr»))
-      (le2-skip f (stateOut s) 60 n 32 ∙ le2-here (s .line .len) [] (h .line .len)) bytes-back
+      (le2-skip f rest numbersStart n 32 ∙ le2-here (s .line .len) [] (h .line .len)) bytes-back
 
-  state-back : loadOf (f ++ stateOut s) ≡ s
-  unfolding loadOf
+  state-back : loadOf (f ++ (numberPart s ++ (g ++ (arraysOut s ++ t)))) ≡ s
+  unfolding loadOf rest
   state-back = same-session await-back say-back keep-back reading-back line-back
 
 -- ---------------------------------------------------------------- what a save leaves
 
 pub save-length : (sm : Bytes) (s : Session) → length (saveOf sm s) ≡ length sm
 unfolding saveOf
-save-length sm s = put-length sm (at 60) (stateOut s)
+save-length sm s = put-length (putBytes sm (at numbersStart) (numberPart s)) (at arraysAt) (arraysOut s) ∙ put-length sm (at numbersStart) (numberPart s)
 
 -- the mark and the sizes, and then what was put
-save-front : (sm : Bytes) (s : Session) → 60 ≤ length sm → (r : Bytes) × (saveOf sm s ≡ take 60 sm ++ r)
+save-front : (sm : Bytes) (s : Session) → numbersStart ≤ length sm → (r : Bytes) × (saveOf sm s ≡ take numbersStart sm ++ r)
 unfolding saveOf putBytes
-save-front sm s h = (_, refl)
+save-front sm s h =
+    let e : length (take numbersStart sm) + (arraysAt - numbersStart) ≡ arraysAt = omega (arith, length-take-le numbersStart sm h) in
+    let x : Bytes = take (length sm - numbersStart) (numberPart s) ++ drop (numbersStart + length (take (length sm - numbersStart) (numberPart s))) sm in
+    let d : Bytes = take numbersStart sm ++ x in
+    let y : Bytes = take (length d - arraysAt) (arraysOut s) ++ drop (arraysAt + length (take (length d - arraysAt) (arraysOut s))) d in
+    (take (arraysAt - numbersStart) x ++ y, ap (λ (l : Bytes). l ++ y) (ap (λ (i : ℕ). take i d) (sym e) ∙ take-append-add (take numbersStart sm) x (arraysAt - numbersStart)) ∙ append-assoc (take numbersStart sm) (take (arraysAt - numbersStart) x) y)
 
-pub save-first : (sm : Bytes) (s : Session) → 60 ≤ length sm → take 60 (saveOf sm s) ≡ take 60 sm
-save-first sm s h = let p = save-front sm s h in rw (p .1) (take-at (take 60 sm) (p .0) 60 (length-take-le 60 sm h))
+pub save-first : (sm : Bytes) (s : Session) → numbersStart ≤ length sm → take numbersStart (saveOf sm s) ≡ take numbersStart sm
+save-first sm s h = let p = save-front sm s h in rw (p .1) (take-at (take numbersStart sm) (p .0) numbersStart (length-take-le numbersStart sm h))
 
 pub same-sizes : {a b c d e f g h i j k l m n : ℕ} → a ≡ b → c ≡ d → e ≡ f → g ≡ h → i ≡ j → k ≡ l → m ≡ n
     → _≡_ {A = Sizes} (record { table = a; titles = c; names = e; bodies = g; known = i; inbox = k; store = m })
@@ -241,28 +263,65 @@ pub same-sizes : {a b c d e f g h i j k l m n : ℕ} → a ≡ b → c ≡ d →
 same-sizes e₁ e₂ e₃ e₄ e₅ e₆ e₇ = rw (e₁, e₂, e₃, e₄, e₅, e₆, e₇)
 
 -- the sizes stay
-pub save-sizes-kept : (sm : Bytes) (s : Session) → 60 ≤ length sm → loadSizes (saveOf sm s) ≡ loadSizes sm
+pub save-sizes-kept : (sm : Bytes) (s : Session) → numbersStart ≤ length sm → loadSizes (saveOf sm s) ≡ loadSizes sm
 unfolding loadSizes
 save-sizes-kept sm s h =
     let p = save-front sm s h in
-    let e : (b : ℕ) → b + 8 ≤ 60 → le8At (saveOf sm s) b ≡ le8At sm b =
-    λ b k. ap (λ (l : Bytes). le8At l b) (p .1) ∙ le8-kept 60 sm (p .0) h b k in
-    same-sizes (e 4 (omega arith)) (e 12 (omega arith)) (e 20 (omega arith)) (e 28 (omega arith)) (e 36 (omega arith)) (e 44 (omega arith)) (e 52 (omega arith))
+    let e : (b : ℕ) → b + 8 ≤ numbersStart → le8At (saveOf sm s) b ≡ le8At sm b =
+    λ b k. ap (λ (l : Bytes). le8At l b) (p .1) ∙ le8-kept numbersStart sm (p .0) h b k in
+    same-sizes (e sizeTable (omega arith)) (e sizeTitles (omega arith)) (e sizeNames (omega arith)) (e sizeBodies (omega arith)) (e sizeKnown (omega arith)) (e sizeInbox (omega arith)) (e sizeStore (omega arith))
+
+module _ (sm : Bytes) (s : Session) (n : length sm ≡ sessionLen) (a : length (arraysOut s) ≡ arraysLen) where
+  -- the memory after a save: the mark and the sizes, the numbers, free bytes, the arrays, free bytes
+  pub saved : saveOf sm s ≡ take numbersStart sm ++ (numberPart s ++ (take freeLen (drop numbersEnd sm) ++ (arraysOut s ++ drop arraysEnd sm)))
+  unfolding saveOf
+  saved =
+      let o = part-length s in
+      let f : Bytes = take numbersStart sm ++ numberPart s in
+      let r : Bytes = drop numbersEnd sm in
+      let d : Bytes = putBytes sm (at numbersStart) (numberPart s) in
+      let l : length f ≡ numbersEnd = length-append (take numbersStart sm) (numberPart s) ∙ (omega (arith, length-take-le numbersStart sm (omega arith))) in
+      let e : d ≡ f ++ r =
+      put-fits sm numbersStart (numberPart s) (omega arith) ∙ ap (λ (i : ℕ). take numbersStart sm ++ (numberPart s ++ drop i sm)) (ap (λ (i : ℕ). numbersStart + i) o)
+      ∙ sym (append-assoc (take numbersStart sm) (numberPart s) r) in
+      let front : take arraysAt (f ++ r) ≡ f ++ take freeLen r = ap (λ (i : ℕ). take i (f ++ r)) (sym (ap (λ (i : ℕ). i + freeLen) l)) ∙ take-append-add f r freeLen in
+      let back : drop arraysEnd (f ++ r) ≡ drop arraysEnd sm =
+      ap (λ (i : ℕ). drop i (f ++ r)) (sym (ap (λ (i : ℕ). i + (arraysEnd - numbersEnd)) l)) ∙ drop-append-add f r (arraysEnd - numbersEnd) ∙ drop-drop (arraysEnd - numbersEnd) numbersEnd sm in
+      put-fits d arraysAt (arraysOut s) (rw (put-length sm (at numbersStart) (numberPart s), n, a) (omega arith))
+      ∙ ap (λ (i : ℕ). take arraysAt d ++ (arraysOut s ++ drop i d)) (ap (λ (i : ℕ). arraysAt + i) a)
+      ∙ ap (λ (x : Bytes). take arraysAt x ++ (arraysOut s ++ drop arraysEnd x)) e
+      ∙ ap (λ (x : Bytes). x ++ (arraysOut s ++ drop arraysEnd (f ++ r))) front
+      ∙ ap (λ (x : Bytes). (f ++ take freeLen r) ++ (arraysOut s ++ x)) back
+      ∙ append-assoc f (take freeLen r) (arraysOut s ++ drop arraysEnd sm)
+      ∙ append-assoc (take numbersStart sm) (numberPart s) (take freeLen r ++ (arraysOut s ++ drop arraysEnd sm))
+
+  -- FREE BYTES STAY AS THEY ARE: those behind the numbers, and those behind the arrays
+  pub free-kept : (start len : ℕ) → numbersEnd ≤ start → start + len ≤ arraysAt → partOf (saveOf sm s) start len ≡ partOf sm start len
+  unfolding saveOf
+  free-kept start len h k =
+      let o = part-length s in
+      part-before (putBytes sm (at numbersStart) (numberPart s)) arraysAt (arraysOut s) (rw (put-length sm (at numbersStart) (numberPart s)) (omega arith)) start len k
+      ∙ part-after sm numbersStart (numberPart s) (omega arith) start len (omega arith)
+
+  pub end-kept : (start len : ℕ) → arraysEnd ≤ start → partOf (saveOf sm s) start len ≡ partOf sm start len
+  unfolding saveOf
+  end-kept start len h =
+      let o = part-length s in
+      part-after (putBytes sm (at numbersStart) (numberPart s)) arraysAt (arraysOut s) (rw (put-length sm (at numbersStart) (numberPart s)) (omega arith)) start len (omega arith)
+      ∙ part-after sm numbersStart (numberPart s) (omega arith) start len (omega arith)
 
 -- WHAT IS SAVED IS LOADED
-pub load-save : (sm : Bytes) (s : Session) → length sm ≡ 876 → Shaped s → loadOf (saveOf sm s) ≡ s
-unfolding saveOf
+pub load-save : (sm : Bytes) (s : Session) → length sm ≡ sessionLen → Shaped s → loadOf (saveOf sm s) ≡ s
 load-save sm s n h =
-    let e = state-length s h in
-    let d : drop (60 + length (stateOut s)) sm ≡ [] = drop-of-length-le sm {i = 60 + length (stateOut s)} (omega arith) in
-    ap loadOf (put-fits sm 60 (stateOut s) (omega arith) ∙ ap (λ (l : Bytes). take 60 sm ++ (stateOut s ++ l)) d ∙ ap (λ (l : Bytes). take 60 sm ++ l) (append-nil (stateOut s)))
-    ∙ state-back (take 60 sm) (length-take-le 60 sm (omega arith)) s h
+    ap loadOf (saved sm s n (arrays-length s h))
+    ∙ state-back (take numbersStart sm) (take freeLen (drop numbersEnd sm)) (drop arraysEnd sm) (length-take-le numbersStart sm (omega arith))
+    (length-take-le freeLen (drop numbersEnd sm) (simp length-drop (omega arith))) s h
 
 -- ---------------------------------------------------------------- the sizes
 
 pub sizes-length : (sm : Bytes) (z : Sizes) → length (saveSizes sm z) ≡ length sm
 unfolding saveSizes
-sizes-length sm z = put-length sm (at 0) (sizesOut z)
+sizes-length sm z = put-length sm (at markAt) (sizesOut z)
 
 -- the sizes' numbers fit their bytes
 pub record Sized (z : Sizes) : Type 0 where
@@ -274,11 +333,11 @@ pub record Sized (z : Sizes) : Type 0 where
   pub inbox : z .inbox < 18446744073709551616
   pub store : z .store < 18446744073709551616
 
-module _ (sm : Bytes) (z : Sizes) (n : 60 ≤ length sm) where
+module _ (sm : Bytes) (z : Sizes) (n : numbersStart ≤ length sm) where
   -- the mark and the sizes, and then the memory as it was
-  pub sizes-saved : saveSizes sm z ≡ sizesOut z ++ drop 60 sm
+  pub sizes-saved : saveSizes sm z ≡ sizesOut z ++ drop numbersStart sm
   unfolding saveSizes sizesOut
-  sizes-saved = put-fits sm 0 (sizesOut z) (omega arith)
+  sizes-saved = put-fits sm markAt (sizesOut z) (omega arith)
 
   pub load-sizes : Sized z → loadSizes (saveSizes sm z) ≡ z
   unfolding loadSizes sizesOut
@@ -295,11 +354,11 @@ unfolding loadOf loadAwait loadSay loadKeep loadReading loadLine
 load-shaped sm o =
     let b = octets sm o in
     record {
-      now = record { ours = array-length 5 sm 70; block = array-length 360 sm 516 };
-      say = record { pos = le8-small sm b 100; signs = array-length 5 sm 82 };
-      keep = record { used = le8-small sm b 108; sending = array-length 5 sm 76; deferred = array-length 64 sm 116 };
-      reading = record { left = le2-small sm b 94; body = le4-small sm b 96; heading = array-length 80 sm 180 };
-      line = record { len = le2-small sm b 92; bytes = array-length 256 sm 260 };
+      now = record { ours = array-length 5 sm (oursAt + 1); block = array-length blockLen sm (arraysAt + blockAt) };
+      say = record { pos = le8-small sm b posAt; signs = array-length 5 sm (signsAt + 1) };
+      keep = record { used = le8-small sm b usedAt; sending = array-length 5 sm (sendingAt + 1); deferred = array-length deferredLen sm (arraysAt + deferredAt) };
+      reading = record { left = le2-small sm b leftAt; body = le4-small sm b bodyAt; heading = array-length headingLen sm (arraysAt + headingAt) };
+      line = record { len = le2-small sm b lineLengthAt; bytes = array-length lineLen sm (arraysAt + lineAt) };
     }
 
 pub fresh-shaped : (caller : Bool) → Shaped (freshOf caller)

@@ -1,5 +1,5 @@
--- 01, "Session memory: bytes of one fixed size, written in docs/". 876 bytes: the mark FM01 and the sizes that open kept (60 bytes), then
--- the state (816 bytes). docs/MEMORY.md has the places as a table.
+-- 01, "Session memory: bytes of one fixed size, written in docs/". The mark FM01 and the sizes that open kept, the numbers of the state, its
+-- arrays; bytes behind the numbers and behind the arrays are free, nobody reads or writes them. docs/MEMORY.md has the places as a table.
 use mathlib.Core.Bool.{Bool, true, false, cond}
 use mathlib.Core.List.{List, [], _∷_, _++_}
 use Prim.Native.Nat.{ℕ, _+_, _-_}
@@ -10,6 +10,7 @@ use Rattle.grammar.specs.Ascii.{text}
 use Rattle.grammar.specs.Transfers.{partOf}
 use Rattle.buffer.specs.Put.{putBytes}
 use Rattle.buffer.specs.declared.Cursor.{Cursor}
+use Rattle.places.specs.Places.{markAt, sizeTable, sizeTitles, sizeNames, sizeBodies, sizeKnown, sizeInbox, sizeStore, numbersStart, phaseAt, ffAt, framedAt, afterCrAt, firstAt, thenAt, keptAt, currentAt, proposalsAt, oursAt, sendingAt, signsAt, placeAt, lengthAt, headAt, offsetAt, sumAt, lineLengthAt, leftAt, bodyAt, posAt, usedAt, arraysAt, deferredLen, headingLen, lineLen, blockLen, deferredAt, headingAt, lineAt, blockAt, sessionLen}
 use Rattle.layout.specs.Layout.{byteAt, le2At, le4At, le8At, le2, le4, le8}
 use Rattle.transfer_step.specs.Step.{startOf}
 use Rattle.session_memory.specs.declared.Five.{Five}
@@ -22,7 +23,7 @@ use Rattle.session_memory.specs.declared.Session.{Session}
 use Rattle.session_memory.specs.declared.Sizes.{Sizes}
 
 abbrev pub sessionSize : ℕ
-sessionSize = 876
+sessionSize = sessionLen
 
 abbrev pub at : ℕ → Cursor
 at n = record { at = n; skip = 0 }
@@ -54,32 +55,32 @@ fiveAt sm a = record { count = byteAt sm a; items = arrayAt 5 sm (a + 1) }
 
 unfoldable pub loadAwait : Bytes → Await
 loadAwait sm =
-    record { phase = byteAt sm 60; ff = eqb (byteAt sm 61) 1; current = byteAt sm 67; proposals = byteAt sm 68; ours = fiveAt sm 69; block = arrayAt 360 sm 516 }
+    record { phase = byteAt sm phaseAt; ff = eqb (byteAt sm ffAt) 1; current = byteAt sm currentAt; proposals = byteAt sm proposalsAt; ours = fiveAt sm oursAt; block = arrayAt blockLen sm (arraysAt + blockAt) }
 
 unfoldable pub loadSay : Bytes → Say
-loadSay sm = record { first = byteAt sm 64; then = byteAt sm 65; pos = le8At sm 100; signs = fiveAt sm 81 }
+loadSay sm = record { first = byteAt sm firstAt; then = byteAt sm thenAt; pos = le8At sm posAt; signs = fiveAt sm signsAt }
 
 unfoldable pub loadKeep : Bytes → Keep
 loadKeep sm =
-    record { framed = eqb (byteAt sm 62) 1; kept = byteAt sm 66; used = le8At sm 108; sending = fiveAt sm 75; deferred = arrayAt 64 sm 116 }
+    record { framed = eqb (byteAt sm framedAt) 1; kept = byteAt sm keptAt; used = le8At sm usedAt; sending = fiveAt sm sendingAt; deferred = arrayAt deferredLen sm (arraysAt + deferredAt) }
 
 unfoldable pub loadReading : Bytes → Reading
 loadReading sm =
     record {
       reader = record {
-        place = byteAt sm 87;
-        len = byteAt sm 88;
-        head = byteAt sm 89;
-        off = byteAt sm 90;
-        left = le2At sm 94;
-        sum = byteAt sm 91;
-        body = le4At sm 96;
+        place = byteAt sm placeAt;
+        len = byteAt sm lengthAt;
+        head = byteAt sm headAt;
+        off = byteAt sm offsetAt;
+        left = le2At sm leftAt;
+        sum = byteAt sm sumAt;
+        body = le4At sm bodyAt;
       };
-      heading = arrayAt 80 sm 180;
+      heading = arrayAt headingLen sm (arraysAt + headingAt);
     }
 
 unfoldable pub loadLine : Bytes → Line
-loadLine sm = record { «after_cr» = eqb (byteAt sm 63) 1; len = le2At sm 92; bytes = arrayAt 256 sm 260 }
+loadLine sm = record { «after_cr» = eqb (byteAt sm afterCrAt) 1; len = le2At sm lineLengthAt; bytes = arrayAt lineLen sm (arraysAt + lineAt) }
 
 unfoldable pub loadOf : Bytes → Session
 loadOf sm = record { now = loadAwait sm; say = loadSay sm; keep = loadKeep sm; reading = loadReading sm; line = loadLine sm }
@@ -87,13 +88,13 @@ loadOf sm = record { now = loadAwait sm; say = loadSay sm; keep = loadKeep sm; r
 unfoldable pub loadSizes : Bytes → Sizes
 loadSizes sm =
     record {
-      table = le8At sm 4;
-      titles = le8At sm 12;
-      names = le8At sm 20;
-      bodies = le8At sm 28;
-      known = le8At sm 36;
-      inbox = le8At sm 44;
-      store = le8At sm 52;
+      table = le8At sm sizeTable;
+      titles = le8At sm sizeTitles;
+      names = le8At sm sizeNames;
+      bodies = le8At sm sizeBodies;
+      known = le8At sm sizeKnown;
+      inbox = le8At sm sizeInbox;
+      store = le8At sm sizeStore;
     }
 
 -- ---------------------------------------------------------------- written
@@ -115,27 +116,28 @@ numbersOut s =
 unfoldable pub arraysOut : Session → Bytes
 arraysOut s = s .keep .deferred ++ (s .reading .heading ++ (s .line .bytes ++ s .now .block))
 
-abbrev pub stateOut : Session → Bytes
-stateOut s = smallOut s ++ (numbersOut s ++ arraysOut s)
+-- The numbers, one after the other.
+abbrev pub numberPart : Session → Bytes
+numberPart s = smallOut s ++ numbersOut s
 
--- Session memory after the state is saved; the first 60 bytes stay.
+-- Session memory after the state is saved: its numbers, and its arrays. The mark and the sizes stay, and so does every free byte.
 unfoldable pub saveOf : Bytes → Session → Bytes
-saveOf sm s = putBytes sm (at 60) (stateOut s)
+saveOf sm s = putBytes (putBytes sm (at numbersStart) (numberPart s)) (at arraysAt) (arraysOut s)
 
 unfoldable pub sizesOut : Sizes → Bytes
 sizesOut z =
     text "FM01" ++ (le8 (z .table) ++ (le8 (z .titles) ++ (le8 (z .names) ++ (le8 (z .bodies) ++ (le8 (z .known) ++ (le8 (z .inbox) ++ le8 (z .store)))))))
 
 unfoldable pub saveSizes : Bytes → Sizes → Bytes
-saveSizes sm z = putBytes sm (at 0) (sizesOut z)
+saveSizes sm z = putBytes sm (at markAt) (sizesOut z)
 
 -- The state right after an accepted open.
 unfoldable pub freshOf : Bool → Session
 freshOf caller =
     record {
-      now = record { phase = flag caller; ff = false; current = 0; proposals = 0; ours = noFive; block = replicate 360 0 };
+      now = record { phase = flag caller; ff = false; current = 0; proposals = 0; ours = noFive; block = replicate blockLen 0 };
       say = record { first = cond caller 0 1; then = 0; pos = 0; signs = noFive };
-      keep = record { framed = false; kept = 0; used = 0; sending = noFive; deferred = replicate 64 0 };
-      reading = record { reader = startOf 0; heading = replicate 80 0 };
-      line = record { «after_cr» = false; len = 0; bytes = replicate 256 0 };
+      keep = record { framed = false; kept = 0; used = 0; sending = noFive; deferred = replicate deferredLen 0 };
+      reading = record { reader = startOf 0; heading = replicate headingLen 0 };
+      line = record { «after_cr» = false; len = 0; bytes = replicate lineLen 0 };
     }

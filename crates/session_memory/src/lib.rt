@@ -77,7 +77,46 @@ pub struct Sizes {
     pub store: usize,
 }
 
-pub const SESSION: usize = 876;
+pub const SESSION: usize = places::SESSION;
+
+// Places as the readers of numbers and arrays take them.
+const OURS: u16 = places::OURS as u16;
+
+const POS: u16 = places::POS as u16;
+
+const SIGNS: u16 = places::SIGNS as u16;
+
+const USED: u16 = places::USED as u16;
+
+const SENDING: u16 = places::SENDING as u16;
+
+const LEFT: u16 = places::LEFT as u16;
+
+const BODY: u16 = places::BODY as u16;
+
+const LINE_LENGTH: u16 = places::LINE_LENGTH as u16;
+
+const SIZE_TABLE: u16 = places::SIZE_TABLE as u16;
+
+const SIZE_TITLES: u16 = places::SIZE_TITLES as u16;
+
+const SIZE_NAMES: u16 = places::SIZE_NAMES as u16;
+
+const SIZE_BODIES: u16 = places::SIZE_BODIES as u16;
+
+const SIZE_KNOWN: u16 = places::SIZE_KNOWN as u16;
+
+const SIZE_INBOX: u16 = places::SIZE_INBOX as u16;
+
+const SIZE_STORE: u16 = places::SIZE_STORE as u16;
+
+const BLOCK_PLACE: u16 = (places::ARRAYS + places::BLOCK) as u16;
+
+const DEFERRED_PLACE: u16 = (places::ARRAYS + places::DEFERRED) as u16;
+
+const HEADING_PLACE: u16 = (places::ARRAYS + places::HEADING) as u16;
+
+const LINE_PLACE: u16 = (places::ARRAYS + places::LINE) as u16;
 
 // 1 for yes, 0 for no.
 fn flag(b: bool) -> u8
@@ -144,12 +183,12 @@ fn load_await(sm: &[u8]) -> Await
     ensures { λ r. ⌜ r ≡ loadAwait (now (sm .entry)) ⌝ }
 {
     Await {
-        phase: byte_at(sm, 60),
-        ff: byte_at(sm, 61) == 1,
-        current: byte_at(sm, 67),
-        proposals: byte_at(sm, 68),
-        ours: load5(sm, 69),
-        block: load360(sm, 516),
+        phase: byte_at(sm, places::PHASE),
+        ff: byte_at(sm, places::FF) == 1,
+        current: byte_at(sm, places::CURRENT),
+        proposals: byte_at(sm, places::PROPOSALS),
+        ours: load5(sm, OURS),
+        block: load360(sm, BLOCK_PLACE),
     }
 }
 
@@ -158,10 +197,10 @@ fn load_say(sm: &[u8]) -> Say
     ensures { λ r. ⌜ r ≡ loadSay (now (sm .entry)) ⌝ }
 {
     Say {
-        first: byte_at(sm, 64),
-        then: byte_at(sm, 65),
-        pos: number8(sm, 100),
-        signs: load5(sm, 81),
+        first: byte_at(sm, places::FIRST),
+        then: byte_at(sm, places::THEN),
+        pos: number8(sm, POS),
+        signs: load5(sm, SIGNS),
     }
 }
 
@@ -170,11 +209,11 @@ fn load_keep(sm: &[u8]) -> Keep
     ensures { λ r. ⌜ r ≡ loadKeep (now (sm .entry)) ⌝ }
 {
     Keep {
-        framed: byte_at(sm, 62) == 1,
-        kept: byte_at(sm, 66),
-        used: number8(sm, 108),
-        sending: load5(sm, 75),
-        deferred: load64(sm, 116),
+        framed: byte_at(sm, places::FRAMED) == 1,
+        kept: byte_at(sm, places::KEPT),
+        used: number8(sm, USED),
+        sending: load5(sm, SENDING),
+        deferred: load64(sm, DEFERRED_PLACE),
     }
 }
 
@@ -184,15 +223,15 @@ fn load_reading(sm: &[u8]) -> Reading
 {
     Reading {
         reader: Reader {
-            place: byte_at(sm, 87),
-            len: byte_at(sm, 88),
-            head: byte_at(sm, 89),
-            off: byte_at(sm, 90),
-            left: number2(sm, 94) as u16,
-            sum: byte_at(sm, 91),
-            body: number4(sm, 96) as u32,
+            place: byte_at(sm, places::PLACE),
+            len: byte_at(sm, places::LENGTH),
+            head: byte_at(sm, places::HEAD),
+            off: byte_at(sm, places::OFFSET),
+            left: number2(sm, LEFT) as u16,
+            sum: byte_at(sm, places::SUM),
+            body: number4(sm, BODY) as u32,
         },
-        heading: load80(sm, 180),
+        heading: load80(sm, HEADING_PLACE),
     }
 }
 
@@ -201,9 +240,9 @@ fn load_line(sm: &[u8]) -> Line
     ensures { λ r. ⌜ r ≡ loadLine (now (sm .entry)) ⌝ }
 {
     Line {
-        after_cr: byte_at(sm, 63) == 1,
-        len: number2(sm, 92) as u16,
-        bytes: load256(sm, 260),
+        after_cr: byte_at(sm, places::AFTER_CR) == 1,
+        len: number2(sm, LINE_LENGTH) as u16,
+        bytes: load256(sm, LINE_PLACE),
     }
 }
 
@@ -225,13 +264,13 @@ pub fn load_sizes(sm: &[u8]) -> Sizes
     ensures { λ r. ⌜ r ≡ loadSizes (now (sm .entry)) ⌝ }
 {
     Sizes {
-        table: number8(sm, 4),
-        titles: number8(sm, 12),
-        names: number8(sm, 20),
-        bodies: number8(sm, 28),
-        known: number8(sm, 36),
-        inbox: number8(sm, 44),
-        store: number8(sm, 52),
+        table: number8(sm, SIZE_TABLE),
+        titles: number8(sm, SIZE_TITLES),
+        names: number8(sm, SIZE_NAMES),
+        bodies: number8(sm, SIZE_BODIES),
+        known: number8(sm, SIZE_KNOWN),
+        inbox: number8(sm, SIZE_INBOX),
+        store: number8(sm, SIZE_STORE),
     }
 }
 

@@ -134,9 +134,23 @@ fn save_arrays(sm: &mut [u8], c: Cursor, s: Session) -> Cursor
 pub fn save(sm: &mut [u8], s: Session)
     ensures { λ _. ⌜ now (sm .exit) ≡ saveOf (now (sm .entry)) s ⌝ }
 {
-    let c1 = save_small(sm, Cursor { at: 60, skip: 0 }, s);
-    let c2 = save_numbers(sm, c1, s);
-    let _c3 = save_arrays(sm, c2, s);
+    let c1 = save_small(
+        sm,
+        Cursor {
+            at: places::NUMBERS,
+            skip: 0,
+        },
+        s,
+    );
+    let _c2 = save_numbers(sm, c1, s);
+    let _c3 = save_arrays(
+        sm,
+        Cursor {
+            at: places::ARRAYS,
+            skip: 0,
+        },
+        s,
+    );
 }
 
 // The sizes of the table and its three stores.
@@ -153,7 +167,14 @@ fn save_table_sizes(sm: &mut [u8], c: Cursor, z: Sizes) -> Cursor
 pub fn save_sizes(sm: &mut [u8], z: Sizes)
     ensures { λ _. ⌜ now (sm .exit) ≡ saveSizes (now (sm .entry)) z ⌝ }
 {
-    let c = buffer::put(sm, Cursor { at: 0, skip: 0 }, b"FM01");
+    let c = buffer::put(
+        sm,
+        Cursor {
+            at: places::MARK,
+            skip: 0,
+        },
+        b"FM01",
+    );
     let c1 = save_table_sizes(sm, c, z);
     let c2 = put8(sm, c1, z.known);
     let c3 = put8(sm, c2, z.inbox);

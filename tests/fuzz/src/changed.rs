@@ -10,7 +10,7 @@ use crate::sessions::Driver;
 use crate::tally::Tally;
 use inputs::random::Random;
 use inputs::{byte, damaged, fs_line, line, proposal_fields, short_turn_line, sid, spaced};
-use second::layout::RECORD_BYTES;
+use second::layout::{RECORD_BYTES, SESSION_FREE};
 use second::session::Reply;
 use std::fmt::{self, Display};
 
@@ -142,12 +142,12 @@ impl Alone<'_> {
             1 => (form::BODY_BYTES, large.to_le_bytes()[..4].to_vec()),
             2 => (self.random.pick(&[form::GIVEN, form::USED]), large.to_le_bytes().to_vec()),
             3 => (self.random.within(form::DEFERRED, form::DEFERRED + 63), vec![small]),
-            4 => (self.random.within(form::BLOCK, 875), vec![byte(self.random)]),
+            4 => (self.random.within(form::BLOCK, form::BLOCK_END - 1), vec![byte(self.random)]),
             5 => (form::AWAITED, vec![small]),
             6 => (form::SIGNS + self.random.within(1, 5), vec![self.random.pick(b"+++-=")]),
             7 => (form::GIVEN, self.near(form::waiting(&self.memory).len()).to_vec()),
             8 => (form::BODY_BYTES, self.near(form::room(&self.memory))[..4].to_vec()),
-            _ => (self.random.within(form::AWAITED, 91), vec![small]),
+            _ => (self.random.within(form::AWAITED, form::SUM), vec![small]),
         }
     }
 
@@ -279,7 +279,8 @@ impl Alone<'_> {
         Ok(())
     }
 
-    /// Only what the call may write has changed; of the table, only states.
+    /// Only what the call may write has changed; of the table, only states, and of
+    /// session memory no free byte.
     fn check_memory(&self, reply: Reply, before: &Memory, may_change: &[usize]) -> Checked {
         let mut expected = before.clone();
         for &buffer in may_change {
@@ -288,6 +289,10 @@ impl Alone<'_> {
             for (byte, now) in expected.part_mut(buffer).iter_mut().zip(now).step_by(step) {
                 *byte = *now;
             }
+        }
+        for free in SESSION_FREE {
+            let bytes = &before.part(SESSION)[free.clone()];
+            expected.part_mut(SESSION)[free].copy_from_slice(bytes);
         }
         if let Some(change) = self.memory.change(&expected) {
             return self.differs(&change);

@@ -22,13 +22,15 @@ pub const PROPOSED: usize = 69;
 pub const SENDING: usize = 75;
 pub const SIGNS: usize = 81;
 pub const HEADING_BYTES: usize = 89;
+pub const SUM: usize = 91;
 pub const LINE_BYTES: usize = 92;
 pub const BLOCK_LEFT: usize = 94;
 pub const BODY_BYTES: usize = 96;
 pub const GIVEN: usize = 100;
 pub const USED: usize = 108;
-pub const DEFERRED: usize = 116;
-pub const BLOCK: usize = 516;
+pub const DEFERRED: usize = 160;
+pub const BLOCK: usize = 560;
+pub const BLOCK_END: usize = 920;
 
 /// What is awaited.
 pub const TURN: u8 = 3;
@@ -47,7 +49,7 @@ pub fn failed(memory: &Memory) -> Option<usize> {
     ITEMS.iter().position(|item| !item(memory)).map(|place| place + 1)
 }
 
-/// "1. session memory has 876 bytes and begins with the mark".
+/// "1. session memory has 1,024 bytes and begins with the mark".
 fn is_marked(memory: &Memory) -> bool {
     let session = memory.part(SESSION);
     session.len() == SESSION_BYTES && session.starts_with(b"FM01")

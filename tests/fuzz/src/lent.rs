@@ -4,6 +4,7 @@ use crate::guarded::Guarded;
 use crate::library;
 use inputs::random::Random;
 use second::host::Buffers;
+use second::layout::SESSION_FREE;
 use second::session::Lent;
 
 /// Places of the buffers in `Memory`, in the order of the C interface.
@@ -74,10 +75,14 @@ impl Memory {
     }
 
     /// The first buffer that differs from what is expected. Of session memory
-    /// only the margins count.
+    /// only the margins and the free bytes count.
     pub fn difference(&self, expected: &Memory) -> Option<String> {
         if self.buffers[SESSION].margins() != expected.buffers[SESSION].margins() {
             return Some("the bytes around session memory changed".into());
+        }
+        let (now, before) = (self.part(SESSION), expected.part(SESSION));
+        if SESSION_FREE.iter().any(|free| now.get(free.clone()) != before.get(free.clone())) {
+            return Some("a free byte of session memory changed".into());
         }
         (TABLE..self.buffers.len()).find_map(|place| self.said_difference(expected, place))
     }

@@ -9,7 +9,21 @@ use crate::tables;
 use crate::tally::Tally;
 use crate::wrong;
 use inputs::random::Random;
+use second::layout::{KNOWN_BYTES, MESSAGE_BYTES, RECORD_BYTES, SESSION_BYTES};
 use second::session::{Phase, Reply};
+
+/// How much longer or shorter a buffer is lent: by a byte, an entry of each kind,
+/// all of session memory, or as many bytes as its margin has.
+const RESIZES: [isize; 8] = [
+    -1,
+    1,
+    -(KNOWN_BYTES as isize),
+    KNOWN_BYTES as isize,
+    -(RECORD_BYTES as isize),
+    -(MESSAGE_BYTES as isize),
+    -(SESSION_BYTES as isize),
+    16,
+];
 
 /// How many bytes go in one call.
 #[derive(Clone, Copy, Debug)]
@@ -248,7 +262,7 @@ impl<'a> Driver<'a> {
     }
 
     fn resize(&mut self) -> Resize {
-        let by = self.random.pick(&[-1, 1, -13, 13, -89, -155, -876, 16]);
+        let by = self.random.pick(&RESIZES);
         Resize { buffer: self.random.below(8), by }
     }
 

@@ -8,9 +8,10 @@
 use crate::field::{AT_LIMIT, BID_LIMIT, CALL_LIMIT, HEADING_LIMIT};
 use crate::memory::{Envelope, Message, Record, Span, State};
 use crate::record::{Form, Kind};
+use std::ops::Range;
 
-/// "session memory | exactly 876 bytes"
-pub const SESSION_BYTES: usize = 876;
+/// "session memory | exactly 1,024 bytes"
+pub const SESSION_BYTES: usize = 1_024;
 /// "0 to 64 records of 89 bytes"
 pub const RECORD_BYTES: usize = 89;
 /// "0 to 1,024 entries of 13 bytes"
@@ -19,6 +20,8 @@ pub const KNOWN_BYTES: usize = 13;
 pub const MESSAGE_BYTES: usize = 155;
 /// "A host needs one number of it: the count of messages kept, at 66."
 pub const SESSION_KEPT: usize = 66;
+/// "Bytes 116 to 159 and 920 to 1,023 are free: no call reads or writes them".
+pub const SESSION_FREE: [Range<usize>; 2] = [116..160, 920..SESSION_BYTES];
 
 /// An entry being written.
 #[derive(Default)]

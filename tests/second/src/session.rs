@@ -15,7 +15,7 @@
 //! | FS line | our block | our transfers, then the partner's turn |
 //! | transfers | our FS line, if it accepts any | our turn |
 //!
-//! The session's state lives in [`Session`], not in the 876 bytes that a host
+//! The session's state lives in [`Session`], not in the 1,024 bytes that a host
 //! lends: this side is compared by what it answers and leaves, nothing else.
 
 use crate::buffer;

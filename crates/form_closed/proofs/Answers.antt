@@ -1,0 +1,157 @@
+-- "Receive and give answer 1 .. exactly if .. the lent memory fails a form test": where it passes, no byte is refused with 1. Idea: every
+-- number that a line, a transfer or a byte can be refused with is another.
+use mathlib.Core.Path.{_≡_, refl, ap, _∙_}
+use mathlib.Core.Bool.{Bool, true, false, cond, not, _&&_}
+use mathlib.Core.Option.{none}
+use mathlib.Core.List.{[], _∷_}
+use Prim.Native.Nat.{ℕ, suc, _+_}
+use lib.Dec.{eqb, ltb}
+use lib.ListN.{length, drop}
+use borrow.Author.Tests.{eqb-true}
+use Rattle.grammar.specs.Bytes.{Bytes, LF}
+use Rattle.grammar.specs.Lines.{LineByte, dropped, ends, grows, overruns, lineByte}
+use Rattle.grammar.proofs.Basics.{by-cond}
+use Rattle.transfer_step.specs.declared.Reader.{Reader}
+use Rattle.transfer_step.specs.declared.Stepped.{Stepped}
+use Rattle.transfer_step.specs.declared.Outcome.{Outcome}
+use Rattle.transfer_step.specs.declared.Outcome.the-variants.{More, Whole, Malformed, WrongSum, NoRoom}
+use Rattle.transfer_step.specs.Step.{stepOf}
+use Rattle.transfer_read.specs.Feed.{roomOf}
+use Rattle.session_memory.specs.State.{loadOf}
+use Rattle.session_memory.specs.declared.Await.{Await}
+use Rattle.session_memory.specs.declared.Say.{Say}
+use Rattle.session_memory.specs.declared.Keep.{Keep}
+use Rattle.session_memory.specs.declared.Session.{Session}
+use Rattle.line_effect.specs.Judge.{nextAccepted, judgeOf}
+use Rattle.line_effect.specs.Judged.{Judged}
+use Rattle.waiting.specs.Waiting.{waitingOf}
+use Rattle.pending.specs.Pending.{waits, overOf, hasToGive}
+use Rattle.form_test.specs.Form.{formOf}
+use Rattle.receive_defined.specs.Receiving.{Cs, cs, Moved, Settled, settleOf, lineMoved, lineStepOf, keepOf, transferMoved, transferStep, transferStepOf, byteOf, Run, stops, receiveFrom, unchanged, saved, receiveOf}
+use Rattle.give.specs.Giving.{reply, giveOf, handing, Given}
+use Rattle.form_closed.specs.Fixed.{Fixed}
+use Rattle.form_closed.specs.Facts.{Octets}
+use Rattle.form_closed.specs.InForm.{InForm}
+use Rattle.form_closed.proofs.Closed.{receive-closed, give-closed}
+use Rattle.form_closed.proofs.LineWays.{by-line-ways}
+
+-- Another number than 1.
+abbrev Other : ℕ → Type 0
+Other n = eqb n 1 ≡ false
+
+abbrev OtherJ : Judged → Type 0
+OtherJ j = eqb (j .answer) 1 ≡ false
+
+judge-other : (ln : Bytes) (w : Await) (y : Say) (k : Keep) (r : Reader) (table known inbox : Bytes) (store : ℕ) → OtherJ (judgeOf ln w y k r table known inbox store)
+judge-other ln w y k r table known inbox store =
+    by-line-ways ln w y k r table known inbox store OtherJ (record { refused = λ n e. e; goes = λ s m v z q. refl; begins = λ m v z q i. refl })
+
+settle-other : (s : Session) (j : Judged) (p : Bool) (table : Bytes) → OtherJ j → Other (settleOf s j p table .answer)
+unfolding settleOf
+settle-other s j p table h = by-cond (λ (o : Settled). Other (o .answer)) (eqb (j .answer) 0) refl h
+
+line-other : (s : Session) (b : ℕ) (table known inbox : Bytes) (store : ℕ) → Other (lineStepOf s b table known inbox store .answer)
+unfolding lineStepOf
+line-other s b table known inbox store = go (lineByte false (s .line .len) b)
+  where
+    go : (l : LineByte) → Other (lineMoved l s b table known inbox store .answer)
+    go dropped = refl
+    go ends = settle-other s _ true table (judge-other _ (s .now) (s .say) (s .keep) (s .reading .reader) table known inbox store)
+    go grows = refl
+    go overruns = refl
+
+keep-other : (s : Session) (table : Bytes) → Other (keepOf s table .answer)
+unfolding keepOf
+keep-other s table = settle-other s _ _ table (by-cond OtherJ (eqb (nextAccepted (s .say .signs) (s .now .current + 1)) 5) refl refl)
+
+transfer-other : (c : Cs) (b : ℕ) → Other (transferStepOf c b .answer)
+unfolding transferStepOf
+transfer-other c b = go (stepOf (roomOf (drop (c .session .keep .used) (c .store))) (c .session .reading .reader) b)
+  where
+    at : (o : Outcome) (s : Session) (table inbox store : Bytes) → Other (transferMoved o s table inbox store .answer)
+    at More s table inbox store = refl
+    at Whole s table inbox store = keep-other s table
+    at Malformed s table inbox store = refl
+    at WrongSum s table inbox store = refl
+    at NoRoom s table inbox store = refl
+
+    go : (t : Stepped) → Other (transferStep c b t .answer)
+    go t = at (t .outcome) _ (c .table) (c .inbox) _
+
+abbrev OtherM : Moved → Type 0
+OtherM m = eqb (m .answer) 1 ≡ false
+
+byte-other : (known : Bytes) (c : Cs) (b : ℕ) → OtherM (byteOf known c b)
+unfolding byteOf
+byte-other known c b =
+    by-cond OtherM (c .session .line .«after_cr» && eqb b LF) refl
+    (by-cond OtherM (waits (c .session .say)) refl
+    (by-cond OtherM (eqb (c .session .now .phase) 5) (transfer-other c b) (line-other (c .session) b (c .table) known (c .inbox) (length (c .store)))))
+
+portion-other : (known : Bytes) (bs : Bytes) (c : Cs) (n : ℕ) → Other (receiveFrom known c n bs .answer)
+unfolding receiveFrom
+portion-other known [] c n = refl
+portion-other known (b ∷ bs) c n =
+    by-cond (λ (r : Run). Other (r .answer)) (stops (byteOf known c b)) (byte-other known c b) (portion-other known bs (byteOf known c b .cs) (suc n))
+
+module _ (F : Fixed) (sm table inbox store : Bytes) where
+  abbrev test : Bool
+  test = formOf sm table (F .titles) (F .names) (F .bodies) (F .known) inbox store
+
+  -- RECEIVE ANSWERS 1 EXACTLY where the test fails
+  pub receive-exactly : (bs : Bytes) → eqb (receiveOf sm table (F .titles) (F .names) (F .bodies) (F .known) inbox store bs .reply .answer) 1 ≡ not test
+  unfolding receiveOf
+  receive-exactly bs = go test (overOf (loadOf sm)) (eqb (length bs) 0)
+    where
+      go : (a b n : Bool) → eqb ((cond a (cond b (unchanged (reply 12 0 0) sm table inbox store)
+          (cond n (unchanged (reply 0 0 0) sm table inbox store) (saved sm (receiveFrom (F .known) (cs (loadOf sm) table inbox store) 0 bs))))
+          (unchanged (reply 1 255 0) sm table inbox store)) .reply .answer) 1 ≡ not a
+      go true true n = refl
+      go true false true = refl
+      go true false false = portion-other (F .known) bs (cs (loadOf sm) table inbox store) 0
+      go false b n = refl
+
+  -- "Receiving no bytes on a live session answers 0 and changes nothing."
+  pub receive-none : test ≡ true → overOf (loadOf sm) ≡ false
+      → receiveOf sm table (F .titles) (F .names) (F .bodies) (F .known) inbox store [] ≡ unchanged (reply 0 0 0) sm table inbox store
+  unfolding receiveOf
+  receive-none e o = rw (e, o)
+
+  -- GIVE ANSWERS 1 EXACTLY where the test fails
+  pub give-exactly : (buf : Bytes) (place : ℕ) → eqb (giveOf sm table (F .titles) (F .names) (F .bodies) (F .known) inbox store buf place .reply .answer) 1 ≡ not test
+  unfolding giveOf
+  give-exactly buf place = go test (hasToGive (loadOf sm)) (ltb place (length buf))
+    where
+      w : Bytes
+      w = waitingOf (loadOf sm) table (F .titles) (F .names) (F .bodies)
+
+      none : ℕ → ℕ → Given
+      none a p = record { reply = reply a p 0; sm = sm; buf = buf }
+
+      go : (a b c : Bool) → eqb ((cond a (cond b (cond c (handing (loadOf sm) w sm buf place) (none 0 0)) (none 0 0)) (none 1 255)) .reply .answer) 1 ≡ not a
+      go true true true = refl
+      go true true false = refl
+      go true false c = refl
+      go false b c = refl
+
+  passes : (n : ℕ) → eqb n 1 ≡ not test → (n ≡ 1 → ⊥) → test ≡ true
+  passes n e h = go test refl
+    where
+      go : (a : Bool) → test ≡ a → test ≡ true
+      go true q = q
+      go false q = absurd (h (eqb-true n 1 (e ∙ ap not q)))
+
+  -- "so does what a receive or give leaves that doesn't answer 1"
+  module _ (o : Octets sm) (ot : Octets table) (oi : Octets inbox) (os : Octets store) where
+    pub receive-leaves : (bs : Bytes) → Octets bs → (receiveOf sm table (F .titles) (F .names) (F .bodies) (F .known) inbox store bs .reply .answer ≡ 1 → ⊥)
+        → InForm F (receiveOf sm table (F .titles) (F .names) (F .bodies) (F .known) inbox store bs .sm) (receiveOf sm table (F .titles) (F .names) (F .bodies) (F .known) inbox store bs .table)
+        (receiveOf sm table (F .titles) (F .names) (F .bodies) (F .known) inbox store bs .inbox) (receiveOf sm table (F .titles) (F .names) (F .bodies) (F .known) inbox store bs .store)
+    receive-leaves bs ob h =
+        let e = passes (receiveOf sm table (F .titles) (F .names) (F .bodies) (F .known) inbox store bs .reply .answer) (receive-exactly bs) h in
+        receive-closed F sm table inbox store bs (record { form = e; smOctets = o; tableOctets = ot; inboxOctets = oi; storeOctets = os }) ob
+
+    pub give-leaves : (buf : Bytes) (place : ℕ) → (giveOf sm table (F .titles) (F .names) (F .bodies) (F .known) inbox store buf place .reply .answer ≡ 1 → ⊥)
+        → InForm F (giveOf sm table (F .titles) (F .names) (F .bodies) (F .known) inbox store buf place .sm) table inbox store
+    give-leaves buf place h =
+        let e = passes (giveOf sm table (F .titles) (F .names) (F .bodies) (F .known) inbox store buf place .reply .answer) (give-exactly buf place) h in
+        give-closed F sm table inbox store buf place (record { form = e; smOctets = o; tableOctets = ot; inboxOctets = oi; storeOctets = os })

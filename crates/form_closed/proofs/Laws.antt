@@ -1,0 +1,225 @@
+-- Laws of lists for the form test: bytes stay bytes, five numbers, the signs' pluses, and the bytes that kept messages use. Assumes nothing.
+use mathlib.Core.Path.{_≡_, refl, sym, ap, _∙_, subst}
+use mathlib.Core.Bool.{Bool, true, false, cond}
+use mathlib.Core.List.{List, [], _∷_, _++_, map}
+use Prim.Native.Nat.{ℕ, zero, suc, _+_, _-_, _*_, _/_, _≤_, _<_}
+use native.Mathlib.Omega.{arith}
+use native.Mathlib.Nat.{add-zero}
+use lib.Dec.{eqb, leb}
+use lib.ListN.{length, getD, set, take, drop, replicate, length-drop, length-set}
+use lib.Seq.{length-take-le, drop-drop, getD-drop, getD-take}
+use borrow.Author.Tests.{eq-eqb, eqb-true, ltb-true, lt-ltb}
+use Rattle.grammar.specs.Bytes.{Bytes, all}
+use Rattle.grammar.specs.Answers.{Sign, accept, decline, defer, writeSign}
+use Rattle.grammar.specs.Transfers.{partOf}
+use Rattle.grammar.proofs.Basics.{and2, both, all-append, all-replicate, octet}
+use Rattle.buffer.specs.Put.{putBytes, cut}
+use Rattle.buffer.specs.declared.Cursor.{Cursor}
+use Rattle.places.specs.Places.{entryLen, recordLen}
+use Rattle.layout.specs.Layout.{le2, le4, le8, entryAt, entrySize, bodyLength, fieldOut}
+use Rattle.layout.proofs.Places.{entry-written, entry-kept}
+use Rattle.session_memory.specs.State.{at, held, fiveOf}
+use Rattle.session_memory.specs.declared.Five.{Five}
+use Rattle.session_memory.proofs.Laws.{five-length}
+use Rattle.line_effect.specs.Judge.{plusFrom, nextAccepted, picked, flagged}
+use Rattle.form_test.specs.Form.{usedFrom, usedBy, pluses}
+use Rattle.receive_defined.specs.Receiving.{markAll}
+use Rattle.form_closed.specs.Facts.{Octets, FiveOk}
+
+-- ---------------------------------------------------------------- bytes stay bytes
+
+pub octets-nil : Octets []
+octets-nil = record { each = refl }
+
+pub octets-cons : {x : ℕ} {l : Bytes} → x < 256 → Octets l → Octets (x ∷ l)
+octets-cons {x} {l} h o = record { each = both (octet x) (all octet l) (lt-ltb x 256 h) (o .each) }
+
+pub octets-first : {x : ℕ} {l : Bytes} → Octets (x ∷ l) → x < 256
+octets-first {x} {l} o = ltb-true x 256 ((and2 (octet x) (all octet l) (o .each)) .0)
+
+pub octets-rest : {x : ℕ} {l : Bytes} → Octets (x ∷ l) → Octets l
+octets-rest {x} {l} o = record { each = (and2 (octet x) (all octet l) (o .each)) .1 }
+
+pub octets-append : (s t : Bytes) → Octets s → Octets t → Octets (s ++ t)
+octets-append s t o q = record { each = all-append octet s t (o .each) (q .each) }
+
+pub octets-take : (n : ℕ) (l : Bytes) → Octets l → Octets (take n l)
+octets-take zero l o = octets-nil
+octets-take (suc n) [] o = octets-nil
+octets-take (suc n) (x ∷ l) o = octets-cons (octets-first o) (octets-take n l (octets-rest o))
+
+pub octets-drop : (n : ℕ) (l : Bytes) → Octets l → Octets (drop n l)
+octets-drop zero l o = o
+octets-drop (suc n) [] o = octets-nil
+octets-drop (suc n) (x ∷ l) o = octets-drop n l (octets-rest o)
+
+pub octets-set : (l : Bytes) (i v : ℕ) → v < 256 → Octets l → Octets (set l i v)
+octets-set [] i v h o = octets-nil
+octets-set (x ∷ l) zero v h o = octets-cons h (octets-rest o)
+octets-set (x ∷ l) (suc i) v h o = octets-cons (octets-first o) (octets-set l i v h (octets-rest o))
+
+pub octets-zeros : (n : ℕ) → Octets (replicate n 0)
+octets-zeros n = record { each = all-replicate octet n 0 refl }
+
+pub octets-part : (s : Bytes) (start len : ℕ) → Octets s → Octets (partOf s start len)
+octets-part s start len o = go (leb start (length s)) (leb len (length s - start))
+  where
+    go : (a b : Bool) → Octets (cond a (cond b (take len (drop start s)) []) [])
+    go true true = octets-take len (drop start s) (octets-drop start s o)
+    go true false = octets-nil
+    go false b = octets-nil
+
+pub octets-put : (d : Bytes) (c : Cursor) (p : Bytes) → Octets d → Octets p → Octets (putBytes d c p)
+unfolding putBytes
+octets-put d c p o q =
+    let w : Bytes = cut (length d - c .at) (c .skip) p in
+    octets-append (take (c .at) d) (w ++ drop (c .at + length w) d) (octets-take (c .at) d o)
+    (octets-append w (drop (c .at + length w) d) (octets-take (length d - c .at) (drop (c .skip) p) (octets-drop (c .skip) p q)) (octets-drop (c .at + length w) d o))
+
+pub octets-le2 : (x : ℕ) → Octets (le2 x)
+octets-le2 x = octets-cons (omega arith) (octets-cons (omega arith) octets-nil)
+
+pub octets-le4 : (x : ℕ) → Octets (le4 x)
+octets-le4 x = octets-cons (omega arith) (octets-cons (omega arith) (octets-cons (omega arith) (octets-cons (omega arith) octets-nil)))
+
+pub octets-le8 : (x : ℕ) → Octets (le8 x)
+octets-le8 x = octets-append (le4 x) (le4 (x / 4294967296)) (octets-le4 x) (octets-le4 (x / 4294967296))
+
+pub octets-field : (n : ℕ) (w : Bytes) → Octets w → Octets (fieldOut n w)
+octets-field n w o = octets-cons (omega arith) (octets-take n (w ++ replicate n 0) (octets-append w (replicate n 0) o (octets-zeros n)))
+
+-- ---------------------------------------------------------------- marks and flags
+
+pub mark-octets : (is : List ℕ) (v : ℕ) (table : Bytes) → v < 256 → Octets table → Octets (markAll is v table)
+mark-octets [] v table h o = o
+mark-octets (i ∷ is) v table h o = mark-octets is v (set table (i * recordLen) v) h (octets-set table (i * recordLen) v h o)
+
+pub flag-octets : (is : List ℕ) (flags : Bytes) → Octets flags → Octets (flagged is flags)
+flag-octets [] flags o = o
+flag-octets (i ∷ is) flags o = flag-octets is (set flags i 1) (octets-set flags i 1 (omega arith) o)
+
+pub picked-octets : (c : ℕ) (xs ss : List ℕ) → Octets xs → Octets (picked c xs ss)
+picked-octets c [] ss o = octets-nil
+picked-octets c (x ∷ xs) [] o = octets-nil
+picked-octets c (x ∷ xs) (s ∷ ss) o = go (eqb s c) (picked-octets c xs ss (octets-rest o))
+  where
+    go : (t : Bool) → Octets (picked c xs ss) → Octets (cond t (x ∷ picked c xs ss) (picked c xs ss))
+    go true k = octets-cons (octets-first o) k
+    go false k = k
+
+pub length-mark : (is : List ℕ) (v : ℕ) (t : Bytes) → length (markAll is v t) ≡ length t
+length-mark [] v t = refl
+length-mark (i ∷ is) v t = length-mark is v (set t (i * recordLen) v) ∙ length-set t (i * recordLen) v
+
+pub length-flagged : (is : List ℕ) (fl : List ℕ) → length (flagged is fl) ≡ length fl
+length-flagged [] fl = refl
+length-flagged (i ∷ is) fl = length-flagged is (set fl i 1) ∙ length-set fl i 1
+
+pub picked-few : (c : ℕ) (is ss : List ℕ) → length (picked c is ss) ≤ length is
+picked-few c [] ss = omega arith
+picked-few c (i ∷ is) [] = omega arith
+picked-few c (i ∷ is) (s ∷ ss) = go (eqb s c) (picked-few c is ss)
+  where
+    go : (b : Bool) → length (picked c is ss) ≤ length is → length (cond b (i ∷ picked c is ss) (picked c is ss)) ≤ length (i ∷ is)
+    go true h = omega arith
+    go false h = omega arith
+
+-- ---------------------------------------------------------------- up to five numbers
+
+pub five-of : (xs : List ℕ) → length xs ≤ 5 → Octets xs → FiveOk (fiveOf xs)
+five-of xs h o =
+    record {
+      few = h;
+      size = five-length xs h;
+      octets = octets-append xs (replicate (5 - length xs) 0) o (octets-zeros (5 - length xs));
+    }
+
+pub held-length : (f : Five) → FiveOk f → length (held f) ≡ f .count
+held-length f h = length-take-le (f .count) (f .items) (omega (arith, h .few, h .size))
+
+pub held-octets : (f : Five) → FiveOk f → Octets (held f)
+held-octets f h = octets-take (f .count) (f .items) (h .octets)
+
+-- ---------------------------------------------------------------- the next accepted proposal
+
+-- Where a plus is found: as many entries on, it is one, and none stands before it.
+pub record Found (i : ℕ) (xs : List ℕ) (p : ℕ) : Type 0 where
+  pub on : ℕ
+  pub place : p ≡ i + on
+  pub within : on < length xs
+  pub plus : getD xs on 0 ≡ 43
+  pub same : pluses xs ≡ pluses (drop on xs)
+
+pub plus-found : (i : ℕ) (xs : List ℕ) → eqb (plusFrom i xs) 5 ≡ false → Found i xs (plusFrom i xs)
+plus-found i [] e = let z : true ≡ false = e in let y : _≡_ {A = ℕ} 0 1 = cc in absurd (omega arith)
+plus-found i (x ∷ xs) e = go (eqb x 43) refl (λ q. plus-found (suc i) xs q) e
+  where
+    go : (t : Bool) → eqb x 43 ≡ t → (eqb (plusFrom (suc i) xs) 5 ≡ false → Found (suc i) xs (plusFrom (suc i) xs))
+        → eqb (cond t i (plusFrom (suc i) xs)) 5 ≡ false → Found i (x ∷ xs) (cond t i (plusFrom (suc i) xs))
+    go true q ih e = record { on = 0; place = omega arith; within = omega arith; plus = eqb-true x 43 q; same = refl }
+    go false q ih e =
+        let f = ih e in
+        record { on = suc (f .on); place = omega (arith, f .place); within = omega (arith, f .within); plus = f .plus; same = rw q (f .same) }
+
+-- The place of the next plus among five signs.
+pub record Next (signs : Five) (i p : ℕ) : Type 0 where
+  pub on : i ≤ p
+  pub within : p < signs .count
+  pub plus : getD (signs .items) p 0 ≡ 43
+  pub same : pluses (drop i (held signs)) ≡ pluses (drop p (held signs))
+
+pub next-found : (signs : Five) (i : ℕ) → FiveOk signs → i ≤ signs .count → eqb (nextAccepted signs i) 5 ≡ false → Next signs i (nextAccepted signs i)
+unfolding nextAccepted
+next-found signs i h k e =
+    let f = plus-found i (drop i (held signs)) e in
+    let l = held-length signs h in
+    let n : f .on < length (held signs) - i = subst (λ (m : ℕ). f .on < m) (length-drop i (held signs)) (f .within) in
+    let p = plusFrom i (drop i (held signs)) in
+    let q : p ≡ i + f .on = f .place in
+    record {
+      on = omega arith;
+      within = omega arith;
+      plus =
+          ap (λ (m : ℕ). getD (signs .items) m 0) q ∙ sym (getD-take (signs .count) (signs .items) (i + f .on) 0 (omega arith))
+          ∙ sym (getD-drop i (held signs) (f .on) 0) ∙ f .plus;
+      same = f .same ∙ ap pluses (drop-drop (f .on) i (held signs) ∙ ap (λ (m : ℕ). drop m (held signs)) (sym q));
+    }
+
+-- a plus counts
+pub plus-here : (xs : List ℕ) (i : ℕ) → i < length xs → getD xs i 0 ≡ 43 → pluses (drop i xs) ≡ suc (pluses (drop (suc i) xs))
+plus-here [] i h e = absurd (omega arith)
+plus-here (x ∷ xs) zero h e = rw (eq-eqb x 43 e)
+plus-here (x ∷ xs) (suc i) h e = plus-here xs i (omega arith) e
+
+pub signs-octets : (ss : List Sign) → Octets (map writeSign ss)
+signs-octets [] = octets-nil
+signs-octets (accept ∷ ss) = octets-cons (omega arith) (signs-octets ss)
+signs-octets (decline ∷ ss) = octets-cons (omega arith) (signs-octets ss)
+signs-octets (defer ∷ ss) = octets-cons (omega arith) (signs-octets ss)
+
+-- ---------------------------------------------------------------- the bytes that kept messages use
+
+used-snoc : (inbox : Bytes) (i n : ℕ) → usedFrom inbox i (suc n) ≡ usedFrom inbox i n + bodyLength (entryAt entrySize inbox (i + n))
+used-snoc inbox i zero = let e : i + 0 ≡ i = add-zero i in rw e (omega arith)
+used-snoc inbox i (suc n) =
+    let h = used-snoc inbox (suc i) n in
+    let e : suc i + n ≡ i + suc n = omega arith in
+    let k = subst (λ (m : ℕ). usedFrom inbox (suc i) (suc n) ≡ usedFrom inbox (suc i) n + bodyLength (entryAt entrySize inbox m)) e h in
+    omega (arith, k)
+
+used-kept : (d e : Bytes) (i n : ℕ) → ((j : ℕ) → j < i + n → entryAt entrySize e j ≡ entryAt entrySize d j) → usedFrom e i n ≡ usedFrom d i n
+used-kept d e i zero h = refl
+used-kept d e i (suc n) h = rw (h i (omega arith), used-kept d e (suc i) n (λ j k. h j (omega arith)))
+
+-- one entry more
+pub used-more : (inbox : Bytes) (k : ℕ) (c : Bytes) (n : ℕ) → length c ≡ entryLen → k < length inbox / entryLen → bodyLength c ≡ n
+    → usedBy (putBytes inbox (at (k * entryLen)) c) (suc k) ≡ usedBy inbox k + n
+unfolding usedBy
+used-more inbox k c n l h b =
+    let m : k * entryLen + entryLen ≤ length inbox = omega arith in
+    let e : Bytes = putBytes inbox (at (k * entryLen)) c in
+    used-snoc e 0 k
+    ∙ (let p = used-kept inbox e 0 k (λ j q. entry-kept entryLen inbox k c l m j (omega arith)) in
+    let w : bodyLength (entryAt entrySize e k) ≡ n = ap bodyLength (entry-written entryLen inbox k c l m) ∙ b in
+    let z : 0 + k ≡ k = omega arith in
+    rw (z, p, w))

@@ -1,0 +1,71 @@
+-- DEMAND 2 OVER LENT MEMORY. Idea: the memory after the list represents the session on lists that the same list leads to (Run), and that
+-- session is reached; the laws of receive and give say the rest. A record that open accepted obeys the rules under which it reads back.
+use mathlib.Core.Path.{_≡_, refl}
+use mathlib.Core.List.{List, [], _∷_, map}
+use Prim.Native.Nat.{ℕ}
+use lib.Dec.{eqb}
+use Rattle.grammar.specs.Bytes.{Bytes}
+use Rattle.session.specs.Choices.{Shelf}
+use Rattle.session.specs.Session as on-lists
+use Rattle.session.specs.Calls.{receive, give}
+use Rattle.demand2.specs.Reached.{Reached, atOpen}
+use Rattle.demand2.specs.Reached as reached
+use Rattle.demand2.proofs.Reached.{reached-portion}
+use Rattle.demand3.specs.Demand as on-lists-run
+use Rattle.entries.specs.Decoded.{statesOf}
+use Rattle.main_theorem.specs.Calls.{Lent, Buffer, Memory, fixedIn, lentIn, sizesOf, received, given}
+use Rattle.main_theorem.specs.Demand3.{CallsOn, openedBy, finally}
+use Rattle.main_theorem.specs.Demand2.{callOf, shelfIn, Claim2}
+use Rattle.main_theorem.proofs.Accepted.{table-reads-back}
+use Rattle.main_theorem.proofs.Opening.{freshCs, accepted}
+use Rattle.main_theorem.proofs.Held.{Held}
+use Rattle.main_theorem.proofs.Giving.{GaveAs, give-law}
+use Rattle.main_theorem.proofs.Run.{TookAs, receive-law}
+use Rattle.main_theorem.proofs.Demand3.{ran}
+
+-- every list of calls leads to a session that is reached
+run-reached : (E : Shelf) (cs : List on-lists-run.Call) (s : on-lists.Session) (q : Bytes) → Reached E s q → (r : Bytes) × Reached E ((on-lists-run.run E s cs) .0) r
+run-reached E [] s q h = (q, h)
+run-reached E (on-lists-run.receiving bs ∷ cs) s q h =
+    let p = reached-portion E bs s q h in
+    run-reached E cs (receive E s bs .session) (p .0) (p .1)
+run-reached E (on-lists-run.giving room ∷ cs) s q h = run-reached E cs (give s room) q (reached.given h room)
+run-reached E (on-lists-run.refusedCall ∷ cs) s q h = run-reached E cs s q h
+
+module _ (role : ℕ) (M : Memory) (e : openedBy role M .reply .answer ≡ 0) (cs : CallsOn M) where
+  abbrev after : on-lists.Session
+  after = (on-lists-run.run (shelfIn M) (on-lists.opened (eqb role 1) (statesOf (M .table .bytes))) (map callOf cs)) .0
+
+  abbrev end : Lent
+  end = finally role M cs
+
+  led : (r : Bytes) × Reached (shelfIn M) after r
+  led = run-reached (shelfIn M) (map callOf cs) (on-lists.opened (eqb role 1) (statesOf (M .table .bytes))) [] (atOpen (eqb role 1) (statesOf (M .table .bytes)))
+
+  held : Held (fixedIn M) (shelfIn M) (freshCs role (lentIn M)) (sizesOf (fixedIn M) (lentIn M)) end after
+  held = ran role M e cs .held
+
+  took : (b : Buffer) → TookAs (fixedIn M) (shelfIn M) (freshCs role (lentIn M)) (sizesOf (fixedIn M) (lentIn M)) (received (fixedIn M) end (b .bytes)) (receive (shelfIn M) after (b .bytes))
+  took b =
+      receive-law (fixedIn M) (shelfIn M) (freshCs role (lentIn M)) (sizesOf (fixedIn M) (lentIn M)) end after held (b .bytes) (b .octets)
+
+  gave : (b : Buffer) (place : ℕ) → GaveAs (fixedIn M) (shelfIn M) (freshCs role (lentIn M)) (sizesOf (fixedIn M) (lentIn M)) end (b .bytes) place after (given (fixedIn M) end (b .bytes) place)
+  gave b place =
+      give-law (fixedIn M) (shelfIn M) (freshCs role (lentIn M)) (sizesOf (fixedIn M) (lentIn M)) end after held (b .bytes) place
+
+-- THE THEOREM
+pub demand-2-lent : Claim2
+demand-2-lent role M e cs =
+    record {
+      session = after role M e cs;
+      transfer = (led role M e cs) .0;
+      same = refl;
+      reached = (led role M e cs) .1;
+      answers = λ b. took role M e cs b .answer;
+      consumes = λ b. took role M e cs b .count;
+      states = held role M e cs .represents .states;
+      keeps = held role M e cs .represents .boxed .messages;
+      gives = λ b place. gave role M e cs b place .count;
+      writes = λ b place. gave role M e cs b place .buffer;
+      readsBack = table-reads-back (M .table .bytes) (M .titles .bytes) (M .names .bytes) (M .bodies .bytes) (accepted role (fixedIn M) (lentIn M) e .fault);
+    }

@@ -1,0 +1,125 @@
+-- DEMAND 3 OVER LENT MEMORY. Idea: an accepted open leaves memory that represents the session opened on lists; a list of calls keeps that
+-- (Run); demand 3 holds of that session (crates/demand3); and the table, of which only states changed, is the old one with the new states.
+use mathlib.Core.Path.{_≡_, sym, ap, _∙_, subst}
+use mathlib.Core.Bool.{Bool, true, false, not}
+use mathlib.Core.List.{List, map}
+use Prim.Native.Nat.{ℕ, _*_}
+use native.Mathlib.Omega.{arith}
+use lib.Dec.{eqb}
+use lib.ListN.{length, take}
+use Rattle.grammar.specs.Bytes.{Bytes}
+use Rattle.mail.specs.Mail.{Message}
+use Rattle.session.specs.Choices.{Shelf}
+use Rattle.session.specs.Session as on-lists
+use Rattle.log.specs.Log.{Event, log}
+use Rattle.demand3.specs.Demand as on-lists-run
+use Rattle.demand3.proofs.Demand.{demand-3}
+use Rattle.places.specs.Places.{entryLen}
+use Rattle.entries.specs.Decoded.{statesOf}
+use Rattle.form_test.specs.Form.{formOf}
+use Rattle.represents.specs.Laid.{entriesBytes, bodiesBytes}
+use Rattle.form_closed.specs.Fixed.{Fixed}
+use Rattle.represents.specs.Represents.{messagesOf}
+use Rattle.represents.specs.Frame.{withStates}
+use Rattle.main_theorem.specs.Demand2.{callOf}
+use Rattle.main_theorem.specs.Calls.{Lent, Memory, fixedIn, lentIn, sizesOf, messageCount, received, given, withSession, run}
+use Rattle.main_theorem.specs.Demand3.{openedBy, CallsOn, finally, logged, Claim}
+use Rattle.represents.proofs.Frame.{with-law}
+use Rattle.form_closed.proofs.Answers.{receive-exactly, give-exactly}
+use Rattle.main_theorem.proofs.Opening.{freshCs, shelfOf, accepted, OpenedAs, open-law}
+use Rattle.form_closed.proofs.Closed.{receive-one, give-one}
+use Rattle.main_theorem.proofs.Run.{other-form, RanAs, run-law}
+use Rattle.represents.proofs.Laid.{entries-laid, bodies-laid}
+use Rattle.main_theorem.proofs.Held.{csOf, GoodAs, held-good}
+
+module _ (role : ℕ) (M : Memory) (e : openedBy role M .reply .answer ≡ 0) (cs : CallsOn M) where
+  abbrev pub F : Fixed
+  F = fixedIn M
+
+  abbrev pub m : Lent
+  m = lentIn M
+
+  abbrev pub E : Shelf
+  E = shelfOf F m
+
+  abbrev pub caller : Bool
+  caller = eqb role 1
+
+  abbrev pub states : List ℕ
+  states = statesOf (m .table)
+
+  pub open-as : OpenedAs role F m
+  open-as = open-law role M e
+
+  -- after the list of calls
+  pub ran : RanAs F E (freshCs role m) (sizesOf F m) (run F (withSession m (openedBy role M .sm)) cs)
+      (on-lists-run.run E (on-lists.opened caller states) (map callOf cs))
+  ran = run-law F E (freshCs role m) (sizesOf F m) cs (withSession m (openedBy role M .sm)) (on-lists.opened caller states) (open-as .held)
+
+  in-order : GoodAs F (finally role M cs) (csOf (finally role M cs))
+  in-order = held-good F E (freshCs role m) (sizesOf F m) (finally role M cs) ((on-lists-run.run E (on-lists.opened caller states) (map callOf cs)) .0) (ran .held)
+
+  on-lists-demand : on-lists-run.Demand3 E caller states (map callOf cs)
+  on-lists-demand = demand-3 E (open-as .good) caller states (map callOf cs)
+
+  pub states-logged : statesOf (finally role M cs .table) ≡ logged role M cs .book .states
+  states-logged =
+      ran .held .represents .states ∙ on-lists-demand .table ∙ ap (λ (es : List Event). log (E .table) caller states es .book .states) (sym (ran .events))
+
+  abbrev kept : List Message
+  kept = (on-lists-run.run E (on-lists.opened caller states) (map callOf cs)) .0 .memory .inbox
+
+  -- the messages kept of the session on lists are the log's
+  kept-logged : kept ≡ logged role M cs .book .kept
+  kept-logged = on-lists-demand .inbox ∙ ap (λ (es : List Event). log (E .table) caller states es .book .kept) (sym (ran .events))
+
+  pub inbox-logged : messagesOf (finally role M cs .inbox) (finally role M cs .store) (messageCount (finally role M cs)) ≡ logged role M cs .book .kept
+  inbox-logged = ran .held .represents .boxed .messages ∙ kept-logged
+
+  count-logged : messageCount (finally role M cs) ≡ length (logged role M cs .book .kept)
+  count-logged = ran .held .represents .boxed .kept ∙ ap (λ (ms : List Message). length ms) kept-logged
+
+  entries-logged : take (length (logged role M cs .book .kept) * entryLen) (finally role M cs .inbox) ≡ entriesBytes 0 (logged role M cs .book .kept)
+  entries-logged =
+      let r = ran .held .represents in
+      subst (λ (ms : List Message). take (length ms * entryLen) (finally role M cs .inbox) ≡ entriesBytes 0 ms) kept-logged
+      (entries-laid (finally role M cs .inbox) 0 0 kept (r .boxed .laid) (omega (arith, r .boxed .kept, in-order .box .placed, r .shelved .places, r .shelved .inbox)))
+
+  bodies-logged : take (length (bodiesBytes (logged role M cs .book .kept))) (finally role M cs .store) ≡ bodiesBytes (logged role M cs .book .kept)
+  bodies-logged =
+      let b = ran .held .represents .boxed in
+      subst (λ (ms : List Message). take (length (bodiesBytes ms)) (finally role M cs .store) ≡ bodiesBytes ms) kept-logged
+      (bodies-laid (finally role M cs .store) _ kept (in-order .box .within) (b .bodies))
+
+  -- the memory passes the form test, so that no call that is lent it answers 1
+  form-along : formOf (finally role M cs .sm) (finally role M cs .table) (F .titles) (F .names) (F .bodies) (F .known) (finally role M cs .inbox) (finally role M cs .store) ≡ true
+  form-along = ran .held .inForm .form
+
+  pub receive-not-one : (bs : Bytes) → eqb (received F (finally role M cs) bs .reply .answer) 1 ≡ false
+  receive-not-one bs =
+      receive-exactly F (finally role M cs .sm) (finally role M cs .table) (finally role M cs .inbox) (finally role M cs .store) bs ∙ ap not form-along
+
+  pub give-not-one : (buf : Bytes) (place : ℕ) → eqb (given F (finally role M cs) buf place .reply .answer) 1 ≡ false
+  give-not-one buf place =
+      give-exactly F (finally role M cs .sm) (finally role M cs .table) (finally role M cs .inbox) (finally role M cs .store) buf place ∙ ap not form-along
+
+  table-logged : finally role M cs .table ≡ withStates (logged role M cs .book .states) (m .table)
+  table-logged =
+      with-law (m .table) (finally role M cs .table) (accepted role F m e .table .0) (ran .held .spared .table)
+      ∙ ap (λ (x : List ℕ). withStates x (m .table)) states-logged
+
+-- THE THEOREM
+pub demand-3-lent : Claim
+demand-3-lent role M e cs =
+    record {
+      table = table-logged role M e cs;
+      count = count-logged role M e cs;
+      inbox = entries-logged role M e cs;
+      bodies = bodies-logged role M e cs;
+      places = ran role M e cs .held .spared .inbox .past;
+      rest = ran role M e cs .held .spared .store .past;
+      others = λ o b place.
+          let sm = finally role M cs .sm in
+          let f = other-form sm (sizesOf (fixedIn M) (lentIn M)) o (ran role M e cs .held .sizes) in
+          (receive-one (o .fixed) sm (o .table) (o .inbox) (o .store) (b .bytes) f, give-one (o .fixed) sm (o .table) (o .inbox) (o .store) (b .bytes) place f);
+    }

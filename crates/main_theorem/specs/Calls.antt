@@ -1,0 +1,127 @@
+-- A list of calls over lent memory: "Each call is lent the same memory, as the last one left it, and nobody else writes it meanwhile."
+use mathlib.Core.Path.{_≡_}
+use mathlib.Core.Bool.{Bool, true, false}
+use mathlib.Core.List.{List, [], _∷_, _++_, map}
+use Prim.Native.Nat.{ℕ, _<_}
+use lib.Dec.{ltb}
+use lib.ListN.{length, take, drop}
+use Rattle.grammar.specs.Bytes.{Bytes, all}
+use Rattle.log.specs.Log.{Event, took, gave}
+use Rattle.session_memory.specs.State.{loadOf}
+use Rattle.session_memory.specs.declared.Sizes.{Sizes}
+use Rattle.form_test.specs.Form.{sameSizes, lentSizes}
+use Rattle.give.specs.Giving.{Given, giveOf}
+use Rattle.open.specs.Opening.{Opened, openOf}
+use Rattle.receive_defined.specs.Receiving.{Received, receiveOf}
+use Rattle.form_closed.specs.Fixed.{Fixed}
+use Rattle.represents.specs.Frame.{reachOf}
+
+-- ---------------------------------------------------------------- lent memory
+
+abbrev pub isByte : ℕ → Bool
+isByte b = ltb b 256
+
+-- A buffer that a host lends: bytes, each below 256, and fewer than 2 ^ 64 of them, since its length is a number of 64 bits. This says what a
+-- slice of bytes is, in C and in the language, and nothing of what stands in it.
+pub record Buffer : Type 0 where
+  pub bytes : Bytes
+  pub octets : all isByte bytes ≡ true
+  pub short : length bytes < 18446744073709551616
+
+-- All that open is lent.
+pub record Memory : Type 0 where
+  pub session : Buffer
+  pub table : Buffer
+  pub titles : Buffer
+  pub names : Buffer
+  pub bodies : Buffer
+  pub known : Buffer
+  pub inbox : Buffer
+  pub store : Buffer
+
+-- The lent bytes that a call may change: session memory, table, inbox and inbox store. The others are Fixed.
+pub record Lent : Type 0 where
+  pub sm : Bytes
+  pub table : Bytes
+  pub inbox : Bytes
+  pub store : Bytes
+
+abbrev pub fixedIn : Memory → Fixed
+fixedIn M = record { titles = M .titles .bytes; names = M .names .bytes; bodies = M .bodies .bytes; known = M .known .bytes }
+
+abbrev pub lentIn : Memory → Lent
+lentIn M = record { sm = M .session .bytes; table = M .table .bytes; inbox = M .inbox .bytes; store = M .store .bytes }
+
+abbrev pub sizesOf : Fixed → Lent → Sizes
+sizesOf F m = lentSizes (m .table) (F .titles) (F .names) (F .bodies) (F .known) (m .inbox) (m .store)
+
+-- "Inbox: .. Its count stands in session memory"
+abbrev pub messageCount : Lent → ℕ
+messageCount m = loadOf (m .sm) .keep .kept
+
+-- How far the inbox store is written: kept messages, then the body bytes of the message under way or of one that failed.
+abbrev pub storeReach : Lent → ℕ
+storeReach m = reachOf (loadOf (m .sm))
+
+-- ---------------------------------------------------------------- one call
+
+-- Other buffers beside session memory than those of the sizes z: at least one size is another.
+pub record Other (z : Sizes) : Type 0 where
+  pub fixed : Fixed
+  pub table : Bytes
+  pub inbox : Bytes
+  pub store : Bytes
+  pub another : sameSizes z (lentSizes table (fixed .titles) (fixed .names) (fixed .bodies) (fixed .known) inbox store) ≡ false
+
+-- "every list of receive and give calls, refused ones included, with whatever bytes and buffers", after an open that was lent buffers of the
+-- sizes z: a receive of these bytes; a give into this buffer from a place on; and the same two lent other buffers.
+pub data Call (z : Sizes) : Type 0 where
+  receives : Buffer → Call z
+  gives : Buffer → ℕ → Call z
+  receivesOther : Other z → Buffer → Call z
+  givesOther : Other z → Buffer → ℕ → Call z
+
+abbrev pub openedOn : ℕ → Fixed → Lent → Opened
+openedOn role F m = openOf role (m .sm) (m .table) (F .titles) (F .names) (F .bodies) (F .known) (m .inbox) (m .store)
+
+abbrev pub received : Fixed → Lent → Bytes → Received
+received F m bs = receiveOf (m .sm) (m .table) (F .titles) (F .names) (F .bodies) (F .known) (m .inbox) (m .store) bs
+
+abbrev pub given : Fixed → Lent → Bytes → ℕ → Given
+given F m buf place = giveOf (m .sm) (m .table) (F .titles) (F .names) (F .bodies) (F .known) (m .inbox) (m .store) buf place
+
+-- The memory that a receive leaves, and one that leaves all but session memory.
+abbrev pub leftBy : Received → Lent
+leftBy r = record { sm = r .sm; table = r .table; inbox = r .inbox; store = r .store }
+
+abbrev pub withSession : Lent → Bytes → Lent
+withSession m sm = record { sm = sm; table = m .table; inbox = m .inbox; store = m .store }
+
+-- "fed the bytes consumed and given, by the calls' counts": those given are read from the buffer
+abbrev pub tookBy : Bytes → Received → List Event
+tookBy bs r = map took (take (r .reply .count) bs)
+
+abbrev pub gaveBy : ℕ → Given → List Event
+gaveBy place g = map gave (take (g .reply .count) (drop place (g .buf)))
+
+-- ---------------------------------------------------------------- a list of calls
+
+-- The lent bytes of a call that is lent other buffers, with the session memory sm.
+abbrev pub instead : {z : Sizes} → Other z → Bytes → Lent
+instead o sm = record { sm = sm; table = o .table; inbox = o .inbox; store = o .store }
+
+-- The memory after the calls, and what they say to the log, in order.
+abbrev pub run : {z : Sizes} → Fixed → Lent → List (Call z) → Lent × List Event
+run F m [] = (m, [])
+run F m (receives b ∷ cs) =
+    let r = received F m (b .bytes) in
+    ((run F (leftBy r) cs) .0, tookBy (b .bytes) r ++ (run F (leftBy r) cs) .1)
+run F m (gives b place ∷ cs) =
+    let g = given F m (b .bytes) place in
+    ((run F (withSession m (g .sm)) cs) .0, gaveBy place g ++ (run F (withSession m (g .sm)) cs) .1)
+run F m (receivesOther o b ∷ cs) =
+    let r = received (o .fixed) (instead o (m .sm)) (b .bytes) in
+    ((run F (withSession m (r .sm)) cs) .0, tookBy (b .bytes) r ++ (run F (withSession m (r .sm)) cs) .1)
+run F m (givesOther o b place ∷ cs) =
+    let g = given (o .fixed) (instead o (m .sm)) (b .bytes) place in
+    ((run F (withSession m (g .sm)) cs) .0, gaveBy place g ++ (run F (withSession m (g .sm)) cs) .1)

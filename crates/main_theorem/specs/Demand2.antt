@@ -1,0 +1,62 @@
+-- DEMAND 2 over lent memory. After an accepted open and every list of calls there is the session on lists that the same calls lead to; of every
+-- session that open, receive and give lead to crates/demand2 says when each refusal comes, what each byte does, what we propose, answer and give.
+-- What the next call on lent memory answers, consumes and gives is what that session does. The proof is proofs/Demand2.
+use mathlib.Core.Path.{_≡_}
+use mathlib.Core.List.{map}
+use Prim.Native.Nat.{ℕ, _-_, _<_}
+use lib.Dec.{eqb}
+use lib.ListN.{length}
+use Rattle.grammar.specs.Bytes.{Bytes}
+use Rattle.mail.specs.Mail.{recordAt}
+use Rattle.session.specs.Choices.{Shelf}
+use Rattle.session.specs.Session.{Session, opened}
+use Rattle.session.specs.Calls.{receive, handedOut}
+use Rattle.demand2.specs.Reached.{Reached}
+use Rattle.demand2.specs.ReadBack.{ReadsBack}
+use Rattle.demand3.specs.Demand as on-lists-run
+use Rattle.buffer.specs.Put.{wrote}
+use Rattle.entries.specs.Decoded.{recordCount, recordsOf, statesOf, knownBids, placeCount}
+use Rattle.represents.specs.Represents.{messagesOf}
+use Rattle.main_theorem.specs.Calls.{Buffer, Memory, fixedIn, messageCount, received, given, Call, receives, gives, receivesOther, givesOther}
+use Rattle.main_theorem.specs.Demand3.{openedBy, CallsOn, finally}
+use Rattle.session_memory.specs.declared.Sizes.{Sizes}
+
+-- What the session is opened with, as lent memory holds it.
+abbrev pub shelfIn : Memory → Shelf
+shelfIn M =
+    record {
+      table = recordsOf (M .titles .bytes) (M .names .bytes) (M .bodies .bytes) (M .table .bytes);
+      known = knownBids (M .known .bytes);
+      places = placeCount (M .inbox .bytes);
+      bytes = length (M .store .bytes);
+    }
+
+-- The call on lists that a call over lent memory stands for.
+abbrev pub callOf : {z : Sizes} → Call z → on-lists-run.Call
+callOf (receives b) = on-lists-run.receiving (b .bytes)
+callOf (gives b place) = on-lists-run.giving (length (b .bytes) - place)
+callOf (receivesOther o b) = on-lists-run.refusedCall
+callOf (givesOther o b place) = on-lists-run.refusedCall
+
+pub record Demand2 (role : ℕ) (M : Memory) (cs : CallsOn M) : Type 0 where
+  -- the session on lists after the same calls, and the bytes so far of the transfer under way
+  pub session : Session
+  pub transfer : Bytes
+  pub same : session ≡ (on-lists-run.run (shelfIn M) (opened (eqb role 1) (statesOf (M .table .bytes))) (map callOf cs)) .0
+  pub reached : Reached (shelfIn M) session transfer
+  -- "What is read, answered": the number given back, and how many bytes are consumed
+  pub answers : (b : Buffer) → received (fixedIn M) (finally role M cs) (b .bytes) .reply .answer ≡ receive (shelfIn M) session (b .bytes) .answer
+  pub consumes : (b : Buffer) → received (fixedIn M) (finally role M cs) (b .bytes) .reply .count ≡ receive (shelfIn M) session (b .bytes) .count
+  -- "kept": the states and the messages are the session's
+  pub states : statesOf (finally role M cs .table) ≡ session .memory .states
+  pub keeps : messagesOf (finally role M cs .inbox) (finally role M cs .store) (messageCount (finally role M cs)) ≡ session .memory .inbox
+  -- "and sent": how many bytes are given, and which; "no other byte of the buffer changes"
+  pub gives : (b : Buffer) (place : ℕ)
+      → given (fixedIn M) (finally role M cs) (b .bytes) place .reply .count ≡ length (handedOut session (length (b .bytes) - place))
+  pub writes : (b : Buffer) (place : ℕ)
+      → given (fixedIn M) (finally role M cs) (b .bytes) place .buf ≡ wrote (b .bytes) place (handedOut session (length (b .bytes) - place))
+  -- "A proposal or transfer that we write reads back as the same fields and the same bytes."
+  pub readsBack : (i : ℕ) → i < recordCount (M .table .bytes) → ReadsBack (recordAt (shelfIn M .table) i)
+
+abbrev pub Claim2 : Type 0
+Claim2 = (role : ℕ) (M : Memory) → openedBy role M .reply .answer ≡ 0 → (cs : CallsOn M) → Demand2 role M cs

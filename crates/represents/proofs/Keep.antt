@@ -1,0 +1,201 @@
+-- A whole transfer: its message is kept behind the last, then the next accepted transfer is awaited, or it is our turn.
+use mathlib.Core.Path.{_≡_, refl, sym, ap, _∙_, subst}
+use mathlib.Core.Bool.{Bool, false, cond}
+use mathlib.Core.List.{List, [], _∷_, _++_}
+use Prim.Native.Nat.{ℕ, suc, _+_, _*_, _/_, _≤_}
+use native.Mathlib.Omega.{arith}
+use native.Mathlib.Numerals.{add-one}
+use lib.ListN.{length, take, drop, length-drop, length-take}
+use lib.Seq.{length-take-le}
+use borrow.Author.Tests.{ne-eqb}
+use Rattle.grammar.specs.Bytes.{Bytes}
+use Rattle.grammar.specs.Turns.{Proposal}
+use Rattle.grammar.specs.Scan.{Scan, scanFrom}
+use Rattle.mail.specs.Mail.{Message, messageOf, accepted}
+use Rattle.session.specs.Choices.{Shelf}
+use Rattle.session.specs.Session as on-lists
+use Rattle.session.specs.Session.{Memory, Outcome}
+use Rattle.buffer.specs.Put.{putBytes}
+use Rattle.places.specs.Places.{entryLen, proposalLen}
+use Rattle.layout.specs.Layout.{byteAt, entryAt, entrySize, proposalSize, proposalOf, entryOut}
+use Rattle.layout.proofs.Places.{part-in}
+use Rattle.layout.proofs.Laws.{withContent, entry-length}
+use Rattle.transfer_read.specs.Feed.{roomOf}
+use Rattle.transfer_read.specs.Meaning.{Stands, Kept}
+use Rattle.session_memory.specs.State.{at, held}
+use Rattle.session_memory.specs.declared.Session.{Session}
+use Rattle.entries.specs.Decoded.{proposalsOf}
+use Rattle.line_effect.specs.Judge.{noMarks, judged, toTransfer, plusFrom, nextAccepted, readerFor}
+use Rattle.our_turn.specs.Turn.{speakOf}
+use Rattle.line_effect.specs.Judged.{Judged}
+use Rattle.waiting.specs.Waiting.{thenText}
+use Rattle.pending.specs.Pending.{waits}
+use Rattle.receive_defined.specs.Receiving.{Cs, keptKeep, nextJudged, isPlainAt, keepOf}
+use Rattle.form_closed.specs.Fixed.{Fixed}
+use Rattle.represents.specs.Represents.{Awaits, Represents, signsIn}
+use Rattle.represents.proofs.Proposals.{Found, owing, owed-now, next-found, plain-law, written-form, owed-pluses}
+use Rattle.represents.proofs.Inbox.{Box, Fitting, box-more}
+use Rattle.represents.proofs.Frame.{kept-put}
+use Rattle.represents.proofs.Says.{first-nothing, then-nothing}
+use Rattle.form_closed.proofs.Waiting.{waits-none}
+use Rattle.represents.proofs.Parts.{Holds}
+use Rattle.represents.proofs.Settle.{Settles, settled-is, our-turn-law}
+use Rattle.represents.proofs.Leads.{Settling, Goes, goes-speaking, settle-goes}
+use Rattle.represents.proofs.Line.{await-transfer}
+use Rattle.represents.proofs.Transfer.{behind, behind′, store′, heading′, s′, stepped, behind-back, store-kept, holds′}
+use Rattle.form_closed.specs.Facts.{Good, Under}
+
+module _ (F : Fixed) (E : Shelf) {nt ni ns : ℕ} (c : Cs) (g : Good F nt ni ns c) (v : on-lists.Session) (h : Represents F E c v) (b : ℕ) (quiet : waits (c .session .say) ≡ false)
+    (p : Proposal) (ps : List Proposal) (sc last : Scan) (a : Awaits c (on-lists.awaitsTransfer p ps sc))
+    (k : Stands (roomOf (behind F E c g v h b)) (stepped F E c g v h b .reader) (heading′ F E c g v h b) (behind′ F E c g v h b) last) where
+  abbrev u : Session
+  u = s′ F E c g v h b
+
+  abbrev st : Bytes
+  st = store′ F E c g v h b
+
+  abbrev n : ℕ
+  n = u .reading .reader .body
+
+  abbrev entry : Bytes
+  entry = entryAt proposalSize (u .now .block) (u .now .current)
+
+  abbrev title : Bytes
+  title = take (u .reading .reader .head) (u .reading .heading)
+
+  abbrev inbox′ : Bytes
+  inbox′ = putBytes (c .inbox) (at (u .keep .kept * entrySize)) (entryOut entry title (u .keep .used) n)
+
+  -- the message that is kept
+  abbrev pub kept : Message
+  kept = messageOf p (record { heading = title; body = take n (behind′ F E c g v h b) })
+
+  abbrev m′ : Memory
+  m′ = on-lists.keptIn (v .memory) kept
+
+  -- ---------------------------------------------------------------- it is kept
+
+  under : Under (u .now) (u .say) (u .keep) (c .session .reading .reader) (c .inbox) (c .store)
+  under = g .awaited .under (a .0)
+
+  now-owed : p ∷ ps ≡ proposalOf entry ∷ accepted (signsIn (drop (suc (u .now .current)) (held (u .say .signs)))) (drop (suc (u .now .current)) (proposalsOf (u .now .block) (u .now .proposals)))
+  now-owed = sym (a .1) ∙ owed-now (u .say .signs) (u .now .block) (u .now .proposals) (g .say .signs) (under .signs) (u .now .current) (under .current) (under .plus)
+
+  this : p ≡ proposalOf entry
+  this = cc now-owed
+
+  rest-owed : ps ≡ accepted (signsIn (drop (suc (u .now .current)) (held (u .say .signs)))) (drop (suc (u .now .current)) (proposalsOf (u .now .block) (u .now .proposals)))
+  rest-owed = cc now-owed
+
+  -- it and those after it have places
+  places : u .keep .kept + suc (length ps) ≤ E .places
+  places =
+      omega (
+        arith,
+        under .places,
+        owed-pluses (u .say .signs) (u .now .block) (u .now .proposals) (g .say .signs) (under .signs) (u .now .current),
+        ap (λ (l : List Proposal). length l) (a .1),
+        h .shelved .places,
+      )
+
+  fitting : Fitting (u .keep .kept) (u .keep .used) (c .inbox) st (E .places) n
+  fitting =
+      let fits = k .fits in
+      let behind-size = length-drop (u .keep .used) (c .store) in
+      record {
+        size = h .shelved .inbox;
+        few = omega (arith, g .box .limit, h .shelved .places);
+        free = omega (arith, places);
+        limit = omega arith;
+        sum = g .box .used;
+        room = omega (arith, g .box .within, store-kept F E c g v h b .size);
+      }
+
+  entry-size : length entry ≡ proposalLen
+  entry-size =
+      let e : entry ≡ take proposalLen (drop (u .now .current * proposalLen) (u .now .block)) = part-in (u .now .block) (u .now .current * proposalLen) proposalLen (omega (arith, under .current, g .now .block, g .now .proposals)) in
+      rw e (length-take-le proposalLen (drop (u .now .current * proposalLen) (u .now .block)) (rw (length-drop (u .now .current * proposalLen) (u .now .block)) (omega (arith, under .current, g .now .block, g .now .proposals))))
+
+  title-short : length title ≤ 80
+  title-short = rw (length-take (u .reading .reader .head) (u .reading .heading)) (omega (arith, k .array))
+
+  entry-fits : length (entryOut entry title (u .keep .used) n) ≡ entryLen
+  entry-fits = entry-length entry title (u .keep .used) n (omega (arith, entry-size))
+
+  pub inbox-kept : Kept (u .keep .kept * entryLen) ((u .keep .kept + 1) * entryLen) (c .inbox) inbox′
+  inbox-kept =
+      subst (λ (j : ℕ). Kept (u .keep .kept * entryLen) j (c .inbox) inbox′) (omega (arith, entry-fits))
+      (kept-put (c .inbox) (entryOut entry title (u .keep .used) n) (u .keep .kept * entryLen) (omega (arith, entry-fits, h .shelved .inbox, places)))
+
+  holds″ : Holds F E (keptKeep u) (c .table) inbox′ st m′
+  holds″ =
+      let H = holds′ F E c g v h b in
+      let l = H .lies in
+      let same = inbox-kept .size in
+      record {
+        lies = record {
+          records = l .records;
+          known = l .known;
+          places = ap (λ (x : ℕ). x / entryLen) same ∙ l .places;
+          bytes = l .bytes;
+          table = l .table;
+          inbox = same ∙ l .inbox;
+        };
+        box = subst (λ (x : Message). Box (u .keep .kept + 1) (u .keep .used + n) inbox′ st (v .memory .inbox ++ (x ∷ [])))
+            (ap (λ (q : Proposal). withContent q title (take n (drop (u .keep .used) st))) (sym this) ∙ ap (λ (x : Bytes). withContent p title (take n x)) (behind-back F E c g v h b))
+            (box-more (u .keep .kept) (u .keep .used) (c .inbox) st (v .memory .inbox) (E .places) n entry title fitting (omega (arith, entry-size)) title-short (h .entries (u .now .current) (under .current)) (H .box));
+        marks = H .marks;
+      }
+
+  -- ---------------------------------------------------------------- then
+
+  first : u .say .first ≡ 0
+  first = (waits-none (c .session .say) quiet) .0
+
+  then : u .say .then ≡ 0
+  then = (waits-none (c .session .say) quiet) .1
+
+  abbrev Next : Judged → Outcome → Type 0
+  Next j o = Goes F E u (isPlainAt u) inbox′ st (u .keep .kept + 1) (u .keep .used + n) (c .table) j o
+
+  next-law : (l : List Proposal) (j : ℕ)
+      → Found (drop (suc (u .now .current)) (held (u .say .signs))) (drop (suc (u .now .current)) (proposalsOf (u .now .block) (u .now .proposals))) (suc (u .now .current)) j l
+      → Next (nextJudged u j) (on-lists.nextTransfer E l m′)
+  next-law [] j found =
+      subst (λ (x : ℕ). Next (nextJudged u x) (on-lists.ourTurn E [] false m′)) (sym found)
+      (goes-speaking F E u (isPlainAt u) inbox′ st (u .keep .kept + 1) (u .keep .used + n) (c .table) noMarks (u .now) (u .say) (keptKeep u) (u .reading .reader) refl refl false
+      (on-lists.ourTurn E [] false m′)
+      (subst (λ (o : Bytes). Settles F E u (isPlainAt u) inbox′ st (speakOf (u .now) (u .say) (keptKeep u) (c .table) false .now) (speakOf (u .now) (u .say) (keptKeep u) (c .table) false .say)
+      (keptKeep u) (u .reading .reader) (c .table) (on-lists.ourTurn E o false m′)) (first-nothing (u .say .first) (u .say .signs) first)
+      (our-turn-law F E u (isPlainAt u) inbox′ st (u .now) (u .say) (keptKeep u) (u .reading .reader) (c .table) m′ (h .entries) holds″ false)))
+  next-law (q ∷ qs) j found =
+      let o = owing (u .say .signs) (u .now .block) (u .now .proposals) (g .say .signs) (under .signs) (suc (u .now .current)) j q qs found in
+      subst
+      (λ (x : Bool). Next (cond x (judged 0 1 noMarks (u .now) (u .say) (keptKeep u) (u .reading .reader)) (judged 0 0 noMarks (toTransfer j (u .now)) (u .say) (keptKeep u) (readerFor (u .now) j)))
+      (on-lists.nextTransfer E (q ∷ qs) m′))
+      (sym (ne-eqb j 5 (λ e. omega (arith, o .within, g .now .proposals)))) (
+        refl,
+        refl,
+        refl,
+        settled-is F E u (isPlainAt u) inbox′ st (toTransfer j (u .now)) (u .say) (keptKeep u) (readerFor (u .now) j) (c .table) (on-lists.awaitsTransfer q qs (scanFrom (q .form))) m′ []
+            (h .entries) holds″
+            (ap (λ (l : Bytes). l ++ thenText (u .say .then) (u .now .ours) (u .keep .sending) (c .table) (F .titles) (F .names) (F .bodies)) (first-nothing (u .say .first) (u .say .signs) first)
+            ∙ then-nothing (u .say .then) (u .now .ours) (u .keep .sending) (c .table) (F .titles) (F .names) (F .bodies) then)
+            (await-transfer F E u (isPlainAt u) inbox′ st (u .now) (u .say) (keptKeep u) (c .table) j q qs (h .entries) (g .say .signs) (k .array) o),
+      )
+
+  -- THE MESSAGE KEPT, at its last byte
+  pub keep-law : Settling F E inbox′ st (u .keep .kept + 1) (u .keep .used + n) (c .table) (keepOf u (c .table))
+      (on-lists.settled v (on-lists.isPlain (p .form)) (on-lists.nextTransfer E ps m′))
+  unfolding keepOf nextAccepted
+  keep-law =
+      subst (λ (x : Bool). Settling F E inbox′ st (u .keep .kept + 1) (u .keep .used + n) (c .table) (keepOf u (c .table)) (on-lists.settled v x (on-lists.nextTransfer E ps m′))) plain
+      (settle-goes F E u (isPlainAt u) inbox′ st (u .keep .kept + 1) (u .keep .used + n) (c .table) v (nextJudged u (nextAccepted (u .say .signs) (u .now .current + 1))) (on-lists.nextTransfer E ps m′)
+      (subst (λ (x : ℕ). Next (nextJudged u (plusFrom x (drop x (held (u .say .signs))))) (on-lists.nextTransfer E ps m′)) (sym (add-one (u .now .current)))
+      (next-law ps (plusFrom (suc (u .now .current)) (drop (suc (u .now .current)) (held (u .say .signs))))
+      (subst (λ (l : List Proposal). Found (drop (suc (u .now .current)) (held (u .say .signs))) (drop (suc (u .now .current)) (proposalsOf (u .now .block) (u .now .proposals))) (suc (u .now .current))
+      (plusFrom (suc (u .now .current)) (drop (suc (u .now .current)) (held (u .say .signs)))) l) (sym rest-owed)
+      (next-found (u .say .signs) (u .now .block) (u .now .proposals) (g .say .signs) (under .signs) (suc (u .now .current)))))))
+    where
+      plain : isPlainAt u ≡ on-lists.isPlain (p .form)
+      plain = plain-law (byteAt entry 0) (written-form (h .entries (u .now .current) (under .current))) ∙ ap (λ (q : Proposal). on-lists.isPlain (q .form)) (sym this)

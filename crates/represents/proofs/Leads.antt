@@ -1,0 +1,104 @@
+-- What a line is judged to be leads to the session's outcome: a refusal by its number, or marks, then our turn if it is, and the relation
+-- again. Each case of a line is walked once, with this as its goal.
+use mathlib.Core.Path.{_≡_, refl, sym, ap, _∙_, subst}
+use mathlib.Core.Bool.{Bool, true, false, cond}
+use Prim.Native.Nat.{ℕ}
+use lib.Dec.{eqb}
+use Rattle.grammar.specs.Bytes.{Bytes}
+use Rattle.session.specs.Choices.{Shelf}
+use Rattle.session.specs.Session as on-lists
+use Rattle.session.specs.Session.{Outcome, refuses, goesOn}
+use Rattle.transfer_step.specs.declared.Reader.{Reader}
+use Rattle.session_memory.specs.State.{held}
+use Rattle.session_memory.specs.declared.Await.{Await}
+use Rattle.session_memory.specs.declared.Say.{Say}
+use Rattle.session_memory.specs.declared.Keep.{Keep}
+use Rattle.session_memory.specs.declared.Session.{Session}
+use Rattle.line_effect.specs.Judge.{judged}
+use Rattle.our_turn.specs.Turn.{speakOf}
+use Rattle.line_effect.specs.Judged.{Judged}
+use Rattle.line_effect.specs.declared.Marks.{Marks}
+use Rattle.receive_defined.specs.Receiving.{cs, markAll, settledOf, spokenOf, Settled, settled, settleOf, refusedOf}
+use Rattle.form_closed.specs.Fixed.{Fixed}
+use Rattle.represents.specs.Represents.{Represents}
+use Rattle.represents.specs.Frame.{StatesOnly}
+use Rattle.represents.proofs.Frame.{only-same, only-mark}
+use Rattle.represents.proofs.Settle.{after, Settles}
+
+-- a whole line or transfer settled as the session on lists has it, so many messages kept and bytes used then
+pub record Settling (F : Fixed) (E : Shelf) (i st : Bytes) (kept used : ℕ) (t : Bytes) (v : Settled) (o : on-lists.Stepped) : Type 0 where
+  pub answer : v .answer ≡ o .answer
+  pub represents : Represents F E (cs (v .session) (v .table) i st) (o .session)
+  pub count : v .session .keep .kept ≡ kept
+  pub spent : v .session .keep .used ≡ used
+  pub table : StatesOnly t (v .table)
+
+abbrev pub marking : Marks → Bytes → Bytes
+marking mk t = markAll (held (mk .places)) (mk .state) t
+
+module _ (F : Fixed) (E : Shelf) (s : Session) (a : Bool) (i st : Bytes) (kept used : ℕ) (t : Bytes) where
+  -- no refusal
+  abbrev pub Goes : Judged → Outcome → Type 0
+  Goes j (refuses n) = ⊥
+  Goes j (goesOn p m o) =
+      (j .answer ≡ 0) × (j .keep .kept ≡ kept) × (j .keep .used ≡ used)
+      × Represents F E (cs (spokenOf s j a (marking (j .marks) t)) (marking (j .marks) t) i st) (after F E s a i st p m o)
+
+  -- any outcome
+  abbrev pub Leads : Judged → Outcome → Type 0
+  Leads j (refuses n) = (j .answer ≡ n) × (eqb n 0 ≡ false)
+  Leads j (goesOn p m o) =
+      (j .answer ≡ 0) × (j .keep .kept ≡ kept) × (j .keep .used ≡ used)
+      × Represents F E (cs (spokenOf s j a (marking (j .marks) t)) (marking (j .marks) t) i st) (after F E s a i st p m o)
+
+  pub goes-leads : (j : Judged) (o : Outcome) → Goes j o → Leads j o
+  goes-leads j (refuses n) h = absurd h
+  goes-leads j (goesOn p m o) h = h
+
+  -- ---------------------------------------------------------------- by the parts
+
+  module _ (mk : Marks) (w : Await) (y : Say) (k : Keep) (r : Reader) (same : k .kept ≡ kept) (spent : k .used ≡ used) where
+    -- it is our turn; ff: the partner's was FF
+    pub goes-speaking : (ff : Bool) (o : Outcome)
+        → Settles F E s a i st (speakOf w y k (marking mk t) ff .now) (speakOf w y k (marking mk t) ff .say) k r (marking mk t) o → Goes (judged 0 (cond ff 2 1) mk w y k r) o
+    goes-speaking ff (refuses n) h = absurd h
+    goes-speaking true (goesOn p m o) h = (refl, same, spent, h)
+    goes-speaking false (goesOn p m o) h = (refl, same, spent, h)
+
+  -- ---------------------------------------------------------------- settled
+
+  keep-spoken : (j : Judged) (u : Bytes) → spokenOf s j a u .keep ≡ j .keep
+  keep-spoken j u = go (eqb (j .speaks) 0)
+    where
+      go : (c : Bool)
+          → cond c (settledOf s j a (j .now) (j .say))
+          (settledOf s j a (speakOf (j .now) (j .say) (j .keep) u (eqb (j .speaks) 2) .now) (speakOf (j .now) (j .say) (j .keep) u (eqb (j .speaks) 2) .say)) .keep ≡ j .keep
+      go true = refl
+      go false = refl
+
+  pub settle-goes : (v : on-lists.Session) (j : Judged) (o : Outcome) → Goes j o → Settling F E i st kept used t (settleOf s j a t) (on-lists.settled v a o)
+  unfolding settleOf
+  settle-goes v j (refuses n) h = absurd h
+  settle-goes v j (goesOn p m o) h =
+      let t′ = marking (j .marks) t in
+      subst
+      (λ (n : ℕ). Settling F E i st kept used t (cond (eqb n 0) (settled 0 (spokenOf s j a t′) t′) (settled n (refusedOf s) t)) (on-lists.settled v a (goesOn p m o)))
+      (sym (h .0))
+      (record {
+        answer = refl;
+        represents = h .3;
+        count = ap (λ (k : Keep). k .kept) (keep-spoken j t′) ∙ h .1;
+        spent = ap (λ (k : Keep). k .used) (keep-spoken j t′) ∙ h .2;
+        table = only-mark (held (j .marks .places)) (j .marks .state) t;
+      })
+
+  pub settle-law : (v : on-lists.Session) → s .keep .kept ≡ kept → s .keep .used ≡ used
+      → ((n : ℕ) → Represents F E (cs (refusedOf s) t i st) (on-lists.refused v n .session))
+      → (j : Judged) (o : Outcome) → Leads j o → Settling F E i st kept used t (settleOf s j a t) (on-lists.settled v a o)
+  unfolding settleOf refusedOf
+  settle-law v same spent refused j (refuses n) h =
+      let t′ = marking (j .marks) t in
+      subst (λ (l : ℕ). Settling F E i st kept used t (cond (eqb l 0) (settled 0 (spokenOf s j a t′) t′) (settled l (refusedOf s) t)) (on-lists.settled v a (refuses n))) (sym (h .0))
+      (subst (λ (c : Bool). Settling F E i st kept used t (cond c (settled 0 (spokenOf s j a t′) t′) (settled n (refusedOf s) t)) (on-lists.settled v a (refuses n))) (sym (h .1))
+      (record { answer = refl; represents = refused n; count = same; spent = spent; table = only-same t }))
+  settle-law v same spent refused j (goesOn p m o) h = settle-goes v j (goesOn p m o) h

@@ -1,0 +1,177 @@
+-- A byte where a line is awaited: it is added, refused as the 257th, or ends the line, which is then judged by what is awaited.
+use mathlib.Core.Path.{_≡_, refl, sym, ap, _∙_, subst}
+use mathlib.Core.Bool.{Bool, true, false, cond}
+use mathlib.Core.List.{List, [], _∷_, _++_}
+use Prim.Native.Nat.{ℕ, _<_}
+use native.Mathlib.Omega.{arith}
+use native.Mathlib.Numerals.{add-one}
+use lib.Dec.{eqb, ltb}
+use lib.ListN.{length, take, set}
+use lib.Seq.{take-suc-set, length-take-le}
+use borrow.Author.Tests.{ltb-true}
+use Rattle.grammar.specs.Bytes.{Bytes, CR}
+use Rattle.grammar.specs.Refusals.{lineTooLong}
+use Rattle.grammar.specs.Lines.{LineByte, dropped, ends, grows, overruns, lineByte, trim, isComment, isPrompt}
+use Rattle.grammar.specs.Sid.{readSid}
+use Rattle.grammar.specs.Turns.{Proposal, readTurnLine}
+use Rattle.grammar.specs.Answers.{readFs, fsNumber}
+use Rattle.grammar.proofs.AsRead.{turn-read-ok}
+use Rattle.session.specs.Choices.{Shelf}
+use Rattle.session.specs.Session as on-lists
+use Rattle.session.specs.Session.{Memory, Phase, Outcome, goesOn}
+use Rattle.session_memory.specs.declared.Line.{Line}
+use Rattle.session_memory.specs.declared.Session.{Session}
+use Rattle.line_effect.specs.Judge.{wentOn, judgeOf, lineIn, sidLine, textLine, turnLine}
+use Rattle.line_effect.specs.Judged.{Judged}
+use Rattle.waiting.specs.Waiting.{waitingOf}
+use Rattle.pending.specs.Pending.{waits}
+use Rattle.receive_defined.specs.Receiving.{Cs, cs, Settled, longer, lineMoved, lineStepOf, refusedOf}
+use Rattle.form_closed.specs.Fixed.{Fixed}
+use Rattle.represents.specs.Represents.{Says, lineNumber, Awaits, Represents}
+use Rattle.form_closed.proofs.Waiting.{waits-none}
+use Rattle.represents.proofs.Parts.{Ready, holds-of, represents, refuse-law}
+use Rattle.represents.proofs.Frame.{only-same}
+use Rattle.represents.proofs.Leads.{Settling, Leads, settle-law}
+use Rattle.represents.proofs.Line.{went-on, sid-law, text-law, turn-law}
+use Rattle.represents.proofs.Answer.{fs-law}
+use Rattle.form_closed.specs.Facts.{Good}
+
+-- the numbers of lines
+pub line-below : (a : on-lists.Awaited) → lineNumber a < 5
+line-below (on-lists.awaitsSid true) = omega arith
+line-below (on-lists.awaitsSid false) = omega arith
+line-below on-lists.awaitsPrompt = omega arith
+line-below (on-lists.awaitsTurn ff ps) = omega arith
+line-below (on-lists.awaitsAnswer is) = omega arith
+
+-- the same session with another line
+abbrev pub withLine : Line → Session → Session
+withLine l s = record { now = s .now; say = s .say; keep = s .keep; reading = s .reading; line = l }
+
+pub awaits-line : (p : Phase) (s : Session) (t i st : Bytes) (l : Line) → Awaits (cs s t i st) p → Awaits (cs (withLine l s) t i st) p
+awaits-line (on-lists.aLine a) s t i st l h = h
+awaits-line (on-lists.awaitsTransfer p ps sc) s t i st l h = h
+awaits-line on-lists.leaving s t i st l h = h
+awaits-line on-lists.over s t i st l h = h
+
+-- what waits does not depend on the line
+pub says-line : (F : Fixed) (s : Session) (t i st : Bytes) (l : Line) (o : Bytes) → Says F (cs s t i st) o → Says F (cs (withLine l s) t i st) o
+unfolding waitingOf
+says-line F s t i st l o h = h
+
+module _ (F : Fixed) (E : Shelf) {nt ni ns : ℕ} (c : Cs) (g : Good F nt ni ns c) (v : on-lists.Session) (h : Represents F E c v) (quiet : waits (c .session .say) ≡ false) where
+  abbrev s : Session
+  s = c .session
+
+  abbrev m : Memory
+  m = v .memory
+
+  abbrev Lead : Judged → Outcome → Type 0
+  Lead j o = Leads F E s true (c .inbox) (c .store) (s .keep .kept) (s .keep .used) (c .table) j o
+
+  ready : Ready F E (s .reading .heading) (c .inbox) (c .store) (s .now) (s .say) (s .keep) (c .table) m
+  ready =
+      record { now = g .now; heading = g .heading .size; entries = h .entries; holds = holds-of h; first = (waits-none (s .say) quiet) .0; then = (waits-none (s .say) quiet) .1 }
+
+  -- ---------------------------------------------------------------- the line judged
+
+  module _ (raw : Bytes) where
+    -- the line that is judged
+    abbrev ln : Bytes
+    ln = trim raw
+
+    abbrev judgedIn : ℕ → Judged
+    judgedIn p = lineIn p ln (s .now) (s .say) (s .keep) (s .reading .reader) (c .table) (F .known) (c .inbox) (length (c .store))
+
+    read-law : (a : on-lists.Awaited) → Awaits c (on-lists.aLine a) → Lead (judgedIn (lineNumber a)) (on-lists.awaitedJudged E a m raw)
+    unfolding sidLine textLine turnLine
+    read-law (on-lists.awaitsSid true) a =
+        sid-law F E s true (c .inbox) (c .store) (s .now) (s .say) (s .keep) (s .reading .reader) (c .table) m ready true (ap (λ (p : ℕ). eqb p 1) (a .0)) (readSid ln)
+    read-law (on-lists.awaitsSid false) a =
+        sid-law F E s true (c .inbox) (c .store) (s .now) (s .say) (s .keep) (s .reading .reader) (c .table) m ready false (ap (λ (p : ℕ). eqb p 1) (a .0)) (readSid ln)
+    read-law on-lists.awaitsPrompt a =
+        text-law F E s true (c .inbox) (c .store) (s .now) (s .say) (s .keep) (s .reading .reader) (c .table) m ready (a .0) (isPrompt ln)
+    read-law (on-lists.awaitsTurn ff ps) a =
+        subst (λ (o : Outcome). Lead (judgedIn 3) o) (same (h .framed) (a .1 .0) (a .1 .1))
+        (turn-law F E s true (c .inbox) (c .store) (s .now) (s .say) (s .keep) (s .reading .reader) (c .table) m ready (a .0)
+        (s .keep .framed) (readTurnLine (s .keep .framed) ln) (turn-read-ok (s .keep .framed) ln))
+      where
+        same : {d e : Bool} {f g : Bool} {qs rs : List Proposal} → d ≡ e → f ≡ g → qs ≡ rs
+            → on-lists.turnJudged E (readTurnLine d ln) f qs m ≡ on-lists.turnJudged E (readTurnLine e ln) g rs m
+        same p q r = rw (p, q, r)
+    read-law (on-lists.awaitsAnswer is) a =
+        subst (λ (js : List ℕ). Lead (judgedIn 4) (on-lists.answerJudged E js m (fsNumber (length js) ln) (readFs (length js) ln))) (a .1)
+        (fs-law F E s true (c .inbox) (c .store) (s .now) (s .say) (s .keep) (s .reading .reader) (c .table) m ready ln (g .awaited .quiet (λ e. omega (arith, e, a .0)) (omega (arith, a .0))))
+
+    -- "A line that begins with `;` is ignored wherever a line is awaited"
+    judge-law : (a : on-lists.Awaited) → Awaits c (on-lists.aLine a)
+        → Lead (judgeOf ln (s .now) (s .say) (s .keep) (s .reading .reader) (c .table) (F .known) (c .inbox) (length (c .store))) (on-lists.lineJudged E a m raw)
+    unfolding judgeOf
+    judge-law a w = go (isComment ln)
+      where
+        go : (x : Bool) → Lead (cond x (wentOn (s .now) (s .say) (s .keep) (s .reading .reader)) (judgedIn (s .now .phase)))
+            (cond x (goesOn (on-lists.aLine a) m []) (on-lists.awaitedJudged E a m raw))
+        go true =
+            went-on F E s true (c .inbox) (c .store) (s .now) (s .say) (s .keep) (s .reading .reader) (c .table) m ready (s .now) (s .keep) (on-lists.aLine a) m
+            (h .entries) (holds-of h) refl refl w
+        go false = subst (λ (q : ℕ). Lead (judgedIn q) (on-lists.awaitedJudged E a m raw)) (sym (w .0)) (read-law a w)
+
+  -- ---------------------------------------------------------------- a byte
+
+  -- where a byte is added there is room for it
+  abbrev RoomIf : LineByte → Type 0
+  RoomIf dropped = Unit {0}
+  RoomIf ends = Unit {0}
+  RoomIf grows = s .line .len < 256
+  RoomIf overruns = Unit {0}
+
+  room-if : (b : ℕ) → RoomIf (lineByte false (s .line .len) b)
+  room-if b = go (eqb b CR) (ltb (s .line .len) 256) refl
+    where
+      go : (x y : Bool) → ltb (s .line .len) 256 ≡ y → RoomIf (cond x ends (cond y grows overruns))
+      go true y e = tt
+      go false true e = ltb-true (s .line .len) 256 e
+      go false false e = tt
+
+  line-length : length (v .part) ≡ s .line .len
+  line-length = ap length (sym (h .part)) ∙ length-take-le (s .line .len) (s .line .bytes) (omega (arith, g .line .len, g .line .size))
+
+  abbrev Moves : Settled → on-lists.Stepped → Type 0
+  Moves x o = Settling F E (c .inbox) (c .store) (s .keep .kept) (s .keep .used) (c .table) x o
+
+  byte-moves : (b : ℕ) (a : on-lists.Awaited) → v .phase ≡ on-lists.aLine a → (l : LineByte) → RoomIf l
+      → Moves (lineMoved l s b (c .table) (F .known) (c .inbox) (length (c .store))) (on-lists.lineMoved E a v b l)
+  unfolding refusedOf
+  byte-moves b a x dropped room = record { answer = refl; represents = h; count = refl; spent = refl; table = only-same (c .table) }
+  byte-moves b a x ends room =
+      subst
+      (λ (w : Bytes). Moves (lineMoved ends s b (c .table) (F .known) (c .inbox) (length (c .store))) (on-lists.settled v true (on-lists.lineJudged E a m w)))
+      (h .part)
+      (settle-law F E s true (c .inbox) (c .store) (s .keep .kept) (s .keep .used) (c .table) v refl refl (λ n. refuse-law F E c v n h)
+      (judgeOf (trim (take (s .line .len) (s .line .bytes))) (s .now) (s .say) (s .keep) (s .reading .reader) (c .table) (F .known) (c .inbox) (length (c .store)))
+      (on-lists.lineJudged E a m (take (s .line .len) (s .line .bytes)))
+      (judge-law (take (s .line .len) (s .line .bytes)) a (subst (Awaits c) x (h .awaits))))
+  byte-moves b a x grows room =
+      record {
+        answer = refl;
+        represents = represents F E (cs (longer s b) (c .table) (c .inbox) (c .store))
+            (on-lists.withPart (v .part ++ (b ∷ [])) (on-lists.withAfterCr false v))
+            (h .entries) (holds-of h)
+            (says-line F s (c .table) (c .inbox) (c .store) (longer s b .line) (v .out) (h .says))
+            (awaits-line (v .phase) s (c .table) (c .inbox) (c .store) (longer s b .line) (h .awaits))
+            (ap (λ (n : ℕ). take n (set (s .line .bytes) (s .line .len) b)) (add-one (s .line .len))
+            ∙ take-suc-set (s .line .bytes) (s .line .len) b (omega (arith, room, g .line .size)) ∙ ap (λ (l : Bytes). l ++ (b ∷ [])) (h .part))
+            refl;
+        count = refl;
+        spent = refl;
+        table = only-same (c .table);
+      }
+  byte-moves b a x overruns room =
+      record { answer = refl; represents = refuse-law F E c v lineTooLong h; count = refl; spent = refl; table = only-same (c .table) }
+
+  -- A BYTE OF A LINE
+  pub line-step : (b : ℕ) (a : on-lists.Awaited) → v .phase ≡ on-lists.aLine a → Moves (lineStepOf s b (c .table) (F .known) (c .inbox) (length (c .store))) (on-lists.lineStep E a v b)
+  unfolding lineStepOf
+  line-step b a x =
+      subst (λ (n : ℕ). Moves (lineMoved (lineByte false (s .line .len) b) s b (c .table) (F .known) (c .inbox) (length (c .store))) (on-lists.lineMoved E a v b (lineByte false n b))) (sym line-length)
+      (byte-moves b a x (lineByte false (s .line .len) b) (room-if b))

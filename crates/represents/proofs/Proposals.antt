@@ -1,0 +1,225 @@
+-- The partner's proposals in the block: one more as it is written, those that we accept, and where the transfer of the next one begins.
+use mathlib.Core.Path.{_≡_, refl, sym, ap, _∙_, subst}
+use mathlib.Core.Bool.{Bool, true, false, cond}
+use mathlib.Core.Option.{none}
+use mathlib.Core.List.{List, [], _∷_, _++_, map}
+use Prim.Native.Nat.{ℕ, zero, suc, _+_, _-_, _*_, _≤_, _<_}
+use native.Mathlib.Omega.{arith}
+use native.Mathlib.Numerals.{add-one}
+use lib.Dec.{eqb}
+use lib.ListN.{length, getD, drop, length-drop}
+use lib.Seq.{drop-cons, drop-drop, getD-drop, getD-take}
+use borrow.Author.Tests.{eqb-true, eqb-false}
+use Rattle.grammar.specs.Bytes.{Bytes, same}
+use Rattle.grammar.specs.Fields.{Form, plain, message, file, formIs, formNumber}
+use Rattle.grammar.specs.Turns.{Proposal}
+use Rattle.grammar.specs.Answers.{Sign, accept, decline, defer, writeSign}
+use Rattle.grammar.specs.Scan.{scanFrom}
+use Rattle.grammar.proofs.AsRead.{Proper}
+use Rattle.grammar.proofs.Fields.{call-field, at-field, bid-field}
+use Rattle.mail.specs.Mail.{accepted}
+use Rattle.session.specs.Session.{isPlain}
+use Rattle.buffer.specs.Put.{putBytes}
+use Rattle.places.specs.Places.{proposalLen}
+use Rattle.layout.specs.Layout.{byteAt, entryAt, proposalSize, proposalOf}
+use Rattle.layout.proofs.Places.{entry-written}
+use Rattle.layout.proofs.Laws.{Fits, written, proposal-length, proposal-back, block-kept}
+use Rattle.transfer_step.specs.Step.{startOf}
+use Rattle.transfer_read.specs.Meaning.{numbersOf, Stands}
+use Rattle.entries.specs.Decoded.{entries, proposalsOf}
+use Rattle.entries.proofs.Laws.{entries-length, entries-at}
+use Rattle.line_effect.specs.Judge.{plusFrom}
+use Rattle.session_memory.specs.State.{at, held}
+use Rattle.session_memory.specs.declared.Five.{Five}
+use Rattle.represents.specs.Represents.{Written, Entries, signsIn}
+use Rattle.form_closed.specs.Facts.{FiveOk}
+use Rattle.form_closed.proofs.Laws.{held-length}
+use Rattle.represents.proofs.Lists.{entries-same, entries-snoc}
+use Rattle.form_test.specs.Form.{pluses}
+
+-- ---------------------------------------------------------------- a proposal as read fits its entry
+
+pub proper-fits : (md : Bool) (p : Proposal) → Proper md p → Fits p
+proper-fits md p h =
+    record {
+      from = call-field (p .from) (h .from) .most;
+      at = at-field (p .at) (h .at) .most;
+      to = call-field (p .to) (h .to) .most;
+      bid = bid-field (p .bid) (h .bid) .most;
+      size = omega (arith, h .size);
+    }
+
+-- ---------------------------------------------------------------- one proposal more
+
+pub proposals-length : (block : Bytes) (n : ℕ) → length (proposalsOf block n) ≡ n
+unfolding proposalsOf
+proposals-length block n = entries-length proposalOf proposalSize block 0 n
+
+pub no-proposals : (block : Bytes) → proposalsOf block 0 ≡ []
+unfolding proposalsOf
+no-proposals block = refl
+
+form-small : (f : Form) → formNumber f ≤ 2
+form-small plain = omega arith
+form-small message = omega arith
+form-small file = omega arith
+
+module _ (block : Bytes) (n : ℕ) (size : length block ≡ 360) (few : n < 5) (q : Proposal) where
+  abbrev more : Bytes
+  more = putBytes block (at (n * proposalLen)) (written q)
+
+  long : length (written q) ≡ proposalLen
+  long = proposal-length (formNumber (q .form)) (q .type) (q .from) (q .at) (q .to) (q .bid) (q .size)
+
+  here : entryAt proposalSize more n ≡ written q
+  here = entry-written proposalLen block n (written q) long (omega (arith, size))
+
+  other : (j : ℕ) → j < n → entryAt proposalSize more j ≡ entryAt proposalSize block j
+  other j h = block-kept block n size few (written q) long j (λ e. omega arith)
+
+  pub proposals-more : Fits q → proposalsOf more (n + 1) ≡ proposalsOf block n ++ (q ∷ [])
+  unfolding proposalsOf
+  proposals-more fits =
+      ap (entries proposalOf proposalSize more) (add-one n) ∙ entries-snoc proposalOf proposalSize more n
+      ∙ ap (λ (ps : List Proposal). ps ++ (proposalOf (entryAt proposalSize more n) ∷ []))
+      (entries-same proposalOf proposalOf proposalSize more block 0 n (λ j h. ap proposalOf (other j (omega arith))))
+      ∙ ap (λ (p : Proposal). entries proposalOf proposalSize block n ++ (p ∷ [])) (ap proposalOf here ∙ proposal-back q fits)
+
+  pub entries-more : Fits q → Entries block n → Entries more (n + 1)
+  entries-more fits h j k = go (eqb j n) refl
+    where
+      go : (c : Bool) → eqb j n ≡ c → Written (entryAt proposalSize more j)
+      go true e = subst (λ (i : ℕ). Written (entryAt proposalSize more i)) (sym (eqb-true j n e)) (subst Written (sym here) (ap written (proposal-back q fits)))
+      go false e =
+          let ne = eqb-false j n e in
+          let l : j < n = omega arith in
+          subst Written (sym (other j l)) (h j l)
+
+-- so it has one of the three forms
+pub written-form : {c : Bytes} → Written c → byteAt c 0 ≤ 2
+written-form {c} e = subst (λ (x : Bytes). byteAt x 0 ≤ 2) e (form-small (proposalOf c .form))
+
+-- ---------------------------------------------------------------- the next proposal that we accept
+
+pub signs-back : (ss : List Sign) → signsIn (map writeSign ss) ≡ ss
+signs-back [] = refl
+signs-back (accept ∷ ss) = ap (λ (l : List Sign). accept ∷ l) (signs-back ss)
+signs-back (decline ∷ ss) = ap (λ (l : List Sign). decline ∷ l) (signs-back ss)
+signs-back (defer ∷ ss) = ap (λ (l : List Sign). defer ∷ l) (signs-back ss)
+
+-- as many are accepted as there are `+`
+pub accepted-pluses : {A : Type 0} (bs : List ℕ) (xs : List A) → length bs ≡ length xs → length (accepted (signsIn bs) xs) ≡ pluses bs
+accepted-pluses [] xs h = refl
+accepted-pluses (b ∷ bs) [] h = absurd (omega arith)
+accepted-pluses (b ∷ bs) (x ∷ xs) h = go (eqb b 43) (eqb b 45) (accepted-pluses bs xs (omega arith))
+  where
+    go : (c d : Bool) → length (accepted (signsIn bs) xs) ≡ pluses bs
+        → length (accepted (cond c accept (cond d decline defer) ∷ signsIn bs) (x ∷ xs)) ≡ cond c (suc (pluses bs)) (pluses bs)
+    go true d e = ap suc e
+    go false true e = e
+    go false false e = e
+
+-- i is k and some steps on, there stands a `+`, and from there on p and qs are accepted
+pub record Ahead (bs : List ℕ) (ps : List Proposal) (k i : ℕ) (p : Proposal) (qs : List Proposal) : Type 0 where
+  pub steps : ℕ
+  pub place : i ≡ k + steps
+  pub within : steps < length bs
+  pub plus : getD bs steps 0 ≡ 43
+  pub owed : accepted (signsIn (drop steps bs)) (drop steps ps) ≡ p ∷ qs
+
+abbrev pub Found : List ℕ → List Proposal → ℕ → ℕ → List Proposal → Type 0
+Found bs ps k i [] = i ≡ 5
+Found bs ps k i (p ∷ qs) = Ahead bs ps k i p qs
+
+found-later : (b : ℕ) (bs : List ℕ) (q : Proposal) (ps : List Proposal) (k i : ℕ) (l : List Proposal) → Found bs ps (suc k) i l → Found (b ∷ bs) (q ∷ ps) k i l
+found-later b bs q ps k i [] h = h
+found-later b bs q ps k i (p ∷ qs) h =
+    let e = h .place in
+    let w = h .within in
+    record { steps = suc (h .steps); place = omega arith; within = omega arith; plus = h .plus; owed = h .owed }
+
+pub plus-law : (bs : List ℕ) (ps : List Proposal) (k : ℕ) → length bs ≡ length ps → Found bs ps k (plusFrom k bs) (accepted (signsIn bs) ps)
+plus-law [] ps k e = refl
+plus-law (b ∷ bs) [] k e = absurd (omega arith)
+plus-law (b ∷ bs) (q ∷ ps) k e = go (eqb b 43) (eqb b 45) refl (plus-law bs ps (suc k) (omega arith))
+  where
+    go : (c d : Bool) → eqb b 43 ≡ c → Found bs ps (suc k) (plusFrom (suc k) bs) (accepted (signsIn bs) ps)
+        → Found (b ∷ bs) (q ∷ ps) k (cond c k (plusFrom (suc k) bs)) (accepted (cond c accept (cond d decline defer) ∷ signsIn bs) (q ∷ ps))
+    go true d f h = record { steps = 0; place = omega arith; within = omega arith; plus = eqb-true b 43 f; owed = rw f }
+    go false true f h = found-later b bs q ps k (plusFrom (suc k) bs) (accepted (signsIn bs) ps) h
+    go false false f h = found-later b bs q ps k (plusFrom (suc k) bs) (accepted (signsIn bs) ps) h
+
+-- a transfer under way at place i of n proposals: it is accepted, and p and qs are owed
+pub record Owing (signs : Five) (block : Bytes) (n i : ℕ) (p : Proposal) (qs : List Proposal) : Type 0 where
+  pub within : i < n
+  pub count : signs .count ≡ n
+  pub plus : getD (signs .items) i 0 ≡ 43
+  pub owed : accepted (signsIn (drop i (held signs))) (drop i (proposalsOf block n)) ≡ p ∷ qs
+
+module _ (signs : Five) (block : Bytes) (n : ℕ) (g : FiveOk signs) (same : signs .count ≡ n) where
+  length-held : length (held signs) ≡ n
+  length-held = held-length signs g ∙ same
+
+  held-at : (i : ℕ) → i < n → getD (held signs) i 0 ≡ getD (signs .items) i 0
+  held-at i h = getD-take (signs .count) (signs .items) i 0 (omega arith)
+
+  pub owing : (k i : ℕ) (p : Proposal) (qs : List Proposal) → Ahead (drop k (held signs)) (drop k (proposalsOf block n)) k i p qs → Owing signs block n i p qs
+  owing k i p qs h =
+      let e = h .place in
+      let l : h .steps < n - k = subst (λ (j : ℕ). h .steps < j) (length-drop k (held signs) ∙ ap (λ (j : ℕ). j - k) length-held) (h .within) in
+      let w : i < n = omega arith in
+      record {
+        within = w;
+        count = same;
+        plus = sym (held-at i w) ∙ ap (λ (j : ℕ). getD (held signs) j 0) e ∙ sym (getD-drop k (held signs) (h .steps) 0) ∙ h .plus;
+        owed = ap (λ (j : ℕ). accepted (signsIn (drop j (held signs))) (drop j (proposalsOf block n))) e
+            ∙ ap (λ (l : List ℕ). accepted (signsIn l) (drop (k + h .steps) (proposalsOf block n))) (sym (drop-drop (h .steps) k (held signs)))
+            ∙ ap (λ (l : List Proposal). accepted (signsIn (drop (h .steps) (drop k (held signs)))) l) (sym (drop-drop (h .steps) k (proposalsOf block n)))
+            ∙ h .owed;
+      }
+
+  -- as many are owed as there are `+` from there on
+  pub owed-pluses : (i : ℕ) → length (accepted (signsIn (drop i (held signs))) (drop i (proposalsOf block n))) ≡ pluses (drop i (held signs))
+  owed-pluses i =
+      accepted-pluses (drop i (held signs)) (drop i (proposalsOf block n))
+      (length-drop i (held signs) ∙ ap (λ (j : ℕ). j - i) (length-held ∙ sym (proposals-length block n)) ∙ sym (length-drop i (proposalsOf block n)))
+
+  -- the one under way, and those after it
+  pub owed-now : (i : ℕ) → i < n → getD (signs .items) i 0 ≡ 43
+      → accepted (signsIn (drop i (held signs))) (drop i (proposalsOf block n))
+      ≡ proposalOf (entryAt proposalSize block i) ∷ accepted (signsIn (drop (suc i) (held signs))) (drop (suc i) (proposalsOf block n))
+  unfolding proposalsOf
+  owed-now i h e =
+      let none : Proposal = proposalOf [] in
+      rw (
+        drop-cons (held signs) i 0 (omega (arith, length-held)),
+        held-at i h,
+        e,
+        drop-cons (entries proposalOf proposalSize block n) i none (omega (arith, entries-length proposalOf proposalSize block 0 n)),
+        entries-at proposalOf proposalSize block n i none h,
+      )
+
+  pub next-found : (i : ℕ) → Found (drop i (held signs)) (drop i (proposalsOf block n)) i (plusFrom i (drop i (held signs)))
+      (accepted (signsIn (drop i (held signs))) (drop i (proposalsOf block n)))
+  next-found i =
+      plus-law (drop i (held signs)) (drop i (proposalsOf block n)) i
+      (length-drop i (held signs) ∙ ap (λ (j : ℕ). j - i) (length-held ∙ sym (proposals-length block n)) ∙ sym (length-drop i (proposalsOf block n)))
+
+-- ---------------------------------------------------------------- where its transfer begins
+
+pub start-law : (b : ℕ) → b ≤ 2 → startOf b ≡ numbersOf (scanFrom (formIs b))
+start-law zero h = refl
+start-law (suc zero) h = refl
+start-law (suc (suc zero)) h = refl
+start-law (suc (suc (suc b))) h = absurd (omega arith)
+
+pub plain-law : (b : ℕ) → b ≤ 2 → eqb b 0 ≡ isPlain (formIs b)
+plain-law zero h = refl
+plain-law (suc zero) h = refl
+plain-law (suc (suc zero)) h = refl
+plain-law (suc (suc (suc b))) h = absurd (omega arith)
+
+pub stands-fresh : (f : Form) (room : ℕ) (hd st : Bytes) → length hd ≡ 80 → room ≤ length st → Stands room (numbersOf (scanFrom f)) hd st (scanFrom f)
+stands-fresh plain room hd st l h = record { numbers = refl; heading = refl; body = refl; short = omega arith; fits = omega arith; array = l; store = h }
+stands-fresh message room hd st l h = record { numbers = refl; heading = refl; body = refl; short = omega arith; fits = omega arith; array = l; store = h }
+stands-fresh file room hd st l h = record { numbers = refl; heading = refl; body = refl; short = omega arith; fits = omega arith; array = l; store = h }

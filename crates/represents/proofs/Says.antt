@@ -1,0 +1,61 @@
+-- What we say, written from the table's bytes, is what the session on lists says; and where something is said it is not empty.
+use mathlib.Core.Path.{_≡_, refl, sym, ap, _∙_}
+use mathlib.Core.Bool.{true, false, cond, not}
+use mathlib.Core.List.{List, [], _∷_, _++_, map}
+use Prim.Native.Nat.{ℕ, _<_}
+use native.Mathlib.Omega.{arith}
+use lib.Dec.{eqb}
+use lib.ListN.{length, length-append}
+use Rattle.grammar.specs.Bytes.{Bytes}
+use Rattle.grammar.specs.Turns.{Proposal}
+use Rattle.mail.specs.Mail.{Record, headingFor, proposalOf, recordAt, transferOf, turnText, transfersText}
+use Rattle.entries.specs.Decoded.{recordsOf}
+use Rattle.session_memory.specs.declared.Five.{Five}
+use Rattle.session_memory.specs.declared.Say.{Say}
+use Rattle.waiting.specs.Waiting.{proposalAt, blockText, sendingText, firstText, thenText}
+use Rattle.pending.specs.Pending.{waits}
+use Rattle.represents.proofs.Table.{Whole, record-at}
+use Rattle.form_closed.proofs.Waiting.{some-transfer}
+
+-- ---------------------------------------------------------------- nothing
+
+pub first-nothing : (n : ℕ) (f : Five) → n ≡ 0 → firstText n f ≡ []
+unfolding firstText
+first-nothing n f e = ap (λ (k : ℕ). firstText k f) e
+
+pub then-nothing : (n : ℕ) (o f : Five) (t ti na bo : Bytes) → n ≡ 0 → thenText n o f t ti na bo ≡ []
+unfolding thenText
+then-nothing n o f t ti na bo e = ap (λ (k : ℕ). thenText k o f t ti na bo) e
+
+pub waits-not : (y : Say) → y .first ≡ 0 → y .then ≡ 0 → waits y ≡ false
+unfolding waits
+waits-not y = two (y .first) (y .then)
+  where
+    two : (p q : ℕ) → p ≡ 0 → q ≡ 0 → cond (eqb p 0) (not (eqb q 0)) true ≡ false
+    two p q e f = rw (e, f)
+
+-- ---------------------------------------------------------------- from the table
+
+module _ (ti na bo t : Bytes) (w : Whole t) where
+  proposals-text : (is : List ℕ) → map (proposalAt t) is ≡ map (λ (k : ℕ). proposalOf (recordAt (recordsOf ti na bo t) k)) is
+  proposals-text [] = refl
+  proposals-text (i ∷ is) =
+      ap (λ (r : Record). proposalOf r ∷ map (proposalAt t) is) (sym (record-at ti na bo t i w))
+      ∙ ap (λ (ps : List Proposal). proposalOf (recordAt (recordsOf ti na bo t) i) ∷ ps) (proposals-text is)
+
+  pub block-text : (is : List ℕ) → blockText t is ≡ turnText (map (λ (k : ℕ). proposalOf (recordAt (recordsOf ti na bo t) k)) is)
+  unfolding blockText
+  block-text is = ap turnText (proposals-text is)
+
+  pub sending-text : (is : List ℕ) → sendingText t ti na bo is ≡ transfersText (recordsOf ti na bo t) is
+  unfolding sendingText transfersText
+  sending-text [] = refl
+  sending-text (i ∷ is) =
+      ap (λ (r : Record). transferOf r ++ sendingText t ti na bo is) (sym (record-at ti na bo t i w))
+      ∙ ap (λ (l : Bytes). transferOf (recordAt (recordsOf ti na bo t) i) ++ l) (sending-text is)
+
+pub some-transfers : (T : List Record) (i : ℕ) (is : List ℕ) → 0 < length (transfersText T (i ∷ is))
+unfolding transfersText
+some-transfers T i is =
+    let r = recordAt T i in
+    simp length-append (omega (arith, some-transfer (r .form) (headingFor (r .form) r) (r .body)))

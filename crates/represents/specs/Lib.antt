@@ -1,0 +1,5 @@
+-- How lent memory stands for a session on lists.
+pub mod Laid
+pub mod Represents
+pub mod Frame
+pub mod Link

@@ -1,0 +1,133 @@
+-- Lent memory and the state in it (Cs of crates/receive_defined) represent a session on lists (crates/session). The relation says what the bytes mean;
+-- what keeps them in order (sizes, counts within them, places and room for what is owed) is `Good` of crates/form_closed, which holds of any memory that
+-- passes the form test, whatever it means.
+use mathlib.Core.Path.{_≡_}
+use mathlib.Core.Bool.{false, cond}
+use mathlib.Core.List.{List, [], _∷_}
+use Prim.Native.Nat.{ℕ, zero, suc, _+_, _*_, _≤_, _<_}
+use lib.Dec.{eqb}
+use lib.ListN.{length, take, drop}
+use Rattle.grammar.specs.Bytes.{Bytes}
+use Rattle.grammar.specs.Turns.{Proposal}
+use Rattle.grammar.specs.Answers.{Sign, accept, decline, defer}
+use Rattle.grammar.specs.Transfers.{partOf}
+use Rattle.mail.specs.Mail.{Message, accepted}
+use Rattle.session.specs.Choices.{Shelf, bodyBytes}
+use Rattle.session.specs.Session as on-lists
+use Rattle.layout.specs.Layout.{entryAt, recordSize, entrySize, proposalSize, proposalOf, messageOf, bodyStart, bodyLength}
+use Rattle.transfer_read.specs.Feed.{roomOf}
+use Rattle.transfer_read.specs.Meaning.{Stands}
+use Rattle.session_memory.specs.State.{held}
+use Rattle.session_memory.specs.declared.Await.{Await}
+use Rattle.session_memory.specs.declared.Session.{Session}
+use Rattle.entries.specs.Decoded.{recordsOf, statesOf, knownBids, proposalsOf, placeCount, recordCount}
+use Rattle.waiting.specs.Waiting.{waitingOf}
+use Rattle.pending.specs.Pending.{waits}
+use Rattle.receive_defined.specs.Receiving.{Cs}
+use Rattle.represents.specs.Laid.{proposalBytes, messageBytes, bodiesBytes}
+use Rattle.form_closed.specs.Fixed.{Fixed}
+
+-- ---------------------------------------------------------------- lists in lent memory
+
+-- n messages of the inbox from message i on, with their bodies.
+abbrev pub messagesFrom : Bytes → Bytes → ℕ → ℕ → List Message
+messagesFrom inbox store i zero = []
+messagesFrom inbox store i (suc n) =
+    messageOf (entryAt entrySize inbox i) (partOf store (bodyStart (entryAt entrySize inbox i)) (bodyLength (entryAt entrySize inbox i))) ∷ messagesFrom inbox store (suc i) n
+
+-- The inbox up to its count.
+unfoldable pub messagesOf : Bytes → Bytes → ℕ → List Message
+messagesOf inbox store n = messagesFrom inbox store 0 n
+
+-- "bodies lie one after another in a lent store": the body of message i begins at this place, and so on for n messages
+abbrev pub InRow : Bytes → ℕ → ℕ → ℕ → Type 0
+InRow inbox i zero place = Unit {0}
+InRow inbox i (suc n) place =
+    (bodyStart (entryAt entrySize inbox i) ≡ place) × InRow inbox (suc i) n (place + bodyLength (entryAt entrySize inbox i))
+
+-- Entries of the inbox from place i on are those of these messages, whose bodies lie in the store from start on.
+abbrev pub LaidFrom : Bytes → ℕ → ℕ → List Message → Type 0
+LaidFrom inbox i start [] = Unit {0}
+LaidFrom inbox i start (m ∷ ms) = (entryAt entrySize inbox i ≡ messageBytes m start) × LaidFrom inbox (suc i) (start + length (m .body)) ms
+
+-- The entry of a proposal is what is written for the proposal that it is read as.
+abbrev pub Written : Bytes → Type 0
+Written c = proposalBytes (proposalOf c) ≡ c
+
+-- The sign that a byte of our FS line is; our lines hold no other.
+abbrev pub signIs : ℕ → Sign
+signIs b = cond (eqb b 43) accept (cond (eqb b 45) decline defer)
+
+abbrev pub signsIn : List ℕ → List Sign
+signsIn [] = []
+signsIn (b ∷ bs) = signIs b ∷ signsIn bs
+
+-- The proposals that we accepted from the one under way on.
+abbrev pub owed : Session → List Proposal
+owed s = accepted (signsIn (drop (s .now .current) (held (s .say .signs)))) (drop (s .now .current) (proposalsOf (s .now .block) (s .now .proposals)))
+
+-- ---------------------------------------------------------------- the parts of the relation
+
+-- Every proposal of the block lies there as it is written.
+abbrev pub Entries : Bytes → ℕ → Type 0
+Entries block n = (i : ℕ) → i < n → Written (entryAt proposalSize block i)
+
+-- The table, known BIDs, inbox and store are those of the shelf; buffers of entries hold a whole number of them.
+pub record Shelved (F : Fixed) (E : Shelf) (c : Cs) : Type 0 where
+  pub records : recordsOf (F .titles) (F .names) (F .bodies) (c .table) ≡ E .table
+  pub known : knownBids (F .known) ≡ E .known
+  pub places : placeCount (c .inbox) ≡ E .places
+  pub bytes : length (c .store) ≡ E .bytes
+  pub table : length (c .table) ≡ recordCount (c .table) * recordSize
+  pub inbox : length (c .inbox) ≡ E .places * entrySize
+
+-- The inbox up to its count is these messages, and their bodies lie in a row at the beginning of the store, each of 65,535 bytes at most.
+pub record Boxed (c : Cs) (ms : List Message) : Type 0 where
+  pub kept : c .session .keep .kept ≡ length ms
+  pub messages : messagesOf (c .inbox) (c .store) (c .session .keep .kept) ≡ ms
+  pub laid : LaidFrom (c .inbox) 0 0 ms
+  pub bodies : take (c .session .keep .used) (c .store) ≡ bodiesBytes ms
+  pub row : InRow (c .inbox) 0 (c .session .keep .kept) 0
+  pub small : c .session .keep .used ≤ c .session .keep .kept * 65535
+  pub used : c .session .keep .used ≡ bodyBytes ms
+
+-- What waits is what is still to be given.
+abbrev pub Says : Fixed → Cs → Bytes → Type 0
+Says F c out = drop (c .session .say .pos) (waitingOf (c .session) (c .table) (F .titles) (F .names) (F .bodies)) ≡ out
+
+-- The number of the line that is awaited, and what is held with it.
+abbrev pub lineNumber : on-lists.Awaited → ℕ
+lineNumber (on-lists.awaitsSid caller) = cond caller 1 0
+lineNumber on-lists.awaitsPrompt = 2
+lineNumber (on-lists.awaitsTurn ff ps) = 3
+lineNumber (on-lists.awaitsAnswer is) = 4
+
+abbrev pub HeldFor : Await → on-lists.Awaited → Type 0
+HeldFor w (on-lists.awaitsSid caller) = Unit {0}
+HeldFor w on-lists.awaitsPrompt = Unit {0}
+HeldFor w (on-lists.awaitsTurn ff ps) = (w .ff ≡ ff) × (proposalsOf (w .block) (w .proposals) ≡ ps)
+HeldFor w (on-lists.awaitsAnswer is) = held (w .ours) ≡ is
+
+-- What is awaited.
+abbrev pub Awaits : Cs → on-lists.Phase → Type 0
+Awaits c (on-lists.aLine a) = (c .session .now .phase ≡ lineNumber a) × HeldFor (c .session .now) a
+Awaits c (on-lists.awaitsTransfer p ps sc) =
+    (c .session .now .phase ≡ 5) × (owed (c .session) ≡ p ∷ ps)
+    × Stands (roomOf (drop (c .session .keep .used) (c .store))) (c .session .reading .reader) (c .session .reading .heading) (drop (c .session .keep .used) (c .store)) sc
+Awaits c on-lists.leaving = c .session .now .phase ≡ 6
+Awaits c on-lists.over = (7 ≤ c .session .now .phase) × (waits (c .session .say) ≡ false)
+
+-- ---------------------------------------------------------------- the relation
+
+pub record Represents (F : Fixed) (E : Shelf) (c : Cs) (s : on-lists.Session) : Type 0 where
+  pub entries : Entries (c .session .now .block) (c .session .now .proposals)
+  pub shelved : Shelved F E c
+  pub boxed : Boxed c (s .memory .inbox)
+  pub says : Says F c (s .out)
+  pub awaits : Awaits c (s .phase)
+  pub part : take (c .session .line .len) (c .session .line .bytes) ≡ s .part
+  pub afterCr : c .session .line .«after_cr» ≡ s .afterCr
+  pub framed : c .session .keep .framed ≡ s .memory .framed
+  pub states : statesOf (c .table) ≡ s .memory .states
+  pub sending : held (c .session .keep .sending) ≡ s .memory .sending
+  pub flags : c .session .keep .deferred ≡ s .memory .deferred

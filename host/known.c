@@ -1,0 +1,79 @@
+#include "known.h"
+#include "bid.h"
+#include "statement.h"
+
+/* A bulletin comes by many ways, as long as mailboxes keep it; a personal message has one way, and comes again only from a partner that
+ * didn't hear us. So it counts as seen so much earlier. */
+#define PERSONAL_AGES "30 * 24 * 60 * 60"
+
+/* What each partner sent in the last session in which it sent something: it sends just that again if it didn't hear us. */
+#define JUST_CAME "(SELECT bid FROM inbox WHERE session IN (SELECT max(session) FROM inbox GROUP BY partner))"
+
+static bool see_again(struct base *base, struct part bid)
+{
+    sqlite3_stmt *statement = base_prepare(base,
+        "UPDATE known SET seen = ?2, number = (SELECT max(number) FROM known) + 1 WHERE " SAME_BID("bid", "?1"));
+
+    if (statement) {
+        bind_part(statement, 1, bid);
+        sqlite3_bind_int64(statement, 2, base_now());
+    }
+    return base_finish(base, statement);
+}
+
+bool known_add(struct base *base, struct part bid, uint8_t type)
+{
+    sqlite3_stmt *statement;
+    int known = base_knows(base, bid);
+
+    if (known)
+        return known > 0 && see_again(base, bid);
+    statement = base_prepare(base, "INSERT INTO known (bid, type, seen) VALUES (?, ?, ?)");
+    if (statement) {
+        bind_part(statement, 1, bid);
+        sqlite3_bind_text(statement, 2, (const char *)&type, 1, SQLITE_STATIC);
+        sqlite3_bind_int64(statement, 3, base_now());
+    }
+    return base_finish(base, statement);
+}
+
+int base_knows(struct base *base, struct part bid)
+{
+    sqlite3_stmt *statement = base_prepare(base, "SELECT EXISTS (SELECT 1 FROM known WHERE " SAME_BID("bid", "?1") ")");
+    long long known = 0;
+
+    if (statement)
+        bind_part(statement, 1, bid);
+    return base_number(base, statement, &known) ? known > 0 : -1;
+}
+
+bool base_count_known(struct base *base, long long *count)
+{
+    return base_number(base, base_prepare(base, "SELECT count(*) FROM known"), count);
+}
+
+struct taker {
+    bid_function *function;
+    void *context;
+};
+
+static bool take_row(void *context, sqlite3_stmt *statement)
+{
+    struct taker *taker = context;
+
+    return taker->function(taker->context, column_part(statement, 0));
+}
+
+bool base_known(struct base *base, bid_function *function, void *context)
+{
+    sqlite3_stmt *statement = base_prepare(base,
+        "SELECT bid FROM known WHERE bid NOT IN (SELECT bid FROM outbox WHERE number IN " CHOSEN ")"
+        " ORDER BY bid IN " JUST_CAME " DESC, seen - (type = 'P') * " PERSONAL_AGES " DESC, number DESC LIMIT ?2");
+    struct taker taker = { function, context };
+
+    if (statement) {
+        sqlite3_bind_int(statement, CHOSEN_LIMIT, FRINGEMOLE_MAX_RECORDS);
+        sqlite3_bind_int(statement, 2, FRINGEMOLE_MAX_KNOWN);
+    }
+    return base_rows(base, statement, take_row, &taker);
+}

@@ -1,0 +1,92 @@
+#include "schema.h"
+#include "bid.h"
+#include "say.h"
+#include "statement.h"
+
+#define MARK 1179479916 /* the file's application_id: "FMol" */
+#define TEXT_OF(number) #number
+#define SQL_OF(number) TEXT_OF(number)
+
+/* A new base takes all steps, so that new and lifted ones are alike. A step that has been in use is never changed: add another. */
+static const char to_1[] =
+    "PRAGMA application_id = " SQL_OF(MARK) ";"
+    "CREATE TABLE station (call BLOB NOT NULL, partner BLOB NOT NULL);"
+    "CREATE TABLE outbox (number INTEGER PRIMARY KEY AUTOINCREMENT,"
+    " state INTEGER NOT NULL," /* 0 waiting, 1 forwarded, 2 declined, 3 held */
+    " form INTEGER NOT NULL,"  /* 0 plain text, 1 packed message, 2 packed file */
+    " type TEXT NOT NULL,"     /* P or B */
+    " \"from\" BLOB NOT NULL, at BLOB NOT NULL, \"to\" BLOB NOT NULL, bid BLOB NOT NULL UNIQUE,"
+    " size INTEGER NOT NULL, title BLOB NOT NULL, name BLOB NOT NULL, body BLOB NOT NULL);"
+    "CREATE INDEX waiting ON outbox (number) WHERE state = 0;"
+    "CREATE TABLE inbox (number INTEGER PRIMARY KEY AUTOINCREMENT,"
+    " form INTEGER NOT NULL, type TEXT NOT NULL,"
+    " \"from\" BLOB NOT NULL, at BLOB NOT NULL, \"to\" BLOB NOT NULL, bid BLOB NOT NULL,"
+    " title BLOB NOT NULL, name BLOB NOT NULL, body BLOB NOT NULL);"
+    "CREATE TABLE known (number INTEGER PRIMARY KEY, bid BLOB NOT NULL UNIQUE);";
+
+/* Times are seconds since 1970, NULL where nobody noted them; callsigns of partners are capitals, empty where nobody told. A BID that an
+ * old base has no message of counts as a bulletin's, which is lent longer. A second message of one BID in the inbox, or one of a BID of
+ * the outbox, is a copy: import took no BID that was known, so what came in came later. */
+static const char to_2[] =
+    "CREATE TABLE partner (call BLOB NOT NULL PRIMARY KEY, password BLOB, seen INTEGER);"
+    "INSERT INTO partner (call) SELECT CAST(upper(CAST(partner AS TEXT)) AS BLOB) FROM station WHERE length(partner) > 0;"
+    "CREATE TABLE session (number INTEGER PRIMARY KEY AUTOINCREMENT, began INTEGER NOT NULL, ended INTEGER,"
+    " partner BLOB NOT NULL, role INTEGER NOT NULL," /* 0 called, 1 caller */
+    " ending TEXT, refusal INTEGER, line BLOB,"      /* line: the partner's, that was refused */
+    " forwarded INTEGER, declined INTEGER, deferred INTEGER, kept INTEGER, sent INTEGER, received INTEGER);"
+    "ALTER TABLE outbox ADD COLUMN came INTEGER;"
+    "ALTER TABLE outbox ADD COLUMN went INTEGER;" /* when it was forwarded or declined, to whom and in which session */
+    "ALTER TABLE outbox ADD COLUMN partner BLOB;"
+    "ALTER TABLE outbox ADD COLUMN session INTEGER;"
+    "ALTER TABLE outbox ADD COLUMN deferred INTEGER NOT NULL DEFAULT 0;" /* the last session that deferred it */
+    "ALTER TABLE inbox ADD COLUMN came INTEGER;"
+    "ALTER TABLE inbox ADD COLUMN partner BLOB;"
+    "ALTER TABLE inbox ADD COLUMN session INTEGER;"
+    "ALTER TABLE inbox ADD COLUMN copy INTEGER NOT NULL DEFAULT 0;" /* 0 the first of its BID, then 1, 2 .. */
+    "CREATE INDEX inbox_bid ON inbox (" BID_KEY("bid") ");"
+    "CREATE INDEX inbox_session ON inbox (session);"
+    "UPDATE inbox SET copy = (SELECT count(*) FROM inbox AS other WHERE " SAME_BID("other.bid", "inbox.bid") " AND other.number < inbox.number)"
+    " + EXISTS (SELECT 1 FROM outbox WHERE " SAME_BID("outbox.bid", "inbox.bid") ");"
+    "ALTER TABLE known ADD COLUMN type TEXT NOT NULL DEFAULT 'B';"
+    "ALTER TABLE known ADD COLUMN seen INTEGER NOT NULL DEFAULT 0;"
+    "UPDATE known SET type = 'P' WHERE EXISTS (SELECT 1 FROM outbox WHERE outbox.bid = known.bid AND type = 'P')"
+    " OR EXISTS (SELECT 1 FROM inbox WHERE inbox.bid = known.bid AND type = 'P');";
+
+static const char *const steps[BASE_VERSION] = { to_1, to_2 };
+
+/* Of a file without our mark. */
+static int nothing_yet(struct base *base, long long mark)
+{
+    long long tables = 0;
+
+    if (!base_number(base, base_prepare(base, "SELECT count(*) FROM sqlite_master"), &tables))
+        return -1;
+    if (!tables && !mark)
+        return 0;
+    say("%s: this file is no message base", base->path);
+    return -1;
+}
+
+int schema_version(struct base *base)
+{
+    long long mark = 0, version = 0;
+
+    if (!base_number(base, base_prepare(base, "PRAGMA application_id"), &mark)
+        || !base_number(base, base_prepare(base, "PRAGMA user_version"), &version))
+        return -1;
+    if (mark != MARK)
+        return nothing_yet(base, mark);
+    if (version >= 1 && version <= BASE_VERSION)
+        return (int)version;
+    say("%s: a base of version %lld, this program knows versions 1 to %d", base->path, version, BASE_VERSION);
+    return -1;
+}
+
+bool schema_lift(struct base *base, int version)
+{
+    for (; version < BASE_VERSION; version++) {
+        if (!base_execute(base, steps[version]))
+            return false;
+    }
+    return base_execute(base, "PRAGMA user_version = " SQL_OF(BASE_VERSION));
+}

@@ -1,0 +1,185 @@
+#include "serve.h"
+#include "door.h"
+#include "guest.h"
+#include "login.h"
+#include "partner.h"
+#include "session.h"
+
+#include <string.h>
+#include <unistd.h>
+
+#define NO_DOOR (-1)
+
+/* A base for one session; NULL after saying why there is none. */
+static struct base *base_for_session(const struct options *options)
+{
+    struct base *base = base_open(options->base, CHANGING);
+
+    if (base && base_lock_session(base))
+        return base;
+    base_close(base);
+    return NULL;
+}
+
+/* Whether a base can be used, before somebody is called or waited for. */
+static bool base_is_there(const struct options *options)
+{
+    struct base *base = base_for_session(options);
+
+    base_close(base);
+    return base != NULL;
+}
+
+/* Whom the session is with: the caller who told, or else the base's one partner. */
+static bool find_partner(struct base *base, const struct call *caller, struct bytes *partner)
+{
+    if (!caller->text[0])
+        return base_partner(base, partner);
+    bytes_add(partner, caller->text, strlen(caller->text));
+    return partner_seen(base, part_of(caller->text));
+}
+
+/* The session itself, on a link that stands. */
+static enum exit_code run_on(struct link *link, const struct options *options, uint8_t role, const struct call *caller)
+{
+    struct base *base = base_for_session(options);
+    struct bytes partner = { NULL, 0, 0 };
+    enum exit_code code = BAD_BASE;
+
+    if (base && options->login && !login(link, options)) {
+        code = LINK_DROPPED;
+    } else if (base && find_partner(base, caller, &partner)) {
+        struct session_terms terms = { role, (size_t)options->room, part_all(&partner) };
+        code = session_run(base, link, &terms);
+    }
+    bytes_free(&partner);
+    base_close(base);
+    if (code == DONE)
+        say("the session ended by FQ");
+    return code;
+}
+
+static enum exit_code run_session(struct link *link, const struct options *options, uint8_t role, const struct call *caller)
+{
+    enum exit_code code = FAILED;
+
+    progress_start(&link->progress, options->progress, !options->transcript || strcmp(options->transcript, "-"));
+    if (transcript_open(&link->transcript, options->transcript)) {
+        code = run_on(link, options, role, caller);
+        if (!transcript_close(&link->transcript) && code == DONE)
+            code = FAILED;
+    }
+    return code;
+}
+
+static bool is_admitted(struct link *link, const struct options *options, struct call *caller)
+{
+    if (options->from)
+        return guest_told(options, caller);
+    return !options->asks || guest_asked(link, options, caller);
+}
+
+/* All that happens on an open port. With a door, the caller says its SID before it is let in. */
+static enum exit_code hold(struct port *port, const struct options *options, uint8_t role, int talk)
+{
+    struct link link;
+    struct call caller = { "" };
+    enum exit_code code = NOT_ADMITTED;
+    bool over = true;
+
+    say_not_on(port->in);
+    say_not_on(port->out);
+    role = options->caller ? FRINGEMOLE_CALLER : options->called ? FRINGEMOLE_CALLED : role;
+    link_start(&link, port, options);
+    if (is_admitted(&link, options, &caller)
+        && (talk == NO_DOOR || (door_hear_sid(&link, options, role, &code) && door_enter(talk)))) {
+        code = run_session(&link, options, role, &caller);
+        over = link.left_until_drop == 0 || link.over;
+        if (talk != NO_DOOR)
+            door_leave(talk);
+    }
+    if (over)
+        port_drop(&link.port);
+    else
+        port_hang_up(&link.port, options->linger * SECOND);
+    link_end(&link);
+    return code;
+}
+
+/* ---- the ports */
+
+enum exit_code serve_call(const struct options *options)
+{
+    struct port port;
+
+    if (!base_is_there(options))
+        return BAD_BASE;
+    return tcp_call(&port, options->arguments[0]) ? hold(&port, options, FRINGEMOLE_CALLER, NO_DOOR) : BAD_PORT;
+}
+
+enum exit_code serve_serial(const struct options *options)
+{
+    struct port port;
+
+    if (!base_is_there(options))
+        return BAD_BASE;
+    return serial_open(&port, options->arguments[0], options->arguments[1], options->flow) ? hold(&port, options, FRINGEMOLE_CALLED, NO_DOOR)
+                                                                                            : BAD_PORT;
+}
+
+enum exit_code serve_stdio(const struct options *options)
+{
+    struct options with = *options;
+    struct port port;
+
+    stdio_open(&port);
+    if (!options->from && !options->anyone && port.kind == PACKETS) {
+        say_not_on(port.out);
+        say("somebody calls by radio, and nobody says who; give --from CALL, or --anyone");
+        return BAD_USAGE;
+    }
+    with.asks = !options->anyone && port.kind == STREAM && tcp_is_outside(port.in);
+    return hold(&port, &with, FRINGEMOLE_CALLED, NO_DOOR);
+}
+
+static enum exit_code visit(struct port *port, const struct options *options, int talk)
+{
+    return hold(port, options, FRINGEMOLE_CALLED, talk);
+}
+
+/* Whether callers from outside can be told apart, or needn't be. */
+static bool may_listen(const struct options *options)
+{
+    if (options->anyone)
+        say("--anyone: whoever calls here gets our mail, and what is taken counts as forwarded");
+    else if (options->asks && !guest_expected(options)) {
+        say("%s: callers from outside must log in, and no partner has a password; see admit, or --anyone, which lets all of them have our mail",
+            options->arguments[0]);
+        return false;
+    }
+    return true;
+}
+
+enum exit_code serve_listen(const struct options *options)
+{
+    struct options with = *options;
+    struct port port;
+    enum exit_code code = BAD_PORT;
+    bool inside = false;
+    int listener;
+
+    if (!base_is_there(options))
+        return BAD_BASE;
+    listener = tcp_listen(options->arguments[0], &inside);
+    if (listener < 0)
+        return BAD_PORT;
+    with.asks = !inside && !options->anyone;
+    if (!may_listen(&with))
+        code = BAD_USAGE;
+    else if (!options->once)
+        code = door_keep(listener, &with, visit);
+    else if (tcp_accept(&port, listener))
+        code = hold(&port, &with, FRINGEMOLE_CALLED, NO_DOOR);
+    close(listener);
+    return code;
+}

@@ -1,0 +1,74 @@
+"""Bases of older versions: each becomes one of today at once and whole, whatever command opens it first."""
+from node import *
+
+VERSION_1 = (ROOT / "tests" / "host" / "version1.sql").read_text()
+TODAY = 2
+
+
+def shape(node):
+    """Every table and index, without regard for how its SQL is spelled."""
+    tables = [name for name, in node.ask("SELECT name FROM sqlite_master WHERE type = 'table' ORDER BY name")]
+    return {name: (node.ask("SELECT name, type, \"notnull\", dflt_value, pk FROM pragma_table_info(?)", name),
+                   sorted(node.ask("SELECT name, \"unique\", partial FROM pragma_index_list(?)", name))) for name in tables}
+
+
+class Lifted(Folder):
+    def old(self, name="old"):
+        path = self.folder / (name + ".base")
+        base = sqlite3.connect(path)
+        base.executescript(VERSION_1)
+        base.close()
+        return self.node(name)
+
+    def old_rows(self):
+        base = sqlite3.connect(":memory:")
+        base.executescript(VERSION_1)
+        return {box: base.execute("SELECT number, " + COLUMNS + " FROM " + box + " ORDER BY number").fetchall() for box in ("outbox", "inbox")}
+
+    def holds(self, node):
+        """Nothing is lost or changed, and the new columns say what can be told."""
+        for box, rows in self.old_rows().items():
+            self.assertEqual(node.ask("SELECT number, " + COLUMNS + " FROM " + box + " ORDER BY number"), rows)
+        self.assertEqual(node.states(), {b"1_US": FORWARDED, b"2_US": DECLINED, b"3_US": WAITING, b"4_US": WAITING, b"5_US": HELD})
+        self.assertEqual(node.ask("SELECT bid, copy FROM inbox ORDER BY number"), [(b"1_T", 0), (b"2_T", 0), (b"1_T", 1), (b"1_US", 1)])
+        self.assertEqual(node.ask("SELECT bid, type FROM known ORDER BY number"),
+                         [(b"2_US", "P"), (b"3_US", "B"), (b"4_US", "P"), (b"5_US", "P"), (b"2_T", "B"), (b"1_T", "P"), (b"1_US", "P")])
+        self.assertEqual(node.ask("SELECT call, partner FROM station"), [(b"N0DE", b"f0sou")])
+        self.assertEqual(node.ask("SELECT call, password, seen FROM partner"), [(b"F0SOU", None, None)])
+        self.assertEqual(node.ask("PRAGMA user_version"), [(TODAY,)])
+        self.assertEqual(node.ask("PRAGMA integrity_check"), [("ok",)])
+
+    def test_each_command(self):
+        "a base of version 1 is lifted by the command that opens it first, with nothing lost"
+        for number, words in enumerate([("list",), ("export", self.folder / "out"), ("import", "/dev/null"), ("release", "5_US"), ("stdio",)]):
+            with self.subTest(words):
+                node = self.old("old%d" % number)
+                node.run(*words)
+                if words[0] == "release":
+                    node.ask("UPDATE outbox SET state = 3 WHERE bid = ?", b"5_US")
+                self.holds(node)
+
+    def test_shape(self):
+        "a lifted base has the tables of a new one"
+        node = self.old()
+        node.right("list")
+        self.assertEqual(shape(node), shape(self.node("new")))
+
+    def test_whole(self):
+        "a step that fails leaves the base as it was"
+        node = self.old()
+        node.ask("CREATE TABLE session (mine)")
+        before = list(sqlite3.connect(node.path).iterdump())
+        self.says_why(node.run("list"), BAD_BASE, "session already exists")
+        self.assertEqual(node.ask("PRAGMA user_version"), [(1,)])
+        self.assertEqual(list(sqlite3.connect(node.path).iterdump()), before)
+
+    def test_goes_on(self):
+        "a session on a lifted base: what was known is known"
+        node = self.old()
+        partner = node.stdio()
+        partner.hears(GREETING)
+        partner.says(b"[TST-1-F$]\r" + b"".join(Message(bid, form="plain").proposal() for bid in (b"1_T", b"2_T", b"1_US", b"5_US", b"3_T")) + b"F>\r")
+        partner.hears(b"FS ----+\r")
+        partner.hang_up()
+        self.assertEqual(partner.ends()[0], LINK_DROPPED)
