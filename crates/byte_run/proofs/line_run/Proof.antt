@@ -1,0 +1,75 @@
+-- The bytes are put behind those of the line, in the arrays' part of session memory; then the line's numbers are written.
+use mathlib.Core.Path.{_≡_, sym, _∙_}
+use Prim.Native.Nat.{_+_, _≤_}
+use lib.ListN.{length}
+use native.Mathlib.Omega.{arith}
+use Rattle.region.specs.Region.{region, lent}
+use Rattle.byte_run.proofs.Laws.{line-taken}
+use borrow.Author.Needs.{needs}
+use Rattle.byte_run.proofs.line_run.Statement.{statement}
+use Rattle.byte_run.proofs.line_run.Tie as tie
+
+cast-len : tie.Need-cast-len
+cast-len c = search needs
+
+returns : tie.Need-returns
+returns c = search needs
+
+returns-2 : tie.Need-returns-2
+returns-2 c = search needs
+
+has-cr-requires : tie.Need-has-cr-requires
+has-cr-requires c κs = search needs
+
+returns-3 : tie.Need-returns-3
+returns-3 c = search needs
+
+add-put-line : tie.Need-add-put-line
+add-put-line c = search needs
+
+sub-put : tie.Need-sub-put
+sub-put c = search needs
+
+part-put-start : tie.Need-part-put-start
+part-put-start c = search needs
+
+part-put-end : tie.Need-part-put-end
+part-put-end c = search needs
+
+put-requires : tie.Need-put-requires
+put-requires c κs = search needs
+
+add-put-line-2 : tie.Need-add-put-line-2
+add-put-line-2 c = search needs
+
+put-line-requires : tie.Need-put-line-requires
+put-line-requires c κs = search needs
+
+same-length : tie.Need-same-length
+same-length c = search needs
+
+returns-4 : tie.Need-returns-4
+unfolding region lent
+returns-4 c =
+    let a = c .before .before .before .before .before .before .before .before .before .before .before .before .before .before .before .args in
+    let p = c .before .before .before .before .before .before .before .before .before .before .before .before .before .before .before .pre in
+    line-taken (a .sm .now) (a .bytes .now) (a .s) (p .0) (p .1) (p .2) (sym (c .before .before .before .before .before .before .before .before .before .has-cr .ensures) ∙ c .before .before .before .before .before .before .before .before .if3 .left) (omega (arith, c .before .before .before .before .before .before .before .before .before .before .before .if1 .left, c .before .before .before .before .before .before .before .before .before .before .if2 .left)) _ _ (c .before .before .before .before .before .before .put .ensures .1) (c .before .before .put-line .ensures)
+
+pub line-run-spec : {M : Type 1} → statement M
+line-run-spec =
+    tie.close
+    (tie.spec
+    cast-len
+    returns
+    returns-2
+    has-cr-requires
+    returns-3
+    add-put-line
+    sub-put
+    part-put-start
+    part-put-end
+    put-requires
+    add-put-line-2
+    put-line-requires
+    same-length
+    returns-4)

@@ -1,0 +1,2 @@
+-- Bytes taken where the state stands.
+pub mod Taking
