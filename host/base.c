@@ -14,6 +14,8 @@
 
 #define BUSY_MILLISECONDS 10000 /* how long a change of another process, which is short, is waited for */
 #define OWNER_ONLY 0600
+#define LOG "-wal"
+#define COPY_TRIES 10
 
 static struct base *base_on(const char *path)
 {
@@ -125,32 +127,55 @@ static bool reach_unchanging(struct base *base)
     return right;
 }
 
-/* An older base is lifted in a copy that goes away with us. */
-static bool lift_copy(struct base *base)
+/* Puts a copy in the base's place, which goes away with us. */
+static bool copy(struct base *base)
 {
-    sqlite3 *old = base->db;
+    sqlite3 *from = base->db;
     sqlite3_backup *copying;
     bool right;
 
     base->db = NULL;
     right = reach(base, "", SQLITE_OPEN_READWRITE | SQLITE_OPEN_CREATE);
-    copying = right ? sqlite3_backup_init(base->db, "main", old, "main") : NULL;
+    copying = right ? sqlite3_backup_init(base->db, "main", from, "main") : NULL;
     if (copying) {
         sqlite3_backup_step(copying, -1);
         right = sqlite3_backup_finish(copying) == SQLITE_OK || base_wrong(base);
     } else if (right) {
         right = base_wrong(base);
     }
-    sqlite3_close(old);
-    return right && lift(base);
+    sqlite3_close(from);
+    return right;
 }
 
+static bool same_file(const struct stat *a, const struct stat *b)
+{
+    return a->st_ino == b->st_ino && a->st_size == b->st_size && a->st_mtim.tv_sec == b->st_mtim.tv_sec
+        && a->st_mtim.tv_nsec == b->st_mtim.tv_nsec;
+}
+
+/* Nobody tells such a reader that a session has begun, so it takes a copy at once, and again if the file has changed meanwhile. */
+static bool copy_unchanged(struct base *base)
+{
+    struct stat before, after;
+    int tries;
+
+    for (tries = 0; tries < COPY_TRIES && !there(base->path, LOG); tries++) {
+        if (stat(base->path, &before) || !reach_unchanging(base) || !is_base(base, schema_version(base)) || !copy(base))
+            return false;
+        if (!stat(base->path, &after) && same_file(&before, &after) && !there(base->path, LOG))
+            return true;
+    }
+    return reach(base, base->path, SQLITE_OPEN_READONLY);
+}
+
+/* The log knows who reads and who writes. */
 static bool open_read_only(struct base *base)
 {
-    bool right = there(base->path, "-wal") ? reach(base, base->path, SQLITE_OPEN_READONLY) : reach_unchanging(base);
-    int version = right ? schema_version(base) : -1;
+    int version = copy_unchanged(base) ? schema_version(base) : -1;
 
-    return right && is_base(base, version) && (version == BASE_VERSION || lift_copy(base));
+    if (!is_base(base, version) || version == BASE_VERSION)
+        return version == BASE_VERSION;
+    return (sqlite3_db_readonly(base->db, "main") == 0 || copy(base)) && lift(base);
 }
 
 /* ---- opening */

@@ -35,7 +35,7 @@ class Lifted(Folder):
         self.assertEqual(node.ask("SELECT DISTINCT came, went, partner, session, deferred FROM outbox"), [(None, None, None, None, 0)])
         self.assertEqual(node.ask("SELECT bid, type FROM known ORDER BY number"),
                          [(b"2_US", "P"), (b"3_US", "B"), (b"4_US", "P"), (b"5_US", "P"), (b"2_T", "B"), (b"1_T", "P"), (b"1_US", "P")])
-        self.assertEqual(node.ask("SELECT call, partner FROM station"), [(b"N0DE", b"f0sou")])
+        self.assertEqual(node.ask("SELECT call, partner FROM station"), [(b"N0DE", b"F0SOU")])
         self.assertEqual(node.ask("SELECT call, password, seen FROM partner"), [(b"F0SOU", None, None)])
         self.assertEqual(node.ask("PRAGMA user_version"), [(TODAY,)])
         self.assertEqual(node.ask("PRAGMA integrity_check"), [("ok",)])
