@@ -30,7 +30,7 @@ impl Capture {
 
     /// The called end speaks first.
     pub fn we_called(&self) -> bool {
-        self.script.first().is_some_and(|said| !said.ours)
+        self.script.first().map_or(false, |said| !said.ours)
     }
 
     /// All bytes of a side.
@@ -50,8 +50,9 @@ impl Capture {
     /// What the stand-in said, with our node's SID in the place of its own.
     pub fn with_our_sid(&self) -> Vec<u8> {
         let said = self.bytes(true);
-        let Some(sid) = self.sid(true) else {
-            return said;
+        let sid = match self.sid(true) {
+            Some(sid) => sid,
+            None => return said,
         };
         replaced(&said, &sid, sid::OURS).unwrap_or(said)
     }

@@ -96,8 +96,9 @@ impl Shelf {
 
     /// Our FS line declined some of these proposals: their BIDs are known.
     fn decline(&mut self, proposals: &[u8], ours: &[u8]) {
-        let Some(signs) = signs(ours) else {
-            return;
+        let signs = match signs(ours) {
+            Some(signs) => signs,
+            None => return,
         };
         let lines = proposals.split(|&byte| byte == b'\r').map(<[u8]>::trim_ascii);
         let proposals = lines.filter(|line| line.starts_with(b"FA ") || line.starts_with(b"FB "));

@@ -176,7 +176,7 @@ impl Base {
 fn check(ours: &Base, theirs: &Base) -> Result<(), String> {
     for kept in &theirs.kept {
         let letter = ours.letters.iter().find(|letter| letter.envelope == kept.envelope);
-        let same = letter.is_some_and(|l| l.heading == kept.heading && l.body == kept.body);
+        let same = letter.map_or(false, |l| l.heading == kept.heading && l.body == kept.body);
         let bid = kept.envelope.bid.escape_ascii();
         if !same {
             return Err(format!("{bid} was kept changed"));
