@@ -112,7 +112,8 @@ fn one_session(random: &mut Random, bases: &mut [Base; 2], last: bool) -> Checke
     let all = 60 + bases[0].waiting() + bases[1].waiting();
     let within = all.min(random.pick(&EARLY));
     let drop_after = (!last).then(|| 1 + random.below(within));
-    let mut ends = bases.each_ref().map(|base| base.end(random, last.then_some(all)));
+    let [first, second] = &*bases;
+    let mut ends = [first, second].map(|base| base.end(random, last.then_some(all)));
     let caller = random.below(2);
     let [first, second] = &mut ends;
     let order = if caller == 0 { [first, second] } else { [second, first] };

@@ -242,7 +242,7 @@ impl Second {
         let sizes = self.memory.sizes;
         if let Some(Resize { buffer, by }) = resize {
             let size = crate::describe::size_mut(&mut self.memory.sizes, buffer);
-            *size = size.saturating_add_signed(by);
+            *size = crate::guarded::moved(*size, by);
         }
         let reply = call(&mut self.session, &mut self.memory);
         self.memory.sizes = sizes;
