@@ -30,7 +30,8 @@ static const char to_1[] =
  * last session, number 0: it may come again. */
 static const char to_2[] =
     "CREATE TABLE partner (call BLOB NOT NULL PRIMARY KEY, password BLOB, seen INTEGER);"
-    "UPDATE station SET partner = CAST(upper(substr(CAST(partner AS TEXT), 1, instr(CAST(partner AS TEXT) || '-', '-') - 1)) AS BLOB);"
+    "UPDATE station SET partner ="
+    " CAST(upper(substr(CAST(partner AS TEXT), 1, instr(CAST(partner AS TEXT) || '-', '-') - 1)) AS BLOB);"
     "INSERT INTO partner (call) SELECT partner FROM station WHERE length(partner) > 0;"
     "CREATE TABLE session (number INTEGER PRIMARY KEY AUTOINCREMENT, began INTEGER NOT NULL, ended INTEGER,"
     " partner BLOB NOT NULL, role INTEGER NOT NULL," /* 0 called, 1 caller */
@@ -49,7 +50,8 @@ static const char to_2[] =
     "CREATE INDEX inbox_session ON inbox (session);"
     "UPDATE inbox SET session = 0, partner = (SELECT partner FROM station)"
     " WHERE number IN (SELECT number FROM inbox ORDER BY number DESC LIMIT 64);"
-    "UPDATE inbox SET copy = (SELECT count(*) FROM inbox AS other WHERE " SAME_BID("other.bid", "inbox.bid") " AND other.number < inbox.number)"
+    "UPDATE inbox SET copy ="
+    " (SELECT count(*) FROM inbox AS other WHERE " SAME_BID("other.bid", "inbox.bid") " AND other.number < inbox.number)"
     " + EXISTS (SELECT 1 FROM outbox WHERE " SAME_BID("outbox.bid", "inbox.bid") ");"
     "ALTER TABLE known ADD COLUMN type TEXT NOT NULL DEFAULT 'B';"
     "ALTER TABLE known ADD COLUMN seen INTEGER NOT NULL DEFAULT 0;"

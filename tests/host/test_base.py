@@ -116,6 +116,18 @@ class Bases(Folder):
         partner.hang_up()
         self.assertEqual(partner.ends()[0], LINK_DROPPED)
 
+    def test_lock_by_another_name(self):
+        "the lock is the base's, whatever link it is opened by"
+        node = self.node()
+        (self.folder / "elsewhere").mkdir()
+        (self.folder / "elsewhere" / "link.base").symlink_to(node.path)
+        partner = Node(self.folder / "elsewhere", "link").stdio()
+        partner.hears(GREETING)
+        self.says_why(node.run("stdio"), BAD_BASE, "in use by another session")
+        self.assertEqual([path.name for path in (self.folder / "elsewhere").iterdir()], ["link.base"])
+        partner.hang_up()
+        self.assertEqual(partner.ends()[0], LINK_DROPPED)
+
     def test_no_commit(self):
         "where the base takes no change, the partner is told nothing and the session ends with 3"
         node = self.node().add(Message(b"1_US", form="plain"))
@@ -171,6 +183,22 @@ class Usage(Folder):
 
 
 class Stopped(Folder):
+    def test_listening(self):
+        "a listening node that is stopped ends the session that it has, which its row tells, and leaves no process behind"
+        node = self.node()
+        listener, port = node.listen()
+        with socket.create_connection(("127.0.0.1", port)) as link:
+            partner = Partner.of_socket(listener, link)
+            partner.hears(GREETING)
+            partner.says(b"[TST-1-F$]\r" + Message(b"1_T", form="plain").proposal() + b"F>\r")
+            partner.hears(b"FS +\r")
+            listener.send_signal(signal.SIGTERM)
+            partner.hears_end()
+        said = listener.communicate(timeout=PATIENCE)[1].decode()
+        self.says_why((listener.returncode, said), -signal.SIGTERM, "ended by SIGTERM")
+        self.assertEqual(node.ask("SELECT ending FROM session"), [("SIGTERM",)])
+        self.assertEqual(self.node().run("stdio")[0], LINK_DROPPED)  # nobody holds the base
+
     def test_export(self):
         "an export that is stopped leaves whole files, and no other"
         node, out = self.node().add(*[Message(b"%04d" % i, b"x" * 3000) for i in range(400)]), self.folder / "out"
