@@ -1,4 +1,5 @@
 /* A base is made, opened, locked and closed. */
+#define _XOPEN_SOURCE 700 /* realpath */
 #include "base.h"
 #include "partner.h"
 #include "say.h"
@@ -15,6 +16,7 @@
 #define BUSY_MILLISECONDS 10000 /* how long a change of another process, which is short, is waited for */
 #define OWNER_ONLY 0600
 
+/* Of a file that is there. Links are followed here, once: the files beside the base stand where the base does. */
 static struct base *base_on(const char *path)
 {
     struct base *base = calloc(1, sizeof *base);
@@ -23,10 +25,15 @@ static struct base *base_on(const char *path)
         give_up("no memory");
     base->path = path;
     base->session_lock = -1;
-    return base;
+    base->file = realpath(path, NULL);
+    if (base->file)
+        return base;
+    say("%s: %s", path, strerror(errno));
+    free(base);
+    return NULL;
 }
 
-static bool reach(struct base *base, const char *file, int flags)
+bool base_reach(struct base *base, const char *file, int flags)
 {
     sqlite3_close(base->db);
     base->db = NULL;
@@ -42,6 +49,7 @@ void base_close(struct base *base)
         sqlite3_close(base->db);
         if (base->session_lock >= 0)
             close(base->session_lock);
+        free(base->file);
         free(base);
     }
 }
@@ -55,7 +63,7 @@ static bool settle(struct base *base)
 }
 
 /* All steps in one transaction; another process may have taken them while we waited for it. */
-static bool lift(struct base *base)
+bool base_lift(struct base *base)
 {
     int version;
 
@@ -68,7 +76,7 @@ static bool lift(struct base *base)
     return false;
 }
 
-static bool is_base(struct base *base, int version)
+bool base_is(struct base *base, int version)
 {
     if (version == 0)
         say("%s: this file is no message base", base->path);
@@ -79,97 +87,31 @@ static bool open_for_changes(struct base *base)
 {
     int version;
 
-    if (!reach(base, base->path, SQLITE_OPEN_READWRITE) || !base_execute(base, "PRAGMA synchronous = EXTRA"))
+    if (!base_reach(base, base->file, SQLITE_OPEN_READWRITE) || !base_execute(base, "PRAGMA synchronous = EXTRA"))
         return false;
     version = schema_version(base);
-    return is_base(base, version) && (version == BASE_VERSION || lift(base)) && settle(base);
-}
-
-/* ---- where nothing can be written */
-
-/* A file beside the base: its write-ahead log, say. */
-static char *beside(const char *path, const char *ending)
-{
-    struct bytes name = { NULL, 0, 0 };
-
-    bytes_add(&name, path, strlen(path));
-    bytes_add(&name, ending, strlen(ending) + 1);
-    return (char *)name.at;
-}
-
-static bool there(const char *path, const char *ending)
-{
-    char *name = beside(path, ending);
-    struct stat about;
-    bool is = stat(name, &about) == 0 && about.st_size > 0;
-
-    free(name);
-    return is;
-}
-
-/* SQLite's name for a file that nobody changes: it needs no files beside it. Bytes that mean something in such a name are escaped. */
-static bool reach_unchanging(struct base *base)
-{
-    struct bytes name = { NULL, 0, 0 };
-    const char *at;
-    bool right;
-
-    bytes_add(&name, "file:", 5);
-    for (at = base->path; *at; at++) {
-        const char *escaped = *at == '?' ? "%3f" : *at == '#' ? "%23" : *at == '%' ? "%25" : NULL;
-        bytes_add(&name, escaped ? escaped : at, escaped ? 3 : 1);
-    }
-    bytes_add(&name, "?immutable=1", 13);
-    right = reach(base, (const char *)name.at, SQLITE_OPEN_READONLY | SQLITE_OPEN_URI);
-    bytes_free(&name);
-    return right;
-}
-
-/* An older base is lifted in a copy that goes away with us. */
-static bool lift_copy(struct base *base)
-{
-    sqlite3 *old = base->db;
-    sqlite3_backup *copying;
-    bool right;
-
-    base->db = NULL;
-    right = reach(base, "", SQLITE_OPEN_READWRITE | SQLITE_OPEN_CREATE);
-    copying = right ? sqlite3_backup_init(base->db, "main", old, "main") : NULL;
-    if (copying) {
-        sqlite3_backup_step(copying, -1);
-        right = sqlite3_backup_finish(copying) == SQLITE_OK || base_wrong(base);
-    } else if (right) {
-        right = base_wrong(base);
-    }
-    sqlite3_close(old);
-    return right && lift(base);
-}
-
-static bool open_read_only(struct base *base)
-{
-    bool right = there(base->path, "-wal") ? reach(base, base->path, SQLITE_OPEN_READONLY) : reach_unchanging(base);
-    int version = right ? schema_version(base) : -1;
-
-    return right && is_base(base, version) && (version == BASE_VERSION || lift_copy(base));
+    return base_is(base, version) && (version == BASE_VERSION || base_lift(base)) && settle(base);
 }
 
 /* ---- opening */
 
-/* Whether the base can be changed: its file, and its folder for the files beside it. */
-static bool can_change(const char *path)
+char *base_beside(const struct base *base, const char *ending)
 {
-    char *folder;
-    const char *slash = strrchr(path, '/');
-    size_t n = slash ? (size_t)(slash - path) + 1 : 1;
+    struct bytes name = { NULL, 0, 0 };
+
+    bytes_add(&name, base->file, strlen(base->file));
+    bytes_add(&name, ending, strlen(ending) + 1);
+    return (char *)name.at;
+}
+
+/* Whether the base can be changed: its file, and its folder for the files beside it. */
+static bool can_change(const struct base *base)
+{
+    char *folder = base_beside(base, "");
     bool can;
 
-    if (access(path, W_OK))
-        return false;
-    folder = calloc(n + 1, 1);
-    if (!folder)
-        give_up("no memory");
-    memcpy(folder, slash ? path : ".", n);
-    can = access(folder, W_OK | X_OK) == 0;
+    strrchr(folder, '/')[1] = 0;
+    can = access(base->file, W_OK) == 0 && access(folder, W_OK | X_OK) == 0;
     free(folder);
     return can;
 }
@@ -184,13 +126,15 @@ struct base *base_open(const char *path, enum base_use use)
         return NULL;
     }
     base = base_on(path);
-    if (can_change(path)) {
+    if (!base)
+        return NULL;
+    if (can_change(base)) {
         right = open_for_changes(base);
     } else if (use == CHANGING) {
         say("%s: this base can only be read: its file or its folder is write-protected", path);
         right = false;
     } else {
-        right = open_read_only(base);
+        right = base_open_read_only(base);
     }
     if (right && (use == CHANGING || base_execute(base, "BEGIN")))
         return base;
@@ -200,7 +144,7 @@ struct base *base_open(const char *path, enum base_use use)
 
 bool base_lock_session(struct base *base)
 {
-    char *name = beside(base->path, "-session");
+    char *name = base_beside(base, "-session");
     struct flock whole;
     int lock = open(name, O_RDWR | O_CREAT | O_CLOEXEC | O_NOFOLLOW, OWNER_ONLY);
     bool right;
@@ -227,7 +171,7 @@ static bool fill_new(struct base *base, const char *call, const char *partner)
 {
     int version;
 
-    if (!reach(base, base->path, SQLITE_OPEN_READWRITE) || !base_execute(base, "PRAGMA synchronous = EXTRA")
+    if (!base_reach(base, base->file, SQLITE_OPEN_READWRITE) || !base_execute(base, "PRAGMA synchronous = EXTRA")
         || !base_execute(base, "BEGIN EXCLUSIVE"))
         return false;
     version = schema_version(base);
@@ -253,7 +197,7 @@ bool base_make(const char *path, const char *call, const char *partner)
     }
     close(file);
     base = base_on(path);
-    right = fill_new(base, call, partner);
+    right = base && fill_new(base, call, partner);
     base_close(base);
     return right;
 }

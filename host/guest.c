@@ -1,4 +1,5 @@
 #include "guest.h"
+#include "login.h"
 #include "partner.h"
 #include "say.h"
 #include "stop.h"
@@ -69,7 +70,7 @@ bool guest_asked(struct link *link, const struct options *options, struct call *
     bool named, transparent;
 
     link->secret = link->doubles = true;
-    if (!ask(link, "Callsign : ", line, &name) || !ask(link, "Password : ", secret, &password)) {
+    if (!ask(link, CALLSIGN_QUESTION, line, &name) || !ask(link, PASSWORD_QUESTION, secret, &password)) {
         say("a caller left before the login was over%s%s", link->over ? ": " : "", link->over ? link->over : "");
         return false;
     }

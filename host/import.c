@@ -57,7 +57,8 @@ static enum exit_code pass_over(struct import *import, const struct message *mes
     return DONE;
 }
 
-/* 003: "a generated BID have the form nnn_BBS". The next number whose BID is free; when a BID has no room for more digits they begin again. */
+/* 003: "a generated BID have the form nnn_BBS". The next number whose BID is free; when a BID has no room for more digits they begin
+ * again. */
 static enum exit_code make_bid(struct import *import, struct part call, struct bytes *bid)
 {
     long long number, limit = 1, tries;
@@ -85,7 +86,8 @@ static enum exit_code add_without_bid(struct import *import, struct message *mes
     enum exit_code code = BAD_BASE;
 
     if (base_call(import->base, &call))
-        code = call.n ? make_bid(import, part_all(&call), &bid) : bad(import, "no BID, and the base has no callsign to make one (init --call)");
+        code = call.n ? make_bid(import, part_all(&call), &bid)
+                      : bad(import, "no BID, and the base has no callsign to make one (init --call)");
     if (code == DONE) {
         message->bid = part_all(&bid);
         code = add(import, message);

@@ -130,6 +130,12 @@ long link_read(struct link *link, uint8_t *into, size_t room, bool wait)
     return (long)heard.n;
 }
 
+void link_unread(struct link *link)
+{
+    link->early_at--;
+    link->received--;
+}
+
 static bool write_all(struct link *link, struct part bytes)
 {
     while (bytes.n) {

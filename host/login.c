@@ -1,5 +1,6 @@
 #include "login.h"
 #include "say.h"
+#include "secret.h"
 
 #include <string.h>
 
@@ -20,14 +21,38 @@ static bool hear(struct link *link, struct part question, long limit)
     return found;
 }
 
-bool login(struct link *link, const struct options *options)
+static bool answer(struct link *link, const char *question, const char *text, long limit)
+{
+    if (!hear(link, part_of(question), limit)) {
+        say("the partner never asked \"%s\"%s%s", question, link->over ? ": " : "", link->over ? link->over : "");
+        return false;
+    }
+    return link_write(link, part_of(text)) && link_write(link, part_of("\r"));
+}
+
+/* A password stands in no transcript. What a mailbox says to it ("Logon Ok") is no part of the protocol, whose first byte is the SID's. */
+static bool give_password(struct link *link, const char *password, long limit)
 {
     bool right;
 
-    if (!hear(link, part_of(options->question), options->login_limit)) {
-        say("the partner never asked \"%s\"%s%s", options->question, link->over ? ": " : "", link->over ? link->over : "");
-        return false;
+    link->secret = true;
+    right = answer(link, PASSWORD_QUESTION, password, limit);
+    if (right && !hear(link, part_of("["), limit)) {
+        say("the partner doesn't greet us after the password%s%s", link->over ? ": " : "", link->over ? link->over : "");
+        right = false;
     }
-    right = link_write(link, part_of(options->login)) && link_write(link, part_of("\r"));
+    if (right)
+        link_unread(link);
+    link->secret = false;
     return right;
+}
+
+bool login(struct link *link, const struct options *options)
+{
+    struct secret secret;
+
+    if (options->password && !secret_read(options->password, &secret))
+        return false;
+    return answer(link, options->question, options->login, options->login_limit)
+        && (!options->password || give_password(link, secret.text, options->login_limit));
 }

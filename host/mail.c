@@ -114,9 +114,11 @@ bool base_release(struct base *base, struct part bid, bool *found)
 
 /* ---- questions */
 
+#define ALIKE \
+    "form = ?1 AND type = ?2 AND \"from\" = ?3 AND at = ?4 AND \"to\" = ?5 AND bid = ?6 AND title = ?7 AND name = ?8 AND body = ?9"
+
 int base_has(struct base *base, const struct message *message)
 {
-#define ALIKE "form = ?1 AND type = ?2 AND \"from\" = ?3 AND at = ?4 AND \"to\" = ?5 AND bid = ?6 AND title = ?7 AND name = ?8 AND body = ?9"
     sqlite3_stmt *statement = base_prepare(base,
         "SELECT EXISTS (SELECT 1 FROM outbox WHERE " ALIKE ") OR EXISTS (SELECT 1 FROM inbox WHERE " ALIKE ")");
     long long has = 0;

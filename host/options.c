@@ -1,5 +1,6 @@
 #include "options.h"
 #include "bytes.h"
+#include "login.h"
 #include "fringemole.h"
 #include "say.h"
 
@@ -33,6 +34,7 @@ static const char help[] =
     "  --caller, --called   our role (call: caller; listen, stdio, serial: called)\n"
     "  --login TEXT         answer the partner's login question with this line first\n"
     "  --question TEXT      the question (\"Callsign : \")\n"
+    "  --password FILE      and \"Password : \" with FILE's first line\n"
     "  --telnet             FF bytes are doubled on the wire\n"
     "  --transcript[=FILE]  show both directions as they look on the air (FILE is added to)\n"
     "  --log FILE           add what is said to FILE instead of standard error\n"
@@ -120,6 +122,7 @@ static const struct option table[] = {
     OPTION("--rtscts", FLAG, flow),
     OPTION("--log", TEXT, log),
     OPTION("--from", TEXT, from),
+    OPTION("--password", TEXT, password),
     OPTION("--anyone", FLAG, anyone),
     OPTION("--callers", NUMBER, callers),
     OPTION("--delay", NUMBER, delay),
@@ -174,7 +177,7 @@ static void defaults(struct options *options)
 {
     memset(options, 0, sizeof *options);
     options->call = options->partner = "";
-    options->question = "Callsign : ";
+    options->question = CALLSIGN_QUESTION;
     options->timeout = 600;
     options->sid_limit = 120;
     options->progress_limit = 600;

@@ -1,8 +1,8 @@
 #include "partners.h"
 #include "call.h"
 #include "partner.h"
+#include "secret.h"
 
-#include <errno.h>
 #include <stdio.h>
 #include <string.h>
 #include <time.h>
@@ -16,55 +16,22 @@ static bool read_call(const struct options *options, struct call *call)
     return right;
 }
 
-static bool first_line(FILE *file, const char *name, char *line, size_t room)
-{
-    bool right = fgets(line, (int)room, file) != NULL;
-
-    if (!right)
-        say("%s: no password in it", name);
-    return right;
-}
-
-/* A password is a file's first line: on the command line everybody on this machine could read it. */
-static bool read_password(const char *name, char *password, size_t room)
-{
-    FILE *file;
-    bool right;
-
-    if (!strcmp(name, "-"))
-        return first_line(stdin, "standard input", password, room);
-    file = fopen(name, "rb");
-    if (!file) {
-        say("%s: %s", name, strerror(errno));
-        return false;
-    }
-    right = first_line(file, name, password, room);
-    fclose(file);
-    return right;
-}
-
 enum exit_code partners_admit(const struct options *options)
 {
-    char password[PARTNER_MAX_PASSWORD + 3] = ""; /* a line end and its zero fit */
+    struct secret secret = { "" };
     struct base *base;
     struct call call;
-    size_t n;
     bool right;
 
     if (!read_call(options, &call))
         return BAD_USAGE;
-    if (options->count > 1 && !read_password(options->arguments[1], password, sizeof password))
+    if (options->count > 1 && !secret_read(options->arguments[1], &secret))
         return BAD_FILE;
-    n = strcspn(password, "\r\n");
-    if (n > PARTNER_MAX_PASSWORD || (options->count > 1 && !n)) {
-        say("%s: a password has 1 to %d bytes", options->arguments[1], PARTNER_MAX_PASSWORD);
-        return BAD_FILE;
-    }
     base = base_open(options->base, CHANGING);
-    right = base && partner_set(base, part_of(call.text), (struct part){ (const uint8_t *)password, n });
+    right = base && partner_set(base, part_of(call.text), part_of(secret.text));
     base_close(base);
     if (right)
-        say("%s may call%s", call.text, n ? ", with a password" : ", but not from outside by TCP: it has no password");
+        say("%s may call%s", call.text, secret.text[0] ? ", with a password" : ", but not from outside by TCP: it has no password");
     return right ? DONE : BAD_BASE;
 }
 

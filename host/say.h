@@ -6,7 +6,7 @@
 
 enum exit_code {
     DONE = 0,
-    FAILED = 1,        /* no memory, no transcript file */
+    FAILED = 1,        /* no memory; output, or a transcript, that can't be written */
     BAD_USAGE = 2,
     BAD_BASE = 3,
     BAD_PORT = 4,

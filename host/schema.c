@@ -24,12 +24,15 @@ static const char to_1[] =
     " title BLOB NOT NULL, name BLOB NOT NULL, body BLOB NOT NULL);"
     "CREATE TABLE known (number INTEGER PRIMARY KEY, bid BLOB NOT NULL UNIQUE);";
 
-/* Times are seconds since 1970, NULL where nobody noted them; callsigns of partners are capitals, empty where nobody told. A BID that an
+/* Times are seconds since 1970, NULL where nobody noted them; callsigns of partners are capitals without SSID, empty where nobody told. A BID that an
  * old base has no message of counts as a bulletin's, which is lent longer. A second message of one BID in the inbox, or one of a BID of
- * the outbox, is a copy: import took no BID that was known, so what came in came later. */
+ * the outbox, is a copy: import took no BID that was known, so what came in came later. As much as a session keeps counts as that of a
+ * last session, number 0: it may come again. */
 static const char to_2[] =
     "CREATE TABLE partner (call BLOB NOT NULL PRIMARY KEY, password BLOB, seen INTEGER);"
-    "INSERT INTO partner (call) SELECT CAST(upper(CAST(partner AS TEXT)) AS BLOB) FROM station WHERE length(partner) > 0;"
+    "UPDATE station SET partner ="
+    " CAST(upper(substr(CAST(partner AS TEXT), 1, instr(CAST(partner AS TEXT) || '-', '-') - 1)) AS BLOB);"
+    "INSERT INTO partner (call) SELECT partner FROM station WHERE length(partner) > 0;"
     "CREATE TABLE session (number INTEGER PRIMARY KEY AUTOINCREMENT, began INTEGER NOT NULL, ended INTEGER,"
     " partner BLOB NOT NULL, role INTEGER NOT NULL," /* 0 called, 1 caller */
     " ending TEXT, refusal INTEGER, line BLOB,"      /* line: the partner's, that was refused */
@@ -45,7 +48,10 @@ static const char to_2[] =
     "ALTER TABLE inbox ADD COLUMN copy INTEGER NOT NULL DEFAULT 0;" /* 0 the first of its BID, then 1, 2 .. */
     "CREATE INDEX inbox_bid ON inbox (" BID_KEY("bid") ");"
     "CREATE INDEX inbox_session ON inbox (session);"
-    "UPDATE inbox SET copy = (SELECT count(*) FROM inbox AS other WHERE " SAME_BID("other.bid", "inbox.bid") " AND other.number < inbox.number)"
+    "UPDATE inbox SET session = 0, partner = (SELECT partner FROM station)"
+    " WHERE number IN (SELECT number FROM inbox ORDER BY number DESC LIMIT 64);"
+    "UPDATE inbox SET copy ="
+    " (SELECT count(*) FROM inbox AS other WHERE " SAME_BID("other.bid", "inbox.bid") " AND other.number < inbox.number)"
     " + EXISTS (SELECT 1 FROM outbox WHERE " SAME_BID("outbox.bid", "inbox.bid") ");"
     "ALTER TABLE known ADD COLUMN type TEXT NOT NULL DEFAULT 'B';"
     "ALTER TABLE known ADD COLUMN seen INTEGER NOT NULL DEFAULT 0;"

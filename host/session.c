@@ -129,6 +129,18 @@ static bool sum_up(struct session *session)
     return true;
 }
 
+/* A session that ended by FQ has offered all that its partner can take: what is left, and wasn't deferred, has another form. */
+static void say_unoffered(const struct session *session)
+{
+    size_t plain = 0, packed = 0;
+
+    shelf_unoffered(&session->shelf, &plain, &packed);
+    if (plain)
+        say("%lu of these plain, for a partner without B in its SID", (unsigned long)plain);
+    if (packed)
+        say("%lu of these packed, for a partner with B in its SID", (unsigned long)packed);
+}
+
 /* The row's end and what was deferred, in one transaction. */
 static bool close_row(struct session *session)
 {
@@ -151,7 +163,11 @@ static enum exit_code run(struct session *session, const struct session_terms *t
     session->passage.session = session->history.number;
     session->passage.partner = terms->partner;
     code = converse(session);
-    return sum_up(session) && close_row(session) ? code : BAD_BASE;
+    if (!sum_up(session) || !close_row(session))
+        return BAD_BASE;
+    if (code == DONE)
+        say_unoffered(session);
+    return code;
 }
 
 enum exit_code session_run(struct base *base, struct link *link, const struct session_terms *terms)

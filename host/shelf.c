@@ -195,6 +195,16 @@ size_t shelf_deferred(const struct shelf *shelf)
     return count;
 }
 
+void shelf_unoffered(const struct shelf *shelf, size_t *plain, size_t *packed)
+{
+    size_t place;
+
+    for (place = 0; place < shelf_records(shelf); place++) {
+        if (state_now(shelf, place) == WAITING && !is_deferred(shelf, place))
+            ++*(shelf->table.at[place * FRINGEMOLE_RECORD_SIZE + FRINGEMOLE_RECORD_FORM] == PLAIN_TEXT ? plain : packed);
+    }
+}
+
 bool shelf_save_deferred(const struct shelf *shelf, struct base *base, const struct passage *passage)
 {
     size_t place;

@@ -27,6 +27,8 @@ bool shelf_save(struct shelf *shelf, struct base *base, const struct passage *pa
 /* How many records the partner deferred; and their rows told so. */
 size_t shelf_deferred(const struct shelf *shelf);
 bool shelf_save_deferred(const struct shelf *shelf, struct base *base, const struct passage *passage);
+/* How many records wait that the partner hasn't deferred. */
+void shelf_unoffered(const struct shelf *shelf, size_t *plain, size_t *packed);
 void shelf_clear(struct shelf *shelf);
 
 size_t shelf_records(const struct shelf *shelf);

@@ -5,6 +5,8 @@
 
 bool base_wrong(struct base *base)
 {
+    if (base->quiet)
+        return false;
     switch (sqlite3_errcode(base->db)) {
     case SQLITE_BUSY:
     case SQLITE_LOCKED:

@@ -8,8 +8,10 @@
 
 struct base {
     sqlite3 *db;
-    const char *path;
+    const char *path; /* as the operator names it */
+    char *file;       /* where it is */
     int session_lock; /* descriptor of the lock file, or -1 */
+    bool quiet;       /* says nothing of what SQLite holds against us: it will be tried again */
 };
 
 /* Says what SQLite holds against us, and answers false. */
@@ -28,6 +30,16 @@ bool base_number(struct base *base, sqlite3_stmt *statement, long long *number);
 /* Calls `row` for each row until it answers false, and is done with the statement. */
 typedef bool row_function(void *context, sqlite3_stmt *statement);
 bool base_rows(struct base *base, sqlite3_stmt *statement, row_function *row, void *context);
+
+/* Connects to a file by these flags of SQLite, in place of another. */
+bool base_reach(struct base *base, const char *file, int flags);
+/* Whether a version is one of a base; says if it is none. */
+bool base_is(struct base *base, int version);
+/* To today's version. */
+bool base_lift(struct base *base);
+bool base_open_read_only(struct base *base);
+/* The name of a file beside the base, to be freed. */
+char *base_beside(const struct base *base, const char *ending);
 
 bool base_set_station(struct base *base, struct part call, struct part partner);
 

@@ -59,8 +59,8 @@ fn list() {
 fn play(name: &str, side: &str, times: usize) -> bool {
     let calls = calls::rows().into_iter().find(|row| row.name == name);
     let one_byte = one_byte::rows().into_iter().find(|row| row.name == name);
-    calls.is_some_and(|row| calls::play(&row, side, times))
-        || one_byte.is_some_and(|row| one_byte::play(&row, side, times))
+    calls.map_or(false, |row| calls::play(&row, side, times))
+        || one_byte.map_or(false, |row| one_byte::play(&row, side, times))
 }
 
 fn main() -> ExitCode {
@@ -75,7 +75,7 @@ fn main() -> ExitCode {
             list();
             true
         }
-        ["--play", row, side, times] => times.parse().is_ok_and(|times| play(row, side, times)),
+        ["--play", row, side, times] => times.parse().map_or(false, |times| play(row, side, times)),
         _ => false,
     };
     if !known {

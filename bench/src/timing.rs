@@ -1,5 +1,6 @@
 //! Times of two works that take turns, so that a busy machine hits both alike.
 
+use std::sync::atomic::{AtomicUsize, Ordering};
 use std::time::{Duration, Instant};
 
 /// Both work for so many rounds.
@@ -28,4 +29,12 @@ fn round(work: Work<'_>) -> Duration {
         best = best.min(work());
     }
     best
+}
+
+/// What all calls gave together.
+static TOTAL: AtomicUsize = AtomicUsize::new(0);
+
+/// A result that counts as used, so that no work is left out (std's own black_box came after Rust 1.63).
+pub fn used(result: usize) {
+    TOTAL.fetch_add(result, Ordering::Relaxed);
 }

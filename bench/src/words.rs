@@ -9,7 +9,6 @@ use crate::timing::{self, ROUNDS};
 use second::field::BODY_LIMIT;
 use second::sid::Mode;
 use second::transfer::writer::{write_framed, write_plain};
-use std::hint::black_box;
 use std::time::{Duration, Instant};
 
 /// So many messages are timed together, few enough that some batch runs with
@@ -78,7 +77,7 @@ impl Pair {
 fn batch(work: Work, message: &Message, buffer: &mut [u8], portion: usize) -> Duration {
     let start = Instant::now();
     for _ in 0..BATCH {
-        black_box(work(message, buffer, portion));
+        timing::used(work(message, buffer, portion));
     }
     start.elapsed() / BATCH
 }

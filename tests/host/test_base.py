@@ -67,6 +67,19 @@ class Bases(Folder):
                 self.says_why(partner.ends(), DONE, "BID " + bid + ", is held: " + rule)
                 self.assertEqual(node.ask("SELECT state FROM outbox ORDER BY number"), [(DECLINED,), (HELD,), (DECLINED,)])
 
+    def test_twins(self):
+        "of two messages with one BID (one of them stored as text, so that SQLite takes them for two) the first goes, the second is held"
+        node = self.node().add(Message(b"1_A", b"first", form="plain"), Message(b"2_A", b"second", form="plain"))
+        node.ask("UPDATE outbox SET bid = '1_A' WHERE number = 2")
+        partner = node.stdio()
+        partner.hears(GREETING)
+        partner.says(b"[TST-1-F$]\rFF\r")
+        partner.hears(Message(b"1_A", b"first", form="plain").proposal() + b"F>\r")
+        partner.says(b"FS -\rFF\r")
+        partner.hears(b"FQ\r")
+        self.says_why(partner.ends(), DONE, "message 2 of the base, BID 1_A, is held: another message of the outbox has this BID")
+        self.assertEqual(node.ask("SELECT state FROM outbox ORDER BY number"), [(DECLINED,), (HELD,)])
+
     def test_many_bad_rows(self):
         "bad rows take nobody's place: behind 100 of them the others still go"
         node = self.node(program=PLAIN).add(*[Message(b"%03d" % i, form="plain") for i in range(102)])
@@ -100,6 +113,18 @@ class Bases(Folder):
         partner.rest()
         partner = node.stdio()
         partner.hears(GREETING)
+        partner.hang_up()
+        self.assertEqual(partner.ends()[0], LINK_DROPPED)
+
+    def test_lock_by_another_name(self):
+        "the lock is the base's, whatever link it is opened by"
+        node = self.node()
+        (self.folder / "elsewhere").mkdir()
+        (self.folder / "elsewhere" / "link.base").symlink_to(node.path)
+        partner = Node(self.folder / "elsewhere", "link").stdio()
+        partner.hears(GREETING)
+        self.says_why(node.run("stdio"), BAD_BASE, "in use by another session")
+        self.assertEqual([path.name for path in (self.folder / "elsewhere").iterdir()], ["link.base"])
         partner.hang_up()
         self.assertEqual(partner.ends()[0], LINK_DROPPED)
 
@@ -150,7 +175,7 @@ class Usage(Folder):
         text = out.decode()
         for word in ("init", "import", "export", "list", "sessions", "release", "call", "listen", "stdio", "serial", "--caller", "--called", "--login", "--question",
                      "--telnet", "--transcript", "--progress", "--timeout", "--room", "--once", "--drop-after", "--rtscts", "--log", "--sid-limit", "--progress-limit",
-                     "--least-rate", "--session-limit", "--login-limit", "--linger", "--delay", "--callers", "--from", "--anyone", "admit", "dismiss", "partners", "--call", "--partner", "--text", "--as-is", "--outbox"):
+                     "--least-rate", "--session-limit", "--login-limit", "--linger", "--delay", "--callers", "--from", "--anyone", "--password", "admit", "dismiss", "partners", "--call", "--partner", "--text", "--as-is", "--outbox"):
             self.assertIn("\n  " + word, text.replace(", --called", "\n  --called"))
         for number in range(9):
             self.assertIn("\n  %d  " % number, text.split("Exit codes")[1])
@@ -158,6 +183,35 @@ class Usage(Folder):
 
 
 class Stopped(Folder):
+    def test_listening(self):
+        "a listening node that is stopped ends the session that it has, which its row tells, and leaves no process behind"
+        node = self.node()
+        listener, port = node.listen()
+        with socket.create_connection(("127.0.0.1", port)) as link:
+            partner = Partner.of_socket(listener, link)
+            partner.hears(GREETING)
+            partner.says(b"[TST-1-F$]\r" + Message(b"1_T", form="plain").proposal() + b"F>\r")
+            partner.hears(b"FS +\r")
+            listener.send_signal(signal.SIGTERM)
+            partner.hears_end()
+        said = listener.communicate(timeout=PATIENCE)[1].decode()
+        self.says_why((listener.returncode, said), -signal.SIGTERM, "ended by SIGTERM")
+        self.assertEqual(node.ask("SELECT ending FROM session"), [("SIGTERM",)])
+        self.assertEqual(self.node().run("stdio")[0], LINK_DROPPED)  # nobody holds the base
+
+    def test_export(self):
+        "an export that is stopped leaves whole files, and no other"
+        node, out = self.node().add(*[Message(b"%04d" % i, b"x" * 3000) for i in range(400)]), self.folder / "out"
+        process = node.start("export", out, "--outbox")
+        while not out.exists() or len(list(out.glob("*.msg"))) < 3:
+            time.sleep(0.001)
+        process.send_signal(signal.SIGTERM)
+        said = process.communicate(timeout=PATIENCE)[1].decode()
+        self.says_why((process.returncode, said), -signal.SIGTERM, "ended by SIGTERM", " exported, 0 were there already")
+        names = [path.name for path in out.iterdir()]
+        self.assertTrue(3 <= len(names) < 400 and all(name.endswith(".msg") for name in names), names)
+        self.says_why(node.run("export", out, "--outbox"), DONE, "%d exported, %d were there already" % (400 - len(names), len(names)))
+
     def test_signals(self):
         "SIGINT and SIGTERM end every command that waits with a sentence, by the signal itself; a session's row tells of it"
         for number, (words, name) in enumerate([(("stdio",), "SIGTERM"), (("stdio",), "SIGINT"), (("listen", "0"), "SIGTERM"), (("import", "-"), "SIGINT")]):

@@ -1,5 +1,6 @@
 """Working while the radio works: other commands beside a session, bases that can only be read, and what the base tells of a session."""
 import contextlib
+import threading
 
 from node import *
 
@@ -150,6 +151,53 @@ class ReadOnly(Folder):
         self.assertTrue((self.place / "node.base-wal").stat().st_size > 0)
         self.protect(node, 0o444, 0o555)
         self.can_be_read(node, [theirs])
+
+    def test_beside_changes(self):
+        "who may only read sees the base whole while others change it, open it and close it"
+        if os.getuid():
+            self.skipTest("only root can be two users")
+        node, made, over = Node(self.place, "node", program=PLAIN), [0], threading.Event()
+        node.path.chmod(0o644)
+
+        def change():
+            while not over.is_set():
+                node.add(Message(b"%d_A" % made[0], b"%d" % made[0] * 3000))
+                made[0] += 1
+        changing = threading.Thread(target=change)
+        changing.start()
+        reader = Node(self.place, "node", program=self.program)
+        try:
+            for _ in range(20):
+                self.is_whole(reader, made[0])
+        finally:
+            over.set()
+            changing.join()
+
+    def is_whole(self, reader, least):
+        code, out, err = self.run_as_reader(reader, "list")
+        self.says_why((code, err), DONE)
+        rows = [line.split() for line in out.decode().splitlines() if "waiting" in line]
+        self.assertGreaterEqual(len(rows), least)
+        for i, row in enumerate(rows):
+            self.assertEqual((row[0], row[7], row[8]), (str(i + 1), "%d_A" % i, str(3000 * len(str(i)))))
+
+    def test_half_done(self):
+        "a base in the middle of a change in the old journal's way is no base to read: nothing is shown rather than half of it"
+        path = self.place / "half.base"
+        base = sqlite3.connect(path, isolation_level=None)
+        base.executescript((ROOT / "tests" / "host" / "version1.sql").read_text())
+        base.execute("PRAGMA cache_size = 1")
+        base.execute("BEGIN IMMEDIATE")
+        base.execute("UPDATE inbox SET body = zeroblob(20000)")
+        node = Node(self.place, "half")
+        for name in ("half.base", "half.base-journal"):
+            shutil.copy(self.place / name, self.folder / name)
+        base.close()
+        for name in ("half.base", "half.base-journal"):
+            shutil.copy(self.folder / name, self.place / name)
+        self.protect(node, 0o444, 0o555)
+        code, out, err = self.run_as_reader(node, "list")
+        self.assertEqual((code, out), (BAD_BASE, b""), err)
 
     def test_old(self):
         "so can a base of version 1, which stays as it is"

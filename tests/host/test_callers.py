@@ -148,6 +148,23 @@ class Login(Callers):
             self.assertNotIn("s3cret", text)
             self.assertNotIn("Password", text)
 
+    def test_two_nodes(self):
+        "one node logs in to another with callsign and password, which stands in no transcript of either; a wrong one is turned away"
+        ours = Message(b"1_N", b"\xff" * 300)
+        north, south, password = self.node("north").add(ours), self.node("south"), self.folder / "password"
+        south.right("admit", "N0NOR", "-", input=SECRET + b"\n")
+        for right, login in ((SECRET, ".N0NOR"), (b"wrong", ".N0NOR"), (SECRET, "N0NOR")):
+            with self.subTest((right, login)):
+                password.write_bytes(right + b"\r\n")
+                process, port = self.outside(south, "--once", "--transcript", "--delay", "0")
+                code, _, said = north.run("call", str(port), "--login", login, "--password", password, "--transcript", *(() if login[0] == "." else ("--telnet",)))
+                there = process.communicate(timeout=PATIENCE)[1].decode()
+                self.assertEqual((code, process.returncode), (DONE, DONE) if right == SECRET else (LINK_DROPPED, NOT_ADMITTED), said + there)
+                for text in (said, there):
+                    self.assertNotIn(right.decode(), text.replace("wrong password", ""))
+        self.assertEqual((north.states(), south.inbox()), ({b"1_N": FORWARDED}, [ours.row()]))
+        self.says_why(north.run("call", str(port), "--login", "X", "--password", self.folder / "none"), BAD_PORT, "refused")
+
     def test_refuses_to_start(self):
         "nobody listens outside where no partner has a password, but for --anyone, which says what it means"
         node = self.node().add(Message(b"1_US", b"private", form="plain"))

@@ -179,6 +179,13 @@ class Helpful(Folder):
         self.assertNotEqual(done.returncode, 0)
         self.assertIn(b"There is no /nowhere/libfringemole.a: prove and build the library first (rt staticlib fringemole)", done.stderr)
 
+    def test_depends(self):
+        "a header that changed makes the objects that include it again, however the folder is spelled"
+        host, library = ROOT / "host", os.environ.get("FRINGEMOLE_LIB_DIR", str(ROOT / "target" / "staticlib"))
+        for build in (ROOT / "target" / "host", host / ".." / "target" / "host"):
+            told = subprocess.run(["make", "-n", "-C", host, "LIB=" + library, "BUILD=" + str(build), "-W", host / "heard.h"], capture_output=True, text=True)
+            self.assertIn("session.c", told.stdout, told.stderr)
+
     def test_version(self):
         "--version needs no base"
         answer = subprocess.run([SANITIZED, "--version"], capture_output=True)

@@ -31,9 +31,11 @@ class Lifted(Folder):
             self.assertEqual(node.ask("SELECT number, " + COLUMNS + " FROM " + box + " ORDER BY number"), rows)
         self.assertEqual(node.states(), {b"1_US": FORWARDED, b"2_US": DECLINED, b"3_US": WAITING, b"4_US": WAITING, b"5_US": HELD})
         self.assertEqual(node.ask("SELECT bid, copy FROM inbox ORDER BY number"), [(b"1_T", 0), (b"2_T", 0), (b"1_T", 1), (b"1_US", 1)])
+        self.assertEqual(node.ask("SELECT DISTINCT came, partner, session FROM inbox"), [(None, b"F0SOU", 0)])
+        self.assertEqual(node.ask("SELECT DISTINCT came, went, partner, session, deferred FROM outbox"), [(None, None, None, None, 0)])
         self.assertEqual(node.ask("SELECT bid, type FROM known ORDER BY number"),
                          [(b"2_US", "P"), (b"3_US", "B"), (b"4_US", "P"), (b"5_US", "P"), (b"2_T", "B"), (b"1_T", "P"), (b"1_US", "P")])
-        self.assertEqual(node.ask("SELECT call, partner FROM station"), [(b"N0DE", b"f0sou")])
+        self.assertEqual(node.ask("SELECT call, partner FROM station"), [(b"N0DE", b"F0SOU")])
         self.assertEqual(node.ask("SELECT call, password, seen FROM partner"), [(b"F0SOU", None, None)])
         self.assertEqual(node.ask("PRAGMA user_version"), [(TODAY,)])
         self.assertEqual(node.ask("PRAGMA integrity_check"), [("ok",)])
@@ -63,12 +65,21 @@ class Lifted(Folder):
         self.assertEqual(node.ask("PRAGMA user_version"), [(1,)])
         self.assertEqual(list(sqlite3.connect(node.path).iterdump()), before)
 
+    def test_just_came(self):
+        "what came last before is known in the next session, whatever else is"
+        node = self.old()
+        node.right("list")
+        node.ask("WITH n(i) AS (SELECT 1 UNION ALL SELECT i + 1 FROM n WHERE i < 1100) INSERT INTO known (bid, seen) SELECT CAST(i AS BLOB), 1 FROM n")
+        self.known(node, (b"1_T", b"2_T", b"1_US", b"2_US"), b"FS ---+\r")
+
     def test_goes_on(self):
         "a session on a lifted base: what was known is known"
-        node = self.old()
+        self.known(self.old(), (b"1_T", b"2_T", b"1_US", b"5_US", b"3_T"), b"FS ----+\r")
+
+    def known(self, node, bids, signs):
         partner = node.stdio()
         partner.hears(GREETING)
-        partner.says(b"[TST-1-F$]\r" + b"".join(Message(bid, form="plain").proposal() for bid in (b"1_T", b"2_T", b"1_US", b"5_US", b"3_T")) + b"F>\r")
-        partner.hears(b"FS ----+\r")
-        partner.hang_up()
-        self.assertEqual(partner.ends()[0], LINK_DROPPED)
+        partner.says(b"[TST-1-F$]\r" + b"".join(Message(bid, form="plain").proposal() for bid in bids) + b"F>\r")
+        partner.hears(signs)
+        partner.process.kill()
+        partner.rest()

@@ -214,6 +214,20 @@ class Imported(Folder):
 
 
 class Counted(Folder):
+    def test_other_form(self):
+        "what waits because this partner takes the other form only is said, so that nobody wonders"
+        for sid, words in ((PLAIN_SID, "2 of these packed, for a partner with B in its SID"), (b"[TST-1-BF$]\r", "1 of these plain, for a partner without B in its SID")):
+            node = self.node(sid.decode()[7:9]).add(Message(b"1_A", form="plain"), Message(b"2_A"), Message(b"3_A"))
+            partner = node.stdio()
+            partner.hears(GREETING)
+            partner.says(sid + b"FF\r")
+            while not partner.early.endswith(b"F>\r"):
+                partner.early += partner.read()
+            count, partner.early = partner.early.count(b"\r") - 1, b""
+            partner.says(b"FS " + b"=" * count + b"\rFF\r")
+            partner.hears(b"FQ\r")
+            self.says_why(partner.ends(), DONE, "3 still waiting", words)
+
     def test_all_waiting(self):
         "all that waits is counted, not only what a session was lent"
         node = self.node().add(*[Message(b"%03d" % i, form="plain") for i in range(70)])

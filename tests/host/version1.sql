@@ -1,11 +1,11 @@
 -- A base of version 1, as the host of that version made it: imports, then two sessions with a partner; 1_T came twice and 1_US came back,
--- after both had left its list of known BIDs. By sqlite3's .dump, with the two pragmas added.
+-- after both had left its list of known BIDs. By sqlite3's .dump, with the two pragmas added and the partner f0sou named f0sou-1.
 PRAGMA application_id = 1179479916;
 PRAGMA user_version = 1;
 PRAGMA foreign_keys=OFF;
 BEGIN TRANSACTION;
 CREATE TABLE station (call BLOB NOT NULL, partner BLOB NOT NULL);
-INSERT INTO station VALUES(X'4e304445',X'6630736f75');
+INSERT INTO station VALUES(X'4e304445',X'6630736f752d31');
 CREATE TABLE outbox (number INTEGER PRIMARY KEY AUTOINCREMENT, state INTEGER NOT NULL, form INTEGER NOT NULL, type TEXT NOT NULL, "from" BLOB NOT NULL, at BLOB NOT NULL, "to" BLOB NOT NULL, bid BLOB NOT NULL UNIQUE, size INTEGER NOT NULL, title BLOB NOT NULL, name BLOB NOT NULL, body BLOB NOT NULL);
 INSERT INTO outbox VALUES(1,1,0,'P',X'4630414243',X'4e3044452e545354',X'463058595a',X'315f5553',10,X'48656c6c6f',X'',X'666f727761726465640d');
 INSERT INTO outbox VALUES(2,2,0,'P',X'4630414243',X'4e3044452e545354',X'463058595a',X'325f5553',9,X'48656c6c6f',X'',X'6465636c696e65640d');

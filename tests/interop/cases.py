@@ -4,9 +4,9 @@ import time
 
 import lzhuf
 from linfbb import FRAMED, HEAD
-from node import DECLINED, DONE, FORWARDED, LINK_DROPPED, REFUSED, WAITING
+from node import DECLINED, DONE, FORWARDED, LINK_DROPPED, NOT_ADMITTED, REFUSED, WAITING
 from relay import BARE, ZEROS, Drop
-from world import WAYS, Failed, expect, kept_in, wire
+from world import PASSWORD, WAYS, Failed, expect, kept_in, wire
 
 BLOCK_END = re.compile(rb"[\r\n]F> [0-9A-F]{2}\r\n?$")
 
@@ -393,3 +393,35 @@ def without_the_dot(world, mode, role):
     done(world.session(mode, role, node, login="N0DE"))
     states_of(node, messages, *[FORWARDED] * len(messages))
     at_linfbb(world, mode, messages)
+
+
+# ---- who may call
+
+@case("it logs in to us by callsign and password; with another password it gets nothing", ("asked", "called"))
+def logs_in_to_us(world, mode, role):
+    first, second = world.message(mode, text=HIGH + b"\r\n"), world.message(mode)
+    right, wrong = world.node(first), world.node(second)
+    right.admit("F0FBB", PASSWORD)
+    wrong.admit("F0FBB", PASSWORD.lower())
+    done(world.session(mode, role, right))
+    states_of(right, [first], FORWARDED)
+    ended, link = world.session(mode, role, wrong, options=("--delay", "1"))
+    expect("exit code", ended.code, NOT_ADMITTED)
+    expect("what it heard", link.heard["us"], b"Callsign : Password : ")
+    states_of(wrong, [second], WAITING)
+    at_linfbb(world, mode, [first])
+
+
+@case("we log in to it by callsign and password; with another password nothing goes", ("asked", "caller"))
+def we_log_in(world, mode, role):
+    message = world.message(mode, text=HIGH + b"\r\n")
+    node = world.node(message)
+    with world.box(mode).asking(b"GOODWORD"):
+        ended, link = world.session(mode, role, node, options=("--password", world.secret("WRONG"), "--sid-limit", "3"))
+        expect("exit code", ended.code, LINK_DROPPED)
+        states_of(node, [message], WAITING)
+        ended, link = done(world.session(mode, role, node, options=("--password", world.secret("GOODWORD"), "--transcript")))
+    expect("what it said to that", b"Logon Ok" in link.heard["peer"], True)
+    expect("the password in the transcript", "GOODWORD" in ended.said, False)
+    states_of(node, [message], FORWARDED)
+    at_linfbb(world, mode, [message])

@@ -29,11 +29,11 @@ def partner_message(message):
 
 
 class Box:
-    def __init__(self, folder, name, comp="OK 3", fwd="OK 160"):
+    def __init__(self, folder, name, comp="OK 3", fwd="OK 160", extra=""):
         self.folder = os.path.join(folder, name)
         self.port, self.call_port = free_port(), free_port()
         env = dict(os.environ, TELNET_PORT=str(self.port), CALL_PORT=str(self.call_port), FBBCOMP=comp, FBBFWD=fwd,
-                   SECURITY="8 12 59", SOURCE_EXTRA="G WW", FWD_EXTRA="Z 75*")
+                   SECURITY="8 12 59", SOURCE_EXTRA="G WW", FWD_EXTRA="Z 75*" + extra)
         done = subprocess.run([SETUP, "start", self.folder], env=env, stdout=subprocess.PIPE, stderr=subprocess.PIPE)
         if done.returncode != 0:
             raise RuntimeError("LinFBB doesn't start: " + done.stderr.decode("latin-1"))
@@ -68,6 +68,28 @@ class Box:
             yield
         finally:
             self.login("N0DE", FRAMED)
+
+    @contextlib.contextmanager
+    def asking(self, password):
+        """LinFBB asks N0DE for this password meanwhile (the sysop's command EU gives it one), and lets nobody in without."""
+        self.login("N0DE", FRAMED)
+        link = partner.login_call(self.port, ".F0SYS")
+        for line in (b"EU N0DE\r", b"N\r", b"W " + password + b"\r", b"\r"):
+            link.until(b">\r" if line.startswith((b"EU", b"W", b"\r")) else b"?")
+            link.send(line)
+        link.until(b"BBS>\r")
+        link.send(b"B\r")
+        link.s.close()
+        path = os.path.join(self.folder, "etc/passwd.sys")
+        with open(path) as file:
+            trusting = file.read()
+        with open(path, "w") as file:
+            file.write("password\n")
+        try:
+            yield
+        finally:
+            with open(path, "w") as file:
+                file.write(trusting)
 
     def call_us(self):
         """Makes LinFBB call us at call_port now, mail or not (sysop command FR)."""

@@ -8,7 +8,7 @@ import subprocess
 WAITING, FORWARDED, DECLINED = 0, 1, 2
 
 # exit codes of the host (fringemole --help)
-DONE, LINK_DROPPED, REFUSED = 0, 5, 6
+DONE, LINK_DROPPED, REFUSED, NOT_ADMITTED = 0, 5, 6, 8
 
 PATIENCE = 30  # seconds for a session; LinFBB answers at once
 
@@ -37,7 +37,7 @@ def wait_for(process):
 class Node:
     def __init__(self, program, folder, name):
         self.program, self.base = program, os.path.join(folder, name + ".base")
-        self.listening = None
+        self.listening, self.address = None, "127.0.0.1"
         self.run("init", "--call", "N0DE", "--partner", "F0FBB")
 
     def run(self, command, *words, given=None):
@@ -50,6 +50,11 @@ class Node:
         """Puts messages into the outbox."""
         self.run("import", "-", "--as-is", given=b"".join(message.letter() for message in messages))
         return self
+
+    def admit(self, call, password):
+        """Listens outside from now on, and this partner may call."""
+        self.run("admit", call, "-", given=password.encode())
+        self.address = "0.0.0.0"
 
     def start(self, *words):
         command = [self.program, self.base, *words, "--timeout", str(PATIENCE)]
@@ -66,9 +71,9 @@ class Node:
 
     def listen(self, *words):
         """Starts to wait for one call; gives the port."""
-        self.listening = self.start("listen", "0", "--once", *words)
+        self.listening = self.start("listen", self.address + ":0", "--once", *words)
         said = self.listening.stderr.readline().decode("latin-1")
-        found = re.search(r"listening on 127\.0\.0\.1:(\d+)", said)
+        found = re.search(r"listening on [0-9.]+:(\d+)", said)
         if not found:
             self.ended()
             raise RuntimeError("the host doesn't listen: " + said)

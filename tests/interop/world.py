@@ -7,6 +7,7 @@ from message import Message
 from node import Node
 from relay import Relay
 
+PASSWORD = "Secret Word"
 WAYS = [(mode, role) for mode in ("framed", "plain") for role in ("caller", "called")]
 
 
@@ -26,9 +27,9 @@ class World:
         self.boxes, self.fetched, self.nodes, self.number = {}, {}, 0, 0
 
     def box(self, name):
-        """framed: as installed; plain: without B in its SID; old: without F."""
+        """framed: as installed; plain: without B in its SID; old: without F; asked: says callsign and password when it calls."""
         if name not in self.boxes:
-            settings = {"framed": {}, "plain": {"comp": "NO"}, "old": {"fwd": "NO"}}[name]
+            settings = {"framed": {}, "plain": {"comp": "NO"}, "old": {"fwd": "NO"}, "asked": {"extra": "\nV F0FBB$W" + PASSWORD + "$W"}}[name]
             self.boxes[name] = Box(self.folder, "box-" + name, **settings)
         return self.boxes[name]
 
@@ -62,12 +63,19 @@ class World:
             ended = node.call(relay.port, "--login", login, *telnet, *options)
         else:
             self.waiting = node
-            port = node.listen("--telnet", *options)
+            port = node.listen(*options) if mode == "asked" else node.listen("--telnet", *options)
             relay = Relay(False, port, box.call_port, drop=drop, edits=edits)
             box.call_us()
             ended = node.ended()
         relay.close()
         return ended, relay
+
+    def secret(self, password):
+        """A file with a password."""
+        path = os.path.join(self.folder, "password")
+        with open(path, "w") as file:
+            file.write(password + "\n")
+        return path
 
     def fetch(self, mode):
         """All that LinFBB has had for F0SRC so far, as {BID: [(title, text)]}. Fetching before a BID is proposed again, too, keeps

@@ -30,7 +30,7 @@ impl Capture {
 
     /// The called end speaks first.
     pub fn we_called(&self) -> bool {
-        self.script.first().is_some_and(|said| !said.ours)
+        self.script.first().map_or(false, |said| !said.ours)
     }
 
     /// All bytes of a side.
@@ -42,16 +42,16 @@ impl Capture {
     /// The side's SID: its first line in brackets, without CR.
     pub fn sid(&self, ours: bool) -> Option<Vec<u8>> {
         let bytes = self.bytes(ours);
-        let line =
-            bytes.split(|&byte| byte == b'\r').find(|line| line.trim_ascii().starts_with(b"["));
-        line.map(|line| line.trim_ascii().to_vec())
+        let line = bytes.split(|&byte| byte == b'\r').find(|line| trimmed(line).starts_with(b"["));
+        line.map(|line| trimmed(line).to_vec())
     }
 
     /// What the stand-in said, with our node's SID in the place of its own.
     pub fn with_our_sid(&self) -> Vec<u8> {
         let said = self.bytes(true);
-        let Some(sid) = self.sid(true) else {
-            return said;
+        let sid = match self.sid(true) {
+            Some(sid) => sid,
+            None => return said,
         };
         replaced(&said, &sid, sid::OURS).unwrap_or(said)
     }
@@ -101,4 +101,12 @@ mod tests {
         assert_eq!(capture.sid(true), Some(b"[B-F]".to_vec()));
         assert_eq!(capture.with_our_sid(), b"[NOD-1-BFH$]\r");
     }
+}
+
+/// Without blanks and line ends at both ends.
+pub fn trimmed(line: &[u8]) -> &[u8] {
+    let is_text = |byte: &u8| !byte.is_ascii_whitespace();
+    let start = line.iter().position(is_text).unwrap_or(line.len());
+    let end = line.iter().rposition(is_text).map_or(start, |last| last + 1);
+    &line[start..end]
 }

@@ -22,7 +22,7 @@ fn plain(capture: &Capture) -> Option<Capture> {
     }
     let sid = capture.sid(false)?;
     let b = sid.iter().rposition(|&byte| byte == b'B')?;
-    let digit = sid.get(b + 1).is_some_and(u8::is_ascii_digit);
+    let digit = sid.get(b + 1).map_or(false, u8::is_ascii_digit);
     let without = [&sid[..b], &sid[b + 1 + usize::from(digit)..]].concat();
     Some(changed(capture, |bytes| replaced(bytes, &sid, &without)))
 }

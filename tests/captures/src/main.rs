@@ -31,7 +31,7 @@ fn load() -> Result<Vec<Capture>, String> {
     let folder = folder().join("../peers/captures");
     let entries = std::fs::read_dir(&folder).map_err(|e| format!("{}: {e}", folder.display()))?;
     let mut paths: Vec<PathBuf> = entries.flatten().map(|entry| entry.path()).collect();
-    paths.retain(|path| path.extension().is_some_and(|extension| extension == "json"));
+    paths.retain(|path| path.extension().map_or(false, |extension| extension == "json"));
     paths.sort();
     paths.iter().map(|path| Capture::load(path)).collect()
 }

@@ -1,7 +1,7 @@
 //! What our node needs to have on its shelf to say what the stand-in said: the
 //! messages that it proposed, and the BIDs that it declined.
 
-use crate::capture::Capture;
+use crate::capture::{trimmed, Capture};
 use second::host::{Buffers, Letter};
 use second::proposal::{self, TurnLine};
 use second::sid::{self, Mode};
@@ -96,10 +96,11 @@ impl Shelf {
 
     /// Our FS line declined some of these proposals: their BIDs are known.
     fn decline(&mut self, proposals: &[u8], ours: &[u8]) {
-        let Some(signs) = signs(ours) else {
-            return;
+        let signs = match signs(ours) {
+            Some(signs) => signs,
+            None => return,
         };
-        let lines = proposals.split(|&byte| byte == b'\r').map(<[u8]>::trim_ascii);
+        let lines = proposals.split(|&byte| byte == b'\r').map(trimmed);
         let proposals = lines.filter(|line| line.starts_with(b"FA ") || line.starts_with(b"FB "));
         for (line, sign) in proposals.zip(signs) {
             let bid = line.split(|&byte| byte == b' ').nth(5);

@@ -27,12 +27,15 @@ pub fn read(text: &str) -> Result<Stored, String> {
     let mut stored = Stored::new();
     let mut name = None;
     for line in text.lines().filter(|line| !line.is_empty() && !line.starts_with('#')) {
-        let Some(line) = line.strip_prefix("  ") else {
-            if stored.insert(line.to_owned(), Entry::default()).is_some() {
-                return Err(format!("{line} stands twice"));
+        let line = match line.strip_prefix("  ") {
+            Some(line) => line,
+            None => {
+                if stored.insert(line.to_owned(), Entry::default()).is_some() {
+                    return Err(format!("{line} stands twice"));
+                }
+                name = Some(line.to_owned());
+                continue;
             }
-            name = Some(line.to_owned());
-            continue;
         };
         let entry = name.as_ref().and_then(|name| stored.get_mut(name));
         let entry = entry.ok_or(format!("no capture's name before: {line}"))?;

@@ -147,11 +147,13 @@ fn long_lines(words: &dyn Words) -> bool {
 fn session(words: &dyn Words) -> bool {
     let received = b"[TST-1-F$]\rFF\r";
     let mut out = [words.fixed(0), words.fixed(1)].concat();
-    let Ok(lines) = lines(words, received) else {
-        return false;
+    let lines = match lines(words, received) {
+        Ok(lines) => lines,
+        _ => return false,
     };
-    let [first, turn] = &lines[..] else {
-        return false;
+    let (first, turn) = match &lines[..] {
+        [first, turn] => (first, turn),
+        _ => return false,
     };
     let (number, framed) = words.sid(first);
     let said = words.turn_line(turn, framed);

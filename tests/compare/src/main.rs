@@ -102,9 +102,12 @@ fn compare(run: &mut Run, seed: u64) -> Checked {
 }
 
 fn main() -> ExitCode {
-    let Some(options) = options(std::env::args().skip(1)) else {
-        eprintln!("{USAGE}");
-        return ExitCode::from(2);
+    let options = match options(std::env::args().skip(1)) {
+        Some(options) => options,
+        None => {
+            eprintln!("{USAGE}");
+            return ExitCode::from(2);
+        }
     };
     if options.examples {
         return if examples::run() { ExitCode::SUCCESS } else { ExitCode::FAILURE };

@@ -173,7 +173,7 @@ fn portions(random: &mut Random, bytes: usize) -> Vec<usize> {
         1 if bytes < 1000 => return pieces(1, bytes),
         2 if bytes < 1000 => 3,
         3 => bytes / 2 + 1,
-        _ => bytes.div_ceil(40).max(30),
+        _ => ((bytes + 39) / 40).max(30),
     };
     let mut lengths = Vec::new();
     let mut total = 0;

@@ -26,7 +26,7 @@ fn numbers(line: &[u8], p: &Proposal<'_>) -> [u64; 11] {
     let mut out = [0; 11];
     out[0] = p.form as u64;
     out[1] = p.kind.byte().into();
-    out[2..10].copy_from_slice(fields.as_flattened());
+    out[2..10].copy_from_slice(&fields.concat());
     out[10] = p.size.into();
     out
 }

@@ -35,7 +35,8 @@ pub fn run(random: &mut Random, bytes: usize, portion: usize) -> Checked<Result<
     let mut hour = Hour::default();
     while hour.bytes < bytes {
         let mut letters = [0, RECORD_LIMIT].map(|first| table(random, first));
-        let mut ends = letters.each_mut().map(|letters| end(random, letters));
+        let [first, second] = &mut letters;
+        let mut ends = [first, second].map(|letters| end(random, letters));
         let start = Instant::now();
         let [caller, called] = &mut ends;
         caller.open(1)?;

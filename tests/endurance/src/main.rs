@@ -88,9 +88,12 @@ fn nodes(random: &mut Random, count: Option<usize>) -> Done {
 }
 
 fn main() -> ExitCode {
-    let Some(Options { what, count, seed }) = options(std::env::args().skip(1)) else {
-        eprintln!("{USAGE}");
-        return ExitCode::from(2);
+    let (what, count, seed) = match options(std::env::args().skip(1)) {
+        Some(Options { what, count, seed }) => (what, count, seed),
+        None => {
+            eprintln!("{USAGE}");
+            return ExitCode::from(2);
+        }
     };
     fuzz::watch::start();
     let mut numbers = Random::named(seed, &what);

@@ -112,7 +112,8 @@ fn one_session(random: &mut Random, bases: &mut [Base; 2], last: bool) -> Checke
     let all = 60 + bases[0].waiting() + bases[1].waiting();
     let within = all.min(random.pick(&EARLY));
     let drop_after = (!last).then(|| 1 + random.below(within));
-    let mut ends = bases.each_ref().map(|base| base.end(random, last.then_some(all)));
+    let [first, second] = &*bases;
+    let mut ends = [first, second].map(|base| base.end(random, last.then_some(all)));
     let caller = random.below(2);
     let [first, second] = &mut ends;
     let order = if caller == 0 { [first, second] } else { [second, first] };
@@ -176,7 +177,7 @@ impl Base {
 fn check(ours: &Base, theirs: &Base) -> Result<(), String> {
     for kept in &theirs.kept {
         let letter = ours.letters.iter().find(|letter| letter.envelope == kept.envelope);
-        let same = letter.is_some_and(|l| l.heading == kept.heading && l.body == kept.body);
+        let same = letter.map_or(false, |l| l.heading == kept.heading && l.body == kept.body);
         let bid = kept.envelope.bid.escape_ascii();
         if !same {
             return Err(format!("{bid} was kept changed"));

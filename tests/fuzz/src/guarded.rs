@@ -35,7 +35,7 @@ impl Guarded {
     /// The buffer a few bytes longer or shorter than it is, for calls that lend
     /// another size than open was lent.
     pub fn resized(&mut self, by: isize) -> &mut [u8] {
-        let length = self.length.saturating_add_signed(by).min(self.length + MARGIN);
+        let length = moved(self.length, by).min(self.length + MARGIN);
         &mut self.bytes[self.start..self.start + length]
     }
 
@@ -53,5 +53,14 @@ impl Guarded {
         let mut pairs = self.bytes.iter().zip(&other.bytes);
         let place = pairs.position(|(a, b)| a != b)?;
         Some(place as isize - self.start as isize)
+    }
+}
+
+/// A size moved up or down, not below 0.
+pub fn moved(size: usize, by: isize) -> usize {
+    if by < 0 {
+        size.saturating_sub(by.unsigned_abs())
+    } else {
+        size + by.unsigned_abs()
     }
 }

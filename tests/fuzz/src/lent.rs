@@ -58,19 +58,22 @@ impl Memory {
     /// Lends all to the library.
     pub fn lend(&mut self, resize: Option<Resize>) -> library::Lent<'_> {
         let mut place = 0;
-        let [session, table, titles, names, bodies, known, inbox, store] =
-            self.buffers.each_mut().map(|buffer| {
-                let by = resize.filter(|resize| resize.buffer == place).map_or(0, |r| r.by);
-                place += 1;
-                buffer.resized(by)
-            });
+        let [session, table, titles, names, bodies, known, inbox, store] = &mut self.buffers;
+        let buffers = [session, table, titles, names, bodies, known, inbox, store];
+        let [session, table, titles, names, bodies, known, inbox, store] = buffers.map(|buffer| {
+            let by = resize.filter(|resize| resize.buffer == place).map_or(0, |r| r.by);
+            place += 1;
+            buffer.resized(by)
+        });
         library::Lent { session, table, titles, names, bodies, known, inbox, store }
     }
 
     /// What the second implementation opens.
     pub fn second(&self) -> Lent<'_> {
+        let [session, table, titles, names, bodies, known, inbox, store] = &self.buffers;
+        let buffers = [session, table, titles, names, bodies, known, inbox, store];
         let [session, table, titles, names, bodies, known, inbox, store] =
-            self.buffers.each_ref().map(Guarded::part);
+            buffers.map(Guarded::part);
         Lent { session: session.len(), table, titles, names, bodies, known, inbox, store }
     }
 

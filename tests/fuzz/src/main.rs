@@ -102,9 +102,12 @@ fn run(options: &Options) -> Checked<Reach> {
 }
 
 fn main() -> ExitCode {
-    let Some(options) = options(std::env::args().skip(1)) else {
-        eprintln!("{USAGE}");
-        return ExitCode::from(2);
+    let options = match options(std::env::args().skip(1)) {
+        Some(options) => options,
+        None => {
+            eprintln!("{USAGE}");
+            return ExitCode::from(2);
+        }
     };
     println!("seed {:#x}", options.seed);
     watch::start();

@@ -145,8 +145,9 @@ impl Pair {
 
     /// Writes what the second implementation keeps into the expected bytes.
     fn update(&mut self) {
-        let Some(second) = &mut self.second else {
-            return;
+        let second = match &mut self.second {
+            Some(second) => second,
+            None => return,
         };
         let table = self.expected.part_mut(TABLE).chunks_mut(RECORD_BYTES);
         for (entry, record) in table.zip(&second.memory.table) {
@@ -177,7 +178,7 @@ impl Pair {
         let session = self.lent.part(SESSION);
         self.expected.part_mut(SESSION).copy_from_slice(session);
         let kept = self.second.as_ref().map(|second| second.session.kept());
-        if kept.is_some_and(|kept| usize::from(self.lent.part(SESSION)[SESSION_KEPT]) != kept) {
+        if kept.map_or(false, |kept| usize::from(self.lent.part(SESSION)[SESSION_KEPT]) != kept) {
             return self.differs(format!("count of messages kept: expected {kept:?}"));
         }
         Ok(())
@@ -187,8 +188,9 @@ impl Pair {
     /// with the log's states, and the inbox up to its count is the log's messages
     /// kept, in order".
     pub fn demand_3(&self) -> Checked {
-        let Some(second) = &self.second else {
-            return Ok(());
+        let second = match &self.second {
+            Some(second) => second,
+            None => return Ok(()),
         };
         let Second { we_called, opened, trace, memory, .. } = second;
         let log = log::read(*we_called, opened, &memory.stores, trace);
@@ -240,7 +242,7 @@ impl Second {
         let sizes = self.memory.sizes;
         if let Some(Resize { buffer, by }) = resize {
             let size = crate::describe::size_mut(&mut self.memory.sizes, buffer);
-            *size = size.saturating_add_signed(by);
+            *size = crate::guarded::moved(*size, by);
         }
         let reply = call(&mut self.session, &mut self.memory);
         self.memory.sizes = sizes;

@@ -117,7 +117,7 @@ impl Partner {
 
     fn end_line(&self, random: &mut Random, out: &mut Vec<u8>) {
         out.push(b'\r');
-        if self.lf.is_some_and(|times| random.once_in(times)) {
+        if self.lf.map_or(false, |times| random.once_in(times)) {
             out.push(b'\n');
         }
     }
@@ -303,7 +303,7 @@ impl Partner {
         let heading = heading(random);
         if plain {
             out.extend(inputs::plain(random, &heading, &body));
-            if self.lf.is_some_and(|times| random.once_in(times)) {
+            if self.lf.map_or(false, |times| random.once_in(times)) {
                 out.push(b'\n');
             }
         } else {

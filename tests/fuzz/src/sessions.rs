@@ -152,8 +152,9 @@ impl<'a> Driver<'a> {
         if self.random.once_in(25) {
             self.noise()?;
         }
-        let Some(second) = self.second() else {
-            return Ok(false);
+        let second = match self.second() {
+            Some(second) => second,
+            None => return Ok(false),
         };
         if second.session.is_over() || self.pair.calls() > CALLS || self.left == 0 {
             return Ok(false);
@@ -176,8 +177,9 @@ impl<'a> Driver<'a> {
 
     /// The partner says its next unit, at times a wrong one.
     fn say(&mut self) {
-        let Some(second) = self.pair.second() else {
-            return;
+        let second = match self.pair.second() {
+            Some(second) => second,
+            None => return,
         };
         let mut unit = self.partner.say(self.random, &second.session, &second.memory);
         if self.random.once_in(self.damage) {
@@ -216,7 +218,7 @@ impl<'a> Driver<'a> {
     fn give(&mut self) -> Checked {
         let session = self.second().map(|second| &second.session);
         let waiting = session.map_or(0, |session| session.waiting());
-        let quits = session.is_some_and(|session| matches!(session.phase(), Phase::Quit));
+        let quits = session.map_or(false, |session| matches!(session.phase(), Phase::Quit));
         if quits && self.random.once_in(50) {
             // "Our FQ ends it when give has handed out its CR."
             self.left = self.random.below(3);
@@ -277,7 +279,7 @@ impl<'a> Driver<'a> {
     /// calls that find it so.
     pub fn end(&mut self) -> Checked {
         self.pair.demand_3()?;
-        let over = self.second().is_some_and(|second| second.session.is_over());
+        let over = self.second().map_or(false, |second| second.session.is_over());
         self.tally.ended(&self.pair, self.refused);
         self.refused = false;
         if over && self.random.once_in(2) {

@@ -50,7 +50,7 @@ pub fn rivals(lent: &Lent<'_>) -> [bool; 2] {
     match place(lent) {
         Some(255) => {
             let without = place(&Lent { known: &[], ..*lent });
-            [without.is_some_and(|place| place < 255), false]
+            [without.map_or(false, |place| place < 255), false]
         }
         Some(first) => {
             let rest = &lent.table[RECORD_BYTES * (usize::from(first) + 1)..];

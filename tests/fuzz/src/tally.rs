@@ -84,8 +84,9 @@ impl Tally {
 
     /// Counts what a session came to.
     pub fn ended(&mut self, pair: &Pair, refused: bool) {
-        let Some(second) = pair.second() else {
-            return;
+        let second = match pair.second() {
+            Some(second) => second,
+            None => return,
         };
         let session = &second.session;
         let ours = second.trace().bytes(Side::Us);

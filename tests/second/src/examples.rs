@@ -111,7 +111,10 @@ impl Example {
         if !self.we_called {
             rest.remove(0);
         }
-        let Said::Partner(first) = rest.remove(0) else { panic!("{}: no SID", self.name) };
+        let first = match rest.remove(0) {
+            Said::Partner(first) => first,
+            _ => panic!("{}: no SID", self.name),
+        };
         let end = sid_line_end(&first);
         if self.we_called {
             if let Some(Said::Us(ours)) = rest.first_mut() {
@@ -128,7 +131,10 @@ impl Example {
         match rest.first() {
             Some(Said::Us(ours)) if ours == b"FF\r" => {
                 rest.remove(0);
-                let Said::Partner(turn) = rest.remove(0) else { panic!("{}: no turn", self.name) };
+                let turn = match rest.remove(0) {
+                    Said::Partner(turn) => turn,
+                    _ => panic!("{}: no turn", self.name),
+                };
                 sid.extend(turn);
             }
             Some(_) => sid.extend(b"FF\r"),

@@ -19,8 +19,9 @@ pub struct Letter {
 impl Letter {
     /// A letter that is proposed by this line, without CR.
     pub fn new(mode: Mode, line: &[u8], heading: &[u8], body: &[u8]) -> Letter {
-        let Ok(TurnLine::Proposal(proposal)) = proposal::read(line, mode) else {
-            panic!("no proposal: {}", line.escape_ascii());
+        let proposal = match proposal::read(line, mode) {
+            Ok(TurnLine::Proposal(proposal)) => proposal,
+            _ => panic!("no proposal: {}", line.escape_ascii()),
         };
         Letter {
             envelope: Envelope::from(&proposal),

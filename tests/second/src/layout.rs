@@ -91,8 +91,8 @@ struct In<'a>(&'a [u8]);
 
 impl<'a> In<'a> {
     fn bytes(&mut self, count: usize) -> Option<&'a [u8]> {
-        let (bytes, rest) = self.0.split_at_checked(count)?;
-        self.0 = rest;
+        let bytes = self.0.get(..count)?;
+        self.0 = &self.0[count..];
         Some(bytes)
     }
 

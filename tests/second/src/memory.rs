@@ -98,9 +98,9 @@ impl Record {
         let form = self.envelope.form;
         self.envelope.is_valid()
             && self.size <= SIZE_LIMIT
-            && self.title.of(&stores.titles).is_some_and(|t| heading_is(t, form != Form::File))
-            && self.name.of(&stores.names).is_some_and(|n| heading_is(n, form == Form::File))
-            && self.body.of(&stores.bodies).is_some_and(|body| match form {
+            && self.title.of(&stores.titles).map_or(false, |t| heading_is(t, form != Form::File))
+            && self.name.of(&stores.names).map_or(false, |n| heading_is(n, form == Form::File))
+            && self.body.of(&stores.bodies).map_or(false, |body| match form {
                 Form::Plain => is_plain_body(body),
                 Form::Message | Form::File => is_packed_body(body),
             })

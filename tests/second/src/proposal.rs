@@ -57,11 +57,13 @@ fn read_proposal(line: &[u8], mode: Mode) -> Option<Proposal<'_>> {
     }
     let fields: Vec<&[u8]> =
         line.split(|&byte| byte == b' ').filter(|field| !field.is_empty()).collect();
-    let &[letters, kind, from, at, to, bid, size] = fields.as_slice() else {
-        return None;
+    let (letters, kind, from, at, to, bid, size) = match fields.as_slice() {
+        &[letters, kind, from, at, to, bid, size] => (letters, kind, from, at, to, bid, size),
+        _ => return None,
     };
-    let &[kind] = kind else {
-        return None;
+    let kind = match kind {
+        &[kind] => kind,
+        _ => return None,
     };
     let valid = is_call(from) && is_at(at) && is_call(to) && is_bid(bid);
     valid.then_some(Proposal {

@@ -37,7 +37,7 @@ impl<'a> Link<'a> {
         let end = self.at(side) + count;
         let last = self.trace.stream(side).call(end - 1)?;
         let other = self.trace.stream(side.other()).call(self.at(side.other()));
-        if other.is_some_and(|other| other < last) {
+        if other.map_or(false, |other| other < last) {
             return None;
         }
         match side {

@@ -15,8 +15,9 @@ impl Session {
         memory: &mut Memory,
         rest: &[u8],
     ) -> (usize, Result<(), Refusal>) {
-        let Phase::Transfers { reader, .. } = &mut self.phase else {
-            unreachable!("a transfer is awaited")
+        let reader = match &mut self.phase {
+            Phase::Transfers { reader, .. } => reader,
+            _ => unreachable!("a transfer is awaited"),
         };
         let (taken, outcome) = reader.feed(rest, &mut memory.store[self.used..]);
         let judged = match outcome {
@@ -33,8 +34,9 @@ impl Session {
     /// "A message is kept at its last byte." Then comes the next accepted one,
     /// or our turn.
     fn keep(&mut self, memory: &mut Memory) {
-        let Phase::Transfers { owed, reader } = &mut self.phase else {
-            unreachable!("a transfer is awaited")
+        let (owed, reader) = match &mut self.phase {
+            Phase::Transfers { owed, reader } => (owed, reader),
+            _ => unreachable!("a transfer is awaited"),
         };
         let offer = owed.pop_front().expect("a transfer under way is owed");
         let length = reader.body_length();

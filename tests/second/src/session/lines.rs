@@ -59,7 +59,10 @@ impl Session {
     /// in answer to our FF. FF in answer to our FF gets 5." "A malformed or
     /// forbidden line gets 5 before 6 is thought of."
     fn judge_turn_line(&mut self, memory: &mut Memory, line: &[u8]) -> Judged {
-        let Phase::Turn { block } = &mut self.phase else { unreachable!("a turn is awaited") };
+        let block = match &mut self.phase {
+            Phase::Turn { block } => block,
+            _ => unreachable!("a turn is awaited"),
+        };
         match proposal::read(line, self.mode)? {
             TurnLine::Nothing if block.is_empty() && !self.our_ff => {
                 self.mark_sent(memory);

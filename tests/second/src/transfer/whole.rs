@@ -73,8 +73,9 @@ fn read_plain_body<'a>(
     if body.len() > room {
         return reading.refused(Refusal::NoRoom, start + room);
     }
-    let Some(mark) = mark else {
-        return reading.more(bytes.len());
+    let mark = match mark {
+        Some(mark) => mark,
+        None => return reading.more(bytes.len()),
     };
     let after = start + mark + 1;
     match bytes[after..].iter().position(|&byte| byte != b' ') {
@@ -101,11 +102,11 @@ pub fn read_framed(bytes: &[u8], room: usize) -> Reading<'_> {
     // "A transfer byte is refused with 8 as soon as no valid transfer begins
     // with the bytes so far": so try each header of this length, and go as far
     // as one of them goes.
-    let Some(fits) =
-        headers(length).map(|(heading, offset)| header_fit(header, heading, offset)).max()
-    else {
-        return nothing.refused(Refusal::WrongTransfer, 1);
-    };
+    let fits =
+        match headers(length).map(|(heading, offset)| header_fit(header, heading, offset)).max() {
+            Some(fits) => fits,
+            None => return nothing.refused(Refusal::WrongTransfer, 1),
+        };
     let heading = header[..fits].split(|&byte| byte == 0).next();
     let reading = Reading::new(heading.unwrap_or_default());
     if fits < header.len() {

@@ -106,8 +106,11 @@ impl<'a> Writer<'a> {
         while given < room.len() {
             let waiting = &self.piece.bytes()[self.out..];
             if waiting.is_empty() {
-                let Some(piece) = self.next_piece() else {
-                    break;
+                let piece = match self.next_piece() {
+                    Some(piece) => piece,
+                    None => {
+                        break;
+                    }
                 };
                 self.piece = piece;
                 self.out = 0;
