@@ -154,7 +154,7 @@ module _ (sm bs : Bytes) (h : Numbers) (v : Live h sm bs) (q : Quiet h bs) where
 
   -- w: the arrays with the bytes in the line, x: session memory with them and the numbers of the line
   pub line-taken : (h .now .phase ≡ phaseTransfer → ⊥) → hasCr bs ≡ false → h .line .len + length bs ≤ 256 → (w x : Bytes) → w ≡ putBytes (arraysIn sm) (at (lineAt + h .line .len)) bs
-      → x ≡ putBytes (lent arraysAt arraysLen sm w) (at places.numbersAt) (numberBytes (withLine (h .line .len + length bs) (numbersAt (lent arraysAt arraysLen sm w))))
+      → x ≡ putBytes (lent arraysAt arraysLen sm w) (at places.numbersStart) (numberBytes (withLine (h .line .len + length bs) (numbersAt (lent arraysAt arraysLen sm w))))
       → (store : Bytes) → Takes true sm store bs x store
   line-taken p c l w x e f store =
       let n : length (arraysIn sm) ≡ arraysLen = arrays-length sm (v .size) in
@@ -163,16 +163,16 @@ module _ (sm bs : Bytes) (h : Numbers) (v : Live h sm bs) (q : Quiet h bs) where
       let t : Numbers = withLine (h .line .len + length bs) h in
       takes store store x (wholeOf t w)
       (saved-lent sm w t (v .size) k
-      (f ∙ ap (λ (y : Numbers). putBytes (lent arraysAt arraysLen sm w) (at places.numbersAt) (numberBytes (withLine (h .line .len + length bs) y))) (numbers-lent sm w (v .size) ∙ sym (v .numbers))))
+      (f ∙ ap (λ (y : Numbers). putBytes (lent arraysAt arraysLen sm w) (at places.numbersStart) (numberBytes (withLine (h .line .len + length bs) y))) (numbers-lent sm w (v .size) ∙ sym (v .numbers))))
       (λ known table inbox. line-run known table inbox store bs h (arraysIn sm) (v .some) q p (sym (ap overOf loads) ∙ v .going) c l
       ∙ ap (λ (y : Bytes). run 0 (length bs) (cs (wholeOf t y) table inbox store)) (sym g))
 
   pub body-taken : h .now .phase ≡ phaseTransfer → (store : Bytes) → h .keep .used ≤ length store → (r : Reader) (st x : Bytes) → RunsOn true r (h .reader) bs (drop (h .keep .used) store) st
-      → x ≡ putBytes sm (at places.numbersAt) (numberBytes (withReader r (numbersAt sm))) → Takes true sm store bs x (take (h .keep .used) store ++ st)
+      → x ≡ putBytes sm (at places.numbersStart) (numberBytes (withReader r (numbersAt sm))) → Takes true sm store bs x (take (h .keep .used) store ++ st)
   unfolding wholeOf
   body-taken p store u r st x e f =
       takes store (take (h .keep .used) store ++ st) x (wholeOf (withReader r h) (arraysIn sm))
-      (saved-numbers sm (withReader r h) (v .size) (f ∙ ap (λ (y : Numbers). putBytes sm (at places.numbersAt) (numberBytes (withReader r y))) (sym (v .numbers))))
+      (saved-numbers sm (withReader r h) (v .size) (f ∙ ap (λ (y : Numbers). putBytes sm (at places.numbersStart) (numberBytes (withReader r y))) (sym (v .numbers))))
       (λ known table inbox. body-run known table inbox store (wholeOf h (arraysIn sm)) u p (q .silent) bs (v .some) (q .no-lf) r st e)
 
 -- ---------------------------------------------------------------- the store behind the kept messages lent, and given back as w

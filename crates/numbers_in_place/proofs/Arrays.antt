@@ -88,10 +88,10 @@ numbers-lent sm w n =
 
 -- SAVED WHERE IT STANDS: the arrays given back as w, then the numbers saved, is the whole session saved
 pub saved-lent : (sm w : Bytes) (h : Numbers) → length sm ≡ sessionLen → length w ≡ arraysLen → {x : Bytes}
-    → x ≡ putBytes (lent arraysAt arraysLen sm w) (at places.numbersAt) (numberBytes h) → x ≡ saveOf sm (wholeOf h w)
+    → x ≡ putBytes (lent arraysAt arraysLen sm w) (at places.numbersStart) (numberBytes h) → x ≡ saveOf sm (wholeOf h w)
 saved-lent sm w h n k e = e ∙ save-whole sm h w n k
 
 -- the numbers alone
-pub saved-numbers : (sm : Bytes) (h : Numbers) → length sm ≡ sessionLen → {x : Bytes} → x ≡ putBytes sm (at places.numbersAt) (numberBytes h) → x ≡ saveOf sm (wholeOf h (arraysIn sm))
+pub saved-numbers : (sm : Bytes) (h : Numbers) → length sm ≡ sessionLen → {x : Bytes} → x ≡ putBytes sm (at places.numbersStart) (numberBytes h) → x ≡ saveOf sm (wholeOf h (arraysIn sm))
 saved-numbers sm h n e =
-    e ∙ ap (λ (m : Bytes). putBytes m (at places.numbersAt) (numberBytes h)) (sym (lent-same arraysAt arraysLen sm)) ∙ save-whole sm h (arraysIn sm) n (arrays-length sm n)
+    e ∙ ap (λ (m : Bytes). putBytes m (at places.numbersStart) (numberBytes h)) (sym (lent-same arraysAt arraysLen sm)) ∙ save-whole sm h (arraysIn sm) n (arrays-length sm n)
