@@ -4,8 +4,7 @@ use mathlib.Core.Path.{_≡_, sym, ap, _∙_}
 use mathlib.Core.List.{_++_}
 use native.Mathlib.Omega.{arith}
 use lib.Dec.{eqb}
-use lib.ListN.{length, set, take, drop, replicate, length-drop, take-append-drop}
-use lib.Seq.{take-all}
+use lib.ListN.{length, set, take, drop, replicate, take-append-drop}
 use Rattle.grammar.specs.Bytes.{Bytes}
 use Rattle.places.specs.Places.{sessionLen, arraysAt, arraysLen, lineAt, headingAt, ffAt, framedAt, afterCrAt, firstAt, thenAt, keptAt, currentAt, proposalsAt, oursAt, sendingAt, signsAt, placeAt, lengthAt, headAt, offsetAt, sumAt, lineLengthAt, leftAt, bodyAt, posAt, usedAt}
 use Rattle.places.specs.Places as places
@@ -50,8 +49,7 @@ pub arrays-length : (sm : Bytes) → length sm ≡ sessionLen → length (arrays
 arrays-length sm n = region-length arraysAt arraysLen sm (omega arith)
 
 pub load-arrays : (sm : Bytes) → length sm ≡ sessionLen → loadOf sm ≡ wholeOf (numbersAt sm) (arraysIn sm)
-unfolding region
-load-arrays sm n = load-whole sm n ∙ ap (wholeOf (numbersAt sm)) (sym (take-all arraysLen (drop arraysAt sm) (simp length-drop (omega arith))))
+load-arrays sm n = load-whole sm n
 
 -- lent, and given back as it was
 pub lent-same : (a n : ℕ) (m : Bytes) → lent a n m (region a n m) ≡ m
