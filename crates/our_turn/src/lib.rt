@@ -61,7 +61,7 @@ pub fn choose(table: &[u8], framed: bool, deferred: &[u8]) -> Five
             i += 1;
             continue;
         }
-        let sum = total + number4(bytes, places::RECORD_SIZE as u16);
+        let sum = total + number4(bytes, places::RECORD_SIZE_FIELD as u16);
         if phase::BLOCK_LIMIT <= chosen.count {
             return chosen;
         }
