@@ -3,7 +3,7 @@ use mathlib.Core.Path.{_≡_, refl, sym, ap, _∙_, subst}
 use mathlib.Core.Bool.{Bool, true, false, cond}
 use mathlib.Core.Option.{Option, none, some}
 use mathlib.Core.List.{List, _++_}
-use Prim.Native.Nat.{ℕ, _-_}
+use Prim.Native.Nat.{ℕ, _+_, _-_}
 use native.Mathlib.Omega.{arith}
 use lib.ListN.{length, take, drop, length-drop}
 use lib.Seq.{length-take-le}
@@ -19,7 +19,7 @@ use Rattle.session_memory.specs.declared.Await.{Await}
 use Rattle.session_memory.specs.declared.Say.{Say}
 use Rattle.session_memory.specs.declared.Keep.{Keep}
 use Rattle.phase.specs.Phase.{phaseCallerSid, phasePrompt}
-use Rattle.places.specs.Places.{arraysLen}
+use Rattle.places.specs.Places.{deferredAt, deferredLen, headingAt, headingLen, lineLen, blockAt, blockLen, arraysLen}
 use Rattle.region.specs.Region.{region, lent}
 use Rattle.region.proofs.Laws.{lent-here, lent-before, lent-after}
 use Rattle.numbers.specs.declared.Numbers.{Numbers}
@@ -77,31 +77,31 @@ module _ (s : Numbers) (m : Bytes) (n : length m ≡ arraysLen) (v : Verdict) (f
   pub as-it-was : ((block deferred : Bytes) → judgedOf v block deferred ≡ f (awaitOf (s .now) block) (s .say) (keepOf (s .keep) deferred) (s .reader)) → Judges s m v m f
   as-it-was e = (e (blockIn m) (deferredIn m), refl)
 
-  -- the flags were lent, `&mut mem[..64]`, and given back as u
-  pub on-deferred : (u : Bytes) → length u ≡ length (take 64 m)
-      → ((block : Bytes) → judgedOf v block u ≡ f (awaitOf (s .now) block) (s .say) (keepOf (s .keep) (take 64 m)) (s .reader))
-      → Judges s m v (u ++ drop 64 m) f
+  -- the flags were lent, `&mut mem[..HEADING]`, and given back as u
+  pub on-deferred : (u : Bytes) → length u ≡ length (take headingAt m)
+      → ((block : Bytes) → judgedOf v block u ≡ f (awaitOf (s .now) block) (s .say) (keepOf (s .keep) (take headingAt m)) (s .reader))
+      → Judges s m v (u ++ drop headingAt m) f
   unfolding region lent
   on-deferred u l e =
-      let h : length u ≡ 64 = l ∙ length-take-le 64 m (omega arith) in
-      let d : deferredIn (lent 0 64 m u) ≡ u = lent-here 0 64 m u (omega arith) h in
-      let b : blockIn (lent 0 64 m u) ≡ blockIn m = lent-after 0 64 m u (omega arith) h 400 360 (omega arith) in (
-        ap (λ (x : Bytes). judgedOf v x (deferredIn (lent 0 64 m u))) b ∙ ap (λ (x : Bytes). judgedOf v (blockIn m) x) d ∙ e (blockIn m),
-        lent-after 0 64 m u (omega arith) h 64 336 (omega arith),
+      let h : length u ≡ deferredLen = l ∙ length-take-le headingAt m (omega arith) in
+      let d : deferredIn (lent deferredAt deferredLen m u) ≡ u = lent-here deferredAt deferredLen m u (omega arith) h in
+      let b : blockIn (lent deferredAt deferredLen m u) ≡ blockIn m = lent-after deferredAt deferredLen m u (omega arith) h blockAt blockLen (omega arith) in (
+        ap (λ (x : Bytes). judgedOf v x (deferredIn (lent deferredAt deferredLen m u))) b ∙ ap (λ (x : Bytes). judgedOf v (blockIn m) x) d ∙ e (blockIn m),
+        lent-after deferredAt deferredLen m u (omega arith) h headingAt (headingLen + lineLen) (omega arith),
       )
 
-  -- the block was lent, `&mut mem[400..]`, and given back as u
-  pub on-block : (u : Bytes) → length u ≡ length (take (length m - 400) (drop 400 m))
-      → ((deferred : Bytes) → judgedOf v u deferred ≡ f (awaitOf (s .now) (take (length m - 400) (drop 400 m))) (s .say) (keepOf (s .keep) deferred) (s .reader))
-      → Judges s m v (take 400 m ++ (u ++ drop (length m - 400) (drop 400 m))) f
+  -- the block was lent, `&mut mem[BLOCK..]`, and given back as u
+  pub on-block : (u : Bytes) → length u ≡ length (take (length m - blockAt) (drop blockAt m))
+      → ((deferred : Bytes) → judgedOf v u deferred ≡ f (awaitOf (s .now) (take (length m - blockAt) (drop blockAt m))) (s .say) (keepOf (s .keep) deferred) (s .reader))
+      → Judges s m v (take blockAt m ++ (u ++ drop (length m - blockAt) (drop blockAt m))) f
   unfolding region lent
   on-block u l e =
-      let i : length m - 400 ≡ 360 = omega arith in
-      let h : length u ≡ 360 = l ∙ ap (λ (x : ℕ). length (take x (drop 400 m))) i ∙ length-take-le 360 (drop 400 m) (simp length-drop (omega arith)) in
-      let b : blockIn (lent 400 360 m u) ≡ u = lent-here 400 360 m u (omega arith) h in
-      let d : deferredIn (lent 400 360 m u) ≡ deferredIn m = lent-before 400 360 m u (omega arith) h 0 64 (omega arith) in
-      subst (λ (x : ℕ). Judges s m v (take 400 m ++ (u ++ drop x (drop 400 m))) f) (sym i) (
-        ap (λ (x : Bytes). judgedOf v x (deferredIn (lent 400 360 m u))) b ∙ ap (λ (x : Bytes). judgedOf v u x) d ∙ e (deferredIn m)
-            ∙ ap (λ (x : ℕ). f (awaitOf (s .now) (take x (drop 400 m))) (s .say) (keepOf (s .keep) (deferredIn m)) (s .reader)) i,
-        lent-before 400 360 m u (omega arith) h 64 336 (omega arith),
+      let i : length m - blockAt ≡ blockLen = omega arith in
+      let h : length u ≡ blockLen = l ∙ ap (λ (x : ℕ). length (take x (drop blockAt m))) i ∙ length-take-le blockLen (drop blockAt m) (simp length-drop (omega arith)) in
+      let b : blockIn (lent blockAt blockLen m u) ≡ u = lent-here blockAt blockLen m u (omega arith) h in
+      let d : deferredIn (lent blockAt blockLen m u) ≡ deferredIn m = lent-before blockAt blockLen m u (omega arith) h deferredAt deferredLen (omega arith) in
+      subst (λ (x : ℕ). Judges s m v (take blockAt m ++ (u ++ drop x (drop blockAt m))) f) (sym i) (
+        ap (λ (x : Bytes). judgedOf v x (deferredIn (lent blockAt blockLen m u))) b ∙ ap (λ (x : Bytes). judgedOf v u x) d ∙ e (deferredIn m)
+            ∙ ap (λ (x : ℕ). f (awaitOf (s .now) (take x (drop blockAt m))) (s .say) (keepOf (s .keep) (deferredIn m)) (s .reader)) i,
+        lent-before blockAt blockLen m u (omega arith) h headingAt (headingLen + lineLen) (omega arith),
       )

@@ -4,6 +4,7 @@ ghost use mathlib.Core.Path.{_≡_};
 ghost use mathlib.Core.List.{[], _∷_, _++_};
 ghost use Prim.Native.Nat.{_≤_, _<_};
 ghost use lib.ListN.{length};
+ghost use Rattle.phase.specs.Phase.{blockLimit};
 ghost use Rattle.session_memory.specs.State.{held, fiveOf, noFive};
 ghost use Rattle.five.specs.Filled.{Filled};
 
@@ -19,17 +20,17 @@ pub fn none() -> Five
 
 // How many numbers are held.
 pub fn count_of(f: Five) -> usize
-    ensures { λ r. ⌜ (r ≡ length (held f)) × (r ≤ 5) ⌝ }
+    ensures { λ r. ⌜ (r ≡ length (held f)) × (r ≤ blockLimit) ⌝ }
 {
-    if 5 < f.count {
-        return 5;
+    if phase::BLOCK_LIMIT < f.count {
+        return phase::BLOCK_LIMIT as usize;
     }
     f.count as usize
 }
 
 // These numbers and one more.
 pub fn add(f: Five, x: u8) -> Five
-    requires { ⌜ Filled f × (f .count < 5) ⌝ }
+    requires { ⌜ Filled f × (f .count < blockLimit) ⌝ }
     ensures { λ r. ⌜ r ≡ fiveOf (held f ++ (x ∷ [])) ⌝ }
 {
     let mut g = f;

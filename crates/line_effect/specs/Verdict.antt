@@ -2,12 +2,11 @@
 use mathlib.Core.Path.{_≡_}
 use Prim.Native.Nat.{_+_}
 use Rattle.grammar.specs.Bytes.{Bytes}
-use Rattle.grammar.specs.Lines.{lineLimit}
 use Rattle.transfer_step.specs.declared.Reader.{Reader}
 use Rattle.session_memory.specs.declared.Await.{Await}
 use Rattle.session_memory.specs.declared.Say.{Say}
 use Rattle.session_memory.specs.declared.Keep.{Keep}
-use Rattle.places.specs.Places.{headingAt, headingMax}
+use Rattle.places.specs.Places.{headingAt, headingLen, lineLen}
 use Rattle.region.specs.Region.{region}
 use Rattle.numbers.specs.declared.Numbers.{Numbers}
 use Rattle.numbers.specs.Whole.{awaitOf, keepOf, deferredIn, blockIn}
@@ -32,7 +31,7 @@ judgedIn v m = judgedOf v (blockIn m) (deferredIn m)
 
 -- Heading and line stand between the flags and the block; no judged line changes them.
 abbrev pub betweenIn : Bytes → Bytes
-betweenIn m = region headingAt (headingMax + lineLimit) m
+betweenIn m = region headingAt (headingLen + lineLen) m
 
 -- A line judged by f on the arrays where they stand, m before and e after it: what it comes to, and that heading and line stay.
 abbrev pub Judges : Numbers → Bytes → Verdict → Bytes → (Await → Say → Keep → Reader → Judged) → Type 0

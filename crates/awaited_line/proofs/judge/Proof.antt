@@ -4,6 +4,7 @@ use native.Mathlib.Omega.{arith}
 use lib.Seq.{length-take-le}
 use borrow.Author.Tests.{ne-eqb}
 use Rattle.phase.specs.Phase.{phaseCalledSid, phaseCallerSid, phasePrompt, phaseTurn, phaseFs}
+use Rattle.places.specs.Places.{headingAt}
 use Rattle.numbers.specs.Whole.{awaitOf, keepOf}
 use Rattle.line_effect.specs.Judge.{judgeOf}
 use Rattle.awaited_line.proofs.Laws.{line-in, judging, as-it-was, on-deferred, on-block}
@@ -49,7 +50,7 @@ slice-relend-prefix-answer-line : tie.Need-slice-relend-prefix-answer-line
 slice-relend-prefix-answer-line c = search needs
 
 slice-aggregate-answer-line : tie.Need-slice-aggregate-answer-line
-slice-aggregate-answer-line c = sym (length-take-le 64 (c .before .before .before .before .before .before .before .before .before .args .mem .now) (omega (arith, c .before .before .before .before .before .before .before .before .before .pre)))
+slice-aggregate-answer-line c = sym (length-take-le headingAt (c .before .before .before .before .before .before .before .before .before .args .mem .now) (omega (arith, c .before .before .before .before .before .before .before .before .before .pre)))
 
 answer-line-requires : tie.Need-answer-line-requires
 answer-line-requires c κs = search needs
