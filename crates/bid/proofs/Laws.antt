@@ -10,9 +10,10 @@ use lib.Dec.{eqb, leb}
 use lib.ListN.{length, getD, take, drop, length-drop, take-append-drop, drop-of-length-le}
 use lib.Seq.{drop-cons, take-all, getD-take, getD-drop, length-take-le}
 use borrow.Author.Tests.{eq-eqb, ne-eqb, le-leb, lt-leb, leb-true, leb-false}
-use Rattle.grammar.specs.Bytes.{Bytes, same}
+use Rattle.grammar.specs.Bytes.{Bytes}
 use Rattle.grammar.specs.Fields.{sameBid}
 use Rattle.session.specs.Choices.{among}
+use Rattle.session.proofs.Bids.{bid-itself, bid-more, bid-length, bid-none}
 use Rattle.places.specs.Places.{bidMax}
 use Rattle.layout.specs.Layout.{byteAt, fieldIn, entryAt}
 use Rattle.layout.proofs.Places.{part-in, field-kept, field-skip}
@@ -20,24 +21,6 @@ use Rattle.entries.specs.Decoded.{entriesFrom, entries}
 use Rattle.entries.proofs.Laws.{entries-more, entries-all, entries-end}
 
 -- ---------------------------------------------------------------- two BIDs
-
--- BIDs of different lengths differ
-pub other-length : (a b : Bytes) → (length a ≡ length b → ⊥) → false ≡ sameBid a b
-unfolding sameBid
-other-length [] [] n = absurd (n refl)
-other-length [] (y ∷ b) n = refl
-other-length (x ∷ a) [] n = refl
-other-length (x ∷ a) (y ∷ b) n = go (eqb x y) (other-length a b (λ e. n (ap suc e)))
-  where
-    go : (c : Bool) → false ≡ same a b → false ≡ (c && same a b)
-    go true e = e
-    go false e = refl
-
--- the empty one
-pub no-bid : (b : Bytes) → eqb (length b) 0 ≡ sameBid [] b
-unfolding sameBid
-no-bid [] = refl
-no-bid (x ∷ b) = ne-eqb (length (x ∷ b)) 0 (λ e. omega arith)
 
 -- byte by byte, from a place of s on
 module _ (s b : Bytes) (from : ℕ) (h : from + length b ≤ length s) where
@@ -52,15 +35,11 @@ module _ (s b : Bytes) (from : ℕ) (h : from + length b ≤ length s) where
 
   -- those from byte i on are the same
   abbrev pub sameOn : ℕ → Bool
-  sameOn i = same (drop i there) (drop i b)
-
-  pub same-start : sameBid there b ≡ sameOn 0
-  unfolding sameBid
-  same-start = refl
+  sameOn i = sameBid (drop i there) (drop i b)
 
   module _ (i : ℕ) (k : i < length b) where
     next : sameOn i ≡ (eqb (getD s (from + i) 0) (getD b i 0) && sameOn (i + 1))
-    next = rw (drop-cons there i 0 (rw there-length k), drop-cons b i 0 k, there-at i k, add-one i)
+    next = rw (drop-cons there i 0 (rw there-length k), drop-cons b i 0 k, there-at i k, add-one i) (bid-more (getD s (from + i) 0) (getD b i 0) (drop (suc i) there) (drop (suc i) b))
 
     pub same-more : getD s (from + i) 0 ≡ getD b i 0 → sameOn i ≡ sameOn (i + 1)
     same-more e = next ∙ rw (eq-eqb _ _ e)
@@ -69,7 +48,7 @@ module _ (s b : Bytes) (from : ℕ) (h : from + length b ≤ length s) where
     same-stop e = sym (next ∙ rw (ne-eqb _ _ e))
 
   pub same-end : (i : ℕ) → length b ≤ i → true ≡ sameOn i
-  same-end i k = rw (drop-of-length-le there {i = i} (rw there-length k), drop-of-length-le b {i = i} k)
+  same-end i k = rw (drop-of-length-le there {i = i} (rw there-length k), drop-of-length-le b {i = i} k) (sym (bid-itself []))
 
 -- all of a list
 pub same-whole : (a b : Bytes) → length a ≡ length b → sameBid (take (length b) (drop 0 a)) b ≡ sameBid a b
@@ -83,7 +62,7 @@ module _ (s : Bytes) (at : ℕ) (h : at + 1 + bidMax ≤ length s) (b : Bytes) {
 
   pub at-other-length : (n ≡ length b → ⊥) → false ≡ sameBid (fieldIn bidMax at s) b
   at-other-length k =
-      other-length (fieldIn bidMax at s) b
+      bid-length (fieldIn bidMax at s) b
       (λ z. k (sym (length-take-le n (drop (at + 1) s) (rw (length-drop (at + 1) s) (omega arith))) ∙ sym (ap length there-is) ∙ z))
 
   pub at-length : {r : Bool} → n ≡ length b → r ≡ sameBid (take (length b) (drop (at + 1) s)) b → r ≡ sameBid (fieldIn bidMax at s) b
@@ -163,7 +142,7 @@ module _ (size at : ℕ) (f : at + 1 + bidMax ≤ size) (s : Bytes) where
     pub among-past : (i : ℕ) → i < n → length s / size ≤ i → {r : Bool} → r ≡ eqb (length bid) 0 → r ≡ amongFrom i
     among-past i k h e =
         let m : n - i ≡ suc (n - (i + 1)) = omega arith in
-        e ∙ no-bid bid ∙ sym (none-from i (n - (i + 1)) h) ∙ ap (λ (j : ℕ). among bid (entriesFrom (fieldIn bidMax at) size s i j)) (sym m)
+        e ∙ bid-none bid ∙ sym (none-from i (n - (i + 1)) h) ∙ ap (λ (j : ℕ). among bid (entriesFrom (fieldIn bidMax at) size s i j)) (sym m)
 
     pub among-end : (i : ℕ) → n ≤ i → false ≡ amongFrom i
     among-end i h = rw (entries-end (fieldIn bidMax at) size s i n h)

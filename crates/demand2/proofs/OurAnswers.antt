@@ -5,47 +5,36 @@ use mathlib.Core.Bool.{Bool, true, false, cond, not, _||_}
 use mathlib.Core.List.{List, [], _∷_, _++_, map, append-assoc, append-nil}
 use Prim.Native.Nat.{ℕ, zero, suc, _+_, _-_, _<_}
 use native.Mathlib.Omega.{arith}
-use lib.Dec.{eqb, ltb}
+use lib.Dec.{ltb}
 use lib.ListN.{length, getD}
 use lib.Seq.{getD-at}
-use borrow.Author.Tests.{eqb-true, ltb-true, ltb-false, lt-ltb, le-ltb, not-true}
-use Rattle.grammar.specs.Bytes.{Bytes, same}
+use borrow.Author.Tests.{ltb-true, ltb-false, lt-ltb, le-ltb, not-true}
+use Rattle.grammar.specs.Bytes.{Bytes}
 use Rattle.grammar.specs.Fields.{sameBid}
 use Rattle.grammar.specs.Turns.{Proposal}
 use Rattle.grammar.specs.Answers.{Sign, accept, decline, defer}
-use Rattle.grammar.proofs.Basics.{and2, or-left, or-right, no-both, same-itself}
+use Rattle.grammar.proofs.Basics.{and2, or-left, or-right, no-both}
 use Rattle.mail.specs.Mail.{Record, Message, accepted}
 use Rattle.session.specs.Choices.{Shelf, among, recordBids, messageBids, proposalBids, bodyBytes, announced, haveBid, noRoomFor, signFor, withAccepted, answersAfter, answersTo}
+use Rattle.session.proofs.Bids.{bid-itself, bid-is}
 use Rattle.session.proofs.Choices.{one-sign-each}
 use Rattle.demand2.specs.OurAnswers.{Among, HaveBid, inTable, isKnown, inInbox, inBlock, NoRoomFor, tooLong, noStore, noPlace, SignExact, AnswersExact}
 use Rattle.demand2.proofs.Marks.{accepted-is}
 
 -- ---------------------------------------------------------------- the tests say what 01 says
 
-same-is : (v w : Bytes) → same v w ≡ true → v ≡ w
-same-is [] [] e = refl
-same-is [] (y ∷ w) e = cc
-same-is (x ∷ v) [] e = cc
-same-is (x ∷ v) (y ∷ w) e =
-    let p = and2 (eqb x y) (same v w) e in
-    let a = eqb-true x y (p .0) in
-    let c = same-is v w (p .1) in
-    cc
-
 among-in : (b : Bytes) (xs : List Bytes) → among b xs ≡ true → Among b xs
-unfolding sameBid
 among-in b [] e = absurd (no-both false e refl)
-among-in b (x ∷ xs) e = go (same x b) refl e (λ k. among-in b xs k)
+among-in b (x ∷ xs) e = go (sameBid x b) refl e (λ k. among-in b xs k)
   where
-    go : (c : Bool) → same x b ≡ c → c || among b xs ≡ true → (among b xs ≡ true → Among b xs) → Among b (x ∷ xs)
-    go true f e ih = record { at = 0; within = omega arith; same = same-is x b f }
+    go : (c : Bool) → sameBid x b ≡ c → c || among b xs ≡ true → (among b xs ≡ true → Among b xs) → Among b (x ∷ xs)
+    go true f e ih = record { at = 0; within = omega arith; same = bid-is x b f }
     go false f e ih = let h = ih e in record { at = suc (h .at); within = omega (arith, h .within); same = h .same }
 
 among-out : (b : Bytes) (xs : List Bytes) (i : ℕ) → i < length xs → getD xs i [] ≡ b → among b xs ≡ true
-unfolding sameBid
 among-out b [] i l e = absurd (omega arith)
-among-out b (x ∷ xs) zero l e = or-left (same x b) (among b xs) (rw e (same-itself b))
-among-out b (x ∷ xs) (suc i) l e = or-right (same x b) (among b xs) (among-out b xs i (omega arith) e)
+among-out b (x ∷ xs) zero l e = or-left (sameBid x b) (among b xs) (rw e (bid-itself b))
+among-out b (x ∷ xs) (suc i) l e = or-right (sameBid x b) (among b xs) (among-out b xs i (omega arith) e)
 
 -- the BIDs of a list, as the session goes along them
 record-bids : (T : List Record) → recordBids T ≡ map (λ (r : Record). r .bid) T

@@ -11,20 +11,17 @@ use borrow.Author.Tests.{not-true, lt-ltb}
 use Rattle.grammar.specs.Bytes.{Bytes}
 use Rattle.grammar.specs.Fields.{sameBid}
 use Rattle.grammar.specs.Turns.{Proposal, proposable}
-use Rattle.grammar.proofs.Basics.{and2, same-itself}
+use Rattle.grammar.proofs.Basics.{and2}
 use Rattle.mail.specs.Mail.{Record, Message, recordAt, proposalOf, placeOf}
 use Rattle.session.specs.Choices.{Shelf, chosen, answersTo}
 use Rattle.session.specs.Session.{Memory}
+use Rattle.session.proofs.Bids.{bid-itself}
 use Rattle.session.proofs.Choices.{Places, chosen-places, one-sign-each}
 use Rattle.log.specs.Log.{placesOf}
 use Rattle.log.proofs.Spoken.{AllFit}
 use Rattle.demand3.specs.Demand.{Good, allProposable, noneWith, distinctBids}
 
 -- ---------------------------------------------------------------- BIDs and places
-
-bid-itself : (b : Bytes) → sameBid b b ≡ true
-unfolding sameBid
-bid-itself b = same-itself b
 
 none-at : (b : Bytes) (T : List Record) (j : ℕ) → noneWith b T ≡ true → j < length T → sameBid b (recordAt T j .bid) ≡ false
 none-at b [] j h k = absurd (not-suc-le-zero k)

@@ -39,6 +39,14 @@ module _ {A : Type 0} (f : Bytes → A) (size : ℕ) (s : Bytes) where
   pub entries-at : (n i : ℕ) (d : A) → i < n → getD (entries f size s n) i d ≡ f (entryAt size s i)
   entries-at n i d h = entries-from 0 n i d h ∙ ap (λ (j : ℕ). f (entryAt size s j)) (omega arith)
 
+-- what two readings make of each entry is the same
+pub entries-same : {A : Type 0} (f g : Bytes → A) (size : ℕ) (s t : Bytes) (i n : ℕ)
+    → ((j : ℕ) → j < i + n → f (entryAt size s j) ≡ g (entryAt size t j)) → entriesFrom f size s i n ≡ entriesFrom g size t i n
+entries-same f g size s t i zero h = refl
+entries-same {A} f g size s t i (suc n) h =
+    ap (λ (a : A). a ∷ entriesFrom f size s (suc i) n) (h i (omega arith))
+    ∙ ap (λ (l : List A). g (entryAt size t i) ∷ l) (entries-same f g size s t (suc i) n (λ j k. h j (omega arith)))
+
 -- BIDs of entries are a field of them
 pub record-bids : (s : Bytes) (i n : ℕ) → recordBids (entriesFrom (recordOf [] [] []) recordSize s i n) ≡ entriesFrom (fieldIn 12 56) recordSize s i n
 record-bids s i zero = refl

@@ -29,10 +29,6 @@ placeCount inbox = length inbox / entrySize
 unfoldable pub recordsOf : Bytes → Bytes → Bytes → Bytes → List Record
 recordsOf titles names bodies table = entries (recordOf titles names bodies) recordSize table (recordCount table)
 
--- The table's states.
-unfoldable pub statesOf : Bytes → List ℕ
-statesOf table = entries (λ (c : Bytes). byteAt c 0) recordSize table (recordCount table)
-
 unfoldable pub knownBids : Bytes → List Bytes
 knownBids known = entries knownOf knownSize known (knownCount known)
 

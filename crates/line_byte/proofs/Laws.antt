@@ -1,26 +1,30 @@
--- A line judged up to its length, and what a byte of a line is.
-use mathlib.Core.Path.{_≡_, refl, sym, ap, _∙_}
+-- What a byte of a line is, one byte more where the line stands, and the line up to its length.
+use mathlib.Core.Path.{_≡_, refl, sym, ap, _∙_, subst}
 use mathlib.Core.Bool.{Bool, true, false, cond}
-use Prim.Native.Nat.{ℕ, _<_}
+use mathlib.Core.List.{_++_, append-nil}
+use Prim.Native.Nat.{ℕ, _+_, _<_, _≤_, min}
 use native.Mathlib.Omega.{arith}
 use lib.Dec.{eqb, ltb}
-use borrow.Author.Tests.{ltb-true}
+use lib.ListN.{length, set, take, drop, replicate, length-drop, length-replicate, drop-of-length-le}
+use lib.Seq.{take-all, length-take-le}
+use borrow.Author.Tests.{ltb-true, ltb-false}
 use Rattle.grammar.specs.Bytes.{Bytes}
-use Rattle.grammar.specs.Lines.{LineByte, dropped, ends, grows, overruns, lineByte, trim}
+use Rattle.grammar.specs.Lines.{LineByte, dropped, ends, grows, overruns, lineByte, lineLimit}
 use Rattle.line.specs.declared.LineByte as code
 use Rattle.line.specs.Byte.{lineByteIs}
-use Rattle.session_memory.specs.declared.Await.{Await}
-use Rattle.session_memory.specs.declared.Say.{Say}
-use Rattle.session_memory.specs.declared.Keep.{Keep}
+use Rattle.buffer.specs.Put.{putBytes}
+use Rattle.layout.proofs.Places.{put-fits}
+use Rattle.session_memory.specs.State.{at}
 use Rattle.session_memory.specs.declared.Session.{Session}
-use Rattle.transfer_step.specs.declared.Reader.{Reader}
-use Rattle.line_effect.specs.Judged.{Judged}
+use Rattle.places.specs.Places.{arraysLen, lineAt}
+use Rattle.region.specs.Region.{region}
+use Rattle.region.proofs.Laws.{set-in, set-before, set-after}
+use Rattle.numbers.specs.declared.Numbers.{Numbers}
+use Rattle.numbers.specs.Whole.{deferredIn, headingIn, lineIn, blockIn, sessionOf, wholeOf}
+use Rattle.line_effect.specs.declared.Verdict.{Verdict}
 use Rattle.line_effect.specs.Judge.{judgeOf}
-use Rattle.receive_defined.specs.Receiving.{Settled, lineMoved, lineStepOf}
-
-pub judged-as : (w : Await) (y : Say) (k : Keep) (rd : Reader) (table known inbox : Bytes) (store : ℕ) (l m : Bytes) (j : Judged) → l ≡ m
-    → j ≡ judgeOf (trim l) w y k rd table known inbox store → j ≡ judgeOf (trim m) w y k rd table known inbox store
-judged-as w y k rd table known inbox store l m j e f = f ∙ ap (λ (x : Bytes). judgeOf (trim x) w y k rd table known inbox store) e
+use Rattle.line_effect.specs.Verdict.{Judges}
+use Rattle.receive_defined.specs.Receiving.{Settled, longer, lineMoved, lineStepOf}
 
 module _ (s : Session) (b : ℕ) (u v : code.LineByte) (e : u ≡ v) (f : lineByteIs u ≡ lineByte false (s .line .len) b) where
   said : lineByteIs v ≡ lineByte false (s .line .len) b
@@ -44,3 +48,57 @@ grows-short n b u e f = go (eqb b 13) (ltb n 256) refl (sym (ap lineByteIs e) �
     go x true p q = ltb-true n 256 p
     go true false p q = let z : _≡_ {A = ℕ} 1 0 = ap growing q in omega (arith, z)
     go false false p q = let z : _≡_ {A = ℕ} 1 0 = ap growing q in omega (arith, z)
+
+-- ---------------------------------------------------------------- a byte more where the line stands
+
+line-set : (s : Numbers) (m : Bytes) (n b : ℕ) → n < 256 → wholeOf s (set m (144 + n) b) ≡ sessionOf s (deferredIn m) (headingIn m) (set (lineIn m) n b) (blockIn m)
+unfolding wholeOf
+line-set s m n b h =
+    rw (set-after 0 64 m (144 + n) b (omega arith), set-after 64 80 m (144 + n) b (omega arith), set-in 144 256 m n b h, set-before 400 360 m (144 + n) b (omega arith))
+
+pub longer-whole : (s : Numbers) (m : Bytes) (b : ℕ) → s .line .len < 256
+    → wholeOf (record { now = s .now; say = s .say; keep = s .keep; reader = s .reader; line = record { «after_cr» = false; len = s .line .len + 1 } }) (set m (144 + s .line .len) b)
+    ≡ longer (wholeOf s m) b
+unfolding wholeOf
+longer-whole s m b h =
+    line-set (record { now = s .now; say = s .say; keep = s .keep; reader = s .reader; line = record { «after_cr» = false; len = s .line .len + 1 } }) m (s .line .len) b h
+
+-- ---------------------------------------------------------------- the line up to its length
+
+-- a text up to a length that may pass its end
+clipped : (l : Bytes) (k n m : ℕ) → length l ≡ k → m ≡ min k n → take m l ≡ take n l
+clipped l k n m e f = go (ltb k n) refl
+  where
+    go : (b : Bool) → ltb k n ≡ b → take m l ≡ take n l
+    go true p =
+        let h : k < n = ltb-true k n p in
+        take-all m l (omega (arith, e, f)) ∙ sym (take-all n l (omega (arith, e)))
+    go false p =
+        let h : n ≤ k = ltb-false k n p in
+        let q : m ≡ n = omega (arith, f) in
+        ap (λ (i : ℕ). take i l) q
+
+pub line-length : (m : Bytes) → length m ≡ arraysLen → length (lineIn m) ≡ lineLimit
+unfolding region
+line-length m h = length-take-le lineLimit (drop lineAt m) (rw (length-drop lineAt m) (omega arith))
+
+-- l is the line, n its length clipped at its end
+pub line-is : (m l : Bytes) (n k : ℕ) → length m ≡ arraysLen → l ≡ lineIn m → n ≡ min lineLimit k → take n l ≡ take k (lineIn m)
+line-is m l n k h e f = ap (take n) e ∙ clipped (lineIn m) lineLimit k n (line-length m h) f
+
+-- the copy of the line
+pub copied : (m e : Bytes) → length m ≡ arraysLen → e ≡ putBytes (replicate lineLimit 0) (at 0) (take lineLimit (drop lineAt m)) → e ≡ lineIn m
+unfolding region
+copied m e h f =
+    let x : Bytes = take lineLimit (drop lineAt m) in
+    let z : Bytes = replicate lineLimit 0 in
+    let n : length x ≡ lineLimit = line-length m h in
+    let k : length z ≡ lineLimit = length-replicate {A = ℕ} lineLimit 0 in
+    f ∙ put-fits z 0 x (omega (arith, n, k)) ∙ ap (λ (l : Bytes). x ++ l) (drop-of-length-le z {i = 0 + length x} (omega (arith, n, k))) ∙ append-nil x
+
+-- ---------------------------------------------------------------- the line's end
+
+module _ (s : Numbers) (m e : Bytes) (v : Verdict) (table known inbox : Bytes) (store : ℕ) where
+  pub judged-as : (l r : Bytes) → l ≡ r → Judges s m v e (λ w y k d. judgeOf l w y k d table known inbox store)
+      → Judges s m v e (λ w y k d. judgeOf r w y k d table known inbox store)
+  judged-as l r q h = subst (λ (x : Bytes). Judges s m v e (λ w y k d. judgeOf x w y k d table known inbox store)) q h

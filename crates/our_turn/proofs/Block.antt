@@ -18,7 +18,8 @@ use Rattle.layout.specs.Layout.{byteAt, le4At, entryAt, recordOf, recordSize}
 use Rattle.layout.proofs.Laws.{le4-small}
 use Rattle.session_memory.specs.State.{held, fiveOf}
 use Rattle.session_memory.specs.declared.Five.{Five}
-use Rattle.entries.specs.Decoded.{entriesFrom, entries, recordCount, recordsOf, statesOf}
+use Rattle.entries.specs.Decoded.{entriesFrom, entries, recordCount, recordsOf}
+use Rattle.marking.specs.States.{statesOf}
 use Rattle.our_turn.specs.Turn.{chooseOf}
 use Rattle.five.specs.Filled.{Filled}
 use Rattle.entries.proofs.Laws.{entries-more, entries-all, entries-end, entries-at}

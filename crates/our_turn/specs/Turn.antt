@@ -11,7 +11,8 @@ use Rattle.session_memory.specs.declared.Five.{Five}
 use Rattle.session_memory.specs.declared.Await.{Await}
 use Rattle.session_memory.specs.declared.Say.{Say}
 use Rattle.session_memory.specs.declared.Keep.{Keep}
-use Rattle.entries.specs.Decoded.{recordsOf, statesOf}
+use Rattle.entries.specs.Decoded.{recordsOf}
+use Rattle.marking.specs.States.{statesOf}
 use Rattle.numbers.specs.declared.Numbers.{Numbers}
 use Rattle.numbers.specs.Whole.{awaitOf, keepOf}
 use Rattle.line_effect.specs.Judge.{inPhase, toTurn, toAnswer, saysThen}

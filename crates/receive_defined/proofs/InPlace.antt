@@ -23,7 +23,8 @@ use Rattle.line_effect.specs.Judged.{Judged}
 use Rattle.line_effect.specs.Judge.{judgeOf}
 use Rattle.line_effect.specs.Verdict.{judgedIn, betweenIn, Judges}
 use Rattle.line_effect.proofs.Kept.{Kept, judge-kept}
-use Rattle.receive_defined.specs.Receiving.{settled, refusedOf, markAll, spokenOf, settleOf, lineMoved}
+use Rattle.receive_defined.specs.Receiving.{settled, refusedOf, spokenOf, settleOf, lineMoved}
+use Rattle.marking.specs.States.{markAll}
 
 -- heading and line within what no line changes
 heading-in : (m : Bytes) → headingIn m ≡ take 80 (betweenIn m)

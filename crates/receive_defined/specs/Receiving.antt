@@ -9,7 +9,7 @@ use Rattle.grammar.specs.Bytes.{Bytes, LF}
 use Rattle.grammar.specs.Refusals.{badMemory, lineTooLong, badTransfer, badChecksum, storeFull, bytesWait, sessionEnded}
 use Rattle.grammar.specs.Lines.{LineByte, dropped, ends, grows, overruns, lineByte, trim}
 use Rattle.buffer.specs.Put.{putBytes}
-use Rattle.layout.specs.Layout.{byteAt, entryAt, recordSize, entrySize, proposalSize, entryOut}
+use Rattle.layout.specs.Layout.{byteAt, entryAt, entrySize, proposalSize, entryOut}
 use Rattle.transfer_step.specs.declared.Reader.{Reader}
 use Rattle.transfer_step.specs.declared.Stepped.{Stepped}
 use Rattle.transfer_step.specs.declared.Outcome.{Outcome}
@@ -22,6 +22,7 @@ use Rattle.session_memory.specs.declared.Await.{Await}
 use Rattle.session_memory.specs.declared.Say.{Say}
 use Rattle.session_memory.specs.declared.Keep.{Keep}
 use Rattle.session_memory.specs.declared.Session.{Session}
+use Rattle.marking.specs.States.{markAll}
 use Rattle.line_effect.specs.Judge.{noMarks, judged, inPhase, toTransfer, nextAccepted, readerFor, judgeOf}
 use Rattle.our_turn.specs.Turn.{speakOf}
 use Rattle.line_effect.specs.Judged.{Judged}
@@ -46,13 +47,6 @@ cs s table inbox store = record { session = s; table = table; inbox = inbox; sto
 
 abbrev pub moved : ℕ → Cs → Moved
 moved n c = record { answer = n; cs = c }
-
--- ---------------------------------------------------------------- marks
-
--- The records at these places get this state; "Nothing else in the table changes."
-abbrev pub markAll : List ℕ → ℕ → Bytes → Bytes
-markAll [] v table = table
-markAll (i ∷ is) v table = markAll is v (set table (i * recordSize) v)
 
 -- ---------------------------------------------------------------- what a whole line or transfer leaves
 

@@ -1,4 +1,5 @@
--- Theorems about the session alone.
+-- Theorems about the session alone, and the laws of BIDs that all others cite.
+pub mod Bids
 pub mod Choices
 pub mod Sessions
 pub mod Ways

@@ -1,34 +1,40 @@
--- Marks place by place, what a judged line leaves, a text clipped at its array's end.
+-- What a judged line leaves, from the numbers and the arrays.
 use mathlib.Core.Path.{_≡_, refl, sym, ap, _∙_}
 use mathlib.Core.Bool.{Bool, true, false}
-use Prim.Native.Nat.{ℕ, _+_, _*_, _<_, _≤_, min}
-use native.Mathlib.Omega.{arith}
-use lib.Dec.{ltb}
-use lib.ListN.{length, getD, set, take, drop, length-set}
-use lib.Seq.{take-all}
-use borrow.Author.Tests.{eq-eqb, ne-eqb, ltb-true, ltb-false}
+use Prim.Native.Nat.{ℕ}
+use lib.Dec.{eqb}
+use lib.ListN.{take}
+use borrow.Author.Tests.{eq-eqb, ne-eqb}
 use Rattle.grammar.specs.Bytes.{Bytes}
-use Rattle.buffer.specs.Put.{putBytes}
-use Rattle.buffer.specs.declared.Cursor.{Cursor}
-use Rattle.layout.specs.Layout.{entryOut}
 use Rattle.session_memory.specs.State.{held}
-use Rattle.session_memory.specs.declared.Five.{Five}
 use Rattle.session_memory.specs.declared.Session.{Session}
+use Rattle.phase.specs.Phase.{ourTurnAfterFF}
+use Rattle.places.specs.Places.{headingAt}
+use Rattle.region.specs.Region.{region}
+use Rattle.numbers.specs.declared.Numbers.{Numbers}
+use Rattle.numbers.specs.Whole.{awaitOf, blockIn, wholeOf}
+use Rattle.marking.specs.States.{markAll}
+use Rattle.line_effect.specs.declared.Verdict.{Verdict}
 use Rattle.line_effect.specs.Judged.{Judged}
-use Rattle.five.proofs.Laws.{held-cons, held-end}
-use Rattle.receive_defined.specs.Receiving.{markAll, refusedOf, spokenOf, settled, settleOf}
+use Rattle.line_effect.specs.Verdict.{judgedIn}
+use Rattle.our_turn.specs.Turn.{Spoken, Speaks}
+use Rattle.receive_defined.specs.Receiving.{refusedOf, settledOf, spokenOf, settled, settleOf}
+use Rattle.settling.specs.After.{afterLine}
 
--- ---------------------------------------------------------------- marks
+-- ---------------------------------------------------------------- our turn
 
-module _ (f : Five) (i n v : ℕ) (e : n ≡ length (held f)) where
-  pub mark-more : (t : Bytes) → i < n → markAll (drop i (held f)) v t ≡ markAll (drop (i + 1) (held f)) v (set t (getD (f .items) i 0 * 89) v)
-  mark-more t h = rw (held-cons f i n e h)
+module _ (v : Verdict) (a : Bool) (m table : Bytes) (s : Numbers) {r : Numbers} where
+  pub spoken-no : v .speaks ≡ 0 → r ≡ afterLine (v .next) a → wholeOf r m ≡ spokenOf (wholeOf s m) (judgedIn v m) a table
+  unfolding wholeOf
+  spoken-no n e = rw (eq-eqb _ _ n) (ap (λ (x : Numbers). wholeOf x m) e)
 
-  pub mark-end : (t : Bytes) → n ≤ i → t ≡ markAll (drop i (held f)) v t
-  mark-end t h = rw (held-end f i n e h)
-
-pub mark-length : (t u : Bytes) (i v n : ℕ) → u ≡ set t i v → length t ≡ n → length u ≡ n
-mark-length t u i v n e l = ap length e ∙ length-set t i v ∙ l
+  pub spoken-yes : {t : Numbers} → (v .speaks ≡ 0 → ⊥) → Speaks (v .next) (take headingAt m) table (eqb (v .speaks) ourTurnAfterFF) t → r ≡ afterLine t a
+      → wholeOf r m ≡ spokenOf (wholeOf s m) (judgedIn v m) a table
+  unfolding wholeOf region
+  spoken-yes {t} n h e =
+      rw (ne-eqb _ _ n)
+      (ap (λ (x : Numbers). wholeOf x m) e
+      ∙ rw (h .keep, h .reader) (ap (λ (x : Spoken). settledOf (wholeOf s m) (judgedIn v m) a (x .now) (x .say)) (h .turn (blockIn m))))
 
 -- ---------------------------------------------------------------- what a judged line leaves
 
@@ -40,23 +46,3 @@ module _ (s : Session) (j : Judged) (a : Bool) (t : Bytes) (x : Session) where
   pub settle-yes : (u : Bytes) → j .answer ≡ 0 → u ≡ markAll (held (j .marks .places)) (j .marks .state) t → x ≡ spokenOf s j a u → settled 0 x u ≡ settleOf s j a t
   unfolding settleOf
   settle-yes u n e f = rw (eq-eqb _ _ n) (ap (λ (y : Session). settled 0 y u) f ∙ ap (λ (w : Bytes). settled 0 (spokenOf s j a w) w) e)
-
--- ---------------------------------------------------------------- a message in the inbox
-
--- a text up to a length that may pass its array's end
-pub clipped : (l : Bytes) (k n m : ℕ) → length l ≡ k → m ≡ min k n → take m l ≡ take n l
-clipped l k n m e f = go (ltb k n) refl
-  where
-    go : (b : Bool) → ltb k n ≡ b → take m l ≡ take n l
-    go true p =
-        let h : k < n = ltb-true k n p in
-        take-all m l (omega (arith, e, f)) ∙ sym (take-all n l (omega (arith, e)))
-    go false p =
-        let h : n ≤ k = ltb-false k n p in
-        let q : m ≡ n = omega (arith, f) in
-        ap (λ (i : ℕ). take i l) q
-
-pub message-by : (inbox e p q hd : Bytes) (c : Cursor) (h n used body : ℕ) → p ≡ q → n ≡ min 80 h → length hd ≡ 80
-    → e ≡ putBytes inbox c (entryOut p (take n hd) used body) → e ≡ putBytes inbox c (entryOut q (take h hd) used body)
-message-by inbox e p q hd c h n used body a b l f =
-    f ∙ ap (λ (x : Bytes). putBytes inbox c (entryOut x (take n hd) used body)) a ∙ ap (λ (x : Bytes). putBytes inbox c (entryOut q x used body)) (clipped hd 80 h n l b)

@@ -1,1 +1,2 @@
--- The definitions are those of crates/receive_defined.
+-- The numbers after a line. The other definitions are those of crates/receive_defined.
+pub mod After

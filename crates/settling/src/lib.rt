@@ -1,152 +1,83 @@
-// What a whole line or message leaves: marks in the table, our turn, an entry in the inbox.
-use buffer::Cursor;
-use five::count_of;
-use layout::entry;
-use line_effect::Judged;
-use part::at_most;
-use session_memory::Await;
-use session_memory::Five;
-use session_memory::Keep;
-use session_memory::Reading;
-use session_memory::Say;
-use session_memory::Session;
+// What a whole line or message leaves: marks in the table, our turn, or a session that is over.
+use line_effect::Verdict;
+use marking::mark_all;
+use numbers::Numbers;
+use our_turn::speak;
 ghost use mathlib.Core.Path.{_≡_};
-ghost use Prim.Native.Nat.{_*_};
-ghost use lib.ListN.{set, take};
-ghost use Rattle.buffer.specs.Put.{putBytes};
-ghost use Rattle.layout.specs.Layout.{entryAt, entryOut};
-ghost use Rattle.session_memory.specs.State.{at, held};
-ghost use Rattle.receive_defined.specs.Receiving.{markAll, refusedOf, settledOf, spokenOf, settled, settleOf, keptInbox};
+ghost use lib.ListN.{length};
+ghost use Rattle.grammar.specs.Bytes.{Bytes};
+ghost use Rattle.places.specs.Places.{arraysLen};
+ghost use Rattle.numbers.specs.declared.Numbers.{Numbers};
+ghost use Rattle.numbers.specs.Whole.{wholeOf};
+ghost use Rattle.line_effect.specs.Verdict.{judgedIn};
+ghost use Rattle.receive_defined.specs.Receiving.{refusedOf, spokenOf, settled, settleOf};
+ghost use Rattle.settling.specs.After.{afterLine};
 
-// 01's number, and the session after it.
+// 01's number, and the numbers after it.
 pub struct Left {
     pub answer: u8,
-    pub session: Session,
-}
-
-// The record at a place gets this state.
-fn set_state(table: &mut [u8], i: u8, state: u8)
-    ensures { λ _. ⌜ now (table .exit) ≡ set (now (table .entry)) (i * 89) state ⌝ }
-{
-    let at = (i as usize) * 89;
-    if table.len() <= at {
-        return;
-    }
-    table[at] = state;
-}
-
-// The records at these places get this state.
-fn mark_all(table: &mut [u8], places: Five, state: u8)
-    ensures { λ _. ⌜ now (table .exit) ≡ markAll (held places) state (now (table .entry)) ⌝ }
-{
-    let n = count_of(places);
-    let mut i = 0usize;
-    while i < n {
-        set_state(table, places.items[i], state);
-        i += 1;
-    }
+    pub session: Numbers,
 }
 
 // The session is over: nothing more is said.
-pub fn refused(s: Session) -> Session
-    ensures { λ r. ⌜ r ≡ refusedOf s ⌝ }
+pub fn refused(s: Numbers) -> Numbers
+    ensures { λ r. ⌜ ((m : Bytes) → wholeOf r m ≡ refusedOf (wholeOf s m)) ⌝ }
 {
     let mut t = s;
-    t.now.phase = 7;
-    t.say.first = 0;
-    t.say.then = 0;
+    t.now.phase = phase::OVER;
+    t.say.first = phase::PIECE_NONE;
+    t.say.then = phase::PIECE_NONE;
     t.say.pos = 0;
     t.line.len = 0;
     t.line.after_cr = false;
     t
 }
 
-// The session after what was judged, where this is awaited and said.
-fn settled_as(s: Session, j: Judged, after_cr: bool, awaited: Await, say: Say) -> Session
-    ensures { λ r. ⌜ r ≡ settledOf s j «after_cr» awaited say ⌝ }
+// What is said is not given yet, and a new line begins.
+fn after_line(s: Numbers, after_cr: bool) -> Numbers
+    ensures { λ r. ⌜ r ≡ afterLine s «after_cr» ⌝ }
 {
-    let keep = j.keep;
-    let reader = j.reader;
-    let mut said = say;
-    said.pos = 0;
-    let mut reading = s.reading;
-    reading.reader = reader;
-    let mut line = s.line;
-    line.len = 0;
-    line.after_cr = after_cr;
-    Session {
-        now: awaited,
-        say: said,
-        keep: keep,
-        reading: reading,
-        line: line,
-    }
+    let mut t = s;
+    t.say.pos = 0;
+    t.line.len = 0;
+    t.line.after_cr = after_cr;
+    t
 }
 
-// The same with our turn, if it is our turn.
-fn spoken(s: Session, j: Judged, after_cr: bool, table: &[u8]) -> Session
-    ensures { λ r. ⌜ r ≡ spokenOf s j «after_cr» (now (table .entry)) ⌝ }
+// The numbers after what was judged, with our turn, if it is our turn. mem: the state's arrays.
+fn spoken(v: Verdict, after_cr: bool, mem: &[u8], table: &[u8]) -> Numbers
+    requires { ⌜ length (now mem) ≡ arraysLen ⌝ }
+    ensures { λ r. ⌜ ((s : Numbers) → wholeOf r (now (mem .entry)) ≡ spokenOf (wholeOf s (now (mem .entry))) (judgedIn v (now (mem .entry))) «after_cr» (now (table .entry))) ⌝ }
 {
-    let awaited = j.now;
-    let say = j.say;
-    if j.speaks == 0 {
-        return settled_as(s, j, after_cr, awaited, say);
+    let next = v.next;
+    if v.speaks == phase::NOT_OUR_TURN {
+        return after_line(next, after_cr);
     }
-    let keep = j.keep;
-    let r = awaited_line::speak(awaited, say, keep, table, j.speaks == 2);
-    let next = r.now;
-    let said = r.say;
-    settled_as(s, j, after_cr, next, said)
+    let turn = speak(
+        next,
+        &mem[..places::HEADING],
+        table,
+        v.speaks == phase::OUR_TURN_AFTER_FF,
+    );
+    after_line(turn, after_cr)
 }
 
-// What a judged line or a kept message leaves: marks first, then our turn.
-pub fn settle(s: Session, j: Judged, after_cr: bool, table: &mut [u8]) -> Left
-    ensures { λ r. ⌜ settled (r .answer) (r .session) (now (table .exit)) ≡ settleOf s j «after_cr» (now (table .entry)) ⌝ }
+// What a judged line or a kept message leaves: marks first, then our turn. s: the numbers before it; mem: the state's arrays after it.
+pub fn settle(s: Numbers, v: Verdict, after_cr: bool, mem: &[u8], table: &mut [u8]) -> Left
+    requires { ⌜ length (now mem) ≡ arraysLen ⌝ }
+    ensures { λ r. ⌜ settled (r .answer) (wholeOf (r .session) (now (mem .entry))) (now (table .exit)) ≡ settleOf (wholeOf s (now (mem .entry))) (judgedIn v (now (mem .entry))) «after_cr» (now (table .entry)) ⌝ }
 {
-    if j.answer != 0 {
+    if v.answer != refusal::NONE {
         return Left {
-            answer: j.answer,
+            answer: v.answer,
             session: refused(s),
         };
     }
-    let marks = j.marks;
+    let marks = v.marks;
     let places = marks.places;
     mark_all(table, places, marks.state);
     Left {
-        answer: 0,
-        session: spoken(s, j, after_cr, table),
+        answer: refusal::NONE,
+        session: spoken(v, after_cr, mem, table),
     }
-}
-
-// The message under way gets its entry in the inbox: its proposal in the block, its heading, its body behind those kept.
-fn put_parts(awaited: Await, reading: Reading, keep: Keep, inbox: &mut [u8])
-    ensures { λ _. ⌜ now (inbox .exit) ≡ putBytes (now (inbox .entry)) (at (keep .kept * 155)) (entryOut (entryAt 72 (awaited .block) (awaited .current)) (take (reading .reader .head) (reading .heading)) (keep .used) (reading .reader .body)) ⌝ }
-{
-    let block = awaited.block;
-    let heading = reading.heading;
-    let reader = reading.reader;
-    let n = at_most(80, reader.head as usize);
-    let c = Cursor {
-        at: (keep.kept as usize) * 155,
-        skip: 0,
-    };
-    let proposal = entry(layout::PROPOSAL, &block, awaited.current as u16);
-    let _d = layout_put::put_entry(
-        inbox,
-        c,
-        proposal,
-        &heading[..n],
-        keep.used,
-        reader.body as usize,
-    );
-}
-
-// The message under way gets its entry in the inbox.
-pub fn put_message(s: Session, inbox: &mut [u8])
-    ensures { λ _. ⌜ now (inbox .exit) ≡ keptInbox s (now (inbox .entry)) ⌝ }
-{
-    let awaited = s.now;
-    let reading = s.reading;
-    let keep = s.keep;
-    put_parts(awaited, reading, keep, inbox);
 }

@@ -1,12 +1,13 @@
 -- The lengths first, then the bytes.
 use mathlib.Core.Path.{_∙_}
-use Rattle.bid.proofs.Laws.{other-length, same-whole}
+use Rattle.session.proofs.Bids.{bid-length}
+use Rattle.bid.proofs.Laws.{same-whole}
 use borrow.Author.Needs.{needs}
 use Rattle.bid.proofs.same_bid.Statement.{statement}
 use Rattle.bid.proofs.same_bid.Tie as tie
 
 returns : tie.Need-returns
-returns c = other-length (c .before .before .before .args .a .now) (c .before .before .before .args .b .now) (c .if1 .taken)
+returns c = bid-length (c .before .before .before .args .a .now) (c .before .before .before .args .b .now) (c .if1 .taken)
 
 same-from-requires : tie.Need-same-from-requires
 same-from-requires c κs = search needs

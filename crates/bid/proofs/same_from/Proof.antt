@@ -1,22 +1,21 @@
 -- The loop: the bytes are the BID exactly if they are from byte i on. The measure: the bytes left.
-use mathlib.Core.Path.{_≡_, sym, _∙_}
+use mathlib.Core.Path.{_≡_, refl, sym, _∙_}
 use Prim.Native.Nat.{_≤_, _-_}
 use lib.ListN.{length, take, drop}
 use borrow.Author.Needs.{needs}
-use Rattle.grammar.specs.Bytes.{same}
 use Rattle.grammar.specs.Fields.{sameBid}
-use Rattle.bid.proofs.Laws.{same-start, same-more, same-stop, same-end}
+use Rattle.bid.proofs.Laws.{same-more, same-stop, same-end}
 use Rattle.bid.proofs.same_from.Statement.{statement}
 use Rattle.bid.proofs.same_from.Tie as tie
 
 abbrev Inv-loop : tie.InvT-loop
-Inv-loop s from bid i₀ i = (i ≤ length bid) × (sameBid (take (length bid) (drop from s)) bid ≡ same (drop i (take (length bid) (drop from s))) (drop i bid))
+Inv-loop s from bid i₀ i = (i ≤ length bid) × (sameBid (take (length bid) (drop from s)) bid ≡ sameBid (drop i (take (length bid) (drop from s))) (drop i bid))
 
 abbrev μ-loop : tie.MeasureT-loop
 μ-loop s from bid i₀ i = length bid - i
 
 loop-holds : tie.Need-loop-holds Inv-loop μ-loop
-loop-holds c = (search needs, same-start (c .args .s .now) (c .args .bid .now) (c .args .from) (c .pre))
+loop-holds c = (search needs, refl)
 
 add-if1 : tie.Need-add-if1 Inv-loop μ-loop
 add-if1 c = search needs

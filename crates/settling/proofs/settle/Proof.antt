@@ -1,4 +1,6 @@
--- A refusal, or marks and then our turn.
+-- Marks first, then our turn.
+use Rattle.numbers.specs.Whole.{wholeOf}
+use Rattle.line_effect.specs.Verdict.{judgedIn}
 use Rattle.settling.proofs.Laws.{settle-no, settle-yes}
 use borrow.Author.Needs.{needs}
 use Rattle.settling.proofs.settle.Statement.{statement}
@@ -8,7 +10,7 @@ refused-requires : tie.Need-refused-requires
 refused-requires c κs = search needs
 
 returns : tie.Need-returns
-returns c = let a = c .before .before .before .before .args in settle-no (a .s) (a .j) (a .after-cr) (a .table .now) _ (c .before .if1 .taken) (c .refused .ensures)
+returns c = settle-no (wholeOf (c .before .before .before .before .before .args .s) (c .before .before .before .before .before .args .mem .now)) (judgedIn (c .before .before .before .before .before .args .v) (c .before .before .before .before .before .args .mem .now)) (c .before .before .before .before .before .args .after-cr) (c .before .before .before .before .before .args .table .now) _ (c .before .if1 .taken) (c .refused .ensures (c .before .before .before .before .before .args .mem .now))
 
 mark-all-requires : tie.Need-mark-all-requires
 mark-all-requires c κs = search needs
@@ -20,15 +22,9 @@ same-length : tie.Need-same-length
 same-length c = search needs
 
 returns-2 : tie.Need-returns-2
-returns-2 c = let a = c .before .before .before .before .before .before .before .before .before .before .before .args in settle-yes (a .s) (a .j) (a .after-cr) (a .table .now) _ _ (c .before .before .before .before .before .before .before .before .if1 .left) (c .before .before .before .before .mark-all .ensures) (c .spoken .ensures)
+returns-2 c = settle-yes (wholeOf (c .before .before .before .before .before .before .before .before .before .before .before .before .args .s) (c .before .before .before .before .before .before .before .before .before .before .before .before .args .mem .now)) (judgedIn (c .before .before .before .before .before .before .before .before .before .before .before .before .args .v) (c .before .before .before .before .before .before .before .before .before .before .before .before .args .mem .now)) (c .before .before .before .before .before .before .before .before .before .before .before .before .args .after-cr) (c .before .before .before .before .before .before .before .before .before .before .before .before .args .table .now) _ _ (c .before .before .before .before .before .before .before .before .if1 .left) (c .before .before .before .before .mark-all .ensures) (c .spoken .ensures (c .before .before .before .before .before .before .before .before .before .before .before .before .args .s))
 
 pub settle-spec : {M : Type 1} → statement M
 settle-spec =
     tie.close
-    (tie.spec
-    refused-requires
-    returns
-    mark-all-requires
-    spoken-requires
-    same-length
-    returns-2)
+    (tie.spec refused-requires returns mark-all-requires spoken-requires same-length returns-2)

@@ -1,33 +1,38 @@
--- Whether it is our turn.
-use mathlib.Core.Path.{ap, _∙_}
-use borrow.Author.Tests.{eq-eqb, ne-eqb}
-use Rattle.our_turn.specs.Turn.{Spoken}
-use Rattle.receive_defined.specs.Receiving.{settledOf}
+-- With our turn or without it.
+use native.Mathlib.Omega.{arith}
+use Rattle.places.specs.Places.{headingAt}
+use mathlib.Core.Path.{sym}
+use lib.Seq.{length-take-le}
+use Rattle.settling.proofs.Laws.{spoken-no, spoken-yes}
 use borrow.Author.Needs.{needs}
 use Rattle.settling.proofs.spoken.Statement.{statement}
 use Rattle.settling.proofs.spoken.Tie as tie
 
-settled-as-requires : tie.Need-settled-as-requires
-settled-as-requires c κs = search needs
+after-line-requires : tie.Need-after-line-requires
+after-line-requires c κs = search needs
 
 returns : tie.Need-returns
-returns c = rw (eq-eqb _ _ (c .before .if1 .taken)) (c .settled-as .ensures)
+returns c = λ s. spoken-no (c .before .before .before .before .before .before .args .v) (c .before .before .before .before .before .before .args .after-cr) (c .before .before .before .before .before .before .args .mem .now) (c .before .before .before .before .before .before .args .table .now) s (c .before .if1 .taken) (c .after-line .ensures)
+
+slice-aggregate-speak : tie.Need-slice-aggregate-speak
+slice-aggregate-speak c = sym (length-take-le headingAt (c .before .before .before .before .before .before .args .mem .now) (omega (arith, c .before .before .before .before .before .before .pre)))
 
 speak-requires : tie.Need-speak-requires
 speak-requires c κs = search needs
 
-settled-as-requires-2 : tie.Need-settled-as-requires-2
-settled-as-requires-2 c κs = search needs
+after-line-requires-2 : tie.Need-after-line-requires-2
+after-line-requires-2 c κs = search needs
 
 returns-2 : tie.Need-returns-2
-returns-2 c = let a = c .before .before .before .before .before .before .before .before .before .before .before .args in rw (ne-eqb _ _ (c .before .before .before .before .before .before .if1 .left)) (c .settled-as2 .ensures ∙ ap (λ (x : Spoken). settledOf (a .s) (a .j) (a .after-cr) (x .now) (x .say)) (c .before .before .before .speak .ensures))
+returns-2 c = λ s. spoken-yes (c .before .before .before .before .before .before .before .before .before .args .v) (c .before .before .before .before .before .before .before .before .before .args .after-cr) (c .before .before .before .before .before .before .before .before .before .args .mem .now) (c .before .before .before .before .before .before .before .before .before .args .table .now) s (c .before .before .before .before .if1 .left) (c .before .speak .ensures) (c .after-line2 .ensures)
 
 pub spoken-spec : {M : Type 1} → statement M
 spoken-spec =
     tie.close
     (tie.spec
-    settled-as-requires
+    after-line-requires
     returns
+    slice-aggregate-speak
     speak-requires
-    settled-as-requires-2
+    after-line-requires-2
     returns-2)

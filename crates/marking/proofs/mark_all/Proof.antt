@@ -3,11 +3,11 @@ use mathlib.Core.Path.{_≡_, refl, sym, ap, _∙_}
 use Prim.Native.Nat.{_+_, _*_, _-_}
 use lib.ListN.{length, getD, drop}
 use Rattle.session_memory.specs.State.{held}
-use Rattle.receive_defined.specs.Receiving.{markAll}
-use Rattle.settling.proofs.Laws.{mark-more, mark-end, mark-length}
+use Rattle.marking.specs.States.{markAll}
+use Rattle.marking.proofs.Laws.{mark-more, mark-end, mark-length}
 use borrow.Author.Needs.{needs}
-use Rattle.settling.proofs.mark_all.Statement.{statement}
-use Rattle.settling.proofs.mark_all.Tie as tie
+use Rattle.marking.proofs.mark_all.Statement.{statement}
+use Rattle.marking.proofs.mark_all.Tie as tie
 
 abbrev Inv-loop : tie.InvT-loop
 Inv-loop table₀ state places n i₀ table i = (length table ≡ length table₀) × (markAll (held places) state table₀ ≡ markAll (drop i (held places)) state table)
@@ -34,7 +34,7 @@ loop-less : tie.Need-loop-less Inv-loop μ-loop
 loop-less c = search needs
 
 loop-again : tie.Need-loop-again Inv-loop μ-loop
-loop-again c = let a = c .before .before .before .before .before .before .before .before .before .args in let l = c .before .before .before .before .before .before .loop in (mark-length (l .table) _ (getD (a .t2 .items) (l .i) 0 * 89) (a .state) _ (c .before .before .set-state .ensures) (l .inv .0), l .inv .1 ∙ mark-more (a .t2) (l .i) _ (a .state) (c .before .before .before .before .before .before .before .count-of .ensures .0) _ (c .before .before .before .before .before .loop-test .taken) ∙ ap (markAll (drop (l .i + 1) (held (a .t2))) (a .state)) (sym (c .before .before .set-state .ensures)))
+loop-again c = let a = c .before .before .before .before .before .before .before .before .before .args in let l = c .before .before .before .before .before .before .loop in (mark-length (l .table) _ (getD (a .t2 .items) (l .i) 0) (a .state) _ (c .before .before .set-state .ensures) (l .inv .0), l .inv .1 ∙ mark-more (a .t2) (l .i) _ (a .state) (c .before .before .before .before .before .before .before .count-of .ensures .0) _ (c .before .before .before .before .before .loop-test .taken) ∙ ap (markAll (drop (l .i + 1) (held (a .t2))) (a .state)) (sym (c .before .before .set-state .ensures)))
 
 same-length : tie.Need-same-length Inv-loop μ-loop
 same-length c = search needs

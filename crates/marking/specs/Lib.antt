@@ -1,0 +1,2 @@
+-- The states of the table's records.
+pub mod States
