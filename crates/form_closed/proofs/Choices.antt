@@ -21,7 +21,8 @@ use Rattle.session_memory.specs.declared.Keep.{Keep}
 use Rattle.session_memory.proofs.Laws.{held-five}
 use Rattle.our_turn.specs.Turn.{chooseOf}
 use Rattle.our_answer.specs.Answers.{shelfOf, answersOf}
-use Rattle.entries.specs.Decoded.{recordCount, recordsOf, statesOf, headsOf, proposalsOf, placeCount}
+use Rattle.entries.specs.Decoded.{recordCount, recordsOf, headsOf, proposalsOf, placeCount}
+use Rattle.marking.specs.States.{statesOf}
 use Rattle.entries.proofs.Laws.{entries-length}
 use Rattle.form_test.specs.Form.{pluses}
 use Rattle.form_closed.specs.Facts.{Octets, FiveOk}

@@ -15,7 +15,7 @@ use Rattle.grammar.specs.Transfers.{partOf}
 use Rattle.grammar.proofs.Basics.{and2, both, all-append, all-replicate, octet}
 use Rattle.buffer.specs.Put.{putBytes, cut}
 use Rattle.buffer.specs.declared.Cursor.{Cursor}
-use Rattle.places.specs.Places.{entryLen, recordLen}
+use Rattle.places.specs.Places.{entryLen}
 use Rattle.layout.specs.Layout.{le2, le4, le8, entryAt, entrySize, bodyLength, fieldOut}
 use Rattle.layout.proofs.Places.{entry-written, entry-kept}
 use Rattle.session_memory.specs.State.{at, held, fiveOf}
@@ -23,7 +23,8 @@ use Rattle.session_memory.specs.declared.Five.{Five}
 use Rattle.session_memory.proofs.Laws.{five-length}
 use Rattle.line_effect.specs.Judge.{plusFrom, nextAccepted, picked, flagged}
 use Rattle.form_test.specs.Form.{usedFrom, usedBy, pluses}
-use Rattle.receive_defined.specs.Receiving.{markAll}
+use Rattle.marking.specs.States.{setState, markAll}
+use Rattle.marking.proofs.States.{state-all}
 use Rattle.form_closed.specs.Facts.{Octets, FiveOk}
 
 -- ---------------------------------------------------------------- bytes stay bytes
@@ -92,7 +93,7 @@ octets-field n w o = octets-cons (omega arith) (octets-take n (w ++ replicate n 
 
 pub mark-octets : (is : List ℕ) (v : ℕ) (table : Bytes) → v < 256 → Octets table → Octets (markAll is v table)
 mark-octets [] v table h o = o
-mark-octets (i ∷ is) v table h o = mark-octets is v (set table (i * recordLen) v) h (octets-set table (i * recordLen) v h o)
+mark-octets (i ∷ is) v table h o = mark-octets is v (setState table i v) h (record { each = state-all octet table i v (lt-ltb v 256 h) (o .each) })
 
 pub flag-octets : (is : List ℕ) (flags : Bytes) → Octets flags → Octets (flagged is flags)
 flag-octets [] flags o = o
@@ -106,10 +107,6 @@ picked-octets c (x ∷ xs) (s ∷ ss) o = go (eqb s c) (picked-octets c xs ss (o
     go : (t : Bool) → Octets (picked c xs ss) → Octets (cond t (x ∷ picked c xs ss) (picked c xs ss))
     go true k = octets-cons (octets-first o) k
     go false k = k
-
-pub length-mark : (is : List ℕ) (v : ℕ) (t : Bytes) → length (markAll is v t) ≡ length t
-length-mark [] v t = refl
-length-mark (i ∷ is) v t = length-mark is v (set t (i * recordLen) v) ∙ length-set t (i * recordLen) v
 
 pub length-flagged : (is : List ℕ) (fl : List ℕ) → length (flagged is fl) ≡ length fl
 length-flagged [] fl = refl

@@ -19,9 +19,11 @@ use Rattle.our_turn.specs.Turn.{spoken, speakOf}
 use Rattle.line_effect.specs.Judged.{Judged}
 use Rattle.our_turn.specs.Turn.{Spoken}
 use Rattle.pending.specs.Pending.{waits}
-use Rattle.receive_defined.specs.Receiving.{cs, markAll, refusedOf, settledOf, spokenOf, Settled, settled, settleOf}
+use Rattle.receive_defined.specs.Receiving.{cs, refusedOf, settledOf, spokenOf, Settled, settled, settleOf}
+use Rattle.marking.specs.States.{markAll}
 use Rattle.form_closed.specs.Fixed.{Fixed}
-use Rattle.form_closed.proofs.Laws.{mark-octets, length-mark}
+use Rattle.form_closed.proofs.Laws.{mark-octets}
+use Rattle.marking.proofs.States.{length-mark}
 use Rattle.form_closed.proofs.Waiting.{waiting-some}
 use Rattle.form_closed.specs.Facts.{AwaitOk, SayOk, KeepOk, ReaderOk, HeadingOk, LineOk, Box, Awaited, Lent, Good}
 use Rattle.form_closed.proofs.Choices.{choose-ok}

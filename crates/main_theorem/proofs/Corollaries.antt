@@ -8,7 +8,7 @@ use Rattle.mail.specs.Mail.{Message}
 use Rattle.layout.specs.Layout.{stateOf}
 use Rattle.entries.specs.Decoded.{recordCount}
 use Rattle.represents.specs.Represents.{messagesOf}
-use Rattle.represents.specs.Frame.{StatesOnly}
+use Rattle.marking.specs.States.{StatesOnly}
 use Rattle.main_theorem.specs.Calls.{Memory, messageCount}
 use Rattle.main_theorem.specs.Demand3.{openedBy, CallsOn, finally}
 use Rattle.main_theorem.specs.Deeds.{wasForwarded, wasDeclined, messagesBrought, weAccepted, BroughtFor, AsAccepted}

@@ -12,7 +12,7 @@ use Rattle.demand2.specs.Reached.{Reached, atOpen}
 use Rattle.demand2.specs.Reached as reached
 use Rattle.demand2.proofs.Reached.{reached-portion}
 use Rattle.demand3.specs.Demand as on-lists-run
-use Rattle.entries.specs.Decoded.{statesOf}
+use Rattle.marking.specs.States.{statesOf}
 use Rattle.main_theorem.specs.Calls.{Lent, Buffer, Memory, fixedIn, lentIn, sizesOf, received, given}
 use Rattle.main_theorem.specs.Demand3.{CallsOn, openedBy, finally}
 use Rattle.main_theorem.specs.Demand2.{callOf, shelfIn, Claim2}

@@ -15,16 +15,16 @@ use Rattle.log.specs.Log.{Event, log}
 use Rattle.demand3.specs.Demand as on-lists-run
 use Rattle.demand3.proofs.Demand.{demand-3}
 use Rattle.places.specs.Places.{entryLen}
-use Rattle.entries.specs.Decoded.{statesOf}
+use Rattle.marking.specs.States.{statesOf}
 use Rattle.form_test.specs.Form.{formOf}
 use Rattle.represents.specs.Laid.{entriesBytes, bodiesBytes}
 use Rattle.form_closed.specs.Fixed.{Fixed}
 use Rattle.represents.specs.Represents.{messagesOf}
-use Rattle.represents.specs.Frame.{withStates}
+use Rattle.marking.specs.States.{withStates}
 use Rattle.main_theorem.specs.Demand2.{callOf}
 use Rattle.main_theorem.specs.Calls.{Lent, Memory, fixedIn, lentIn, sizesOf, messageCount, received, given, withSession, run}
 use Rattle.main_theorem.specs.Demand3.{openedBy, CallsOn, finally, logged, Claim}
-use Rattle.represents.proofs.Frame.{with-law}
+use Rattle.marking.proofs.States.{with-law}
 use Rattle.form_closed.proofs.Answers.{receive-exactly, give-exactly}
 use Rattle.main_theorem.proofs.Opening.{freshCs, shelfOf, accepted, OpenedAs, open-law}
 use Rattle.form_closed.proofs.Closed.{receive-one, give-one}

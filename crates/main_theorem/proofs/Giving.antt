@@ -30,7 +30,7 @@ use Rattle.form_closed.specs.Fixed.{Fixed}
 use Rattle.represents.specs.Represents.{Says, Awaits, Represents}
 use Rattle.represents.specs.Frame.{Spared}
 use Rattle.main_theorem.specs.Calls.{Lent, withSession, given}
-use Rattle.represents.proofs.Frame.{only-same}
+use Rattle.marking.proofs.States.{only-same}
 use Rattle.represents.proofs.Byte.{waits-law, over-law}
 use Rattle.main_theorem.proofs.Held.{csOf, Held, saved-held, held-good}
 use Rattle.represents.proofs.Parts.{represents, holds-of}

@@ -12,19 +12,20 @@ use Rattle.demand3.specs.Demand as on-lists-run
 use Rattle.demand3.specs.Demand.{Good}
 use Rattle.places.specs.Places.{recordLen}
 use Rattle.layout.specs.Layout.{stateOf}
-use Rattle.entries.specs.Decoded.{recordCount, statesOf}
+use Rattle.entries.specs.Decoded.{recordCount}
+use Rattle.marking.specs.States.{statesOf}
 use Rattle.form_closed.specs.Fixed.{Fixed}
 use Rattle.main_theorem.specs.Calls.{Lent, fixedIn, lentIn}
 use Rattle.main_theorem.specs.Demand3.{finally, traced, logged}
 use Rattle.main_theorem.specs.Deeds.{deeds, Fate, messagesBrought, AsAccepted}
 use Rattle.main_theorem.specs.InWords.{done, ClaimInWords}
-use Rattle.represents.proofs.Table.{Whole}
+use Rattle.marking.proofs.States.{Whole}
 use Rattle.main_theorem.proofs.Opening.{shelfOf, accepted}
 use Rattle.main_theorem.specs.Demand2.{callOf}
 use Rattle.main_theorem.proofs.Demand3.{open-as, ran, states-logged, inbox-logged}
 use Rattle.main_theorem.proofs.Deeds.{accepted-law, brought-law}
 use Rattle.main_theorem.proofs.Fates.{fates, messages}
-use Rattle.represents.proofs.Frame.{states-length, state-at}
+use Rattle.marking.proofs.States.{states-length, state-at}
 
 pub in-words : ClaimInWords
 in-words role M e cs =

@@ -16,7 +16,8 @@ use Rattle.places.specs.Places.{entryLen, knownLen, recordLen, sessionLen}
 use Rattle.session_memory.specs.State.{sessionSize, loadOf, saveOf, saveSizes, freshOf}
 use Rattle.session_memory.specs.declared.Session.{Session}
 use Rattle.session_memory.proofs.Laws.{Sized, load-save, load-sizes, sizes-length, save-sizes-kept, fresh-shaped}
-use Rattle.entries.specs.Decoded.{recordsOf, statesOf, knownBids, placeCount, recordCount}
+use Rattle.entries.specs.Decoded.{recordsOf, knownBids, placeCount, recordCount}
+use Rattle.marking.specs.States.{statesOf}
 use Rattle.waiting.specs.Waiting.{waitingOf, firstText, thenText}
 use Rattle.pending.specs.Pending.{waits}
 use Rattle.form_test.specs.Form.{usedBy}

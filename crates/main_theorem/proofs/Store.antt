@@ -7,7 +7,7 @@ use lib.Dec.{eqb}
 use Rattle.session.specs.Choices.{Shelf}
 use Rattle.session.specs.Session as on-lists
 use Rattle.demand2.specs.Reached.{atOpen}
-use Rattle.entries.specs.Decoded.{statesOf}
+use Rattle.marking.specs.States.{statesOf}
 use Rattle.form_closed.specs.Fixed.{Fixed}
 use Rattle.main_theorem.specs.Demand2.{callOf, shelfIn}
 use Rattle.main_theorem.specs.Calls.{fixedIn, lentIn, sizesOf, withSession}

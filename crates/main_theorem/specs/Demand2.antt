@@ -15,7 +15,8 @@ use Rattle.demand2.specs.Reached.{Reached}
 use Rattle.demand2.specs.ReadBack.{ReadsBack}
 use Rattle.demand3.specs.Demand as on-lists-run
 use Rattle.buffer.specs.Put.{wrote}
-use Rattle.entries.specs.Decoded.{recordCount, recordsOf, statesOf, knownBids, placeCount}
+use Rattle.entries.specs.Decoded.{recordCount, recordsOf, knownBids, placeCount}
+use Rattle.marking.specs.States.{statesOf}
 use Rattle.represents.specs.Represents.{messagesOf}
 use Rattle.main_theorem.specs.Calls.{Buffer, Memory, fixedIn, messageCount, received, given, Call, receives, gives, receivesOther, givesOther}
 use Rattle.main_theorem.specs.Demand3.{openedBy, CallsOn, finally}

@@ -6,13 +6,14 @@ use lib.Dec.{eqb}
 use lib.ListN.{length, take, drop}
 use Rattle.log.specs.Log.{Event, Log, log}
 use Rattle.layout.specs.Layout.{entrySize}
-use Rattle.entries.specs.Decoded.{recordsOf, statesOf}
+use Rattle.entries.specs.Decoded.{recordsOf}
+use Rattle.marking.specs.States.{statesOf}
 use Rattle.grammar.specs.Refusals.{badMemory}
 use Rattle.give.specs.Giving.{reply}
 use Rattle.open.specs.Opening.{Opened}
 use Rattle.receive_defined.specs.Receiving.{unchanged}
 use Rattle.represents.specs.Laid.{entriesBytes, bodiesBytes}
-use Rattle.represents.specs.Frame.{withStates}
+use Rattle.marking.specs.States.{withStates}
 use Rattle.main_theorem.specs.Calls.{Lent, Buffer, Memory, fixedIn, lentIn, Other, Call, openedOn, received, given, sizesOf, messageCount, storeReach, withSession, instead, run}
 
 -- "Take an accepted open"

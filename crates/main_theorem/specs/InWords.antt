@@ -4,9 +4,10 @@ use mathlib.Core.List.{List, []}
 use Prim.Native.Nat.{ℕ, _<_}
 use lib.Dec.{eqb}
 use Rattle.layout.specs.Layout.{stateOf}
-use Rattle.entries.specs.Decoded.{recordCount, recordsOf, statesOf}
+use Rattle.entries.specs.Decoded.{recordCount, recordsOf}
+use Rattle.marking.specs.States.{statesOf}
 use Rattle.represents.specs.Represents.{messagesOf}
-use Rattle.represents.specs.Frame.{StatesOnly}
+use Rattle.marking.specs.States.{StatesOnly}
 use Rattle.main_theorem.specs.Calls.{Memory, messageCount}
 use Rattle.main_theorem.specs.Demand3.{openedBy, CallsOn, finally, traced}
 use Rattle.main_theorem.specs.Deeds.{Deed, deeds, Fate, messagesBrought, weAccepted, BroughtFor, AsAccepted}

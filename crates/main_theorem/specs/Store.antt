@@ -13,7 +13,7 @@ use Rattle.session.specs.Session.{Phase, aLine, awaitsTransfer, leaving, over, 
 use Rattle.session.specs.Calls.{stops, receive, give}
 use Rattle.demand2.specs.Reached.{Reached}
 use Rattle.demand3.specs.Demand as on-lists-run
-use Rattle.entries.specs.Decoded.{statesOf}
+use Rattle.marking.specs.States.{statesOf}
 use Rattle.represents.specs.Laid.{bodiesBytes}
 use Rattle.represents.specs.Represents.{messagesOf}
 use Rattle.main_theorem.specs.Demand2.{callOf, shelfIn}

@@ -29,7 +29,8 @@ use Rattle.session_memory.proofs.Laws.{held-five}
 use Rattle.line_effect.specs.Judge.{refusal, toTurn, saysThen, picked, flagged, sends, transfersAfter, answerTaken, answerLine}
 use Rattle.line_effect.specs.Judged.{Judged}
 use Rattle.waiting.specs.Waiting.{firstText, thenText, sendingText}
-use Rattle.receive_defined.specs.Receiving.{cs, markAll}
+use Rattle.receive_defined.specs.Receiving.{cs}
+use Rattle.marking.specs.States.{markAll}
 use Rattle.form_closed.specs.Fixed.{Fixed}
 use Rattle.represents.specs.Represents.{Represents}
 use Rattle.represents.proofs.Table.{picked-accepted, zerosAfter}

@@ -25,7 +25,7 @@ use Rattle.form_closed.specs.Fixed.{Fixed}
 use Rattle.represents.specs.Represents.{Says, lineNumber, Awaits, Represents}
 use Rattle.represents.specs.Frame.{reachOf, Spared}
 use Rattle.represents.specs.Link.{Moving, Receiving}
-use Rattle.represents.proofs.Frame.{only-same, only-then}
+use Rattle.marking.proofs.States.{only-same, only-then}
 use Rattle.represents.proofs.Says.{first-nothing, then-nothing}
 use Rattle.form_closed.proofs.Waiting.{waits-none}
 use Rattle.represents.proofs.Parts.{holds-of, represents, refuse-law}

@@ -11,7 +11,8 @@ use Rattle.grammar.specs.Answers.{Sign, writeSign}
 use Rattle.mail.specs.Mail.{Message}
 use Rattle.session.specs.Choices.{Shelf, chosen, recordBids, messageBids, bodyBytes, answersTo}
 use Rattle.layout.specs.Layout.{entryAt, entrySize, messageOf}
-use Rattle.entries.specs.Decoded.{entriesFrom, recordCount, recordsOf, statesOf, knownBids, headsOf, proposalsOf, placeCount}
+use Rattle.entries.specs.Decoded.{entriesFrom, recordCount, recordsOf, knownBids, headsOf, proposalsOf, placeCount}
+use Rattle.marking.specs.States.{statesOf}
 use Rattle.our_turn.specs.Turn.{chooseOf}
 use Rattle.our_answer.specs.Answers.{shelfOf, answersOf}
 use Rattle.our_turn.proofs.Block.{chosen-stores}

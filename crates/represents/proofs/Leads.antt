@@ -18,11 +18,12 @@ use Rattle.line_effect.specs.Judge.{judged}
 use Rattle.our_turn.specs.Turn.{speakOf}
 use Rattle.line_effect.specs.Judged.{Judged}
 use Rattle.line_effect.specs.declared.Marks.{Marks}
-use Rattle.receive_defined.specs.Receiving.{cs, markAll, settledOf, spokenOf, Settled, settled, settleOf, refusedOf}
+use Rattle.receive_defined.specs.Receiving.{cs, settledOf, spokenOf, Settled, settled, settleOf, refusedOf}
+use Rattle.marking.specs.States.{markAll}
 use Rattle.form_closed.specs.Fixed.{Fixed}
 use Rattle.represents.specs.Represents.{Represents}
-use Rattle.represents.specs.Frame.{StatesOnly}
-use Rattle.represents.proofs.Frame.{only-same, only-mark}
+use Rattle.marking.specs.States.{StatesOnly}
+use Rattle.marking.proofs.States.{only-same, only-mark}
 use Rattle.represents.proofs.Settle.{after, Settles}
 
 -- a whole line or transfer settled as the session on lists has it, so many messages kept and bytes used then

@@ -46,7 +46,8 @@ use Rattle.line_effect.specs.Judged.{Judged}
 use Rattle.line_effect.specs.declared.Marks.{Marks}
 use Rattle.waiting.specs.Waiting.{firstText, thenText}
 use Rattle.pending.specs.Pending.{waits}
-use Rattle.receive_defined.specs.Receiving.{cs, unsaid, markAll}
+use Rattle.receive_defined.specs.Receiving.{cs, unsaid}
+use Rattle.marking.specs.States.{markAll}
 use Rattle.form_closed.specs.Fixed.{Fixed}
 use Rattle.represents.specs.Represents.{Awaits, signsIn, Entries}
 use Rattle.represents.proofs.Choices.{answers-law}

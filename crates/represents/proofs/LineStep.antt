@@ -30,7 +30,7 @@ use Rattle.form_closed.specs.Fixed.{Fixed}
 use Rattle.represents.specs.Represents.{Says, lineNumber, Awaits, Represents}
 use Rattle.form_closed.proofs.Waiting.{waits-none}
 use Rattle.represents.proofs.Parts.{Ready, holds-of, represents, refuse-law}
-use Rattle.represents.proofs.Frame.{only-same}
+use Rattle.marking.proofs.States.{only-same}
 use Rattle.represents.proofs.Leads.{Settling, Leads, settle-law}
 use Rattle.represents.proofs.Line.{went-on, sid-law, text-law, turn-law}
 use Rattle.represents.proofs.Answer.{fs-law}

@@ -20,11 +20,3 @@ module _ {A : Type 0} (f : Bytes → A) (size : ℕ) (s : Bytes) where
   -- one entry more
   pub entries-snoc : (n : ℕ) → entries f size s (suc n) ≡ entries f size s n ++ (f (entryAt size s n) ∷ [])
   entries-snoc n = from-snoc 0 n ∙ ap (λ (k : ℕ). entriesFrom f size s 0 n ++ (f (entryAt size s k) ∷ [])) (zero-add n)
-
--- what two readings make of each entry is the same
-pub entries-same : {A : Type 0} (f g : Bytes → A) (size : ℕ) (s t : Bytes) (i n : ℕ)
-    → ((j : ℕ) → j < i + n → f (entryAt size s j) ≡ g (entryAt size t j)) → entriesFrom f size s i n ≡ entriesFrom g size t i n
-entries-same f g size s t i zero h = refl
-entries-same {A} f g size s t i (suc n) h =
-    ap (λ (a : A). a ∷ entriesFrom f size s (suc i) n) (h i (omega arith))
-    ∙ ap (λ (l : List A). g (entryAt size t i) ∷ l) (entries-same f g size s t (suc i) n (λ j k. h j (omega arith)))

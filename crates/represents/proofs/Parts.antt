@@ -16,13 +16,14 @@ use Rattle.session_memory.specs.declared.Five.{Five}
 use Rattle.session_memory.specs.declared.Await.{Await}
 use Rattle.session_memory.specs.declared.Say.{Say}
 use Rattle.session_memory.specs.declared.Keep.{Keep}
-use Rattle.entries.specs.Decoded.{recordsOf, statesOf, knownBids, placeCount}
+use Rattle.entries.specs.Decoded.{recordsOf, knownBids, placeCount}
+use Rattle.marking.specs.States.{statesOf}
 use Rattle.waiting.specs.Waiting.{waitingOf, firstText, thenText}
 use Rattle.pending.specs.Pending.{waits}
 use Rattle.receive_defined.specs.Receiving.{Cs, cs, refusedOf}
 use Rattle.form_closed.specs.Fixed.{Fixed}
 use Rattle.represents.specs.Represents.{Says, Awaits, Represents, Entries}
-use Rattle.represents.proofs.Table.{Whole}
+use Rattle.marking.proofs.States.{Whole}
 use Rattle.represents.proofs.Inbox.{Box}
 use Rattle.form_closed.specs.Facts.{AwaitOk}
 

@@ -34,7 +34,8 @@ use Rattle.session_memory.specs.declared.Five.{Five}
 use Rattle.represents.specs.Represents.{Written, Entries, signsIn}
 use Rattle.form_closed.specs.Facts.{FiveOk}
 use Rattle.form_closed.proofs.Laws.{held-length}
-use Rattle.represents.proofs.Lists.{entries-same, entries-snoc}
+use Rattle.entries.proofs.Laws.{entries-same}
+use Rattle.represents.proofs.Lists.{entries-snoc}
 use Rattle.form_test.specs.Form.{pluses}
 
 -- ---------------------------------------------------------------- a proposal as read fits its entry

@@ -14,7 +14,8 @@ use Rattle.session_memory.specs.declared.Five.{Five}
 use Rattle.session_memory.specs.declared.Say.{Say}
 use Rattle.waiting.specs.Waiting.{proposalAt, blockText, sendingText, firstText, thenText}
 use Rattle.pending.specs.Pending.{waits}
-use Rattle.represents.proofs.Table.{Whole, record-at}
+use Rattle.marking.proofs.States.{Whole}
+use Rattle.represents.proofs.Table.{record-at}
 use Rattle.form_closed.proofs.Waiting.{some-transfer}
 
 -- ---------------------------------------------------------------- nothing

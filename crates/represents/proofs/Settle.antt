@@ -20,17 +20,20 @@ use Rattle.session_memory.specs.declared.Say.{Say}
 use Rattle.session_memory.specs.declared.Keep.{Keep}
 use Rattle.session_memory.specs.declared.Session.{Session}
 use Rattle.session_memory.proofs.Laws.{held-five}
-use Rattle.entries.specs.Decoded.{statesOf, proposalsOf}
+use Rattle.marking.specs.States.{statesOf}
+use Rattle.entries.specs.Decoded.{proposalsOf}
 use Rattle.our_turn.specs.Turn.{chooseOf}
 use Rattle.line_effect.specs.Judge.{picked, flagged, settledKeep, sends, inPhase, toTurn, toAnswer, saysThen}
 use Rattle.our_turn.specs.Turn.{spoken, speaking, speakOf}
 use Rattle.line_effect.specs.Judge as judge
 use Rattle.our_turn.specs.Turn.{Spoken}
 use Rattle.waiting.specs.Waiting.{waitingOf, firstText, thenText, blockText}
-use Rattle.receive_defined.specs.Receiving.{cs, unsaid, markAll}
+use Rattle.receive_defined.specs.Receiving.{cs, unsaid}
+use Rattle.marking.specs.States.{markAll}
 use Rattle.form_closed.specs.Fixed.{Fixed}
 use Rattle.represents.specs.Represents.{Awaits, Represents, Entries}
-use Rattle.represents.proofs.Table.{records-mark, whole-mark, states-marked, states-declined, picked-accepted, flags-deferred, zerosAfter}
+use Rattle.marking.proofs.States.{records-mark, whole-mark, states-marked}
+use Rattle.represents.proofs.Table.{states-declined, picked-accepted, flags-deferred, zerosAfter}
 use Rattle.represents.proofs.Choices.{choose-law}
 use Rattle.represents.proofs.Says.{block-text}
 use Rattle.represents.proofs.Parts.{Lies, Holds, represents, no-entries}

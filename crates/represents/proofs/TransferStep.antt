@@ -25,7 +25,7 @@ use Rattle.form_closed.specs.Fixed.{Fixed}
 use Rattle.represents.specs.Represents.{Awaits, Represents}
 use Rattle.represents.specs.Frame.{reachOf}
 use Rattle.represents.specs.Link.{Moving}
-use Rattle.represents.proofs.Frame.{only-same}
+use Rattle.marking.proofs.States.{only-same}
 use Rattle.represents.proofs.Transfer.{afterOne, one-fed, behind, behind′, store′, s′, stepped, store-kept, room-law, goes-on, refused-here}
 use Rattle.represents.proofs.Keep.{keep-law, inbox-kept}
 use Rattle.form_closed.specs.Facts.{Good}

@@ -1,33 +1,12 @@
 -- What a receive leaves alone of the lent bytes.
-use mathlib.Core.Path.{_≡_}
 use mathlib.Core.Bool.{cond}
-use mathlib.Core.List.{List, [], _∷_}
-use Prim.Native.Nat.{ℕ, suc, _+_, _*_, _%_}
+use Prim.Native.Nat.{ℕ, _+_, _*_}
 use lib.Dec.{eqb, ltb}
-use lib.ListN.{length, set}
-use Rattle.grammar.specs.Bytes.{Bytes}
-use Rattle.layout.specs.Layout.{byteAt, recordSize, entrySize}
+use Rattle.layout.specs.Layout.{entrySize}
 use Rattle.transfer_read.specs.Meaning.{Kept}
 use Rattle.session_memory.specs.declared.Session.{Session}
+use Rattle.marking.specs.States.{StatesOnly}
 use Rattle.receive_defined.specs.Receiving.{Cs}
-
--- ---------------------------------------------------------------- the table
-
--- The table with these states, from the record at place i on.
-abbrev pub withStatesFrom : ℕ → List ℕ → Bytes → Bytes
-withStatesFrom i [] table = table
-withStatesFrom i (v ∷ vs) table = withStatesFrom (suc i) vs (set table (i * recordSize) v)
-
--- "the table is as open found it but with the log's states"
-unfoldable pub withStates : List ℕ → Bytes → Bytes
-withStates states table = withStatesFrom 0 states table
-
--- Of two tables: only the state byte, the first of each record, may differ.
-pub record StatesOnly (was is : Bytes) : Type 0 where
-  pub size : length is ≡ length was
-  pub bytes : (i : ℕ) → (i % recordSize ≡ 0 → ⊥) → byteAt is i ≡ byteAt was i
-
--- ---------------------------------------------------------------- inbox and store
 
 -- How far the inbox store is written: kept messages, then "the body bytes received so far of the message under way, or of one that
 -- failed" (phase 5, or the session is over).

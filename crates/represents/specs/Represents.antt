@@ -20,7 +20,8 @@ use Rattle.transfer_read.specs.Meaning.{Stands}
 use Rattle.session_memory.specs.State.{held}
 use Rattle.session_memory.specs.declared.Await.{Await}
 use Rattle.session_memory.specs.declared.Session.{Session}
-use Rattle.entries.specs.Decoded.{recordsOf, statesOf, knownBids, proposalsOf, placeCount, recordCount}
+use Rattle.entries.specs.Decoded.{recordsOf, knownBids, proposalsOf, placeCount, recordCount}
+use Rattle.marking.specs.States.{statesOf}
 use Rattle.waiting.specs.Waiting.{waitingOf}
 use Rattle.pending.specs.Pending.{waits}
 use Rattle.receive_defined.specs.Receiving.{Cs}

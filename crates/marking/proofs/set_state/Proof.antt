@@ -4,6 +4,7 @@ use Prim.Native.Nat.{_*_}
 use lib.Seq.{set-out}
 use Rattle.marking.specs.States.{setState}
 use borrow.Author.Needs.{needs}
+use Rattle.places.specs.Places.{recordLen}
 use Rattle.marking.proofs.set_state.Statement.{statement}
 use Rattle.marking.proofs.set_state.Tie as tie
 
@@ -15,7 +16,7 @@ mul-at c = search needs
 
 returns : tie.Need-returns
 unfolding setState
-returns c = sym (set-out (c .before .args .table .now) (c .before .args .i * 89) (c .before .args .state) (c .if1 .taken))
+returns c = sym (set-out (c .before .args .table .now) (c .before .args .i * recordLen) (c .before .args .state) (c .if1 .taken))
 
 slice-write-table : tie.Need-slice-write-table
 slice-write-table c = search needs
