@@ -8,6 +8,7 @@ use native.Mathlib.Numerals.{add-one}
 use lib.ListN.{length, getD}
 use Rattle.grammar.specs.Bytes.{Bytes}
 use Rattle.session.specs.Choices.{recordBids, messageBids, bodyBytes}
+use Rattle.places.specs.Places.{bidAt, bidMax, recordBid}
 use Rattle.layout.specs.Layout.{fieldIn, entryAt, recordOf, messageOf, recordSize, entrySize}
 use Rattle.entries.specs.Decoded.{entriesFrom, entries}
 
@@ -48,13 +49,13 @@ entries-same {A} f g size s t i (suc n) h =
     ∙ ap (λ (l : List A). g (entryAt size t i) ∷ l) (entries-same f g size s t (suc i) n (λ j k. h j (omega arith)))
 
 -- BIDs of entries are a field of them
-pub record-bids : (s : Bytes) (i n : ℕ) → recordBids (entriesFrom (recordOf [] [] []) recordSize s i n) ≡ entriesFrom (fieldIn 12 56) recordSize s i n
+pub record-bids : (s : Bytes) (i n : ℕ) → recordBids (entriesFrom (recordOf [] [] []) recordSize s i n) ≡ entriesFrom (fieldIn bidMax recordBid) recordSize s i n
 record-bids s i zero = refl
-record-bids s i (suc n) = ap (λ (l : List Bytes). fieldIn 12 56 (entryAt recordSize s i) ∷ l) (record-bids s (suc i) n)
+record-bids s i (suc n) = ap (λ (l : List Bytes). fieldIn bidMax recordBid (entryAt recordSize s i) ∷ l) (record-bids s (suc i) n)
 
-pub message-bids : (s : Bytes) (i n : ℕ) → messageBids (entriesFrom (λ (c : Bytes). messageOf c []) entrySize s i n) ≡ entriesFrom (fieldIn 12 55) entrySize s i n
+pub message-bids : (s : Bytes) (i n : ℕ) → messageBids (entriesFrom (λ (c : Bytes). messageOf c []) entrySize s i n) ≡ entriesFrom (fieldIn bidMax bidAt) entrySize s i n
 message-bids s i zero = refl
-message-bids s i (suc n) = ap (λ (l : List Bytes). fieldIn 12 55 (entryAt entrySize s i) ∷ l) (message-bids s (suc i) n)
+message-bids s i (suc n) = ap (λ (l : List Bytes). fieldIn bidMax bidAt (entryAt entrySize s i) ∷ l) (message-bids s (suc i) n)
 
 -- bodies are left out
 pub no-bodies : (s : Bytes) (i n : ℕ) → bodyBytes (entriesFrom (λ (c : Bytes). messageOf c []) entrySize s i n) ≡ 0

@@ -15,6 +15,7 @@ use Rattle.grammar.specs.Answers.{Sign, accept, decline, defer, writeSign}
 use Rattle.grammar.proofs.Basics.{or2}
 use Rattle.mail.specs.Mail.{Message}
 use Rattle.session.specs.Choices.{Shelf, among, recordBids, messageBids, proposalBids, bodyBytes, announced, haveBid, noRoomFor, signFor, withAccepted, answersAfter, answersTo}
+use Rattle.places.specs.Places.{bidAt, bidMax, proposalSizeAt, recordBid}
 use Rattle.layout.specs.Layout.{le4At, fieldIn, entryAt, recordOf, proposalOf, messageOf, recordSize, knownSize, entrySize, proposalSize}
 use Rattle.session_memory.specs.State.{held, fiveOf}
 use Rattle.session_memory.specs.declared.Five.{Five}
@@ -34,13 +35,13 @@ module _ (table known inbox bid : Bytes) (kept : ℕ) (acc : List Proposal) wher
   has = haveBid (shelfOf table known inbox 0) (headsOf inbox kept) acc bid
 
   abbrev inTable : ℕ → Bool
-  inTable n = among bid (entries (fieldIn 12 56) recordSize table n)
+  inTable n = among bid (entries (fieldIn bidMax recordBid) recordSize table n)
 
   abbrev inKnown : ℕ → Bool
-  inKnown n = among bid (entries (fieldIn 12 0) knownSize known n)
+  inKnown n = among bid (entries (fieldIn bidMax 0) knownSize known n)
 
   abbrev inInbox : Bool
-  inInbox = among bid (entries (fieldIn 12 55) entrySize inbox kept)
+  inInbox = among bid (entries (fieldIn bidMax bidAt) entrySize inbox kept)
 
   has-is : has ≡ (inTable (recordCount table) || (inKnown (knownCount known) || (inInbox || among bid (proposalBids acc))))
   unfolding recordsOf knownBids headsOf
@@ -77,7 +78,7 @@ room-is table known inbox block kept free size p a =
 
 -- the sign by what is known of the BID and of the room
 module _ (table known inbox block : Bytes) (kept free i : ℕ) (p : Promised) {c bid : Bytes} {size places : ℕ} {h f : Bool} (a : Promises block free p)
-    (ec : c ≡ entryAt proposalSize block i) (eb : bid ≡ fieldIn 12 55 c) (es : size ≡ le4At c 68)
+    (ec : c ≡ entryAt proposalSize block i) (eb : bid ≡ fieldIn bidMax bidAt c) (es : size ≡ le4At c proposalSizeAt)
     (eh : h ≡ haveBid (shelfOf table known inbox 0) (headsOf inbox kept) (promisedIn block p) bid)
     (ep : places ≡ placeCount inbox) (ef : f ≡ noRoomBy size free places kept p) where
   abbrev signed : ℕ
@@ -179,9 +180,9 @@ module _ (table known inbox block : Bytes) (kept free n : ℕ) where
         }
 
     -- what is accepted fits into the store beside what is promised
-    pub accepted-fits : sign ≡ 43 → p .bytes + le4At (entryAt proposalSize block i) 68 ≤ free
+    pub accepted-fits : sign ≡ 43 → p .bytes + le4At (entryAt proposalSize block i) proposalSizeAt ≤ free
     accepted-fits a =
-        let size = le4At (entryAt proposalSize block i) 68 in
+        let size = le4At (entryAt proposalSize block i) proposalSizeAt in
         let r = accept-room (haveBid (shelfOf table known inbox free) (headsOf inbox kept) (promisedIn block p) (at i .bid))
         (noRoomFor (shelfOf table known inbox free) (headsOf inbox kept) (promisedIn block p) size) (sym s ∙ a) in
         let b = sym (room-is table known inbox block kept free size p (c .promises)) ∙ r in
@@ -190,7 +191,7 @@ module _ (table known inbox block : Bytes) (kept free n : ℕ) where
         omega (arith, ltb-false (free - p .bytes) size (d .0), c .promises .room)
 
     pub answering-accepted : {f : Five} {q : Promised} → sign ≡ 43 → f ≡ fiveOf (held signs ++ (sign ∷ [])) → q .places ≡ fiveOf (held (p .places) ++ (i ∷ []))
-        → q .bytes ≡ p .bytes + le4At (entryAt proposalSize block i) 68 → i < 5 → Answering f q (i + 1)
+        → q .bytes ≡ p .bytes + le4At (entryAt proposalSize block i) proposalSizeAt → i < 5 → Answering f q (i + 1)
     answering-accepted {f} {q} a e d b l =
         let xs = held (p .places) ++ (i ∷ []) in
         let m : q .places .count ≡ p .places .count + 1 = five-next (q .places) (p .places) i (c .promises .filled) d in
@@ -243,4 +244,4 @@ pub bids-same : (titles names bodies table : Bytes) (i n : ℕ)
     → recordBids (entriesFrom (recordOf titles names bodies) recordSize table i n) ≡ recordBids (entriesFrom (recordOf [] [] []) recordSize table i n)
 bids-same titles names bodies table i zero = refl
 bids-same titles names bodies table i (suc n) =
-    ap (λ (l : List Bytes). fieldIn 12 56 (entryAt recordSize table i) ∷ l) (bids-same titles names bodies table (suc i) n)
+    ap (λ (l : List Bytes). fieldIn bidMax recordBid (entryAt recordSize table i) ∷ l) (bids-same titles names bodies table (suc i) n)

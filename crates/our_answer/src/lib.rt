@@ -16,6 +16,7 @@ ghost use Prim.Native.Nat.{_+_, _-_, _≤_, _<_};
 ghost use Rattle.grammar.specs.Bytes.{Bytes};
 ghost use Rattle.grammar.specs.Answers.{writeSign};
 ghost use Rattle.session.specs.Choices.{among, proposalBids, haveBid, signFor};
+ghost use Rattle.places.specs.Places.{proposalSizeAt};
 ghost use Rattle.layout.specs.Layout.{le4At, entryAt, proposalOf, proposalSize};
 ghost use Rattle.session_memory.specs.State.{held, fiveOf};
 ghost use Rattle.numbers.specs.Whole.{awaitOf, keepOf};
@@ -140,8 +141,8 @@ fn sign_for(
 
 // What is promised with the proposal at a place of the block.
 fn promise(p: Promised, block: &[u8], i: u16) -> Promised
-    requires { ⌜ (Filled (p .places)) × (p .places .count < 5) × (i < 256) × (p .bytes + le4At (entryAt proposalSize (now block) i) 68 < 18446744073709551616) ⌝ }
-    ensures { λ r. ⌜ (r .places ≡ fiveOf (held (p .places) ++ (i ∷ []))) × (r .bytes ≡ p .bytes + le4At (entryAt proposalSize (now (block .entry)) i) 68) ⌝ }
+    requires { ⌜ (Filled (p .places)) × (p .places .count < 5) × (i < 256) × (p .bytes + le4At (entryAt proposalSize (now block) i) proposalSizeAt < 18446744073709551616) ⌝ }
+    ensures { λ r. ⌜ (r .places ≡ fiveOf (held (p .places) ++ (i ∷ []))) × (r .bytes ≡ p .bytes + le4At (entryAt proposalSize (now (block .entry)) i) proposalSizeAt) ⌝ }
 {
     let size = number4(
         entry(places::PROPOSAL, block, i),

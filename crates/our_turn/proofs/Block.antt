@@ -14,6 +14,7 @@ use Rattle.grammar.specs.Fields.{plain, message, file}
 use Rattle.grammar.specs.Turns.{inMode, ourBlock}
 use Rattle.mail.specs.Mail.{Record, noRecord}
 use Rattle.session.specs.Choices.{wanted, candidates, sizeAt, chosen}
+use Rattle.places.specs.Places.{recordSizeAt}
 use Rattle.layout.specs.Layout.{byteAt, le4At, entryAt, recordOf, recordSize}
 use Rattle.layout.proofs.Laws.{le4-small}
 use Rattle.session_memory.specs.State.{held, fiveOf}
@@ -68,12 +69,12 @@ module _ (table : Bytes) (framed : Bool) (flags : List ℕ) (n : ℕ) where
   block-step i k b h e =
       rw (entries-more (recordOf [] [] []) recordSize table i n h, entries-at (λ (c : Bytes). byteAt c 0) recordSize table n i 0 h, e, add-one i)
 
-  block-next : (i k b : ℕ) → i < n → isWanted i ≡ true → blockFrom i k b ≡ addedOr i k b (le4At (entryAt recordSize table i) 69)
+  block-next : (i k b : ℕ) → i < n → isWanted i ≡ true → blockFrom i k b ≡ addedOr i k b (le4At (entryAt recordSize table i) recordSizeAt)
   block-next i k b h e =
       block-step i k b h e ∙ ap (λ (r : Record). addedOr i k b (r .size)) (entries-at (recordOf [] [] []) recordSize table n i noRecord h)
 
   pub block-more : (i k b : ℕ) → i < n → isWanted i ≡ true → k < 5 → b < 10240
-      → blockFrom i k b ≡ i ∷ blockFrom (i + 1) (k + 1) (b + le4At (entryAt recordSize table i) 69)
+      → blockFrom i k b ≡ i ∷ blockFrom (i + 1) (k + 1) (b + le4At (entryAt recordSize table i) recordSizeAt)
   block-more i k b h e l m = block-next i k b h e ∙ rw (lt-ltb k 5 l, lt-ltb b 10240 m)
 
   pub block-five : (i k b : ℕ) → i < n → isWanted i ≡ true → 5 ≤ k → blockFrom i k b ≡ []
@@ -125,7 +126,7 @@ module _ (table : Bytes) (framed : Bool) (flags : List ℕ) (n : ℕ) where
         }
 
     pub choosing-add : isWanted table framed flags n i ≡ true → places .count < 5 → total < 10240 → {f : Five} {size : ℕ} → f ≡ fiveOf (held places ++ (i ∷ []))
-        → size ≡ le4At (entryAt recordSize table i) 69 → size < 4294967296 → Choosing table framed flags n f (total + size) (i + 1)
+        → size ≡ le4At (entryAt recordSize table i) recordSizeAt → size < 4294967296 → Choosing table framed flags n f (total + size) (i + 1)
     choosing-add w k b {f} {size} e s m =
         let xs = held places ++ (i ∷ []) in
         let d : f .count ≡ places .count + 1 = five-next f places i (c .filled) e in

@@ -4,6 +4,7 @@ use Prim.Native.Nat.{_≤_, _-_}
 use native.Mathlib.Omega.{arith}
 use borrow.Author.Needs.{needs}
 use borrow.Author.Tests.{not-true, not-false}
+use Rattle.places.specs.Places.{recordSizeAt}
 use Rattle.our_turn.proofs.Block.{Choosing, choosing-none, choosing-pass, choosing-add, chosen-now, block-five, block-full, block-end, size-small}
 use Rattle.our_turn.proofs.choose.Statement.{statement}
 use Rattle.our_turn.proofs.choose.Tie as tie
@@ -57,7 +58,7 @@ number4-requires c κs = search needs
 
 add-sum : tie.Need-add-sum Inv-loop μ-loop
 add-sum c =
-    let h = size-small (c .before .before .before .before .before .before .before .before .before .before .before .args .table .now) (c .before .before .before .before .before .before .loop .i) 69 (λ k. omega (arith, c .before .before .before .before .before .before .before .before .before .before .shared-slice-known .given k)) in
+    let h = size-small (c .before .before .before .before .before .before .before .before .before .before .before .args .table .now) (c .before .before .before .before .before .before .loop .i) recordSizeAt (λ k. omega (arith, c .before .before .before .before .before .before .before .before .before .before .shared-slice-known .given k)) in
     rw (c .number4 .ensures, c .before .before .before .before .entry .ensures) (omega (arith, h))
 
 returns : tie.Need-returns Inv-loop μ-loop
@@ -90,7 +91,7 @@ loop-again-2 c = (
   choosing-add (c .before .before .before .before .before .before .before .before .before .before .before .before .before .before .before .args .table .now) (c .before .before .before .before .before .before .before .before .before .before .before .before .before .before .before .args .framed) (c .before .before .before .before .before .before .before .before .before .before .before .before .before .before .before .args .deferred .now) _ (c .before .before .before .before .before .before .before .before .before .before .loop .inv .1) (c .before .before .before .before .before .before .before .before .before .loop-test .taken)
       (rw (← c .before .before .before .before .before .before .before .before .entry .ensures, ← c .before .before .before .before .before .before .before .byte-at .ensures, ← c .before .before .before .before .before .before .wanted .ensures) (not-false _ (c .before .before .before .before .before .if1 .left)))
       (omega (arith, c .before .before .if2 .left)) (omega (arith, c .before .if3 .left)) (c .add .ensures) (rw (c .before .before .before .before .number4 .ensures, c .before .before .before .before .before .before .before .before .entry .ensures))
-      (rw (c .before .before .before .before .number4 .ensures, c .before .before .before .before .before .before .before .before .entry .ensures) (size-small (c .before .before .before .before .before .before .before .before .before .before .before .before .before .before .before .args .table .now) (c .before .before .before .before .before .before .before .before .before .before .loop .i) 69 (λ k. omega (arith, c .before .before .before .before .before .before .before .before .before .before .before .before .before .before .shared-slice-known .given k)))),
+      (rw (c .before .before .before .before .number4 .ensures, c .before .before .before .before .before .before .before .before .entry .ensures) (size-small (c .before .before .before .before .before .before .before .before .before .before .before .before .before .before .before .args .table .now) (c .before .before .before .before .before .before .before .before .before .before .loop .i) recordSizeAt (λ k. omega (arith, c .before .before .before .before .before .before .before .before .before .before .before .before .before .before .shared-slice-known .given k)))),
 )
 
 returns-3 : tie.Need-returns-3 Inv-loop μ-loop
