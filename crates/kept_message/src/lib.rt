@@ -1,83 +1,75 @@
 // A whole message is kept: it is counted, its body stands behind those kept, and the next transfer is awaited or it is our turn.
+use inbox_entry::put_message;
 use layout::byte_at;
 use layout::entry;
-use line_effect::Judged;
-use line_effect::Marks;
-use session_memory::Five;
-use session_memory::Keep;
-use session_memory::Session;
+use line_effect::Verdict;
+use numbers::KeepNumbers;
+use numbers::Numbers;
 use settling::Left;
 ghost use mathlib.Core.Path.{_≡_};
+ghost use lib.ListN.{length};
+ghost use Rattle.grammar.specs.Bytes.{Bytes};
+ghost use Rattle.places.specs.Places.{arraysLen};
+ghost use Rattle.numbers.specs.Whole as whole;
+ghost use Rattle.numbers.specs.Whole.{sessionOf, wholeOf};
+ghost use Rattle.line_effect.specs.Verdict.{judgedIn};
 ghost use Rattle.receive_defined.specs.Receiving.{settled, keptKeep, nextJudged, isPlainAt, keepOf, keptInbox};
 ghost use Rattle.kept_message.specs.Keeping.{Keepable};
 
 // One message more is kept, its body behind those kept before.
-fn kept_keep(s: Session) -> Keep
+fn kept_keep(s: Numbers) -> KeepNumbers
     requires { ⌜ Keepable s ⌝ }
-    ensures { λ r. ⌜ r ≡ keptKeep s ⌝ }
+    ensures { λ r. ⌜ ((deferred heading line block : Bytes) → whole.keepOf r deferred ≡ keptKeep (sessionOf s deferred heading line block)) ⌝ }
 {
     let mut k = s.keep;
     k.kept = s.keep.kept + 1;
-    k.used = s.keep.used + s.reading.reader.body as usize;
+    k.used = s.keep.used + s.reader.body as usize;
     k
 }
 
 // After a kept message: the transfer of the next accepted proposal; our turn where none is left.
-fn next_judged(s: Session, next: u8) -> Judged
-    requires { ⌜ Keepable s ⌝ }
-    ensures { λ r. ⌜ r ≡ nextJudged s next ⌝ }
+fn next_judged(s: Numbers, mem: &[u8], next: u8) -> Verdict
+    requires { ⌜ Keepable s × (length (now mem) ≡ arraysLen) ⌝ }
+    ensures { λ r. ⌜ judgedIn r (now (mem .entry)) ≡ nextJudged (wholeOf s (now (mem .entry))) next ⌝ }
 {
-    let keep = kept_keep(s);
-    let awaited = s.now;
-    let say = s.say;
-    let marks = Marks {
-        state: 0,
-        places: Five {
-            count: 0,
-            items: [0u8; 5],
-        },
-    };
-    if next == 5 {
-        let reader = s.reading.reader;
-        return Judged {
-            answer: 0,
-            speaks: 1,
-            marks: marks,
-            now: awaited,
-            say: say,
-            keep: keep,
-            reader: reader,
+    let mut t = s;
+    t.keep = kept_keep(s);
+    if next == phase::NO_PROPOSAL {
+        return Verdict {
+            answer: refusal::NONE,
+            speaks: phase::OUR_TURN,
+            marks: line_effect::unmarked(),
+            next: t,
         };
     }
-    Judged {
-        answer: 0,
-        speaks: 0,
-        marks: marks,
-        now: next_awaited::to_transfer(awaited, next),
-        say: say,
-        keep: keep,
-        reader: next_awaited::reader_for(awaited, next),
-    }
+    let awaited = s.now;
+    t.now = next_awaited::to_transfer(awaited, next);
+    t.reader = next_awaited::reader_for(&mem[places::BLOCK..], next);
+    line_effect::went(t)
 }
 
 // The transfer under way is a plain one: it ends with CR, after which one LF is dropped.
-fn is_plain(s: Session) -> bool
-    ensures { λ r. ⌜ r ≡ isPlainAt s ⌝ }
+fn is_plain(s: Numbers, mem: &[u8]) -> bool
+    requires { ⌜ length (now mem) ≡ arraysLen ⌝ }
+    ensures { λ r. ⌜ r ≡ isPlainAt (wholeOf s (now (mem .entry))) ⌝ }
 {
-    let block = s.now.block;
-    let proposal = entry(layout::PROPOSAL, &block, s.now.current as u16);
-    byte_at(proposal, 0) == 0
+    let proposal = entry(
+        places::PROPOSAL,
+        &mem[places::BLOCK..],
+        s.now.current as u16,
+    );
+    byte_at(proposal, places::FORM as usize) == 0
 }
 
-// A whole transfer: the message is kept, then the next is awaited or it is our turn.
-pub fn keep_message(s: Session, inbox: &mut [u8], table: &mut [u8]) -> Left
-    requires { ⌜ Keepable s ⌝ }
-    ensures { λ r. ⌜ (settled (r .answer) (r .session) (now (table .exit)) ≡ keepOf s (now (table .entry))) × (now (inbox .exit) ≡ keptInbox s (now (inbox .entry))) ⌝ }
+// A whole transfer: the message is kept, then the next is awaited or it is our turn. mem: the state's arrays.
+pub fn keep_message(s: Numbers, mem: &[u8], inbox: &mut [u8], table: &mut [u8]) -> Left
+    requires { ⌜ Keepable s × (length (now mem) ≡ arraysLen) ⌝ }
+    ensures { λ r. ⌜ (settled (r .answer) (wholeOf (r .session) (now (mem .entry))) (now (table .exit)) ≡ keepOf (wholeOf s (now (mem .entry))) (now (table .entry))) × (now (inbox .exit) ≡ keptInbox (wholeOf s (now (mem .entry))) (now (inbox .entry))) ⌝ }
 {
     let signs = s.say.signs;
     let next = next_awaited::next_accepted(signs, s.now.current as usize + 1);
-    let j = next_judged(s, next);
-    let plain = is_plain(s);
-    settling::put_message(s, inbox);
-    settling::settle(s, j, plain, table)
+    let v = next_judged(s, mem, next);
+    let plain = is_plain(s, mem);
+    put_message(s, mem, inbox);
+    settling::settle(s, v, plain, mem, table)
 }

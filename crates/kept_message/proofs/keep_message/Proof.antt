@@ -1,4 +1,5 @@
 -- The next accepted proposal, then what is judged, settled; the inbox is that of put_message.
+use Rattle.numbers.specs.Whole.{wholeOf}
 use Rattle.kept_message.proofs.Laws.{keep-by}
 use borrow.Author.Needs.{needs}
 use Rattle.kept_message.proofs.keep_message.Statement.{statement}
@@ -32,7 +33,10 @@ same-length-2 : tie.Need-same-length-2
 same-length-2 c = search needs
 
 returns : tie.Need-returns
-returns c = let a = c .before .before .before .before .before .before .before .before .before .before .before .before .before .before .before .args in (keep-by (a .s) (a .table .now) _ _ _ _ (c .before .before .before .before .before .before .before .before .before .before .next-accepted .ensures) (c .before .before .before .before .before .before .before .before .before .next-judged .ensures) (c .before .before .before .before .before .before .before .before .is-plain .ensures) (c .before .before .settle .ensures), c .before .before .before .before .before .before .put-message .ensures)
+unfolding wholeOf
+returns c =
+    let a = c .before .before .before .before .before .before .before .before .before .before .before .before .before .before .before .before .args in
+    (keep-by (wholeOf (a .s) (a .mem .now)) (a .table .now) _ _ _ _ (c .before .before .before .before .before .before .before .before .before .before .next-accepted .ensures) (c .before .before .before .before .before .before .before .before .before .next-judged .ensures) (c .before .before .before .before .before .before .before .before .is-plain .ensures) (c .before .before .settle .ensures), c .before .before .before .before .before .before .put-message .ensures)
 
 pub keep-message-spec : {M : Type 1} → statement M
 keep-message-spec =
