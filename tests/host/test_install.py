@@ -38,8 +38,8 @@ class Installed(Folder):
     def test_samples(self):
         "every fringemole line of docs/HOST.md's samples is one that the program knows"
         text = (ROOT / "docs" / "HOST.md").read_text()
-        samples = re.findall(r"(?m)^    (?:ExecStart=|.*root )?/usr/local/bin/fringemole (.*)$", text)
-        self.assertGreaterEqual(len(samples), 3)
+        samples = re.findall(r"(?m)^    .*?/usr/local/bin/fringemole (.*mail\.base.*)$", text)
+        self.assertEqual(len(samples), 5)
         known = options_of(self.node().run("--help")[1].decode())
         for sample in samples:
             self.assertLessEqual(options_of(sample), known, sample)
