@@ -136,9 +136,9 @@ static void say_unoffered(const struct session *session)
 
     shelf_unoffered(&session->shelf, &plain, &packed);
     if (plain)
-        say("%lu of these plain, for a partner without B in its SID", (unsigned long)plain);
+        say("waiting for a partner without B in its SID: %lu (plain)", (unsigned long)plain);
     if (packed)
-        say("%lu of these packed, for a partner with B in its SID", (unsigned long)packed);
+        say("waiting for a partner with B in its SID: %lu (packed)", (unsigned long)packed);
 }
 
 /* The row's end and what was deferred, in one transaction. */
