@@ -178,7 +178,7 @@ unfolding saveSizes
 octets-written sm z o = octets-put sm (at 0) (sizesOut z) o (sizes-octets z)
 
 -- a session right after open
-fresh-good : (F : Fixed) (caller : Bool) (table inbox store : Bytes) → Octets table → Octets inbox → Octets store → length store < 18446744073709551616
+pub fresh-good : (F : Fixed) (caller : Bool) (table inbox store : Bytes) → Octets table → Octets inbox → Octets store → length store < 18446744073709551616
     → placeCount inbox ≤ 64 → Good F (length table) (length inbox) (length store) (cs (freshOf caller) table inbox store)
 unfolding freshOf usedBy
 fresh-good F caller table inbox store ot oi os fits few =

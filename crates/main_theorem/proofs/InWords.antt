@@ -9,7 +9,7 @@ use Rattle.session.specs.Choices.{Shelf}
 use Rattle.session.specs.Session as on-lists
 use Rattle.log.specs.Log.{Event, log}
 use Rattle.demand3.specs.Demand as on-lists-run
-use Rattle.demand3.specs.Demand.{Good}
+use Rattle.demand3.specs.Demand.{GoodTable}
 use Rattle.places.specs.Places.{recordLen}
 use Rattle.layout.specs.Layout.{stateOf}
 use Rattle.choice.specs.Decoded.{recordCount, statesOf}
@@ -52,7 +52,7 @@ in-words role M e cs =
     shelf : Shelf
     shelf = shelfOf F m
 
-    good : Good (shelf .table)
+    good : GoodTable (shelf .table)
     good = open-as role M e cs .good
 
     events : traced role M cs ≡ (on-lists-run.run shelf (on-lists.opened (eqb role 1) st) (map callOf cs)) .1

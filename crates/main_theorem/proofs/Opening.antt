@@ -11,11 +11,11 @@ use Rattle.grammar.specs.Refusals.{badMemory}
 use Rattle.grammar.proofs.Basics.{and2}
 use Rattle.session.specs.Choices.{Shelf}
 use Rattle.session.specs.Session as on-lists
-use Rattle.demand3.specs.Demand.{Good}
+use Rattle.demand3.specs.Demand.{GoodTable}
 use Rattle.places.specs.Places.{entryLen, knownLen, recordLen, sessionLen}
 use Rattle.session_memory.specs.State.{sessionSize, loadOf, saveOf, saveSizes, freshOf}
 use Rattle.session_memory.specs.declared.Session.{Session}
-use Rattle.session_memory.proofs.Laws.{Sized, load-save, load-sizes, sizes-length, save-sizes-kept, fresh-shaped}
+use Rattle.session_memory.proofs.Laws.{Sized, load-save, load-sizes, sizes-length, save-sizes-kept}
 use Rattle.choice.specs.Decoded.{recordsOf, statesOf, knownBids, placeCount, recordCount}
 use Rattle.waiting.specs.Waiting.{waitingOf, firstText, thenText}
 use Rattle.pending.specs.Pending.{waits}
@@ -31,9 +31,10 @@ use Rattle.main_theorem.specs.Demand3.{openedBy}
 use Rattle.represents.proofs.Byte.{spared-same}
 use Rattle.main_theorem.proofs.Held.{Held}
 use Rattle.main_theorem.proofs.Accepted.{table-good}
-use Rattle.form_closed.proofs.Closed.{open-closed}
+use Rattle.form_closed.proofs.Closed.{open-closed, fresh-good}
 use Rattle.form_closed.specs.InForm.{InForm}
 use Rattle.form_closed.specs.Facts.{Octets}
+use Rattle.form_closed.proofs.Test.{shaped}
 
 -- ---------------------------------------------------------------- what open has looked at
 
@@ -147,7 +148,7 @@ module _ (role : ℕ) (F : Fixed) (m : Lent) (a : Accepted role F m) where
 -- ---------------------------------------------------------------- the call
 
 pub record OpenedAs (role : ℕ) (F : Fixed) (m : Lent) : Type 0 where
-  pub good : Good (shelfOf F m .table)
+  pub good : GoodTable (shelfOf F m .table)
   pub held : Held F (shelfOf F m) (freshCs role m) (sizesOf F m) (withSession m (openedOn role F m .sm)) (on-lists.opened (eqb role 1) (statesOf (m .table)))
 
 pub open-law : (role : ℕ) (M : Memory) → openedBy role M .reply .answer ≡ 0 → OpenedAs role (fixedIn M) (lentIn M)
@@ -183,7 +184,9 @@ open-law role M e =
     n = sizes-length (m .sm) (sizesOf F m) ∙ a .session
 
     back : loadOf (fresh role F m) ≡ freshOf caller
-    back = load-save (saveSizes (m .sm) (sizesOf F m)) (freshOf caller) n (fresh-shaped caller)
+    back = load-save (saveSizes (m .sm) (sizesOf F m)) (freshOf caller) n
+        (shaped F (length (m .table)) (length (m .inbox)) (length (m .store)) (freshCs role m)
+        (fresh-good F caller (m .table) (m .inbox) (m .store) (octets (M .table)) (octets (M .inbox)) (octets (M .store)) (M .store .short) (a .inbox .1)))
 
     held : Held F (shelfOf F m) (freshCs role m) (sizesOf F m) (withSession m (fresh role F m)) (on-lists.opened caller (statesOf (m .table)))
     held =

@@ -12,7 +12,7 @@ use Rattle.grammar.specs.Bytes.{Bytes, isSome}
 use Rattle.grammar.specs.Ascii.{text}
 use Rattle.grammar.specs.Refusals.{badAnswer, lineNotAllowed}
 use Rattle.grammar.specs.Fields.{after}
-use Rattle.grammar.specs.Answers.{Sign, readFs, fsNumber, writeSign}
+use Rattle.grammar.specs.Answers.{Sign, readFs, fsNumber, writeSign, level0}
 use Rattle.mail.specs.Mail.{Record, accepted, transfersText}
 use Rattle.session.specs.Choices.{Shelf}
 use Rattle.session.specs.Session as on-lists
@@ -42,9 +42,9 @@ use Rattle.represents.proofs.Proposals.{no-proposals}
 use Rattle.form_closed.proofs.Laws.{held-length}
 
 -- the signs as they stand on the line
-read-signs : (n : ℕ) (ln : Bytes) → n ≤ 5 → answerSigns n ln ≡ zeroed (signBytes (readFs n ln))
+read-signs : (n : ℕ) (ln : Bytes) → n ≤ 5 → answerSigns n ln ≡ zeroed (signBytes (readFs level0 n ln))
 unfolding answerSigns answered
-read-signs n ln few = ap (λ (c : Bool). zeroed (signBytes (cond c none (readFs n ln)))) (le-ltb 5 n few)
+read-signs n ln few = ap (λ (c : Bool). zeroed (signBytes (cond c none (readFs level0 n ln)))) (le-ltb 5 n few)
 
 module _ (F : Fixed) (E : Shelf) (s : Session) (a : Bool) (i st : Bytes)
     (w : Await) (y : Say) (k : Keep) (r : Reader) (t : Bytes) (m : Memory) (ready : Ready F E (s .reading .heading) i st w y k t m) where
@@ -96,13 +96,13 @@ module _ (F : Fixed) (E : Shelf) (s : Session) (a : Bool) (i st : Bytes)
   -- THE FS LINE, to as many proposals as we made
   pub fs-law : (ln : Bytes) → k .sending .count ≡ 0
       → Lead (answerLine ln w y k r)
-      (on-lists.answerJudged E (held (w .ours)) m (fsNumber (length (held (w .ours))) ln) (readFs (length (held (w .ours))) ln))
+      (on-lists.answerJudged E (held (w .ours)) m (fsNumber level0 (length (held (w .ours))) ln) (readFs level0 (length (held (w .ours))) ln))
   unfolding answerLine
   fs-law ln idle =
-      subst (λ (l : ℕ). Lead (answerLine ln w y k r) (on-lists.answerJudged E (held (w .ours)) m (fsNumber l ln) (readFs l ln))) (sym many)
-      (subst (λ (x : ℕ). As x (answerSigns n ln) (fsNumber n ln) (readFs n ln)) (sym (answer-number n ln few))
-      (subst (λ (x : Bytes). As (fsNumber n ln) x (fsNumber n ln) (readFs n ln)) (sym (read-signs n ln few))
-      (go (isSome (after (text "FS") ln)) (readFs n ln))))
+      subst (λ (l : ℕ). Lead (answerLine ln w y k r) (on-lists.answerJudged E (held (w .ours)) m (fsNumber level0 l ln) (readFs level0 l ln))) (sym many)
+      (subst (λ (x : ℕ). As x (answerSigns n ln) (fsNumber level0 n ln) (readFs level0 n ln)) (sym (answer-number n ln few))
+      (subst (λ (x : Bytes). As (fsNumber level0 n ln) x (fsNumber level0 n ln) (readFs level0 n ln)) (sym (read-signs n ln few))
+      (go (isSome (after (text "FS") ln)) (readFs level0 n ln))))
     where
       n : ℕ
       n = w .ours .count

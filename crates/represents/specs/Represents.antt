@@ -9,7 +9,7 @@ use lib.Dec.{eqb}
 use lib.ListN.{length, take, drop}
 use Rattle.grammar.specs.Bytes.{Bytes}
 use Rattle.grammar.specs.Turns.{Proposal}
-use Rattle.grammar.specs.Answers.{Sign, accept, decline, defer}
+use Rattle.grammar.specs.Answers.{Sign, accept, decline, defer, plusSign, minusSign}
 use Rattle.grammar.specs.Transfers.{partOf}
 use Rattle.mail.specs.Mail.{Message, accepted}
 use Rattle.session.specs.Choices.{Shelf, bodyBytes}
@@ -26,6 +26,8 @@ use Rattle.pending.specs.Pending.{waits}
 use Rattle.receive_defined.specs.Receiving.{Cs}
 use Rattle.represents.specs.Laid.{proposalBytes, messageBytes, bodiesBytes}
 use Rattle.form_closed.specs.Fixed.{Fixed}
+use Rattle.grammar.specs.Fields.{bodyLimit}
+use Rattle.phase.specs.Phase.{phaseCalledSid, phaseCallerSid, phasePrompt, phaseTurn, phaseFs, phaseTransfer, phaseLeaving, phaseOver}
 
 -- ---------------------------------------------------------------- lists in lent memory
 
@@ -56,7 +58,7 @@ Written c = proposalBytes (proposalOf c) ≡ c
 
 -- The sign that a byte of our FS line is; our lines hold no other.
 abbrev pub signIs : ℕ → Sign
-signIs b = cond (eqb b 43) accept (cond (eqb b 45) decline defer)
+signIs b = cond (eqb b plusSign) accept (cond (eqb b minusSign) decline defer)
 
 abbrev pub signsIn : List ℕ → List Sign
 signsIn [] = []
@@ -88,7 +90,7 @@ pub record Boxed (c : Cs) (ms : List Message) : Type 0 where
   pub laid : LaidFrom (c .inbox) 0 0 ms
   pub bodies : take (c .session .keep .used) (c .store) ≡ bodiesBytes ms
   pub row : InRow (c .inbox) 0 (c .session .keep .kept) 0
-  pub small : c .session .keep .used ≤ c .session .keep .kept * 65535
+  pub small : c .session .keep .used ≤ c .session .keep .kept * bodyLimit
   pub used : c .session .keep .used ≡ bodyBytes ms
 
 -- What waits is what is still to be given.
@@ -97,10 +99,10 @@ Says F c out = drop (c .session .say .pos) (waitingOf (c .session) (c .table) (F
 
 -- The number of the line that is awaited, and what is held with it.
 abbrev pub lineNumber : on-lists.Awaited → ℕ
-lineNumber (on-lists.awaitsSid caller) = cond caller 1 0
-lineNumber on-lists.awaitsPrompt = 2
-lineNumber (on-lists.awaitsTurn ff ps) = 3
-lineNumber (on-lists.awaitsAnswer is) = 4
+lineNumber (on-lists.awaitsSid caller) = cond caller phaseCallerSid phaseCalledSid
+lineNumber on-lists.awaitsPrompt = phasePrompt
+lineNumber (on-lists.awaitsTurn ff ps) = phaseTurn
+lineNumber (on-lists.awaitsAnswer is) = phaseFs
 
 abbrev pub HeldFor : Await → on-lists.Awaited → Type 0
 HeldFor w (on-lists.awaitsSid caller) = Unit {0}
@@ -112,10 +114,10 @@ HeldFor w (on-lists.awaitsAnswer is) = held (w .ours) ≡ is
 abbrev pub Awaits : Cs → on-lists.Phase → Type 0
 Awaits c (on-lists.aLine a) = (c .session .now .phase ≡ lineNumber a) × HeldFor (c .session .now) a
 Awaits c (on-lists.awaitsTransfer p ps sc) =
-    (c .session .now .phase ≡ 5) × (owed (c .session) ≡ p ∷ ps)
+    (c .session .now .phase ≡ phaseTransfer) × (owed (c .session) ≡ p ∷ ps)
     × Stands (roomOf (drop (c .session .keep .used) (c .store))) (c .session .reading .reader) (c .session .reading .heading) (drop (c .session .keep .used) (c .store)) sc
-Awaits c on-lists.leaving = c .session .now .phase ≡ 6
-Awaits c on-lists.over = (7 ≤ c .session .now .phase) × (waits (c .session .say) ≡ false)
+Awaits c on-lists.leaving = c .session .now .phase ≡ phaseLeaving
+Awaits c on-lists.over = (phaseOver ≤ c .session .now .phase) × (waits (c .session .say) ≡ false)
 
 -- ---------------------------------------------------------------- the relation
 
