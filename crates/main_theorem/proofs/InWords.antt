@@ -62,7 +62,7 @@ in-words role M e cs =
     whole = accepted role F m e .table .0
 
     whole-end : Whole (end .table)
-    whole-end = ran role M e cs .held .represents .shelved .table
+    whole-end = ran role M e cs .held .represents .holds .shelved .table
 
     count : recordCount (m .table) ≡ recordCount (end .table)
     count = ap (λ (n : ℕ). min 64 (n / recordLen)) (sym (ran role M e cs .held .spared .table .size))

@@ -118,31 +118,18 @@ module _ (role : ℕ) (F : Fixed) (m : Lent) (a : Accepted role F m) where
   fresh-represents caller =
       record {
         entries = λ i h. absurd (omega arith);
-        shelved = record {
-          records = refl;
-          known = refl;
-          places = refl;
-          bytes = refl;
-          table = a .table .0;
-          inbox = a .inbox .0;
-        };
-        boxed = record {
-          kept = refl;
-          messages = refl;
-          laid = tt;
-          bodies = refl;
-          row = tt;
-          small = omega arith;
-          used = refl;
+        holds = record {
+          shelved = record { records = refl; known = refl; places = refl; bytes = refl; table = a .table .0; inbox = a .inbox .0 };
+          boxed = record { count = refl; messages = refl; laid = tt; bodies = refl; row = tt; small = omega arith; bytes = refl };
+          framed = refl;
+          states = refl;
+          sending = refl;
+          flags = refl;
         };
         says = greeting-says caller;
         awaits = sid-awaited caller;
         part = refl;
         afterCr = refl;
-        framed = refl;
-        states = refl;
-        sending = refl;
-        flags = refl;
       }
 
 -- ---------------------------------------------------------------- the call

@@ -31,10 +31,10 @@ use Rattle.line_effect.specs.declared.Judged.{Judged}
 use Rattle.waiting.specs.Waiting.{firstText, thenText, sendingText}
 use Rattle.receive_defined.specs.Receiving.{cs, markAll}
 use Rattle.form_closed.specs.Fixed.{Fixed}
-use Rattle.represents.specs.Represents.{Represents}
+use Rattle.represents.specs.Represents.{Represents, Holds}
 use Rattle.represents.proofs.Table.{picked-accepted, zerosAfter}
 use Rattle.represents.proofs.Says.{first-nothing, then-nothing, sending-text}
-use Rattle.represents.proofs.Parts.{Holds, Ready, no-entries}
+use Rattle.represents.proofs.Parts.{Ready, no-entries}
 use Rattle.represents.proofs.Settle.{holds-answer, left, settled-is}
 use Rattle.represents.proofs.Settle as settle
 use Rattle.represents.proofs.Leads.{Leads}
@@ -71,8 +71,8 @@ module _ (F : Fixed) (E : Shelf) (s : Session) (a : Bool) (i st : Bytes)
       said : firstText (y .first) (y .signs) ++ thenText 4 (w .ours) (fiveOf (j ∷ is)) u (F .titles) (F .names) (F .bodies) ≡ transfersText (E .table) (j ∷ is)
       said =
           ap (λ (l : Bytes). l ++ sendingText u (F .titles) (F .names) (F .bodies) (held (fiveOf (j ∷ is)))) (first-nothing (y .first) (y .signs) (ready .first))
-          ∙ ap (sendingText u (F .titles) (F .names) (F .bodies)) (held-five (j ∷ is)) ∙ sending-text (F .titles) (F .names) (F .bodies) u (h .lies .table) (j ∷ is)
-          ∙ ap (λ (T : List Record). transfersText T (j ∷ is)) (h .lies .records)
+          ∙ ap (sendingText u (F .titles) (F .names) (F .bodies)) (held-five (j ∷ is)) ∙ sending-text (F .titles) (F .names) (F .bodies) u (h .shelved .table) (j ∷ is)
+          ∙ ap (λ (T : List Record). transfersText T (j ∷ is)) (h .shelved .records)
 
   taken-law : (ss : List Sign) (z : ℕ) → k .sending .count ≡ 0
       → Lead (answerTaken (zerosAfter ss z) w y k r)

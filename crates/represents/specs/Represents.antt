@@ -28,6 +28,7 @@ use Rattle.represents.specs.Laid.{proposalBytes, messageBytes, bodiesByt
 use Rattle.form_closed.specs.Fixed.{Fixed}
 use Rattle.grammar.specs.Fields.{bodyLimit}
 use Rattle.phase.specs.Phase.{phaseCalledSid, phaseCallerSid, phasePrompt, phaseTurn, phaseFs, phaseTransfer, phaseLeaving, phaseOver}
+use Rattle.session_memory.specs.declared.Keep.{Keep}
 
 -- ---------------------------------------------------------------- lists in lent memory
 
@@ -74,24 +75,34 @@ owed s = accepted (signsIn (drop (s .now .current) (held (s .say .signs)))) (dro
 abbrev pub Entries : Bytes → ℕ → Type 0
 Entries block n = (i : ℕ) → i < n → Written (entryAt proposalSize block i)
 
--- The table, known BIDs, inbox and store are those of the shelf; buffers of entries hold a whole number of them.
-pub record Shelved (F : Fixed) (E : Shelf) (c : Cs) : Type 0 where
-  pub records : recordsOf (F .titles) (F .names) (F .bodies) (c .table) ≡ E .table
+-- Table t, inbox i and store st, with the known BIDs, are those of the shelf; buffers of entries hold a whole number of them.
+pub record Shelved (F : Fixed) (E : Shelf) (t i st : Bytes) : Type 0 where
+  pub records : recordsOf (F .titles) (F .names) (F .bodies) t ≡ E .table
   pub known : knownBids (F .known) ≡ E .known
-  pub places : placeCount (c .inbox) ≡ E .places
-  pub bytes : length (c .store) ≡ E .bytes
-  pub table : length (c .table) ≡ recordCount (c .table) * recordSize
-  pub inbox : length (c .inbox) ≡ E .places * entrySize
+  pub places : placeCount i ≡ E .places
+  pub bytes : length st ≡ E .bytes
+  pub table : length t ≡ recordCount t * recordSize
+  pub inbox : length i ≡ E .places * entrySize
 
--- The inbox up to its count is these messages, and their bodies lie in a row at the beginning of the store, each of 65,535 bytes at most.
-pub record Boxed (c : Cs) (ms : List Message) : Type 0 where
-  pub kept : c .session .keep .kept ≡ length ms
-  pub messages : messagesOf (c .inbox) (c .store) (c .session .keep .kept) ≡ ms
-  pub laid : LaidFrom (c .inbox) 0 0 ms
-  pub bodies : take (c .session .keep .used) (c .store) ≡ bodiesBytes ms
-  pub row : InRow (c .inbox) 0 (c .session .keep .kept) 0
-  pub small : c .session .keep .used ≤ c .session .keep .kept * bodyLimit
-  pub used : c .session .keep .used ≡ bodyBytes ms
+-- So many messages are kept, and these they are; their bodies lie in a row at the beginning of the store, use so many bytes of it, and each has 65,535
+-- bytes at most.
+pub record Boxed (kept used : ℕ) (i st : Bytes) (ms : List Message) : Type 0 where
+  pub count : kept ≡ length ms
+  pub messages : messagesOf i st kept ≡ ms
+  pub laid : LaidFrom i 0 0 ms
+  pub bodies : take used st ≡ bodiesBytes ms
+  pub row : InRow i 0 kept 0
+  pub small : used ≤ kept * bodyLimit
+  pub bytes : used ≡ bodyBytes ms
+
+-- The session's memory: what is kept k, with table, inbox and store.
+pub record Holds (F : Fixed) (E : Shelf) (k : Keep) (t i st : Bytes) (m : on-lists.Memory) : Type 0 where
+  pub shelved : Shelved F E t i st
+  pub boxed : Boxed (k .kept) (k .used) i st (m .inbox)
+  pub framed : k .framed ≡ m .framed
+  pub states : statesOf t ≡ m .states
+  pub sending : held (k .sending) ≡ m .sending
+  pub flags : k .deferred ≡ m .deferred
 
 -- What waits is what is still to be given.
 abbrev pub Says : Fixed → Cs → Bytes → Type 0
@@ -123,13 +134,8 @@ Awaits c on-lists.over = (phaseOver ≤ c .session .now .phase) × (waits (c .se
 
 pub record Represents (F : Fixed) (E : Shelf) (c : Cs) (s : on-lists.Session) : Type 0 where
   pub entries : Entries (c .session .now .block) (c .session .now .proposals)
-  pub shelved : Shelved F E c
-  pub boxed : Boxed c (s .memory .inbox)
+  pub holds : Holds F E (c .session .keep) (c .table) (c .inbox) (c .store) (s .memory)
   pub says : Says F c (s .out)
   pub awaits : Awaits c (s .phase)
   pub part : take (c .session .line .len) (c .session .line .bytes) ≡ s .part
   pub afterCr : c .session .line .«after_cr» ≡ s .afterCr
-  pub framed : c .session .keep .framed ≡ s .memory .framed
-  pub states : statesOf (c .table) ≡ s .memory .states
-  pub sending : held (c .session .keep .sending) ≡ s .memory .sending
-  pub flags : c .session .keep .deferred ≡ s .memory .deferred
