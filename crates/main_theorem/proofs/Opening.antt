@@ -31,10 +31,9 @@ use Rattle.main_theorem.specs.Demand3.{openedBy}
 use Rattle.represents.proofs.Byte.{spared-same}
 use Rattle.main_theorem.proofs.Held.{Held}
 use Rattle.main_theorem.proofs.Accepted.{table-good}
-use Rattle.form_closed.proofs.Closed.{open-closed, fresh-good}
+use Rattle.form_closed.proofs.Closed.{open-closed, fresh-shaped}
 use Rattle.form_closed.specs.InForm.{InForm}
 use Rattle.form_closed.specs.Facts.{Octets}
-use Rattle.form_closed.proofs.Test.{shaped}
 
 -- ---------------------------------------------------------------- what open has looked at
 
@@ -171,9 +170,7 @@ open-law role M e =
     n = sizes-length (m .sm) (sizesOf F m) ∙ a .session
 
     back : loadOf (fresh role F m) ≡ freshOf caller
-    back = load-save (saveSizes (m .sm) (sizesOf F m)) (freshOf caller) n
-        (shaped F (length (m .table)) (length (m .inbox)) (length (m .store)) (freshCs role m)
-        (fresh-good F caller (m .table) (m .inbox) (m .store) (octets (M .table)) (octets (M .inbox)) (octets (M .store)) (M .store .short) (a .inbox .1)))
+    back = load-save (saveSizes (m .sm) (sizesOf F m)) (freshOf caller) n (fresh-shaped F caller)
 
     held : Held F (shelfOf F m) (freshCs role m) (sizesOf F m) (withSession m (fresh role F m)) (on-lists.opened caller (statesOf (m .table)))
     held =
