@@ -25,6 +25,13 @@ use Rattle.phase.specs.Phase.{phaseTurn, phaseTransfer}
 use Rattle.places.specs.Places.{deferredLen, headingLen, lineLen, blockLen}
 use Rattle.mail.specs.Mail.{placeLimit}
 
+-- A number that is saved in two bytes is below this, and one in four.
+abbrev pub twoByteValues : ℕ
+twoByteValues = 65536
+
+abbrev pub fourByteValues : ℕ
+fourByteValues = 4294967296
+
 -- Every number of the list is a byte.
 pub record Octets (l : Bytes) : Type 0 where
   pub each : all isByte l ≡ true
@@ -59,9 +66,9 @@ pub record ReaderOk (r : Reader) : Type 0 where
   pub len : r .len < byteValues
   pub head : r .head ≤ headingLen
   pub off : r .off < byteValues
-  pub left : r .left < 65536
+  pub left : r .left < twoByteValues
   pub sum : r .sum < byteValues
-  pub body : r .body < 4294967296
+  pub body : r .body < fourByteValues
 
 pub record HeadingOk (h : Bytes) : Type 0 where
   pub size : length h ≡ headingLen
