@@ -39,7 +39,7 @@ class Installed(Folder):
         "every fringemole line of docs/HOST.md's samples is one that the program knows"
         text = (ROOT / "docs" / "HOST.md").read_text()
         samples = re.findall(r"(?m)^    .*?/usr/local/bin/fringemole (.*mail\.base.*)$", text)
-        self.assertEqual(len(samples), 5)
+        self.assertEqual(len(samples), 4)
         known = options_of(self.node().run("--help")[1].decode())
         for sample in samples:
             self.assertLessEqual(options_of(sample), known, sample)
@@ -49,12 +49,12 @@ class Installed(Folder):
         if not shutil.which("systemd-analyze"):
             self.skipTest("systemd is not installed")
         text = (ROOT / "docs" / "HOST.md").read_text()
-        units = re.findall(r"(?ms)^`(fringemole[^`]*\.(?:service|socket))`:\n\n((?:    [^\n]*\n|\n)+)", text)
+        units = re.findall(r"(?ms)^`(fringemole[^`]*\.(?:service|timer))`:\n\n((?:    [^\n]*\n|\n)+)", text)
         self.assertEqual(len(units), 3)
         paths = []
         for name, body in units:
             paths.append(self.folder / name)
             paths[-1].write_text(re.sub(r"(?m)^    ", "", body).replace("/usr/local/bin/fringemole", str(PLAIN)))
-        done = subprocess.run(["systemd-analyze", "verify", "--man=no", *[p for p in paths if "@" not in p.name]], stdout=subprocess.PIPE, stderr=subprocess.STDOUT)
+        done = subprocess.run(["systemd-analyze", "verify", "--man=no", *paths], stdout=subprocess.PIPE, stderr=subprocess.STDOUT)
         said = [line for line in done.stdout.decode().splitlines() if "fringemole" in line]
         self.assertEqual(said, [])
