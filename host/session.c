@@ -83,7 +83,7 @@ static enum exit_code converse(struct session *session)
     uint8_t out[PIECE], in[PIECE];
     bool speaking = false, over = false;
 
-    while (!over) {
+    for (;;) {
         struct fringemole_reply given = fringemole_give_in(&session->shelf.lent, out, sizeof out, 0);
         enum exit_code code;
         long n;
@@ -104,7 +104,6 @@ static enum exit_code converse(struct session *session)
         if (over)
             return code;
     }
-    return DONE;
 }
 
 /* What the session did, to its row and to the operator. */
