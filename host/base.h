@@ -30,7 +30,7 @@ void base_close(struct base *base);
 /* One session at a time: from here until base_close, or the end of the process, no other gets this. */
 bool base_lock_session(struct base *base);
 
-/* A change by itself is a transaction; within begin and commit it is part of that one. */
+/* Add and keep stand within begin and commit; another change by itself is a transaction of its own. */
 bool base_begin(struct base *base);
 bool base_commit(struct base *base);
 void base_undo(struct base *base);

@@ -6,14 +6,15 @@
 
 #include <poll.h>
 
-#define LINE_ROOM 80 /* for a callsign or a password */
+#define LINE_ROOM 80       /* for a callsign or a password */
+#define LONGEST_DELAY 3600 /* seconds */
 
 /* Wrong callers wait, so that nobody tries many passwords. */
 static bool turned_away(const struct options *options)
 {
     struct pollfd wait = { stop_descriptor(), POLLIN, 0 };
 
-    poll(&wait, 1, (int)(options->delay * SECOND));
+    poll(&wait, 1, options->delay < LONGEST_DELAY ? (int)(options->delay * SECOND) : (int)(LONGEST_DELAY * SECOND));
     return false;
 }
 

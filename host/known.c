@@ -3,8 +3,8 @@
 #include "statement.h"
 
 /* A bulletin comes by many ways, as long as mailboxes keep it; a personal message has one way, and comes again only from a partner that
- * didn't hear us. So it counts as seen so much earlier. */
-#define PERSONAL_AGES "30 * 24 * 60 * 60"
+ * didn't hear us. So it counts as if so many BIDs more had been seen since. Not as so much older: a node's clock may be wrong. */
+#define PERSONAL_BEHIND (FRINGEMOLE_MAX_KNOWN / 2)
 
 /* What each partner sent in the last session in which it sent something: it sends just that again if it didn't hear us. */
 #define JUST_CAME "(SELECT bid FROM inbox WHERE session IN (SELECT max(session) FROM inbox GROUP BY partner))"
@@ -68,12 +68,13 @@ bool base_known(struct base *base, bid_function *function, void *context)
 {
     sqlite3_stmt *statement = base_prepare(base,
         "SELECT bid FROM known WHERE bid NOT IN (SELECT bid FROM outbox WHERE number IN " CHOSEN ")"
-        " ORDER BY bid IN " JUST_CAME " DESC, seen - (type = 'P') * " PERSONAL_AGES " DESC, number DESC LIMIT ?2");
+        " ORDER BY bid IN " JUST_CAME " DESC, number - (type = 'P') * ?3 DESC, number DESC LIMIT ?2");
     struct taker taker = { function, context };
 
     if (statement) {
         sqlite3_bind_int(statement, CHOSEN_LIMIT, FRINGEMOLE_MAX_RECORDS);
         sqlite3_bind_int(statement, 2, FRINGEMOLE_MAX_KNOWN);
+        sqlite3_bind_int(statement, 3, PERSONAL_BEHIND);
     }
     return base_rows(base, statement, take_row, &taker);
 }

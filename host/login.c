@@ -4,14 +4,15 @@
 
 #include <string.h>
 
-/* Reads byte by byte, so that nothing that follows the question is taken, and up to `limit` bytes, of which it keeps the last. */
+/* Reads byte by byte, so that nothing that follows the question is taken, and up to `limit` bytes (0: any number), of which it keeps the last. */
 static bool hear(struct link *link, struct part question, long limit)
 {
     struct bytes heard = { NULL, 0, 0 };
     bool found = question.n == 0;
+    long count = 0;
     uint8_t byte;
 
-    while (!found && limit-- > 0 && link_read(link, &byte, 1, true) == 1) {
+    while (!found && (!limit || count++ < limit) && link_read(link, &byte, 1, true) == 1) {
         if (heard.n == question.n)
             memmove(heard.at, heard.at + 1, --heard.n);
         bytes_add(&heard, &byte, 1);

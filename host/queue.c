@@ -3,6 +3,7 @@
 
 #include <sys/ioctl.h>
 #include <sys/socket.h>
+#include <unistd.h>
 
 #if defined(__linux__)
 /* Amateur radio's sockets say with TIOCOUTQ how much room is left, all others how much is held. */
@@ -32,18 +33,15 @@ static size_t asked(int descriptor, unsigned long question)
 
 size_t queue_held(const struct port *port)
 {
-    switch (port->kind) {
-    case PACKETS:
+    if (port->kind == PACKETS)
         return held_in_packets(port->out);
-    case PIPE: /* what the reader of a pipe hasn't taken */
 #if defined(FIONREAD)
-        return asked(port->out, FIONREAD);
+    if (port->kind == PIPE && !isatty(port->out))
+        return asked(port->out, FIONREAD); /* what the reader of a pipe hasn't taken */
 #endif
-    default:
 #if defined(TIOCOUTQ)
-        return asked(port->out, TIOCOUTQ); /* on Linux TCP answers it too */
+    return asked(port->out, TIOCOUTQ); /* on Linux TCP answers it too */
 #else
-        return 0;
+    return 0;
 #endif
-    }
 }

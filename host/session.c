@@ -83,7 +83,7 @@ static enum exit_code converse(struct session *session)
     uint8_t out[PIECE], in[PIECE];
     bool speaking = false, over = false;
 
-    while (!over) {
+    for (;;) {
         struct fringemole_reply given = fringemole_give_in(&session->shelf.lent, out, sizeof out, 0);
         enum exit_code code;
         long n;
@@ -104,7 +104,6 @@ static enum exit_code converse(struct session *session)
         if (over)
             return code;
     }
-    return DONE;
 }
 
 /* What the session did, to its row and to the operator. */
@@ -136,9 +135,9 @@ static void say_unoffered(const struct session *session)
 
     shelf_unoffered(&session->shelf, &plain, &packed);
     if (plain)
-        say("%lu of these plain, for a partner without B in its SID", (unsigned long)plain);
+        say("waiting for a partner without B in its SID: %lu (plain)", (unsigned long)plain);
     if (packed)
-        say("%lu of these packed, for a partner with B in its SID", (unsigned long)packed);
+        say("waiting for a partner with B in its SID: %lu (packed)", (unsigned long)packed);
 }
 
 /* The row's end and what was deferred, in one transaction. */

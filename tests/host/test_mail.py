@@ -3,7 +3,6 @@ from node import *
 from test_files import HEAD, letter
 
 PLAIN_SID = b"[TST-1-F$]\r"
-DAY = 24 * 60 * 60
 
 
 class Kept(Folder):
@@ -23,10 +22,10 @@ class Kept(Folder):
         partner.hang_up()
         partner.rest()
 
-    def know_others(self, node, count=1100, kind="B", age=0):
+    def know_others(self, node, count=1100, kind="B", name="other", seen=0):
         """So many other BIDs were seen since."""
         node.ask("WITH n(i) AS (SELECT 1 UNION ALL SELECT i + 1 FROM n WHERE i < ?) INSERT INTO known (bid, type, seen)"
-                 " SELECT CAST(printf('%s%d-%d', ?, ?, i) AS BLOB), ?, ? FROM n", count, kind, age, kind, int(time.time()) - age * DAY)
+                 " SELECT CAST(printf('%s%d', ?, i) AS BLOB), ?, ? FROM n", count, name, kind, seen)
 
     def signs(self, node, *bids):
         partner = node.stdio()
@@ -52,7 +51,7 @@ class Copies(Kept):
         node.ask("UPDATE outbox SET state = 1")
         for text in texts[1:]:
             self.sends(node, self.plain(b"X%d" % texts.index(text), b"another"))
-            self.know_others(node, kind="B", age=-texts.index(text))
+            self.know_others(node, name="%d-" % texts.index(text))
             self.sends(node, text)
         rows = node.ask("SELECT bid, copy, body FROM inbox WHERE bid IN (?, ?) ORDER BY number", b"1_T", b"1_US")
         self.assertEqual(rows, [(b"1_T", 0, b"first\r"), (b"1_T", 1, b"second\r"), (b"1_T", 2, b"third\r"), (b"1_US", 1, b"ours came back\r")])
@@ -99,27 +98,34 @@ class Likeliest(Kept):
         self.sends(node, Message(b"OLD", form="plain"))
         self.sends(node, Message(b"1_T", form="plain"), Message(b"2_T", form="plain"))
         node.ask("UPDATE inbox SET partner = ? WHERE bid = ?", b"F0OLD", b"OLD")
-        self.know_others(node, age=-1)
+        self.know_others(node)
         self.assertEqual(self.signs(node, b"1_T", b"2_T", b"OLD", b"NEW"), "---+")
         node.ask("UPDATE inbox SET partner = ?", b"")
         self.assertEqual(self.signs(node, b"1_T", b"OLD"), "-+")
 
     def test_bulletins(self):
-        "a bulletin is known before personal messages that are up to 30 days newer"
-        for age, signs in ((29, "-"), (31, "+")):
-            node = self.node("node%d" % age)
-            self.know_others(node, 1, "B", age)
-            self.know_others(node, 1024, "P", 0)
-            self.assertEqual(self.signs(node, b"B%d-1" % age), signs)
+        "a personal message is known as if 512 more had been seen since: a bulletin is known before 1,534 of them, and not before 1,024 bulletins"
+        for kind, count, signs in (("P", 1534, "-"), ("P", 1535, "+"), ("B", 1023, "-"), ("B", 1024, "+")):
+            node = self.node(kind + str(count))
+            self.know_others(node, 1, "B", "FIRST")
+            self.know_others(node, count, kind)
+            self.assertEqual(self.signs(node, b"FIRST1"), signs, (kind, count))
+
+    def test_clock(self):
+        "what a node with a wrong clock saw last is known"
+        node = self.node()
+        self.know_others(node, 1100, name="before", seen=4000000000)
+        self.know_others(node, 5, name="now", seen=10)
+        self.assertEqual(self.signs(node, b"now1", b"before1100", b"before1"), "--+")
 
     def test_seen_again(self):
         "a copy that came again is as new as can be"
         node = self.node()
-        node.ask("INSERT INTO known (bid, type, seen) VALUES (?, 'B', 1)", b"BACK")
-        self.know_others(node, 1030, "B", 1)
-        self.sends(node, Message(b"BACK", form="plain", kind=b"B"))
+        self.know_others(node, 1, name="BACK")
+        self.know_others(node, 1030)
+        self.sends(node, Message(b"BACK1", form="plain", kind=b"B"))
         self.sends(node, Message(b"NEXT", form="plain", kind=b"B"))
-        self.assertEqual(self.signs(node, b"BACK", b"B1-1030", b"B1-1"), "--+")
+        self.assertEqual(self.signs(node, b"BACK1", b"other1030", b"other1"), "--+")
 
 
 class Imported(Folder):
@@ -216,7 +222,7 @@ class Imported(Folder):
 class Counted(Folder):
     def test_other_form(self):
         "what waits because this partner takes the other form only is said, so that nobody wonders"
-        for sid, words in ((PLAIN_SID, "2 of these packed, for a partner with B in its SID"), (b"[TST-1-BF$]\r", "1 of these plain, for a partner without B in its SID")):
+        for sid, words in ((PLAIN_SID, "waiting for a partner with B in its SID: 2 (packed)"), (b"[TST-1-BF$]\r", "waiting for a partner without B in its SID: 1 (plain)")):
             node = self.node(sid.decode()[7:9]).add(Message(b"1_A", form="plain"), Message(b"2_A"), Message(b"3_A"))
             partner = node.stdio()
             partner.hears(GREETING)

@@ -1,5 +1,5 @@
 -- A base of version 1, as the host of that version made it: imports, then two sessions with a partner; 1_T came twice and 1_US came back,
--- after both had left its list of known BIDs. By sqlite3's .dump, with the two pragmas added and the partner f0sou named f0sou-1.
+-- after both had left its list of known BIDs. By sqlite3's .dump, with the two pragmas added.
 PRAGMA application_id = 1179479916;
 PRAGMA user_version = 1;
 PRAGMA foreign_keys=OFF;

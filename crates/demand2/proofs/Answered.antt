@@ -11,7 +11,7 @@ use Rattle.grammar.specs.Bytes.{Bytes}
 use Rattle.grammar.specs.Turns.{withCr}
 use Rattle.grammar.specs.Answers.{Sign, accept, decline, defer, writeSign, readFs, fsLine}
 use Rattle.session.specs.Choices.{Shelf, answersTo}
-use Rattle.session.specs.Session.{awaitsAnswer, aLine, Memory, Session, Stepped, step, ended}
+use Rattle.session.specs.Session.{awaitsAnswer, aLine, Memory, Session, Stepped, step, ended, levelInForce}
 use Rattle.session.specs.Calls.{Received, receive, give}
 use Rattle.demand2.specs.Refusals.{WholeLine, SoFar, Live}
 use Rattle.demand2.specs.Marks.{withSign, AnswerLeaves}
@@ -79,7 +79,7 @@ sign-same defer defer e = refl
 
 -- THE PARTNER'S FS LINE, with the call that brings its CR
 pub answer-reached : (E : Shelf) (s : Session) (q : Bytes) → Reached E s q → Live s → (b : ℕ) (line : Bytes) (is : List ℕ) (ss : List Sign) → WholeLine s b line
-    → s .phase ≡ aLine (awaitsAnswer is) → readFs (length is) line ≡ some ss → AnswerExact E s is ss (receive E s (b ∷ []) .session .memory)
+    → s .phase ≡ aLine (awaitsAnswer is) → readFs (levelInForce (s .memory)) (length is) line ≡ some ss → AnswerExact E s is ss (receive E s (b ∷ []) .session .memory)
 answer-reached E s q R L b line is ss w p r =
     let B = reached-sound E s q R .asked is p in
     record {

@@ -17,7 +17,7 @@ use Rattle.grammar.specs.Scan.{Scan, Scanned, goes, got, scanByte}
 use Rattle.grammar.proofs.Refusal.{whole-got}
 use Rattle.mail.specs.Mail.{Record, messageOf, proposalOf, transferOf, recordAt, proposalLines, turnText, transfersText, accepted}
 use Rattle.session.specs.Choices.{Shelf, answersTo}
-use Rattle.session.specs.Session.{awaitsSid, awaitsPrompt, awaitsAnswer, Phase, aLine, newTurn, Memory, Session, withPart, withAfterCr, between, goesOn, speaking, turnMarks, answering, answerMarks, awaitedJudged, Stepped, moved, settled, lineMoved, isPlain, keptIn, nextTransfer, transferMoved, freeStep, step}
+use Rattle.session.specs.Session.{awaitsSid, awaitsPrompt, awaitsAnswer, Phase, aLine, newTurn, Memory, Session, withPart, withAfterCr, between, goesOn, speaking, turnMarks, answering, answerMarks, awaitedJudged, Stepped, moved, settled, lineMoved, isPlain, keptIn, nextTransfer, transferMoved, freeStep, step, levelInForce}
 use Rattle.demand2.specs.Room.{room}
 use Rattle.demand2.specs.Marks.{withSign, AnswerLeaves, TurnLeaves}
 use Rattle.demand2.specs.Refusals.{isDropped, Heeded, awaitsLine, WholeLine, TurnSaid, SoFar, TransferByte}
@@ -90,7 +90,7 @@ module _ (E : Shelf) (q : Bytes) (s : Session) (b : ℕ) where
       ∙ ap (λ (d : Bool). settled s true (cond d (goesOn (aLine (a .0)) (s .memory) []) (awaitedJudged E (a .0) (s .memory) (s .part)))) c
       ∙ ap (λ (p : Phase). moved (between p true [] (s .memory))) (sym (a .1))
 
-  goes-answer : (ln : Bytes) (is : List ℕ) (ss : List Sign) → WholeLine s b ln → s .phase ≡ aLine (awaitsAnswer is) → readFs (length is) ln ≡ some ss
+  goes-answer : (ln : Bytes) (is : List ℕ) (ss : List Sign) → WholeLine s b ln → s .phase ≡ aLine (awaitsAnswer is) → readFs (levelInForce (s .memory)) (length is) ln ≡ some ss
       → step E s b ≡ moved (between (newTurn false) true (transfersText (E .table) (accepted ss is)) (answerMarks is ss (s .memory)))
   goes-answer ln is ss w p r = whole-step E s b (awaitsAnswer is) ln w p ∙ rw (w .bytes, r)
 
@@ -146,7 +146,7 @@ memory-kept E cr o (p ∷ ps) m = refl
 
 module _ (E : Shelf) (s : Session) (b : ℕ) (ln : Bytes) where
   -- ITS VALID FS LINE
-  pub fs-leaves : (is : List ℕ) (ss : List Sign) → WholeLine s b ln → s .phase ≡ aLine (awaitsAnswer is) → readFs (length is) ln ≡ some ss
+  pub fs-leaves : (is : List ℕ) (ss : List Sign) → WholeLine s b ln → s .phase ≡ aLine (awaitsAnswer is) → readFs (levelInForce (s .memory)) (length is) ln ≡ some ss
       → AnswerLeaves is ss (s .memory) (step E s b .session .memory)
   fs-leaves is ss w p r =
       subst (AnswerLeaves is ss (s .memory)) (sym (ap (λ (o : Stepped). o .session .memory) (goes-answer E [] s b ln is ss w p r)))

@@ -17,7 +17,7 @@ use Rattle.grammar.proofs.Basics.{both}
 use Rattle.grammar.proofs.Rest.{Wrong}
 use Rattle.grammar.proofs.Refusal.{exact-8, exact-9, exact-10, isTen}
 use Rattle.session.specs.Choices.{Shelf}
-use Rattle.session.specs.Session.{awaitsSid, awaitsAnswer, Session, withAfterCr, turnJudged, refused, moved, settled, lineMoved, transferMoved, freeStep, step}
+use Rattle.session.specs.Session.{awaitsSid, awaitsAnswer, Session, withAfterCr, turnJudged, refused, moved, settled, lineMoved, transferMoved, freeStep, step, levelInForce}
 use Rattle.demand2.specs.Room.{room}
 use Rattle.demand2.specs.Refusals.{LineTooLong, NotSid, NoForwarding, isAllowed, isMiscounted, NoAnswer, beginsFs, LineNotAllowed, inTurn, forAnswer, WrongCount, WrongAnswer, SoFar, WrongTransfer, WrongChecksum, NoRoom, BytesWait, Refusal, no2, no3, no4, no5, no6, no7, no8, no9, no10, no11, numberOf, Situation}
 use Rattle.demand2.proofs.Room.{full-at}
@@ -61,10 +61,10 @@ module _ (E : Shelf) (s : Session) (b : ℕ) where
   miscounted (proposes q) ff ps e = rw (not-true (ltb (length ps) 5) e)
 
   -- a line where FS is awaited
-  answer-step : (ln : Bytes) (h : NoAnswer s b ln) → Refuses E s b (fsNumber (length (h .places)) ln)
+  answer-step : (ln : Bytes) (h : NoAnswer s b ln) → Refuses E s b (fsNumber (levelInForce (s .memory)) (length (h .places)) ln)
   answer-step ln h = whole-step E s b (awaitsAnswer (h .places)) ln (h .whole) (h .awaited) ∙ simp (h .whole .bytes, h .wrong)
 
-  answer-number : (ln : Bytes) (h : NoAnswer s b ln) (c : Bool) → beginsFs ln ≡ c → fsNumber (length (h .places)) ln ≡ cond c number.badAnswer number.lineNotAllowed
+  answer-number : (ln : Bytes) (h : NoAnswer s b ln) (c : Bool) → beginsFs ln ≡ c → fsNumber (levelInForce (s .memory)) (length (h .places)) ln ≡ cond c number.badAnswer number.lineNotAllowed
   answer-number ln h c e = rw (h .wrong, e)
 
   not-allowed : LineNotAllowed s b → Refuses E s b number.lineNotAllowed

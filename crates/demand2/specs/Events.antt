@@ -12,14 +12,14 @@ use Rattle.grammar.specs.Bytes.{Bytes, CR}
 use Rattle.grammar.specs.Ascii.{text}
 use Rattle.grammar.specs.Fields.{Form, plain, message, file}
 use Rattle.grammar.specs.Lines.{lineLimit, trim, isComment, isPrompt}
-use Rattle.grammar.specs.Sid.{readSid, hasFeature, framed}
+use Rattle.grammar.specs.Sid.{readSid, hasFeature, framed, letterF}
 use Rattle.grammar.specs.Turns.{Proposal, saysFF, saysFQ, endsBlock, proposes, readTurnLine, blockLimit, proposalLine, fixedText, ourSid, ourFF, ourFQ, withCr}
 use Rattle.grammar.specs.Answers.{Sign, accept, readFs, fsLine}
 use Rattle.grammar.specs.Transfers.{parse}
 use Rattle.grammar.specs.Scan.{Scan, goes, scan, scanFrom}
 use Rattle.mail.specs.Mail.{Record, Message, proposalOf, transferOf, recordAt}
 use Rattle.session.specs.Choices.{Shelf, chosen, answersTo}
-use Rattle.session.specs.Session.{awaitsSid, awaitsPrompt, awaitsTurn, awaitsAnswer, Phase, aLine, newTurn, awaitsTransfer, leaving, over, Memory, Session, withFramed, withInbox, withPhase, withPart, withAfterCr, between}
+use Rattle.session.specs.Session.{awaitsSid, awaitsPrompt, awaitsTurn, awaitsAnswer, Phase, aLine, newTurn, awaitsTransfer, leaving, over, Memory, Session, withFramed, withInbox, withPhase, withPart, withAfterCr, between, levelInForce}
 use Rattle.demand2.specs.Room.{Fits, room}
 use Rattle.demand2.specs.Marks.{withSign, AnswerLeaves, TurnLeaves}
 use Rattle.demand2.specs.Refusals.{isDropped, Heeded, awaitsLine, WholeLine, TurnSaid, TransferByte}
@@ -89,10 +89,10 @@ pub data Event (E : Shelf) (q : Bytes) (s : Session) (b : ℕ) : Session → Typ
   ignored : Heeded s b → awaitsLine (s .phase) ≡ true → b ≡ CR → isComment (trim (s .part)) ≡ true
       → Event E q s b (between (s .phase) true [] (s .memory))
   -- the SID: "Called: we .. await the caller's SID, then its first turn."; "Partner has B: framed mode"
-  sidOfCaller : (line : Bytes) → WholeLine s b line → s .phase ≡ aLine (awaitsSid false) → (fs : List ℕ) → readSid line ≡ some fs → hasFeature 5 fs ≡ true
+  sidOfCaller : (line : Bytes) → WholeLine s b line → s .phase ≡ aLine (awaitsSid false) → (fs : List ℕ) → readSid line ≡ some fs → hasFeature letterF fs ≡ true
       → Event E q s b (between (newTurn false) true [] (withFramed (framed fs) (s .memory)))
   -- "Caller: we await the SID, skip text lines until the prompt"
-  sidOfCalled : (line : Bytes) → WholeLine s b line → s .phase ≡ aLine (awaitsSid true) → (fs : List ℕ) → readSid line ≡ some fs → hasFeature 5 fs ≡ true
+  sidOfCalled : (line : Bytes) → WholeLine s b line → s .phase ≡ aLine (awaitsSid true) → (fs : List ℕ) → readSid line ≡ some fs → hasFeature letterF fs ≡ true
       → Event E q s b (between (aLine awaitsPrompt) true [] (withFramed (framed fs) (s .memory)))
   textLine : (line : Bytes) → WholeLine s b line → s .phase ≡ aLine awaitsPrompt → isPrompt line ≡ false
       → Event E q s b (between (aLine awaitsPrompt) true [] (s .memory))
@@ -114,7 +114,7 @@ pub data Event (E : Shelf) (q : Bytes) (s : Session) (b : ℕ) : Session → Typ
       → Event E q s b
       (transfersOr E true (withCr (fsLine (answersTo E (s .memory .inbox) (p ∷ ps)))) (withSign accept (p ∷ ps) (answersTo E (s .memory .inbox) (p ∷ ps))) after)
   -- its FS line: "`-` sets state 2 .. Accepted records are sent in order.", then its turn
-  fsLineComes : (line : Bytes) (is : List ℕ) → WholeLine s b line → s .phase ≡ aLine (awaitsAnswer is) → (ss : List Sign) → readFs (length is) line ≡ some ss
+  fsLineComes : (line : Bytes) (is : List ℕ) → WholeLine s b line → s .phase ≡ aLine (awaitsAnswer is) → (ss : List Sign) → readFs (levelInForce (s .memory)) (length is) line ≡ some ss
       → (after : Memory) → AnswerLeaves is ss (s .memory) after
       → Event E q s b (between (newTurn false) true (transfersSaid (E .table) (withSign accept is ss)) after)
   -- a byte of a transfer

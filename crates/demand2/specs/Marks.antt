@@ -7,6 +7,7 @@ use lib.Dec.{eqb}
 use lib.ListN.{length, getD}
 use Rattle.grammar.specs.Answers.{Sign, accept, decline, defer, writeSign}
 use Rattle.session.specs.Session.{Memory}
+use Rattle.phase.specs.Phase.{stateDeclined}
 
 -- This place is among these.
 abbrev pub isIn : ℕ → List ℕ → Bool
@@ -26,7 +27,7 @@ withSign x (i ∷ is) (s ∷ ss) = cond (isSign x s) (i ∷ withSign x is ss) (w
 -- The memory before and after the partner's valid FS line. state and flag: of the record at any place k
 pub record AnswerLeaves (is : List ℕ) (ss : List Sign) (before after : Memory) : Type 0 where
   -- "`-` sets state 2 at the CR of a valid line.", and nothing else is set: "A deferred record stays 0."
-  pub state : (k : ℕ) → k < length (before .states) → getD (after .states) k 0 ≡ cond (isIn k (withSign decline is ss)) 2 (getD (before .states) k 0)
+  pub state : (k : ℕ) → k < length (before .states) → getD (after .states) k 0 ≡ cond (isIn k (withSign decline is ss)) stateDeclined (getD (before .states) k 0)
   pub records : length (after .states) ≡ length (before .states)
   -- "`=` defer": deferred in this session (flag 1) is what was, and what this line defers
   pub flag : (k : ℕ) → k < length (before .deferred) → getD (after .deferred) k 0 ≡ cond (isIn k (withSign defer is ss)) 1 (getD (before .deferred) k 0)

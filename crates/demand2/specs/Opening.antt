@@ -7,6 +7,7 @@ use lib.ListN.{length, getD}
 use Rattle.grammar.specs.Ascii.{text}
 use Rattle.grammar.specs.Turns.{withCr}
 use Rattle.session.specs.Session.{awaitsSid, aLine, Session}
+use Rattle.mail.specs.Mail.{recordLimit}
 
 -- caller: the role (true: 1, caller); states: those of the records, as open found them
 pub record OpenExact (caller : Bool) (states : List ℕ) (s : Session) : Type 0 where
@@ -20,8 +21,8 @@ pub record OpenExact (caller : Bool) (states : List ℕ) (s : Session) : Type 0 
   -- "each record's state, as open found it"; none is being sent, none was deferred
   pub marks : s .memory .states ≡ states
   pub sending : s .memory .sending ≡ []
-  pub flag : (k : ℕ) → k < 64 → getD (s .memory .deferred) k 0 ≡ 0
-  pub flags : length (s .memory .deferred) ≡ 64
+  pub flag : (k : ℕ) → k < recordLimit → getD (s .memory .deferred) k 0 ≡ 0
+  pub flags : length (s .memory .deferred) ≡ recordLimit
   -- "Its count stands in session memory, 0 once open accepts."
   pub inbox : s .memory .inbox ≡ []
   -- "Partner has B: framed mode, .. Otherwise plain mode.": nothing is known of it yet

@@ -10,6 +10,7 @@ use Rattle.mail.specs.Mail.{Record, Message}
 use Rattle.session.specs.Choices.{Shelf, answersTo}
 use Rattle.demand2.specs.Room.{keptBytes}
 use Rattle.demand2.specs.Marks.{withSign}
+use Rattle.grammar.specs.Fields.{bodyLimit}
 
 -- The BID stands in the list, byte for byte.
 pub record Among (b : Bytes) (bids : List Bytes) : Type 0 where
@@ -31,7 +32,7 @@ pub data HaveBid (E : Shelf) (inbox : List Message) (earlier : List Proposal) (b
 
 -- "else `=` if the size is over 65,535, or over the free store less the sizes accepted in this block, or no inbox place is free for it"
 pub data NoRoomFor (E : Shelf) (inbox : List Message) (earlier : List Proposal) (size : ℕ) : Type 0 where
-  tooLong : 65535 < size → NoRoomFor E inbox earlier size
+  tooLong : bodyLimit < size → NoRoomFor E inbox earlier size
   noStore : E .bytes - keptBytes inbox - sizesOf earlier < size → NoRoomFor E inbox earlier size
   noPlace : E .places ≤ length inbox + length earlier → NoRoomFor E inbox earlier size
 

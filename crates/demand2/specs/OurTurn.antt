@@ -8,7 +8,7 @@ use Prim.Native.Nat.{ℕ, _+_, _≤_, _<_}
 use lib.Dec.{eqb, ltb, leb}
 use lib.ListN.{length, getD}
 use Rattle.grammar.specs.Bytes.{all}
-use Rattle.grammar.specs.Turns.{inMode, blockLimit, fixedText, ourFF, ourFQ, withCr}
+use Rattle.grammar.specs.Turns.{inMode, blockLimit, fixedText, ourFF, ourFQ, withCr, announcedLimit}
 use Rattle.mail.specs.Mail.{Record, recordAt}
 use Rattle.session.specs.Choices.{Shelf, sizeAt}
 use Rattle.session.specs.Session.{Memory}
@@ -37,10 +37,10 @@ pub record OurBlock (T : List Record) (framed : Bool) (states flags : List ℕ) 
   pub allowed : (i : ℕ) → isIn i is ≡ true → mayPropose T framed states flags i ≡ true
   -- "while fewer than five are in and the announced sizes so far are below 10,240"
   pub few : length is ≤ blockLimit
-  pub below : (xs : List ℕ) (i : ℕ) (ys : List ℕ) → is ≡ xs ++ i ∷ ys → sizes T xs < 10240
+  pub below : (xs : List ℕ) (i : ℕ) (ys : List ℕ) → is ≡ xs ++ i ∷ ys → sizes T xs < announcedLimit
   -- one that is left out comes later in the table than all that are in, and could not be added
   pub first : (i : ℕ) → mayPropose T framed states flags i ≡ true → isIn i is ≡ false → (j : ℕ) → isIn j is ≡ true → j < i
-  pub full : (i : ℕ) → mayPropose T framed states flags i ≡ true → isIn i is ≡ false → leb blockLimit (length is) || leb 10240 (sizes T is) ≡ true
+  pub full : (i : ℕ) → mayPropose T framed states flags i ≡ true → isIn i is ≡ false → leb blockLimit (length is) || leb announcedLimit (sizes T is) ≡ true
 
 -- What we say in our turn. ff: the partner's turn just now was FF
 pub record TurnExact (E : Shelf) (ff : Bool) (m : Memory) : Type 0 where

@@ -14,6 +14,7 @@ use Rattle.session.specs.Calls.{receive, give}
 use Rattle.demand2.specs.Refusals.{isDropped, SoFar}
 use Rattle.demand2.specs.Marks.{isIn, withSign, AnswerLeaves}
 use Rattle.demand2.specs.OurTurn.{OurBlock}
+use Rattle.mail.specs.Mail.{recordLimit}
 
 -- How many transfers are owed to us, the one under way with them.
 abbrev pub owed : Phase → ℕ
@@ -52,5 +53,5 @@ pub record Sound (E : Shelf) (s : Session) (q : Bytes) : Type 0 where
 pub record AnswerExact (E : Shelf) (s : Session) (is : List ℕ) (ss : List Sign) (after : Memory) : Type 0 where
   pub leaves : AnswerLeaves is ss (s .memory) after
   pub block : OurBlock (E .table) (s .memory .framed) (s .memory .states) (s .memory .deferred) is
-  pub flags : length (s .memory .deferred) ≡ 64
+  pub flags : length (s .memory .deferred) ≡ recordLimit
   pub once : (x y : Sign) (k : ℕ) → isIn k (withSign x is ss) ≡ true → isIn k (withSign y is ss) ≡ true → x ≡ y

@@ -10,7 +10,7 @@ use Rattle.grammar.specs.Bytes.{Bytes, CR, splitAt}
 use Rattle.grammar.specs.Fields.{Form, plain, message, file}
 use Rattle.grammar.specs.Lines.{lineLimit, trim, isComment}
 use Rattle.grammar.specs.Turns.{proposes, readTurnLine, proposalLine, withCr}
-use Rattle.grammar.specs.Answers.{Sign, readFs, fsLine}
+use Rattle.grammar.specs.Answers.{Sign, readFs, fsLine, level0}
 use Rattle.grammar.specs.Transfers.{readTransfer}
 use Rattle.mail.specs.Mail.{Record, proposalOf, transferOf}
 
@@ -45,4 +45,4 @@ pub record ReadsBack (r : Record) : Type 0 where
 -- "FS, one space, one sign a proposal": our answer reads back as these signs
 pub record AnswerReadsBack (signs : List Sign) : Type 0 where
   pub line : HeardWhole (fsLine signs)
-  pub answer : readFs (length signs) (fsLine signs) ≡ some signs
+  pub answer : readFs level0 (length signs) (fsLine signs) ≡ some signs

@@ -21,13 +21,13 @@ use Rattle.grammar.specs.Ascii.{text}
 use Rattle.grammar.specs.Refusals as number
 use Rattle.grammar.specs.Fields.{after}
 use Rattle.grammar.specs.Lines.{lineLimit, trim, isComment}
-use Rattle.grammar.specs.Sid.{readSid, hasFeature}
+use Rattle.grammar.specs.Sid.{readSid, hasFeature, letterF}
 use Rattle.grammar.specs.Turns.{Proposal, TurnLine, saysFF, saysFQ, endsBlock, notAllowed, proposes, readTurnLine, blockLimit}
 use Rattle.grammar.specs.Answers.{readFs}
 use Rattle.grammar.specs.Transfers.{Parsed, parse}
 use Rattle.grammar.specs.Scan.{Scan, goes, scan, bodyOf, isBodyByte}
 use Rattle.session.specs.Choices.{Shelf}
-use Rattle.session.specs.Session.{awaitsSid, awaitsTurn, awaitsAnswer, Phase, aLine, awaitsTransfer, leaving, over, Memory, Session, between, step, ended}
+use Rattle.session.specs.Session.{awaitsSid, awaitsTurn, awaitsAnswer, Phase, aLine, awaitsTransfer, leaving, over, Memory, Session, between, step, ended, levelInForce}
 use Rattle.session.specs.Calls.{receive}
 use Rattle.demand2.specs.Room.{Full, room}
 
@@ -81,7 +81,7 @@ pub record NoForwarding (s : Session) (b : ℕ) : Type 0 where
   pub awaited : s .phase ≡ aLine (awaitsSid caller)
   pub features : List ℕ
   pub valid : readSid line ≡ some features
-  pub without : hasFeature 5 features ≡ false
+  pub without : hasFeature letterF features ≡ false
 
 -- ---------------------------------------------------------------- 5 to 7
 
@@ -112,7 +112,7 @@ pub record NoAnswer (s : Session) (b : ℕ) (line : Bytes) : Type 0 where
   pub whole : WholeLine s b line
   pub places : List ℕ
   pub awaited : s .phase ≡ aLine (awaitsAnswer places)
-  pub wrong : readFs (length places) line ≡ none
+  pub wrong : readFs (levelInForce (s .memory)) (length places) line ≡ none
 
 -- "Where FS is awaited, a wrong line that begins with FS gets 7 and any other 5"
 abbrev pub beginsFs : Bytes → Bool

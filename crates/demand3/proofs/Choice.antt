@@ -19,7 +19,7 @@ use Rattle.session.proofs.Bids.{bid-itself}
 use Rattle.session.proofs.Choices.{Places, chosen-places, one-sign-each}
 use Rattle.log.specs.Log.{placesOf}
 use Rattle.log.proofs.Spoken.{AllFit}
-use Rattle.demand3.specs.Demand.{Good, allProposable, noneWith, distinctBids}
+use Rattle.demand3.specs.Demand.{GoodTable, allProposable, noneWith, distinctBids}
 
 -- ---------------------------------------------------------------- BIDs and places
 
@@ -63,7 +63,7 @@ pub record Sound (E : Shelf) : Type 0 where
   pub fit : (m : Memory) → AllFit (m .framed) (proposalsAt (E .table) (ourChoice E m))
   pub full : (inbox : List Message) (ps : List Proposal) → length (answersTo E inbox ps) ≡ length ps
 
-pub sound : (E : Shelf) → Good (E .table) → Sound E
+pub sound : (E : Shelf) → GoodTable (E .table) → Sound E
 sound E g =
     record {
       few = λ m. Rattle.session.proofs.Choices.few (E .table) (m .framed) (m .states) (m .deferred);

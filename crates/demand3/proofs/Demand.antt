@@ -16,7 +16,7 @@ use Rattle.log.specs.Log.{took, gave, Book, log}
 use Rattle.log.specs.Fed.{Fed, fedByte, fedAll}
 use Rattle.log.proofs.Spoken.{spoken-nil, greeting-spoken}
 use Rattle.log.proofs.Units.{fedOpened, fed-append, logs-agree}
-use Rattle.demand3.specs.Demand.{Call, receiving, giving, refusedCall, run, Good, Demand3}
+use Rattle.demand3.specs.Demand.{Call, receiving, giving, refusedCall, run, GoodTable, Demand3}
 use Rattle.demand3.proofs.Choice.{Sound, sound}
 use Rattle.demand3.proofs.Inv.{Inv, live, bookOf, no-line, give-inv, inv-book}
 use Rattle.demand3.proofs.Step.{step-inv}
@@ -73,7 +73,7 @@ open-inv E false states =
     live (record { unit = []; course = greeting-spoken (E .table) false []; book = refl; afterCr = refl; pending = (no-line, tt) })
 
 -- THE THEOREM: every table that open accepts, either role, any states, every list of calls
-pub demand-3 : (E : Shelf) → Good (E .table) → (caller : Bool) (states : List ℕ) (cs : List Call) → Demand3 E caller states cs
+pub demand-3 : (E : Shelf) → GoodTable (E .table) → (caller : Bool) (states : List ℕ) (cs : List Call) → Demand3 E caller states cs
 demand-3 E g caller states cs =
     record { table = sym (ap (λ (k : Book). k .states) books); inbox = sym (ap (λ (k : Book). k .kept) books) }
   where

@@ -14,7 +14,7 @@ use Rattle.grammar.specs.Fields.{Form, plain, message, file}
 use Rattle.grammar.specs.Lines.{ends, grows, overruns, trim, isComment, isPrompt}
 use Rattle.grammar.specs.Sid.{readSid, hasFeature, framed}
 use Rattle.grammar.specs.Turns.{Proposal, TurnLine, saysFF, saysFQ, endsBlock, notAllowed, proposes, readTurnLine, fixedText, ourSid, ourFF, ourFQ, withCr}
-use Rattle.grammar.specs.Answers.{Sign, readFs, fsNumber, fsLine}
+use Rattle.grammar.specs.Answers.{Sign, readFs, fsNumber, fsLine, level0}
 use Rattle.grammar.specs.Transfers.{readTransfer}
 use Rattle.grammar.specs.Scan.{Scan, Scanned, goes, got, malformed, wrongSum, noRoom, scanByte, scanFrom}
 use Rattle.grammar.proofs.Refusal.{Reach, reach-step, from, contentOf, read-as}
@@ -199,7 +199,7 @@ module _ (E : Shelf) (S : Sound E) (part : Bytes) (a : Bool) (m : Memory) where
   read-line (awaitsSid c) f = sid-line c (readSid (trim part))
   read-line awaitsPrompt f = text-line (isPrompt (trim part))
   read-line (awaitsTurn ff ps) f = turn-line ff ps (readTurnLine (m .framed) (trim part)) f
-  read-line (awaitsAnswer is) f = answer-line is (fsNumber (length is) (trim part)) (readFs (length is) (trim part))
+  read-line (awaitsAnswer is) f = answer-line is (fsNumber level0 (length is) (trim part)) (readFs level0 (length is) (trim part))
 
   -- a comment, or the line
   heard : (p : Awaited) → Few p → AfterLine p (lineJudged E p m part) (theirLine (lineOf p) (bookOf m) (m .sending) part)

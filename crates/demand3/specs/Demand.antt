@@ -9,7 +9,7 @@ use lib.ListN.{length, take}
 use Rattle.grammar.specs.Bytes.{Bytes}
 use Rattle.grammar.specs.Fields.{sameBid}
 use Rattle.grammar.specs.Turns.{proposable}
-use Rattle.mail.specs.Mail.{Record, proposalOf}
+use Rattle.mail.specs.Mail.{Record, proposalOf, recordLimit}
 use Rattle.session.specs.Choices.{Shelf}
 use Rattle.session.specs.Session.{Session, opened}
 use Rattle.session.specs.Calls.{receive, give, handedOut}
@@ -49,8 +49,8 @@ distinctBids [] = true
 distinctBids (r ∷ T) = noneWith (r .bid) T && distinctBids T
 
 -- "0 to 64 records"
-pub record Good (T : List Record) : Type 0 where
-  pub few : leb (length T) 64 ≡ true
+pub record GoodTable (T : List Record) : Type 0 where
+  pub few : leb (length T) recordLimit ≡ true
   pub fields : allProposable T ≡ true
   pub bids : distinctBids T ≡ true
 

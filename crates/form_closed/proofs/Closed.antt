@@ -19,7 +19,7 @@ use Rattle.layout.proofs.Laws.{octets}
 use Rattle.session_memory.specs.State.{at, flag, loadOf, loadSizes, saveOf, sizesOut, saveSizes, freshOf}
 use Rattle.session_memory.specs.declared.Session.{Session}
 use Rattle.session_memory.specs.declared.Sizes.{Sizes}
-use Rattle.session_memory.proofs.Laws.{sizes-length, Sized, sizes-saved, load-sizes}
+use Rattle.session_memory.proofs.Laws.{sizes-length, Sized, sizes-saved, load-sizes, Shaped}
 use Rattle.entries.specs.Decoded.{placeCount}
 use Rattle.waiting.specs.Waiting.{waitingOf}
 use Rattle.pending.specs.Pending.{waits, silentOf, overOf, hasToGive}
@@ -30,12 +30,13 @@ use Rattle.open.specs.Opening.{knownOk, entriesOk, sizesOk, tableFault, Opened,
 use Rattle.receive_defined.specs.Receiving.{Cs, cs, receiveFrom, Received, unchanged, saved, receiveOf}
 use Rattle.form_closed.specs.Fixed.{Fixed}
 use Rattle.form_closed.specs.Facts.{Octets, Good, Awaited}
-use Rattle.form_closed.proofs.Laws.{octets-append, octets-put, octets-le8, octets-zeros}
+use Rattle.form_closed.proofs.Laws.{octets-append, octets-put, octets-le8, octets-zeros, octets-nil}
 use Rattle.form_closed.proofs.Waiting.{waiting-some}
 use Rattle.form_closed.proofs.Judged.{none-ok, still-awaited}
 use Rattle.form_closed.proofs.Bytes.{receive-ok}
 use Rattle.form_closed.proofs.Saved.{same-itself, parted, good, saved-form}
 use Rattle.form_closed.specs.InForm.{InForm}
+use Rattle.form_closed.proofs.Test.{shaped}
 
 -- ---------------------------------------------------------------- receive
 
@@ -206,6 +207,11 @@ fresh-good F caller table inbox store ot oi os fits few =
     five : (c : Bool) → flag c ≡ 5 → ⊥
     five true e = omega arith
     five false e = omega arith
+
+-- so it can be saved, whatever is lent
+pub fresh-shaped : (F : Fixed) (caller : Bool) → Shaped (freshOf caller)
+fresh-shaped F caller =
+    shaped F 0 0 0 (cs (freshOf caller) [] [] []) (fresh-good F caller [] [] [] octets-nil octets-nil octets-nil (omega arith) (omega arith))
 
 module _ (F : Fixed) (role : ℕ) (sm table inbox store : Bytes) where
   abbrev asked : Opened

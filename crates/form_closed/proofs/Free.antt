@@ -16,7 +16,7 @@ use Rattle.layout.proofs.Places.{part-after}
 use Rattle.session_memory.specs.State.{loadOf, saveOf, sizesOut, saveSizes, freshOf, arraysOut}
 use Rattle.session_memory.specs.declared.Session.{Session}
 use Rattle.session_memory.specs.declared.Sizes.{Sizes}
-use Rattle.session_memory.proofs.Laws.{Shaped, free-kept, end-kept, fresh-shaped, sizes-length}
+use Rattle.session_memory.proofs.Laws.{Shaped, free-kept, end-kept, sizes-length}
 use Rattle.waiting.specs.Waiting.{waitingOf}
 use Rattle.pending.specs.Pending.{overOf, hasToGive}
 use Rattle.form_test.specs.Form.{lentSizes, formOf}
@@ -30,7 +30,7 @@ use Rattle.form_closed.specs.Free.{FreeStays}
 use Rattle.form_closed.proofs.Test.{shaped}
 use Rattle.form_closed.proofs.Bytes.{receive-ok}
 use Rattle.form_closed.proofs.Saved.{parted, good}
-use Rattle.form_closed.proofs.Closed.{handed-ok}
+use Rattle.form_closed.proofs.Closed.{handed-ok, fresh-shaped}
 
 same-free : (sm : Bytes) → FreeStays sm sm
 same-free sm = record { numbers = λ start len h k. refl; arrays = λ start len h. refl }
@@ -138,7 +138,7 @@ module _ (F : Fixed) (role : ℕ) (sm table inbox store : Bytes) where
       go : (a b : Bool) → sizesOk sm table (F .known) inbox ≡ b → (c d : Bool) → FreeStays sm (answer a b c d .sm)
       go true true e true true =
           let n = long e in
-          then-free (sizes-free sm lent n) (saved-free (saveSizes sm lent) (freshOf (eqb role 1)) (sizes-length sm lent ∙ n) (fresh-shaped (eqb role 1)))
+          then-free (sizes-free sm lent n) (saved-free (saveSizes sm lent) (freshOf (eqb role 1)) (sizes-length sm lent ∙ n) (fresh-shaped F (eqb role 1)))
       go true true e true false = same-free sm
       go true true e false d = same-free sm
       go true false e c d = same-free sm

@@ -13,7 +13,7 @@ use Rattle.grammar.specs.Fields.{after}
 use Rattle.grammar.specs.Lines.{isComment, isPrompt}
 use Rattle.grammar.specs.Sid.{readSid, hasFeature}
 use Rattle.grammar.specs.Turns.{TurnLine, saysFF, saysFQ, endsBlock, notAllowed, proposes, readTurnLine}
-use Rattle.grammar.specs.Answers.{readFs}
+use Rattle.grammar.specs.Answers.{readFs, level0}
 use Rattle.grammar.proofs.Basics.{by-cond}
 use Rattle.fs_line.specs.Answers.{answerNumber}
 use Rattle.transfer_step.specs.declared.Reader.{Reader}
@@ -32,7 +32,7 @@ unfolding answerNumber
 number-other n ln =
     let P : ℕ → Type 0 = λ m. eqb m 1 ≡ false in
     by-cond P (ltb 5 n) (by-cond P (isSome (after (text "FS") ln)) refl refl)
-    (by-cond P (isSome (readFs n ln)) refl (by-cond P (isSome (after (text "FS") ln)) refl refl))
+    (by-cond P (isSome (readFs level0 n ln)) refl (by-cond P (isSome (after (text "FS") ln)) refl refl))
 
 module _ (ln : Bytes) (w : Await) (y : Say) (k : Keep) (r : Reader) (table known inbox : Bytes) (store : ℕ) (P : Judged → Type 0) where
   pub record LineWays : Type 0 where

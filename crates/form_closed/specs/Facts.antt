@@ -4,7 +4,7 @@ use mathlib.Core.Path.{_≡_}
 use mathlib.Core.Bool.{true}
 use Prim.Native.Nat.{ℕ, _+_, _≤_, _<_}
 use lib.ListN.{length, getD, drop}
-use Rattle.grammar.specs.Bytes.{Bytes, all}
+use Rattle.grammar.specs.Bytes.{Bytes, all, isByte, byteValues, wordValues}
 use Rattle.transfer_step.specs.declared.Reader.{Reader}
 use Rattle.session_memory.specs.State.{held}
 use Rattle.session_memory.specs.declared.Await.{Await}
@@ -17,59 +17,71 @@ use Rattle.pending.specs.Pending.{waits}
 use Rattle.form_test.specs.Form.{usedBy, pluses}
 use Rattle.receive_defined.specs.Receiving.{Cs}
 use Rattle.form_closed.specs.Fixed.{Fixed}
-use Rattle.grammar.proofs.Basics.{octet}
 use Rattle.session_memory.specs.declared.Five.{Five}
+use Rattle.grammar.specs.Fields.{bodyLimit}
+use Rattle.grammar.specs.Turns.{blockLimit}
+use Rattle.grammar.specs.Answers.{plusSign}
+use Rattle.phase.specs.Phase.{phaseTurn, phaseTransfer}
+use Rattle.places.specs.Places.{deferredLen, headingLen, lineLen, blockLen}
+use Rattle.mail.specs.Mail.{placeLimit}
+
+-- A number that is saved in two bytes is below this, and one in four.
+abbrev pub twoByteValues : ℕ
+twoByteValues = 65536
+
+abbrev pub fourByteValues : ℕ
+fourByteValues = 4294967296
 
 -- Every number of the list is a byte.
 pub record Octets (l : Bytes) : Type 0 where
-  pub each : all octet l ≡ true
+  pub each : all isByte l ≡ true
 
 -- Up to five numbers in their array.
 pub record FiveOk (f : Five) : Type 0 where
-  pub few : f .count ≤ 5
-  pub size : length (f .items) ≡ 5
+  pub few : f .count ≤ blockLimit
+  pub size : length (f .items) ≡ blockLimit
   pub octets : Octets (f .items)
 
 pub record AwaitOk (w : Await) : Type 0 where
-  pub phase : w .phase < 256
-  pub current : w .current < 256
-  pub proposals : w .proposals ≤ 5
+  pub phase : w .phase < byteValues
+  pub current : w .current < byteValues
+  pub proposals : w .proposals ≤ blockLimit
   pub ours : FiveOk (w .ours)
-  pub block : length (w .block) ≡ 360
+  pub block : length (w .block) ≡ blockLen
   pub octets : Octets (w .block)
 
 pub record SayOk (y : Say) : Type 0 where
-  pub first : y .first < 256
-  pub then : y .then < 256
-  pub pos : y .pos < 18446744073709551616
+  pub first : y .first < byteValues
+  pub then : y .then < byteValues
+  pub pos : y .pos < wordValues
   pub signs : FiveOk (y .signs)
 
 pub record KeepOk (k : Keep) : Type 0 where
   pub sending : FiveOk (k .sending)
-  pub flags : length (k .deferred) ≡ 64
+  pub flags : length (k .deferred) ≡ deferredLen
   pub octets : Octets (k .deferred)
 
 pub record ReaderOk (r : Reader) : Type 0 where
-  pub place : r .place < 256
-  pub len : r .len < 256
-  pub head : r .head ≤ 80
-  pub off : r .off < 256
-  pub left : r .left < 65536
-  pub sum : r .sum < 256
-  pub body : r .body < 4294967296
+  pub place : r .place < byteValues
+  pub len : r .len < byteValues
+  pub head : r .head ≤ headingLen
+  pub off : r .off < byteValues
+  pub left : r .left < twoByteValues
+  pub sum : r .sum < byteValues
+  pub body : r .body < fourByteValues
 
 pub record HeadingOk (h : Bytes) : Type 0 where
-  pub size : length h ≡ 80
+  pub size : length h ≡ headingLen
   pub octets : Octets h
 
 pub record LineOk (l : Line) : Type 0 where
-  pub len : l .len ≤ 256
-  pub size : length (l .bytes) ≡ 256
+  pub len : l .len ≤ lineLen
+  pub size : length (l .bytes) ≡ lineLen
   pub octets : Octets (l .bytes)
 
 -- The messages kept have their places, and the store's use is their bodies'.
 pub record Box (k : Keep) (inbox store : Bytes) : Type 0 where
-  pub limit : placeCount inbox ≤ 64
+  pub limit : placeCount inbox ≤ placeLimit
   pub placed : k .kept ≤ placeCount inbox
   pub used : usedBy inbox (k .kept) ≡ k .used
   pub within : k .used ≤ length store
@@ -78,22 +90,22 @@ pub record Box (k : Keep) (inbox store : Bytes) : Type 0 where
 pub record Under (w : Await) (y : Say) (k : Keep) (r : Reader) (inbox store : Bytes) : Type 0 where
   pub current : w .current < w .proposals
   pub signs : y .signs .count ≡ w .proposals
-  pub plus : getD (y .signs .items) (w .current) 0 ≡ 43
+  pub plus : getD (y .signs .items) (w .current) 0 ≡ plusSign
   pub places : k .kept + pluses (drop (w .current) (held (y .signs))) ≤ placeCount inbox
-  pub short : r .body ≤ 65535
+  pub short : r .body ≤ bodyLimit
   pub room : k .used + r .body ≤ length store
 
 -- Records are being sent only while the partner's turn, our leaving or nothing is awaited.
 pub record Awaited (w : Await) (y : Say) (k : Keep) (r : Reader) (inbox store : Bytes) : Type 0 where
-  pub quiet : (w .phase ≡ 3 → ⊥) → w .phase ≤ 5 → k .sending .count ≡ 0
-  pub under : w .phase ≡ 5 → Under w y k r inbox store
+  pub quiet : (w .phase ≡ phaseTurn → ⊥) → w .phase ≤ phaseTransfer → k .sending .count ≡ 0
+  pub under : w .phase ≡ phaseTransfer → Under w y k r inbox store
 
 -- Lent memory of these sizes, in bytes.
 pub record Lent (nt ni ns : ℕ) (t i s : Bytes) : Type 0 where
   pub table : length t ≡ nt
   pub inbox : length i ≡ ni
   pub store : length s ≡ ns
-  pub fits : ns < 18446744073709551616
+  pub fits : ns < wordValues
   pub tableOctets : Octets t
   pub inboxOctets : Octets i
   pub storeOctets : Octets s

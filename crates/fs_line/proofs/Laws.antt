@@ -15,7 +15,7 @@ use Rattle.grammar.specs.Ascii.{text}
 use Rattle.grammar.specs.Fields.{upper, after}
 use Rattle.grammar.specs.Refusals.{badAnswer, lineNotAllowed}
 use Rattle.grammar.specs.Turns.{blockLimit}
-use Rattle.grammar.specs.Answers.{Sign, accept, decline, defer, signOf, consO, readSigns, signsRead, readFs, writeSign, fsNumber}
+use Rattle.grammar.specs.Answers.{Sign, accept, decline, defer, signOf, consO, readSigns, signsRead, readFs, writeSign, fsNumber, level0}
 use Rattle.grammar.proofs.Basics.{and2}
 use Rattle.grammar.proofs.OurLines.{signs-back}
 use Rattle.byte.proofs.Laws.{all-more, all-stop, all-end}
@@ -143,23 +143,23 @@ upper-sp b = go (ltb b 97) (ltb b 123) refl
 
 -- FS, a space and the signs, by places
 pub fs-after : (n : ℕ) (l : Bytes)
-    → readFs n l ≡ cond (ltb (length l) 3) none (cond (isSome (after (text "FS") l)) (cond (eqb (getD l 2 0) SP) (readSigns n (drop 3 l)) none) none)
+    → readFs level0 n l ≡ cond (ltb (length l) 3) none (cond (isSome (after (text "FS") l)) (cond (eqb (getD l 2 0) SP) (readSigns n (drop 3 l)) none) none)
 unfolding readFs
 fs-after n [] = refl
 fs-after n (a ∷ []) = go (eqb (upper a) 70)
   where
-    go : (p : Bool) → signsRead n (cond p none none) ≡ none
+    go : (p : Bool) → signsRead level0 n (cond p none none) ≡ none
     go true = refl
     go false = refl
 fs-after n (a ∷ b ∷ []) = go (eqb (upper a) 70) (eqb (upper b) 83)
   where
-    go : (p q : Bool) → signsRead n (cond p (cond q none none) none) ≡ none
+    go : (p q : Bool) → signsRead level0 n (cond p (cond q none none) none) ≡ none
     go true true = refl
     go true false = refl
     go false q = refl
 fs-after n (a ∷ b ∷ c ∷ l) = rw (le-ltb (length (a ∷ b ∷ c ∷ l)) 3 (omega arith), upper-sp c) (go (eqb (upper a) 70) (eqb (upper b) 83) (eqb c SP))
   where
-    go : (p q r : Bool) → signsRead n (cond p (cond q (cond r (some l) none) none) none)
+    go : (p q r : Bool) → signsRead level0 n (cond p (cond q (cond r (some l) none) none) none)
         ≡ cond (isSome (cond p (cond q (some (c ∷ l)) none) none)) (cond r (readSigns n l) none) none
     go true true true = refl
     go true true false = refl
@@ -167,7 +167,7 @@ fs-after n (a ∷ b ∷ c ∷ l) = rw (le-ltb (length (a ∷ b ∷ c ∷ l)) 3 (
     go false q r = refl
 
 module _ (n : ℕ) (l : Bytes) where
-  fs-none : isSome (after (text "FS") l) ≡ false → readFs n l ≡ none
+  fs-none : isSome (after (text "FS") l) ≡ false → readFs level0 n l ≡ none
   fs-none e = rw (fs-after n l, e) (go (ltb (length l) 3))
     where
       go : (t : Bool) → _≡_ {A = Option (List Sign)} (cond t none none) none
@@ -186,7 +186,7 @@ module _ (n : ℕ) (l : Bytes) where
   -- one that does, and is wrong
   pub fs-wrong : isSome (after (text "FS") l) ≡ true → answered n l ≡ none → (answerNumber n l ≡ badAnswer) × (answerSigns n l ≡ zeroed [])
   unfolding answerNumber answerSigns answered
-  fs-wrong e f = rw (f, e) (go (ltb blockLimit n) (readFs n l) f, refl)
+  fs-wrong e f = rw (f, e) (go (ltb blockLimit n) (readFs level0 n l) f, refl)
     where
       go : (t : Bool) (o : Option (List Sign)) → cond t none o ≡ none → cond t badAnswer (cond (isSome o) 0 badAnswer) ≡ badAnswer
       go true o f = refl
@@ -211,13 +211,13 @@ module _ (n : ℕ) (l : Bytes) where
           → (answerNumber n l ≡ cond (isSome (readSigns n (drop 3 l))) 0 badAnswer) × (answerSigns n l ≡ zeroed (signBytes (readSigns n (drop 3 l))))
       unfolding answerNumber answerSigns answered
       fs-signs q =
-          let r : readFs n l ≡ readSigns n (drop 3 l) = rw (fs-after n l, le-ltb _ _ h, e, eq-eqb _ _ q) in
+          let r : readFs level0 n l ≡ readSigns n (drop 3 l) = rw (fs-after n l, le-ltb _ _ h, e, eq-eqb _ _ q) in
           rw (le-ltb blockLimit n k, r, e) (refl, refl)
 
 -- ---------------------------------------------------------------- for callers
 
 -- up to five proposals the number is the grammar's
-pub answer-number : (n : ℕ) (l : Bytes) → n ≤ blockLimit → answerNumber n l ≡ fsNumber n l
+pub answer-number : (n : ℕ) (l : Bytes) → n ≤ blockLimit → answerNumber n l ≡ fsNumber level0 n l
 unfolding answerNumber
 answer-number n l k = rw (le-ltb blockLimit n k)
 
@@ -242,15 +242,15 @@ signs-counted (suc n) (x ∷ s) = go (signOf x) (readSigns n s) (signs-counted n
     go (some g) none h = tt
     go (some g) (some gs) h = ap (λ (k : ℕ). suc k) h
 
-fs-counted : (n : ℕ) (l : Bytes) → Counted n (readFs n l)
+fs-counted : (n : ℕ) (l : Bytes) → Counted n (readFs level0 n l)
 unfolding readFs
 fs-counted n l = go (after (text "FS ") l)
   where
-    go : (o : Option Bytes) → Counted n (signsRead n o)
+    go : (o : Option Bytes) → Counted n (signsRead level0 n o)
     go none = tt
     go (some s) = signs-counted n s
 
-pub fs-length : (n : ℕ) (l : Bytes) (ss : List Sign) → readFs n l ≡ some ss → length ss ≡ n
+pub fs-length : (n : ℕ) (l : Bytes) (ss : List Sign) → readFs level0 n l ≡ some ss → length ss ≡ n
 fs-length n l ss e = subst (Counted n) e (fs-counted n l)
 
 -- a sign that was written is read
@@ -260,11 +260,11 @@ sign-back decline = refl
 sign-back defer = refl
 
 -- the signs of an answer are those that the line gives
-pub signs-by : (n : ℕ) (l : Bytes) (a : Answers) → n ≤ blockLimit → a .number ≡ answerNumber n l → a .signs ≡ answerSigns n l → signsBy n a ≡ readFs n l
+pub signs-by : (n : ℕ) (l : Bytes) (a : Answers) → n ≤ blockLimit → a .number ≡ answerNumber n l → a .signs ≡ answerSigns n l → signsBy n a ≡ readFs level0 n l
 unfolding answerSigns answered
-signs-by n l a k e f = go (readFs n l) (fs-counted n l) (e ∙ answer-number n l k) (f ∙ h)
+signs-by n l a k e f = go (readFs level0 n l) (fs-counted n l) (e ∙ answer-number n l k) (f ∙ h)
   where
-    h : answerSigns n l ≡ zeroed (signBytes (readFs n l))
+    h : answerSigns n l ≡ zeroed (signBytes (readFs level0 n l))
     h = rw (le-ltb blockLimit n k)
 
     go : (o : Option (List Sign)) → Counted n o → a .number ≡ cond (isSome o) 0 (cond (isSome (after (text "FS") l)) badAnswer lineNotAllowed)
@@ -275,7 +275,7 @@ signs-by n l a k e f = go (readFs n l) (fs-counted n l) (e ∙ answer-number n l
         (signs-back ss)
 
 -- a sign of the answer, by its place
-pub sign-at : (n : ℕ) (l : Bytes) (ss : List Sign) (i : ℕ) → n ≤ blockLimit → readFs n l ≡ some ss → i < n → signOf (getD (answerSigns n l) i 0) ≡ some (getD ss i accept)
+pub sign-at : (n : ℕ) (l : Bytes) (ss : List Sign) (i : ℕ) → n ≤ blockLimit → readFs level0 n l ≡ some ss → i < n → signOf (getD (answerSigns n l) i 0) ≡ some (getD ss i accept)
 unfolding answerSigns answered
 sign-at n l ss i k e h =
     let m = fs-length n l ss e in

@@ -11,7 +11,7 @@ use Rattle.grammar.specs.Ascii.{text}
 use Rattle.grammar.specs.Refusals.{badAnswer, lineNotAllowed}
 use Rattle.grammar.specs.Fields.{after}
 use Rattle.grammar.specs.Turns.{blockLimit}
-use Rattle.grammar.specs.Answers.{Sign, accept, decline, defer, writeSign, readSigns, readFs, fsNumber}
+use Rattle.grammar.specs.Answers.{Sign, accept, decline, defer, writeSign, readSigns, readFs, fsNumber, level0, plusSign, minusSign, equalSign}
 use Rattle.fs_line.specs.declared.Answers.{Answers}
 use Rattle.fs_line.specs.declared.Sign as code
 
@@ -24,11 +24,11 @@ signIs code.Sign.Other = none
 
 -- "FS, one space, one sign a proposal": the signs to n proposals, of which a block has five at most
 unfoldable pub answered : ℕ → Bytes → Option (List Sign)
-answered n ln = cond (ltb blockLimit n) none (readFs n ln)
+answered n ln = cond (ltb blockLimit n) none (readFs level0 n ln)
 
 -- "Where FS is awaited, a wrong line that begins with FS gets 7 and any other 5"; to more than five proposals every line is wrong
 unfoldable pub answerNumber : ℕ → Bytes → ℕ
-answerNumber n ln = cond (ltb blockLimit n) (cond (isSome (after (text "FS") ln)) badAnswer lineNotAllowed) (fsNumber n ln)
+answerNumber n ln = cond (ltb blockLimit n) (cond (isSome (after (text "FS") ln)) badAnswer lineNotAllowed) (fsNumber level0 n ln)
 
 -- The signs as they stand on the line; none of a line that is refused.
 abbrev pub signBytes : Option (List Sign) → Bytes
@@ -43,7 +43,7 @@ zeroed bs = bs ++ replicate (blockLimit - length bs) 0
 unfoldable pub answerSigns : ℕ → Bytes → Bytes
 answerSigns n ln = zeroed (signBytes (answered n ln))
 
-three : answerSigns 3 (text "FS -+=") ≡ 45 ∷ 43 ∷ 61 ∷ 0 ∷ 0 ∷ []
+three : answerSigns 3 (text "FS -+=") ≡ minusSign ∷ plusSign ∷ equalSign ∷ 0 ∷ 0 ∷ []
 unfolding answerSigns answered readFs
 three = refl
 

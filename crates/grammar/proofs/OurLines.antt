@@ -13,7 +13,7 @@ use Rattle.grammar.specs.Fields.{Form, bidByte, callByte, digit, file, m
 use Rattle.grammar.specs.Lines.{isComment, isPrompt, trim}
 use Rattle.grammar.specs.Sid.{readSid, sidNumber}
 use Rattle.grammar.specs.Turns.{Proposal, endsBlock, fixedText, formLetter, inMode, isType, notAllowed, ourBlock, ourEnd, ourFF, ourFQ, ourPrompt, ourSid, proposable, proposalLine, proposes, readProposal, readTurnLine, saysFF, saysFQ, sp}
-use Rattle.grammar.specs.Answers.{OurLine, Sign, accept, decline, defer, fixedLine, fsLine, ourAnswer, ourProposal, readFs, readSigns, writeSign, written}
+use Rattle.grammar.specs.Answers.{OurLine, Sign, accept, decline, defer, fixedLine, fsLine, ourAnswer, ourProposal, readFs, readSigns, writeSign, written, Level, level0}
 use Rattle.grammar.proofs.Basics.{Field, Lacks, lacks-append, all-lacks, or-second}
 use Rattle.grammar.proofs.Fields.{num-field, atByte, at-field, call-field, bid-field, Ours, ours, proposal-back}
 
@@ -63,9 +63,9 @@ signs-back (decline ∷ ss) = rw (signs-back ss)
 signs-back (defer ∷ ss) = rw (signs-back ss)
 
 -- THE ROUND TRIP of an FS line
-pub fs-back : (ss : List Sign) → readFs (length ss) (fsLine ss) ≡ some ss
+pub fs-back : (v : Level) (ss : List Sign) → readFs v (length ss) (fsLine ss) ≡ some ss
 unfolding readFs fsLine
-fs-back ss = signs-back ss
+fs-back level0 ss = signs-back ss
 
 pub ff-read : (md : Bool) → readTurnLine md (fixedText ourFF) ≡ saysFF
 unfolding readTurnLine
@@ -84,9 +84,9 @@ unfolding readSid
 sid-read = refl
 
 -- an empty line says nothing
-pub empty-line : (md : Bool) (n : ℕ) → (readTurnLine md [] ≡ notAllowed) × (readFs n [] ≡ none) × (readSid [] ≡ none) × (isComment [] ≡ false) × (isPrompt [] ≡ false)
+pub empty-line : (md : Bool) (v : Level) (n : ℕ) → (readTurnLine md [] ≡ notAllowed) × (readFs v n [] ≡ none) × (readSid [] ≡ none) × (isComment [] ≡ false) × (isPrompt [] ≡ false)
 unfolding readTurnLine readProposal readFs readSid isComment isPrompt
-empty-line md n = (refl, refl, refl, refl, refl)
+empty-line md v n = (refl, refl, refl, refl, refl)
 
 pub prompt-read : isPrompt (fixedText ourPrompt) ≡ true
 unfolding isPrompt

@@ -14,8 +14,17 @@ use Rattle.grammar.specs.Turns.{FixedLine, fixedText, Proposal, proposal
 pub data Sign : Type 0 where
   accept decline defer : Sign
 
+abbrev pub plusSign : ℕ
+plusSign = 43
+
+abbrev pub minusSign : ℕ
+minusSign = 45
+
+abbrev pub equalSign : ℕ
+equalSign = 61
+
 abbrev pub signOf : ℕ → Option Sign
-signOf b = cond (eqb b 43) (some accept) (cond (eqb b 45) (some decline) (cond (eqb b 61) (some defer) none))
+signOf b = cond (eqb b plusSign) (some accept) (cond (eqb b minusSign) (some decline) (cond (eqb b equalSign) (some defer) none))
 
 abbrev pub consO {ℓ} : {A : Type ℓ} → Option A → Option (List A) → Option (List A)
 consO none xs = none
@@ -29,24 +38,28 @@ readSigns zero (x ∷ xs) = none
 readSigns (suc n) [] = none
 readSigns (suc n) (x ∷ xs) = consO (signOf x) (readSigns n xs)
 
-abbrev pub signsRead : ℕ → Option Bytes → Option (List Sign)
-signsRead n none = none
-signsRead n (some r) = readSigns n r
+-- Which signs both sides know. 01 has one level, that of `+`, `-` and `=`.
+pub data Level : Type 0 where
+  level0 : Level
 
--- "FS, one space, one sign a proposal", to n proposals
-unfoldable pub readFs : ℕ → Bytes → Option (List Sign)
-readFs n ln = signsRead n (after (text "FS ") ln)
+abbrev pub signsRead : Level → ℕ → Option Bytes → Option (List Sign)
+signsRead v n none = none
+signsRead level0 n (some r) = readSigns n r
+
+-- "FS, one space, one sign a proposal", to n proposals, at the level v
+unfoldable pub readFs : Level → ℕ → Bytes → Option (List Sign)
+readFs v n ln = signsRead v n (after (text "FS ") ln)
 
 -- "Where FS is awaited, a wrong line that begins with FS gets 7 and any other 5"
-abbrev pub fsNumber : ℕ → Bytes → ℕ
-fsNumber n ln = cond (isSome (readFs n ln)) 0 (cond (isSome (after (text "FS") ln)) badAnswer lineNotAllowed)
+abbrev pub fsNumber : Level → ℕ → Bytes → ℕ
+fsNumber v n ln = cond (isSome (readFs v n ln)) 0 (cond (isSome (after (text "FS") ln)) badAnswer lineNotAllowed)
 
 -- ---------------------------------------------------------------- written
 
 abbrev pub writeSign : Sign → ℕ
-writeSign accept = 43
-writeSign decline = 45
-writeSign defer = 61
+writeSign accept = plusSign
+writeSign decline = minusSign
+writeSign defer = equalSign
 
 unfoldable pub fsLine : List Sign → Bytes
 fsLine ss = text "FS " ++ map writeSign ss

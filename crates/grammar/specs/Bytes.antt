@@ -3,10 +3,21 @@ use mathlib.Core.Bool.{Bool, true, false, cond, _&&_}
 use mathlib.Core.Option.{Option, none, some}
 use mathlib.Core.List.{List, [], _∷_}
 use Prim.Native.Nat.{ℕ}
-use lib.Dec.{eqb}
+use lib.Dec.{eqb, ltb}
 
 abbrev pub Bytes : Type 0
 Bytes = List ℕ
+
+-- A byte is a number below this.
+abbrev pub byteValues : ℕ
+byteValues = 256
+
+abbrev pub isByte : ℕ → Bool
+isByte b = ltb b byteValues
+
+-- A number of 64 bits, such as a buffer's length, is below this.
+abbrev pub wordValues : ℕ
+wordValues = 18446744073709551616
 
 -- Carriage return: "A line ends with CR."
 abbrev pub CR : ℕ

@@ -11,7 +11,7 @@ use Rattle.grammar.specs.Fields.{Form, file, message, plain}
 use Rattle.grammar.specs.Lines.{trim, lineByte, lineByteNumber, LineRead, line, refused, unfinished, lineSteps}
 use Rattle.grammar.specs.Sid.{framed, readSid, sidNumber}
 use Rattle.grammar.specs.Turns.{Proposal, TurnLine, endsBlock, notAllowed, ourBlock, proposes, readTurnLine, saysFF, saysFQ, turnLineNumber}
-use Rattle.grammar.specs.Answers.{Sign, accept, decline, defer, fsNumber, readFs}
+use Rattle.grammar.specs.Answers.{Sign, accept, decline, defer, fsNumber, readFs, level0}
 use Rattle.grammar.specs.Transfers.{Content, readTransfer, writeTransfer}
 use Rattle.grammar.specs.Scan.{Scanned, goes, got, inBody, inData, inHead, malformed, noRoom, scan, wrongSum}
 
@@ -52,7 +52,7 @@ abbrev pub answer : Question → Answer
 answer (sid ln) = sidAnswer (readSid (trim ln))
 answer (turnLine md ln) = lineAnswer (readTurnLine md (trim ln))
 answer (proposed sizes) = number (length (ourBlock itself 0 0 sizes))
-answer (awaited n ln) = fsAnswer (fsNumber n (trim ln)) (readFs n (trim ln))
+answer (awaited n ln) = fsAnswer (fsNumber level0 n (trim ln)) (readFs level0 n (trim ln))
 answer (lineByteAt afterCr n b) = number (lineByteNumber (lineByte afterCr n b))
 answer (lineFrom afterCr bs) = lineRead (lineSteps afterCr [] bs)
 answer (sent f h x) = bytes (writeTransfer f h x)

@@ -95,8 +95,11 @@ bodyFair message x = true
 bodyFair file x = true
 
 -- "A body has at most 65,535 bytes"
+abbrev pub bodyLimit : ℕ
+bodyLimit = 65535
+
 abbrev pub isBody : Form → Bytes → Bool
-isBody f x = leb (length x) 65535 && bodyFair f x
+isBody f x = leb (length x) bodyLimit && bodyFair f x
 
 -- ---------------------------------------------------------------- letters, words and numbers of a line
 

@@ -1,6 +1,10 @@
 -- 01, "The numbers given back": one name for each number. 0 is no refusal.
 use Prim.Native.Nat.{ℕ}
 
+-- "place = first bad record, from 0; 255 for role, sizes, known BIDs or changed memory": no record
+abbrev pub noPlace : ℕ
+noPlace = 255
+
 -- "open: bad table or buffers; receive or give: as under Lent memory"
 abbrev pub badMemory : ℕ
 badMemory = 1

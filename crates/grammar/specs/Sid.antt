@@ -23,6 +23,13 @@ letterPlace b = upper b - 65
 abbrev pub noFeatures : List ℕ
 noFeatures = replicate 27 0
 
+-- Two letters that a session looks for, by their places: F, that the partner forwards, and B, framed transfers.
+abbrev pub letterB : ℕ
+letterB = 1
+
+abbrev pub letterF : ℕ
+letterF = 5
+
 abbrev pub hasFeature : ℕ → List ℕ → Bool
 hasFeature i fs = ltb 0 (getD fs i 0)
 
@@ -89,8 +96,8 @@ readSid ln = sidRead (after (text "[") ln)
 -- "first line isn't a valid SID": 3; "partner's SID has no F": 4
 abbrev pub sidNumber : Option (List ℕ) → ℕ
 sidNumber none = notSid
-sidNumber (some fs) = cond (hasFeature 5 fs) 0 noForwarding
+sidNumber (some fs) = cond (hasFeature letterF fs) 0 noForwarding
 
 -- "Partner has B: framed mode, at any level. Otherwise plain mode."
 abbrev pub framed : List ℕ → Bool
-framed fs = hasFeature 1 fs
+framed fs = hasFeature letterB fs

@@ -6,7 +6,7 @@ use Prim.Native.Nat.{ℕ, zero, suc, _+_, _-_, _%_}
 use lib.Dec.{eqb, leb}
 use lib.ListN.{length, take, drop}
 use Rattle.grammar.specs.Bytes.{Bytes, CR, SP, CTRLZ, null, all, splitAt}
-use Rattle.grammar.specs.Fields.{Form, plain, message, file, isHeading, sized, isBody}
+use Rattle.grammar.specs.Fields.{Form, plain, message, file, isHeading, sized, isBody, bodyLimit}
 
 -- A transfer right in form: its heading, its body, and whether its checksum is right.
 pub record Parsed : Type 0 where
@@ -102,7 +102,7 @@ pub record Content : Type 0 where
 -- "A body has at most 65,535 bytes"
 abbrev pub valid : Option Parsed → Option Content
 valid none = none
-valid (some p) = cond (p .right && leb (length (p .body)) 65535) (some (record { heading = p .heading; body = p .body })) none
+valid (some p) = cond (p .right && leb (length (p .body)) bodyLimit) (some (record { heading = p .heading; body = p .body })) none
 
 unfoldable pub readTransfer : Form → Bytes → Option Content
 readTransfer f p = valid (parse f p)

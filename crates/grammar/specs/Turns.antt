@@ -86,10 +86,13 @@ abbrev pub blockLimit : ℕ
 blockLimit = 5
 
 -- "A record is added while fewer than five are in and the announced sizes so far are below 10,240; the one that overruns is still in."
+abbrev pub announcedLimit : ℕ
+announcedLimit = 10240
+
 -- n records of s bytes in all are in
 abbrev pub ourBlock {ℓ} : {A : Type ℓ} → (A → ℕ) → ℕ → ℕ → List A → List A
 ourBlock size n s [] = []
-ourBlock size n s (x ∷ xs) = cond (ltb n 5 && ltb s 10240) (x ∷ ourBlock size (n + 1) (s + size x) xs) []
+ourBlock size n s (x ∷ xs) = cond (ltb n blockLimit && ltb s announcedLimit) (x ∷ ourBlock size (n + 1) (s + size x) xs) []
 
 -- "form 0 in plain mode, 1 and 2 in framed mode"
 abbrev pub inMode : Bool → Form → Bool

@@ -1,5 +1,5 @@
 -- A whole line judged by what is awaited, on the state as session memory holds it. That this is what crates/session says, on lists, is
--- proved in crates/lent.
+-- proved in crates/represents.
 use mathlib.Core.Bool.{Bool, true, false, cond, not}
 use mathlib.Core.Option.{Option, none, some}
 use mathlib.Core.List.{List, [], _∷_}

@@ -11,7 +11,7 @@ use borrow.Author.Tests.{eq-eqb, lt-ltb}
 use Rattle.grammar.specs.Bytes.{Bytes, CR, null, same}
 use Rattle.grammar.specs.Fields.{Form, plain, message, file}
 use Rattle.grammar.specs.Turns.{Proposal, endsBlock, proposes, inMode, proposable, proposalLine, fixedText, ourSid, ourPrompt, ourFF, ourFQ, ourEnd, withCr}
-use Rattle.grammar.specs.Answers.{Sign, readFs, fsLine, fixedLine, ourProposal, OurLine}
+use Rattle.grammar.specs.Answers.{Sign, readFs, fsLine, fixedLine, ourProposal, OurLine, level0}
 use Rattle.grammar.specs.Transfers.{writeTransfer}
 use Rattle.grammar.proofs.Basics.{Lacks, snoc-cons}
 use Rattle.grammar.proofs.OurLines.{proposal-read, fs-back, ff-read, fq-read, end-read, good-line}
@@ -161,7 +161,7 @@ pub fs-spoken : (T : List Record) (md : Bool) (ps : List Proposal) (ss : List Si
     → spoken T md (at (weSay (ourAnswer ps)) sent) (withCr (fsLine ss)) ≡ at (theirsOwed (accepted ss ps)) sent
 fs-spoken T md ps ss sent h k l =
     line-spoken T md (ourAnswer ps) sent (fsLine ss) [] (good-line (OurLine.ourAnswer ss) (omega arith, omega arith) .whole)
-    ∙ rw (ap (λ (n : ℕ). readFs n (fsLine ss)) (sym h) ∙ fs-back ss)
+    ∙ rw (ap (λ (n : ℕ). readFs level0 n (fsLine ss)) (sym h) ∙ fs-back level0 ss)
 
 -- ---------------------------------------------------------------- transfers
 

@@ -13,9 +13,9 @@ use lib.ListN.{length}
 use Rattle.grammar.specs.Bytes.{Bytes, CR, LF, same, isSome}
 use Rattle.grammar.specs.Fields.{Form, plain, message, file}
 use Rattle.grammar.specs.Lines.{trim, isComment, isPrompt, lineLimit}
-use Rattle.grammar.specs.Sid.{readSid, hasFeature, framed}
-use Rattle.grammar.specs.Turns.{Proposal, TurnLine, saysFF, saysFQ, endsBlock, notAllowed, proposes, readTurnLine, fixedText, ourSid, ourPrompt}
-use Rattle.grammar.specs.Answers.{Sign, consO, readFs}
+use Rattle.grammar.specs.Sid.{readSid, hasFeature, framed, letterF}
+use Rattle.grammar.specs.Turns.{Proposal, TurnLine, saysFF, saysFQ, endsBlock, notAllowed, proposes, readTurnLine, fixedText, ourSid, ourPrompt, blockLimit}
+use Rattle.grammar.specs.Answers.{Sign, consO, readFs, Level, level0}
 use Rattle.grammar.specs.Transfers.{Content, readTransfer}
 use Rattle.mail.specs.Mail.{Record, Message, messageOf, recordAt, transferOf, placeOf, accepted, marked, declined}
 
@@ -91,7 +91,7 @@ saidOn ps [] = unfinished
 saidOn [] (saysFF ∷ []) = turn []
 saidOn [] (saysFQ ∷ []) = farewell
 saidOn (p ∷ ps) (endsBlock ∷ []) = turn (p ∷ ps)
-saidOn ps (proposes q ∷ ls) = cond (ltb (length ps) 5) (saidOn (ps ++ (q ∷ [])) ls) wrong
+saidOn ps (proposes q ∷ ls) = cond (ltb (length ps) blockLimit) (saidOn (ps ++ (q ∷ [])) ls) wrong
 saidOn [] (saysFF ∷ l ∷ ls) = wrong
 saidOn [] (saysFQ ∷ l ∷ ls) = wrong
 saidOn [] (endsBlock ∷ ls) = wrong
@@ -158,7 +158,7 @@ ourLine T md ourGreeting ln = cond (same ln (fixedText ourSid)) (weSay ourFirstP
 ourLine T md ourFirstPrompt ln = cond (same ln (fixedText ourPrompt)) (theySay (theirSid false)) over
 ourLine T md ourSidLine ln = cond (same ln (fixedText ourSid)) (ourNewTurn false) over
 ourLine T md (ourTurn ff ls) ln = ourSaid T ff (ls ++ (readTurnLine md ln ∷ [])) (said ff (ls ++ (readTurnLine md ln ∷ [])))
-ourLine T md (ourAnswer ps) ln = ourAnswered ps (readFs (length ps) ln)
+ourLine T md (ourAnswer ps) ln = ourAnswered ps (readFs level0 (length ps) ln)
 
 -- "Our owed transfer, as we write it, given whole: its record is sent."
 abbrev pub ourUnit : List Record → Bool → Next → List ℕ → Bytes → Course
@@ -202,6 +202,10 @@ theirSaid ff ls k sent farewell = effect k sent over
 theirSaid ff ls k sent wrong = effect k sent over
 theirSaid ff ls k sent (turn ps) = effect (withStates k (marked sent (k .states))) [] (afterTheirTurn ps)
 
+-- The level at which the partner's FS line is read; ours has the signs of level 0.
+abbrev pub levelInForce : Book → Level
+levelInForce k = level0
+
 -- "The partner's makes declined records 2."
 abbrev pub theirAnswered : List ℕ → Book → List ℕ → Option (List Sign) → Effect
 theirAnswered is k sent none = effect k sent over
@@ -216,7 +220,7 @@ afterTheirSid false = theirTurn false []
 abbrev pub theirSidRead : Bool → Book → List ℕ → Option (List ℕ) → Effect
 theirSidRead c k sent none = effect k sent over
 theirSidRead c k sent (some fs) =
-    cond (hasFeature 5 fs) (effect (withFramed k (framed fs)) sent (theySay (afterTheirSid c))) (effect k sent over)
+    cond (hasFeature letterF fs) (effect (withFramed k (framed fs)) sent (theySay (afterTheirSid c))) (effect k sent over)
 
 -- A line of the partner's that is no comment, as it came, without its CR: "Spaces at the end are removed before a line is judged."
 abbrev pub theirRead : Theirs → Book → List ℕ → Bytes → Effect
@@ -224,7 +228,7 @@ theirRead theirText k sent ln = cond (isPrompt (trim ln)) (effect k sent (weSay 
 theirRead (theirSid c) k sent ln = theirSidRead c k sent (readSid (trim ln))
 theirRead (theirTurn ff ls) k sent ln =
     theirSaid ff (ls ++ (readTurnLine (k .framed) (trim ln) ∷ [])) k sent (said ff (ls ++ (readTurnLine (k .framed) (trim ln) ∷ [])))
-theirRead (theirAnswer is) k sent ln = theirAnswered is k sent (readFs (length is) (trim ln))
+theirRead (theirAnswer is) k sent ln = theirAnswered is k sent (readFs (levelInForce k) (length is) (trim ln))
 
 -- "A line that begins with `;` is ignored wherever a line is awaited"
 abbrev pub theirLine : Theirs → Book → List ℕ → Bytes → Effect

@@ -8,6 +8,7 @@ use Rattle.grammar.specs.Fields.{Form, plain, message, file, sameBid}
 use Rattle.grammar.specs.Turns.{Proposal, proposalLine, withCr, fixedText, ourEnd}
 use Rattle.grammar.specs.Answers.{Sign, accept, decline, defer}
 use Rattle.grammar.specs.Transfers.{Content, writeTransfer}
+use Rattle.phase.specs.Phase.{stateForwarded, stateDeclined}
 
 -- "Each has a form .., a type (P or B), from, at, to, BID, announced size .., title, file name, body"; states stand beside the records
 pub record Record : Type 0 where
@@ -22,6 +23,10 @@ pub record Record : Type 0 where
   pub name : Bytes
   pub body : Bytes
 
+-- "0 to 64 records"
+abbrev pub recordLimit : ℕ
+recordLimit = 64
+
 abbrev pub noRecord : Record
 noRecord = record { form = plain; type = 0; from = []; at = []; to = []; bid = []; size = 0; title = []; name = []; body = [] }
 
@@ -35,6 +40,10 @@ pub record Message : Type 0 where
   pub bid : Bytes
   pub heading : Bytes
   pub body : Bytes
+
+-- "up to 64 messages"
+abbrev pub placeLimit : ℕ
+placeLimit = 64
 
 -- A received transfer with its proposal's form and fields.
 abbrev pub messageOf : Proposal → Content → Message
@@ -90,12 +99,12 @@ accepted (defer ∷ ss) (x ∷ xs) = accepted ss xs
 -- "a state (0 waiting, 1 forwarded, 2 declined)": the records at these places are forwarded
 abbrev pub marked : List ℕ → List ℕ → List ℕ
 marked [] st = st
-marked (i ∷ is) st = marked is (set st i 1)
+marked (i ∷ is) st = marked is (set st i stateForwarded)
 
 -- "`-` sets state 2": those of the records at these places that were declined
 abbrev pub declined : List ℕ → List Sign → List ℕ → List ℕ
 declined [] ss st = st
 declined (i ∷ is) [] st = st
 declined (i ∷ is) (accept ∷ ss) st = declined is ss st
-declined (i ∷ is) (decline ∷ ss) st = declined is ss (set st i 2)
+declined (i ∷ is) (decline ∷ ss) st = declined is ss (set st i stateDeclined)
 declined (i ∷ is) (defer ∷ ss) st = declined is ss st

@@ -17,7 +17,7 @@ use Rattle.session.specs.Choices.{among}
 use Rattle.demand2.specs.ReadBack.{ReadsBack}
 use Rattle.demand2.proofs.ReadBack as read-back
 use Rattle.demand2.proofs.ReadBack.{reads-back}
-use Rattle.demand3.specs.Demand.{Good, allProposable, noneWith, distinctBids}
+use Rattle.demand3.specs.Demand.{GoodTable, allProposable, noneWith, distinctBids}
 use Rattle.places.specs.Places.{atMax, bidMax, callMax, recordBid, recordBody, recordBodyLength, recordForm, recordFrom, recordName, recordNameLength, recordSizeAt, recordTitle, recordTitleLength, recordTo, recordType}
 use Rattle.places.specs.Places as places
 use Rattle.layout.specs.Layout.{byteAt, le2At, le4At, fieldIn, entryAt, recordSize, recordOf}
@@ -164,7 +164,7 @@ module _ (table titles names bodies : Bytes) where
         (none-with i n (suc i) (omega arith) (omega arith)) (distinct n (suc i) (omega arith))
 
   -- THE LAWS of a table without a fault
-  pub table-good : tableFault table titles names bodies ≡ 255 → Good (recordsOf titles names bodies table)
+  pub table-good : tableFault table titles names bodies ≡ 255 → GoodTable (recordsOf titles names bodies table)
   unfolding recordsOf
   table-good e =
       let ok = all-ok e in

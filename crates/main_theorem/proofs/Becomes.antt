@@ -46,7 +46,7 @@ module _ (T : List Record) (P : List Deed → Book → Course → Book → Type 
       go outOfTurn k ih = stop (l .course) (l .book)
       go (unit u b a rest) k ih =
           let m = applied T (withAfterCr l a) u b in
-          more (deedOf (l .course .next) (l .book .framed) u b) (deedsFrom n T m rest) (logUnits n T m rest .book) (l .course) (l .book) (m .course) (m .book)
+          more (deedOf (l .course .next) (l .book) u b) (deedsFrom n T m rest) (logUnits n T m rest .book) (l .course) (l .book) (m .course) (m .book)
           (unit-does T l a u b) (k .0) (ih m rest (k .1))
 
 -- ---------------------------------------------------------------- what becomes of record i

@@ -11,11 +11,11 @@ use Rattle.grammar.specs.Bytes.{Bytes, LF, same, isSome}
 use Rattle.grammar.specs.Lines.{trim, isComment, isPrompt, lineLimit}
 use Rattle.grammar.specs.Sid.{readSid, hasFeature}
 use Rattle.grammar.specs.Turns.{Proposal, TurnLine, readTurnLine, fixedText, ourSid, ourPrompt}
-use Rattle.grammar.specs.Answers.{Sign, accept, decline, defer, readFs}
+use Rattle.grammar.specs.Answers.{Sign, accept, decline, defer, readFs, level0}
 use Rattle.grammar.specs.Transfers.{Content, readTransfer}
 use Rattle.grammar.proofs.Basics.{no-both, by-cond, by-test}
 use Rattle.mail.specs.Mail.{Record, accepted, marked, declined}
-use Rattle.log.specs.Log.{ourNewTurn, Event, took, gave, Ours, ourGreeting, ourFirstPrompt, ourSidLine, ourTurn, ourAnswer, Theirs, theirText, theirSid, theirTurn, theirAnswer, Next, over, weSay, theySay, theirTransfer, ourTransfer, Course, Book, Log, isOurs, Said, unfinished, farewell, wrong, turn, said, placesOf, ourProposed, ourSaid, ourAnswered, oursOwed, theirsOwed, ourLine, Effect, effect, theirSaid, theirAnswered, theirSidRead, theirRead, theirTransferred, afterTheirTurn, whole, applied, Cut, notWhole, outOfTurn, unit, cutUnit, withAfterCr, logOpened}
+use Rattle.log.specs.Log.{ourNewTurn, Event, took, gave, Ours, ourGreeting, ourFirstPrompt, ourSidLine, ourTurn, ourAnswer, Theirs, theirText, theirSid, theirTurn, theirAnswer, Next, over, weSay, theySay, theirTransfer, ourTransfer, Course, Book, Log, isOurs, Said, unfinished, farewell, wrong, turn, said, placesOf, ourProposed, ourSaid, ourAnswered, oursOwed, theirsOwed, ourLine, Effect, effect, theirSaid, theirAnswered, theirSidRead, theirRead, theirTransferred, afterTheirTurn, whole, applied, Cut, notWhole, outOfTurn, unit, cutUnit, withAfterCr, logOpened, levelInForce}
 use Rattle.main_theorem.specs.Deeds.{Deed, answered, sent, turned, weAnswered, nothing, brought, turnDeed, answerDeed, ourAnswerDeed, transferDeed, theirDeed, ourDeed, deedOf, deedsCut, deedsFrom, deeds, messagesBrought, gotPlus, acceptedFrom, BroughtFor, AsAccepted}
 
 -- the records whose transfers we owe
@@ -88,17 +88,17 @@ module _ (T : List Record) (a : Bool) (st : List ℕ) (k : Book) where
   text-does n false = quiet n (theySay theirText) refl
 
   -- a line of the partner's that is no comment
-  read-does : (n : Theirs) (u : Bytes) → ComesTo (theirDeed n (k .framed) u) (theySay n) (theirRead n k st u)
+  read-does : (n : Theirs) (u : Bytes) → ComesTo (theirDeed n k u) (theySay n) (theirRead n k st u)
   read-does theirText u = text-does (theySay theirText) (isPrompt (trim u))
   read-does (theirSid c) u = sid-does c (theySay (theirSid c)) (readSid (trim u))
   read-does (theirTurn ff ls) u =
       let ls′ = ls ++ (readTurnLine (k .framed) (trim u) ∷ []) in
       said-does ff ls′ (theySay (theirTurn ff ls)) (said ff ls′)
-  read-does (theirAnswer is) u = answered-does is (theySay (theirAnswer is)) (readFs (length is) (trim u))
+  read-does (theirAnswer is) u = answered-does is (theySay (theirAnswer is)) (readFs (levelInForce k) (length is) (trim u))
 
   -- x, y: the line's tests
   line-does : (n : Theirs) (u : Bytes) (x y : Bool)
-      → ComesTo (cond x (cond y nothing (theirDeed n (k .framed) u)) nothing) (theySay n) (cond x (cond y (effect k st (theySay n)) (theirRead n k st u)) (effect k st over))
+      → ComesTo (cond x (cond y nothing (theirDeed n k u)) nothing) (theySay n) (cond x (cond y (effect k st (theySay n)) (theirRead n k st u)) (effect k st over))
   line-does n u true true = quiet (theySay n) (theySay n) refl
   line-does n u true false = read-does n u
   line-does n u false y = quiet (theySay n) over refl
@@ -128,9 +128,9 @@ module _ (T : List Record) (a : Bool) (st : List ℕ) (k : Book) where
   ours-does (ourTurn ff ls) u =
       let ls′ = ls ++ (readTurnLine (k .framed) u ∷ []) in
       quiet (weSay (ourTurn ff ls)) (ourSaid T ff ls′ (said ff ls′)) (our-said ff ls′ (said ff ls′))
-  ours-does (ourAnswer ps) u = our-answered ps (weSay (ourAnswer ps)) (readFs (length ps) u)
+  ours-does (ourAnswer ps) u = our-answered ps (weSay (ourAnswer ps)) (readFs level0 (length ps) u)
 
-  does : (n : Next) (u : Bytes) (b : ℕ) → Comes (deedOf n (k .framed) u b) n (applied T (before n) u b .course) (applied T (before n) u b .book)
+  does : (n : Next) (u : Bytes) (b : ℕ) → Comes (deedOf n k u b) n (applied T (before n) u b .course) (applied T (before n) u b .book)
   does over u b = quiet over over refl
   does (weSay n) u b = ours-does n u
   does (theySay n) u b = line-does n u (leb (length u) lineLimit) (isComment (trim u))
@@ -139,7 +139,7 @@ module _ (T : List Record) (a : Bool) (st : List ℕ) (k : Book) where
 
 -- THE EFFECT OF A UNIT is that of its deed
 pub unit-does : (T : List Record) (l : Log) (a : Bool) (u : Bytes) (b : ℕ)
-    → Does (deedOf (l .course .next) (l .book .framed) u b) (l .course) (l .book) (applied T (withAfterCr l a) u b .course) (applied T (withAfterCr l a) u b .book)
+    → Does (deedOf (l .course .next) (l .book) u b) (l .course) (l .book) (applied T (withAfterCr l a) u b .course) (applied T (withAfterCr l a) u b .book)
 unit-does T l a u b = does T a (l .course .sent) (l .book) (l .course .next) u b
 
 -- ---------------------------------------------------------------- a unit cut off is whole
@@ -260,18 +260,18 @@ module _ (T : List Record) (a : Bool) (st : List ℕ) (k : Book) (ds : List Deed
   answer-brings is none h = idle (ends h)
   answer-brings is (some ss) h = λ last. (refl, ours-free (accepted ss is) h last)
 
-  read-brings : (n : Theirs) (u : Bytes) → Brings (stand (theirRead n k st u .course .next)) ds → Brings (bringing []) (theirDeed n (k .framed) u ∷ ds)
+  read-brings : (n : Theirs) (u : Bytes) → Brings (stand (theirRead n k st u .course .next)) ds → Brings (bringing []) (theirDeed n k u ∷ ds)
   read-brings theirText u h = idle (by-cond FreeTo (isPrompt (trim u)) stays stays h)
   read-brings (theirSid c) u h = idle (sid-free c (readSid (trim u)) h)
   read-brings (theirTurn ff ls) u h =
       let ls′ = ls ++ (readTurnLine (k .framed) (trim u) ∷ []) in
       turn-brings ff ls′ (said ff ls′) h
-  read-brings (theirAnswer is) u h = answer-brings is (readFs (length is) (trim u)) h
+  read-brings (theirAnswer is) u h = answer-brings is (readFs (levelInForce k) (length is) (trim u)) h
 
   -- x, y: the line's tests
   line-brings : (n : Theirs) (u : Bytes) (x y : Bool)
       → Brings (stand (cond x (cond y (effect k st (theySay n)) (theirRead n k st u)) (effect k st over) .course .next)) ds
-      → Brings (bringing []) (cond x (cond y nothing (theirDeed n (k .framed) u)) nothing ∷ ds)
+      → Brings (bringing []) (cond x (cond y nothing (theirDeed n k u)) nothing ∷ ds)
   line-brings n u true true h = idle h
   line-brings n u true false h = read-brings n u h
   line-brings n u false y h = idle (ends h)
@@ -298,11 +298,11 @@ module _ (T : List Record) (a : Bool) (st : List ℕ) (k : Book) (ds : List Deed
   ours-brings (ourTurn ff ls) u h =
       let ls′ = ls ++ (readTurnLine (k .framed) u ∷ []) in
       idle (said-free ff ls′ (said ff ls′) h)
-  ours-brings (ourAnswer ps) u h = our-answer-brings ps (readFs (length ps) u) h
+  ours-brings (ourAnswer ps) u h = our-answer-brings ps (readFs level0 (length ps) u) h
 
   -- any whole unit
   unit-brings : (n : Next) (u : Bytes) (b : ℕ) → whole T n u b ≡ true
-      → Brings (stand (applied T (record { afterCr = a; course = record { next = n; sent = st }; book = k }) u b .course .next)) ds → Brings (stand n) (deedOf n (k .framed) u b ∷ ds)
+      → Brings (stand (applied T (record { afterCr = a; course = record { next = n; sent = st }; book = k }) u b .course .next)) ds → Brings (stand n) (deedOf n k u b ∷ ds)
   unit-brings over u b w h = absurd (no-both false w refl)
   unit-brings (weSay n) u b w h = ours-brings n u h
   unit-brings (theySay n) u b w h = line-brings n u (leb (length u) lineLimit) (isComment (trim u)) h

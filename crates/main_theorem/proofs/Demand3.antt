@@ -64,7 +64,7 @@ module _ (role : ℕ) (M : Memory) (e : openedBy role M .reply .answer ≡ 0) (c
 
   pub states-logged : statesOf (finally role M cs .table) ≡ logged role M cs .book .states
   states-logged =
-      ran .held .represents .states ∙ on-lists-demand .table ∙ ap (λ (es : List Event). log (E .table) caller states es .book .states) (sym (ran .events))
+      ran .held .represents .holds .states ∙ on-lists-demand .table ∙ ap (λ (es : List Event). log (E .table) caller states es .book .states) (sym (ran .events))
 
   abbrev kept : List Message
   kept = (on-lists-run.run E (on-lists.opened caller states) (map callOf cs)) .0 .memory .inbox
@@ -74,20 +74,20 @@ module _ (role : ℕ) (M : Memory) (e : openedBy role M .reply .answer ≡ 0) (c
   kept-logged = on-lists-demand .inbox ∙ ap (λ (es : List Event). log (E .table) caller states es .book .kept) (sym (ran .events))
 
   pub inbox-logged : messagesOf (finally role M cs .inbox) (finally role M cs .store) (messageCount (finally role M cs)) ≡ logged role M cs .book .kept
-  inbox-logged = ran .held .represents .boxed .messages ∙ kept-logged
+  inbox-logged = ran .held .represents .holds .boxed .messages ∙ kept-logged
 
   count-logged : messageCount (finally role M cs) ≡ length (logged role M cs .book .kept)
-  count-logged = ran .held .represents .boxed .kept ∙ ap (λ (ms : List Message). length ms) kept-logged
+  count-logged = ran .held .represents .holds .boxed .count ∙ ap (λ (ms : List Message). length ms) kept-logged
 
   entries-logged : take (length (logged role M cs .book .kept) * entryLen) (finally role M cs .inbox) ≡ entriesBytes 0 (logged role M cs .book .kept)
   entries-logged =
-      let r = ran .held .represents in
+      let r = ran .held .represents .holds in
       subst (λ (ms : List Message). take (length ms * entryLen) (finally role M cs .inbox) ≡ entriesBytes 0 ms) kept-logged
-      (entries-laid (finally role M cs .inbox) 0 0 kept (r .boxed .laid) (omega (arith, r .boxed .kept, in-order .box .placed, r .shelved .places, r .shelved .inbox)))
+      (entries-laid (finally role M cs .inbox) 0 0 kept (r .boxed .laid) (omega (arith, r .boxed .count, in-order .box .placed, r .shelved .places, r .shelved .inbox)))
 
   bodies-logged : take (length (bodiesBytes (logged role M cs .book .kept))) (finally role M cs .store) ≡ bodiesBytes (logged role M cs .book .kept)
   bodies-logged =
-      let b = ran .held .represents .boxed in
+      let b = ran .held .represents .holds .boxed in
       subst (λ (ms : List Message). take (length (bodiesBytes ms)) (finally role M cs .store) ≡ bodiesBytes ms) kept-logged
       (bodies-laid (finally role M cs .store) _ kept (in-order .box .within) (b .bodies))
 

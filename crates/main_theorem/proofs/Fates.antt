@@ -16,7 +16,7 @@ use Rattle.session.specs.Calls.{oneMore, stoppedAt, stops, receiveOn, receive, 
 use Rattle.log.specs.Log.{Event, took, gave, ourGreeting, theirSid, Next, weSay, theySay, Book, Log, isOurs, ourUnit, theirUnit, endsWithCr, whole, applied, Cut, notWhole, outOfTurn, unit, cutUnit, withAfterCr, logOpened, log}
 use Rattle.log.specs.Fed.{Fed, unitByte, outOfOrder, fedByte, fedAll}
 use Rattle.log.proofs.Units.{within, fedOpened, fed-append}
-use Rattle.demand3.specs.Demand.{Call, receiving, giving, refusedCall, run, Good}
+use Rattle.demand3.specs.Demand.{Call, receiving, giving, refusedCall, run, GoodTable}
 use Rattle.demand3.proofs.Choice.{Sound, sound}
 use Rattle.demand3.proofs.Inv.{Inv, inv-book, give-inv}
 use Rattle.demand3.proofs.Step.{step-inv}
@@ -195,7 +195,7 @@ units-keep T (suc n) es l h = go (cutUnit T (l .course .next) (l .afterCr) [] es
 
 -- ---------------------------------------------------------------- the law
 
-module _ (E : Shelf) (g : Good (E .table)) (caller : Bool) (states : List ℕ) (cs : List Call) where
+module _ (E : Shelf) (g : GoodTable (E .table)) (caller : Bool) (states : List ℕ) (cs : List Call) where
   abbrev trace : List Event
   trace = (run E (opened caller states) cs) .1
 

@@ -33,7 +33,6 @@ use Rattle.main_theorem.specs.Calls.{Lent, withSession, given}
 use Rattle.marking.proofs.States.{only-same}
 use Rattle.represents.proofs.Byte.{waits-law, over-law}
 use Rattle.main_theorem.proofs.Held.{csOf, Held, saved-held, held-good}
-use Rattle.represents.proofs.Parts.{represents, holds-of}
 use Rattle.form_closed.proofs.Closed.{handed-ok}
 
 -- ---------------------------------------------------------------- lists
@@ -86,8 +85,7 @@ module _ (F : Fixed) (E : Shelf) (c : Cs) (first then pos : ℕ)
 
   resaid : (s : on-lists.Session) (o : Bytes) → Represents F E c s → Says F (csSaying c first then pos) o → Represents F E (csSaying c first then pos) (withOut s o)
   resaid s o h y =
-      represents F E (csSaying c first then pos) (withOut s o) (h .entries) (holds-of h) y
-      (awaits-still (s .phase) (h .awaits)) (h .part) (h .afterCr)
+      record { entries = h .entries; holds = h .holds; says = y; awaits = awaits-still (s .phase) (h .awaits); part = h .part; afterCr = h .afterCr }
 
 -- ---------------------------------------------------------------- the state after a give
 

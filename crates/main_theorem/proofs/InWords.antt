@@ -9,7 +9,7 @@ use Rattle.session.specs.Choices.{Shelf}
 use Rattle.session.specs.Session as on-lists
 use Rattle.log.specs.Log.{Event, log}
 use Rattle.demand3.specs.Demand as on-lists-run
-use Rattle.demand3.specs.Demand.{Good}
+use Rattle.demand3.specs.Demand.{GoodTable}
 use Rattle.places.specs.Places.{recordLen}
 use Rattle.layout.specs.Layout.{stateOf}
 use Rattle.entries.specs.Decoded.{recordCount}
@@ -53,7 +53,7 @@ in-words role M e cs =
     shelf : Shelf
     shelf = shelfOf F m
 
-    good : Good (shelf .table)
+    good : GoodTable (shelf .table)
     good = open-as role M e cs .good
 
     events : traced role M cs ≡ (on-lists-run.run shelf (on-lists.opened (eqb role 1) st) (map callOf cs)) .1
@@ -63,7 +63,7 @@ in-words role M e cs =
     whole = accepted role F m e .table .0
 
     whole-end : Whole (end .table)
-    whole-end = ran role M e cs .held .represents .shelved .table
+    whole-end = ran role M e cs .held .represents .holds .shelved .table
 
     count : recordCount (m .table) ≡ recordCount (end .table)
     count = ap (λ (n : ℕ). min 64 (n / recordLen)) (sym (ran role M e cs .held .spared .table .size))

@@ -11,11 +11,11 @@ use Rattle.grammar.specs.Refusals.{badMemory}
 use Rattle.grammar.proofs.Basics.{and2}
 use Rattle.session.specs.Choices.{Shelf}
 use Rattle.session.specs.Session as on-lists
-use Rattle.demand3.specs.Demand.{Good}
+use Rattle.demand3.specs.Demand.{GoodTable}
 use Rattle.places.specs.Places.{entryLen, knownLen, recordLen, sessionLen}
 use Rattle.session_memory.specs.State.{sessionSize, loadOf, saveOf, saveSizes, freshOf}
 use Rattle.session_memory.specs.declared.Session.{Session}
-use Rattle.session_memory.proofs.Laws.{Sized, load-save, load-sizes, sizes-length, save-sizes-kept, fresh-shaped}
+use Rattle.session_memory.proofs.Laws.{Sized, load-save, load-sizes, sizes-length, save-sizes-kept}
 use Rattle.entries.specs.Decoded.{recordsOf, knownBids, placeCount, recordCount}
 use Rattle.marking.specs.States.{statesOf}
 use Rattle.waiting.specs.Waiting.{waitingOf, firstText, thenText}
@@ -32,7 +32,7 @@ use Rattle.main_theorem.specs.Demand3.{openedBy}
 use Rattle.represents.proofs.Byte.{spared-same}
 use Rattle.main_theorem.proofs.Held.{Held}
 use Rattle.main_theorem.proofs.Accepted.{table-good}
-use Rattle.form_closed.proofs.Closed.{open-closed}
+use Rattle.form_closed.proofs.Closed.{open-closed, fresh-shaped}
 use Rattle.form_closed.specs.InForm.{InForm}
 use Rattle.form_closed.specs.Facts.{Octets}
 
@@ -118,37 +118,24 @@ module _ (role : ℕ) (F : Fixed) (m : Lent) (a : Accepted role F m) where
   fresh-represents caller =
       record {
         entries = λ i h. absurd (omega arith);
-        shelved = record {
-          records = refl;
-          known = refl;
-          places = refl;
-          bytes = refl;
-          table = a .table .0;
-          inbox = a .inbox .0;
-        };
-        boxed = record {
-          kept = refl;
-          messages = refl;
-          laid = tt;
-          bodies = refl;
-          row = tt;
-          small = omega arith;
-          used = refl;
+        holds = record {
+          shelved = record { records = refl; known = refl; places = refl; bytes = refl; table = a .table .0; inbox = a .inbox .0 };
+          boxed = record { count = refl; messages = refl; laid = tt; bodies = refl; row = tt; small = omega arith; bytes = refl };
+          framed = refl;
+          states = refl;
+          sending = refl;
+          flags = refl;
         };
         says = greeting-says caller;
         awaits = sid-awaited caller;
         part = refl;
         afterCr = refl;
-        framed = refl;
-        states = refl;
-        sending = refl;
-        flags = refl;
       }
 
 -- ---------------------------------------------------------------- the call
 
 pub record OpenedAs (role : ℕ) (F : Fixed) (m : Lent) : Type 0 where
-  pub good : Good (shelfOf F m .table)
+  pub good : GoodTable (shelfOf F m .table)
   pub held : Held F (shelfOf F m) (freshCs role m) (sizesOf F m) (withSession m (openedOn role F m .sm)) (on-lists.opened (eqb role 1) (statesOf (m .table)))
 
 pub open-law : (role : ℕ) (M : Memory) → openedBy role M .reply .answer ≡ 0 → OpenedAs role (fixedIn M) (lentIn M)
@@ -184,7 +171,7 @@ open-law role M e =
     n = sizes-length (m .sm) (sizesOf F m) ∙ a .session
 
     back : loadOf (fresh role F m) ≡ freshOf caller
-    back = load-save (saveSizes (m .sm) (sizesOf F m)) (freshOf caller) n (fresh-shaped caller)
+    back = load-save (saveSizes (m .sm) (sizesOf F m)) (freshOf caller) n (fresh-shaped F caller)
 
     held : Held F (shelfOf F m) (freshCs role m) (sizesOf F m) (withSession m (fresh role F m)) (on-lists.opened caller (statesOf (m .table)))
     held =

@@ -26,7 +26,7 @@ store-exactly role M e cs =
       transfer = led .0;
       reached = led .1;
       live = led .2;
-      kept = ran role M e cs .held .represents .boxed .messages ∙ calls-kept E (map callOf cs) first at-open;
+      kept = ran role M e cs .held .represents .holds .boxed .messages ∙ calls-kept E (map callOf cs) first at-open;
       store = sym (shown .same) ∙ store-written F E (freshCs role (lentIn M)) (shown .state) (lastOf role M cs) (shown .within) (shown .represents) (shown .spared) (led .2);
     }
   where

@@ -52,7 +52,7 @@ store-written F E c₀ c v w h p live = go (v .phase) refl (h .awaits)
     with : (u : Bytes) (n : ℕ) → reachOf (c .session) ≡ used + n → used + n ≤ length (c .store) → take n (drop used (c .store)) ≡ u
         → c .store ≡ (bodiesBytes (v .memory .inbox) ++ u) ++ drop (length (bodiesBytes (v .memory .inbox) ++ u)) (c₀ .store)
     with u n r l e =
-        parted (c .store) (c₀ .store) (bodiesBytes (v .memory .inbox)) u used n l (h .boxed .bodies) e
+        parted (c .store) (c₀ .store) (bodiesBytes (v .memory .inbox)) u used n l (h .holds .boxed .bodies) e
         (subst (λ (k : ℕ). drop k (c .store) ≡ drop k (c₀ .store)) r (p .store .past))
 
     -- none are

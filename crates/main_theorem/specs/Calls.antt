@@ -1,11 +1,10 @@
 -- A list of calls over lent memory: "Each call is lent the same memory, as the last one left it, and nobody else writes it meanwhile."
 use mathlib.Core.Path.{_≡_}
-use mathlib.Core.Bool.{Bool, true, false}
+use mathlib.Core.Bool.{true, false, Bool}
 use mathlib.Core.List.{List, [], _∷_, _++_, map}
 use Prim.Native.Nat.{ℕ, _<_}
-use lib.Dec.{ltb}
 use lib.ListN.{length, take, drop}
-use Rattle.grammar.specs.Bytes.{Bytes, all}
+use Rattle.grammar.specs.Bytes.{Bytes, all, isByte, wordValues}
 use Rattle.log.specs.Log.{Event, took, gave}
 use Rattle.session_memory.specs.State.{loadOf}
 use Rattle.session_memory.specs.declared.Sizes.{Sizes}
@@ -15,18 +14,16 @@ use Rattle.open.specs.Opening.{Opened, openOf}
 use Rattle.receive_defined.specs.Receiving.{Received, receiveOf}
 use Rattle.form_closed.specs.Fixed.{Fixed}
 use Rattle.represents.specs.Frame.{reachOf}
+use lib.Dec.{eqb}
 
 -- ---------------------------------------------------------------- lent memory
-
-abbrev pub isByte : ℕ → Bool
-isByte b = ltb b 256
 
 -- A buffer that a host lends: bytes, each below 256, and fewer than 2 ^ 64 of them, since its length is a number of 64 bits. This says what a
 -- slice of bytes is, in C and in the language, and nothing of what stands in it.
 pub record Buffer : Type 0 where
   pub bytes : Bytes
   pub octets : all isByte bytes ≡ true
-  pub short : length bytes < 18446744073709551616
+  pub short : length bytes < wordValues
 
 -- All that open is lent.
 pub record Memory : Type 0 where
@@ -80,6 +77,13 @@ pub data Call (z : Sizes) : Type 0 where
   gives : Buffer → ℕ → Call z
   receivesOther : Other z → Buffer → Call z
   givesOther : Other z → Buffer → ℕ → Call z
+
+-- "role (0 called, 1 caller)"
+abbrev pub callerRole : ℕ
+callerRole = 1
+
+abbrev pub isCaller : ℕ → Bool
+isCaller role = eqb role callerRole
 
 abbrev pub openedOn : ℕ → Fixed → Lent → Opened
 openedOn role F m = openOf role (m .sm) (m .table) (F .titles) (F .names) (F .bodies) (F .known) (m .inbox) (m .store)

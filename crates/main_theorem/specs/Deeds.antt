@@ -10,10 +10,11 @@ use lib.ListN.{length}
 use Rattle.grammar.specs.Bytes.{Bytes}
 use Rattle.grammar.specs.Lines.{trim, isComment, lineLimit}
 use Rattle.grammar.specs.Turns.{Proposal, readTurnLine}
-use Rattle.grammar.specs.Answers.{Sign, accept, decline, defer, readFs}
+use Rattle.grammar.specs.Answers.{Sign, accept, decline, defer, readFs, level0}
 use Rattle.grammar.specs.Transfers.{Content, readTransfer}
 use Rattle.mail.specs.Mail.{Record, Message, messageOf}
-use Rattle.log.specs.Log.{Event, Ours, ourGreeting, ourFirstPrompt, ourSidLine, ourTurn, ourAnswer, Theirs, theirText, theirSid, theirTurn, theirAnswer, Next, over, weSay, theySay, theirTransfer, ourTransfer, Log, Said, unfinished, farewell, wrong, turn, said, applied, Cut, notWhole, outOfTurn, unit, cutUnit, withAfterCr, logOpened}
+use Rattle.log.specs.Log.{Event, Ours, ourGreeting, ourFirstPrompt, ourSidLine, ourTurn, ourAnswer, Theirs, theirText, theirSid, theirTurn, theirAnswer, Next, over, weSay, theySay, theirTransfer, ourTransfer, Log, Said, unfinished, farewell, wrong, turn, said, applied, Cut, notWhole, outOfTurn, unit, cutUnit, withAfterCr, logOpened, Book, levelInForce}
+use Rattle.phase.specs.Phase.{stateWaiting, stateForwarded, stateDeclined}
 
 -- ---------------------------------------------------------------- what a whole unit does
 
@@ -54,33 +55,33 @@ transferDeed p (some c) = brought (messageOf p c)
 abbrev pub ifLine : Bytes → Deed → Deed
 ifLine u d = cond (leb (length u) lineLimit) (cond (isComment (trim u)) nothing d) nothing
 
--- A line of the partner's, and one of ours; md: in plain (false) or framed (true) mode.
-abbrev pub theirDeed : Theirs → Bool → Bytes → Deed
-theirDeed theirText md u = nothing
-theirDeed (theirSid c) md u = nothing
-theirDeed (theirTurn ff ls) md u = turnDeed (said ff (ls ++ (readTurnLine md (trim u) ∷ [])))
-theirDeed (theirAnswer is) md u = answerDeed is (readFs (length is) (trim u))
+-- A line of the partner's, and one of ours; k: the book, which has the mode.
+abbrev pub theirDeed : Theirs → Book → Bytes → Deed
+theirDeed theirText k u = nothing
+theirDeed (theirSid c) k u = nothing
+theirDeed (theirTurn ff ls) k u = turnDeed (said ff (ls ++ (readTurnLine (k .framed) (trim u) ∷ [])))
+theirDeed (theirAnswer is) k u = answerDeed is (readFs (levelInForce k) (length is) (trim u))
 
 abbrev pub ourDeed : Ours → Bytes → Deed
 ourDeed ourGreeting u = nothing
 ourDeed ourFirstPrompt u = nothing
 ourDeed ourSidLine u = nothing
 ourDeed (ourTurn ff ls) u = nothing
-ourDeed (ourAnswer ps) u = ourAnswerDeed (readFs (length ps) u)
+ourDeed (ourAnswer ps) u = ourAnswerDeed (readFs level0 (length ps) u)
 
 -- The unit u b of what is next; a line is u, without its CR b.
-abbrev pub deedOf : Next → Bool → Bytes → ℕ → Deed
-deedOf (theySay n) md u b = ifLine u (theirDeed n md u)
-deedOf (weSay n) md u b = ourDeed n u
-deedOf (theirTransfer p ps) md u b = transferDeed p (readTransfer (p .form) (u ++ (b ∷ [])))
-deedOf (ourTransfer i is) md u b = sent i
-deedOf over md u b = nothing
+abbrev pub deedOf : Next → Book → Bytes → ℕ → Deed
+deedOf (theySay n) k u b = ifLine u (theirDeed n k u)
+deedOf (weSay n) k u b = ourDeed n u
+deedOf (theirTransfer p ps) k u b = transferDeed p (readTransfer (p .form) (u ++ (b ∷ [])))
+deedOf (ourTransfer i is) k u b = sent i
+deedOf over k u b = nothing
 
 -- Of the next whole unit cut off the trace, and of the rest.
 abbrev pub deedsCut : List Record → Log → (Log → List Event → List Deed) → Cut → List Deed
 deedsCut T l on notWhole = []
 deedsCut T l on outOfTurn = []
-deedsCut T l on (unit u b a rest) = deedOf (l .course .next) (l .book .framed) u b ∷ on (applied T (withAfterCr l a) u b) rest
+deedsCut T l on (unit u b a rest) = deedOf (l .course .next) (l .book) u b ∷ on (applied T (withAfterCr l a) u b) rest
 
 -- Unit by unit, as the log does it.
 abbrev pub deedsFrom : ℕ → List Record → Log → List Event → List Deed
@@ -155,13 +156,13 @@ wasForwarded i (brought x ∷ ds) = wasForwarded i ds
 pub record Fate (i : ℕ) (ds : List Deed) (before after : ℕ) : Type 0 where
   -- "a record that was waiting is forwarded exactly when a valid FS line accepted it, the link had taken its whole transfer, and a whole
   -- valid turn of the partner came after that"
-  pub forwarded : before ≡ 0 → eqb after 1 ≡ wasForwarded i ds
+  pub forwarded : before ≡ stateWaiting → eqb after stateForwarded ≡ wasForwarded i ds
   -- "It is declined exactly when a valid FS line declined it."
-  pub declined : before ≡ 0 → eqb after 2 ≡ wasDeclined i ds
+  pub declined : before ≡ stateWaiting → eqb after stateDeclined ≡ wasDeclined i ds
   -- else it still waits
-  pub waiting : before ≡ 0 → wasForwarded i ds ≡ false → wasDeclined i ds ≡ false → after ≡ 0
+  pub waiting : before ≡ stateWaiting → wasForwarded i ds ≡ false → wasDeclined i ds ≡ false → after ≡ stateWaiting
   -- one that was not waiting is as it was
-  pub settled : (before ≡ 0 → ⊥) → after ≡ before
+  pub settled : (before ≡ stateWaiting → ⊥) → after ≡ before
 
 -- "The inbox holds exactly the accepted messages received whole, in order"
 abbrev pub messagesBrought : List Deed → List Message

@@ -4,7 +4,6 @@
 use mathlib.Core.Path.{_≡_}
 use mathlib.Core.List.{map}
 use Prim.Native.Nat.{ℕ, _-_, _<_}
-use lib.Dec.{eqb}
 use lib.ListN.{length}
 use Rattle.grammar.specs.Bytes.{Bytes}
 use Rattle.mail.specs.Mail.{recordAt}
@@ -18,7 +17,7 @@ use Rattle.buffer.specs.Put.{wrote}
 use Rattle.entries.specs.Decoded.{recordCount, recordsOf, knownBids, placeCount}
 use Rattle.marking.specs.States.{statesOf}
 use Rattle.represents.specs.Represents.{messagesOf}
-use Rattle.main_theorem.specs.Calls.{Buffer, Memory, fixedIn, messageCount, received, given, Call, receives, gives, receivesOther, givesOther}
+use Rattle.main_theorem.specs.Calls.{Buffer, Memory, fixedIn, messageCount, received, given, Call, receives, gives, receivesOther, givesOther, isCaller}
 use Rattle.main_theorem.specs.Demand3.{openedBy, CallsOn, finally}
 use Rattle.session_memory.specs.declared.Sizes.{Sizes}
 
@@ -43,7 +42,7 @@ pub record Demand2 (role : ℕ) (M : Memory) (cs : CallsOn M) : Type 0 where
   -- the session on lists after the same calls, and the bytes so far of the transfer under way
   pub session : Session
   pub transfer : Bytes
-  pub same : session ≡ (on-lists-run.run (shelfIn M) (opened (eqb role 1) (statesOf (M .table .bytes))) (map callOf cs)) .0
+  pub same : session ≡ (on-lists-run.run (shelfIn M) (opened (isCaller role) (statesOf (M .table .bytes))) (map callOf cs)) .0
   pub reached : Reached (shelfIn M) session transfer
   -- "What is read, answered": the number given back, and how many bytes are consumed
   pub answers : (b : Buffer) → received (fixedIn M) (finally role M cs) (b .bytes) .reply .answer ≡ receive (shelfIn M) session (b .bytes) .answer

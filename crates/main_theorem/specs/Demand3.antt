@@ -2,19 +2,18 @@
 use mathlib.Core.Path.{_≡_}
 use mathlib.Core.List.{List}
 use Prim.Native.Nat.{ℕ, _*_}
-use lib.Dec.{eqb}
 use lib.ListN.{length, take, drop}
 use Rattle.log.specs.Log.{Event, Log, log}
 use Rattle.layout.specs.Layout.{entrySize}
 use Rattle.entries.specs.Decoded.{recordsOf}
 use Rattle.marking.specs.States.{statesOf}
-use Rattle.grammar.specs.Refusals.{badMemory}
+use Rattle.grammar.specs.Refusals.{badMemory, noPlace}
 use Rattle.give.specs.Giving.{reply}
 use Rattle.open.specs.Opening.{Opened}
 use Rattle.receive_defined.specs.Receiving.{unchanged}
 use Rattle.represents.specs.Laid.{entriesBytes, bodiesBytes}
 use Rattle.marking.specs.States.{withStates}
-use Rattle.main_theorem.specs.Calls.{Lent, Buffer, Memory, fixedIn, lentIn, Other, Call, openedOn, received, given, sizesOf, messageCount, storeReach, withSession, instead, run}
+use Rattle.main_theorem.specs.Calls.{Lent, Buffer, Memory, fixedIn, lentIn, Other, Call, openedOn, received, given, sizesOf, messageCount, storeReach, withSession, instead, run, isCaller}
 
 -- "Take an accepted open"
 abbrev pub openedBy : ℕ → Memory → Opened
@@ -35,7 +34,7 @@ traced role M cs = (run (fixedIn M) (withSession (lentIn M) (openedBy role M .sm
 -- "All this is read by the log in document 01 from the bytes consumed and given", with "open's role and table with its three stores"
 abbrev pub logged : ℕ → (M : Memory) → CallsOn M → Log
 logged role M cs =
-    log (recordsOf (M .titles .bytes) (M .names .bytes) (M .bodies .bytes) (M .table .bytes)) (eqb role 1) (statesOf (M .table .bytes)) (traced role M cs)
+    log (recordsOf (M .titles .bytes) (M .names .bytes) (M .bodies .bytes) (M .table .bytes)) (isCaller role) (statesOf (M .table .bytes)) (traced role M cs)
 
 pub record Demand3 (role : ℕ) (M : Memory) (cs : CallsOn M) : Type 0 where
   -- "after the list, the table is as open found it but with the log's states"
@@ -51,8 +50,8 @@ pub record Demand3 (role : ℕ) (M : Memory) (cs : CallsOn M) : Type 0 where
   pub places : drop (messageCount (finally role M cs) * entrySize) (finally role M cs .inbox) ≡ drop (messageCount (finally role M cs) * entrySize) (M .inbox .bytes)
   -- and a call that is lent other buffers, whichever of them are other ones, answers 1 with place 255 and count 0 and changes none of them
   pub others : (o : Other (sizesOf (fixedIn M) (lentIn M))) (b : Buffer) (place : ℕ)
-      → (received (o .fixed) (instead o (finally role M cs .sm)) (b .bytes) ≡ unchanged (reply badMemory 255 0) (finally role M cs .sm) (o .table) (o .inbox) (o .store))
-      × (given (o .fixed) (instead o (finally role M cs .sm)) (b .bytes) place ≡ record { reply = reply badMemory 255 0; sm = finally role M cs .sm; buf = b .bytes })
+      → (received (o .fixed) (instead o (finally role M cs .sm)) (b .bytes) ≡ unchanged (reply badMemory noPlace 0) (finally role M cs .sm) (o .table) (o .inbox) (o .store))
+      × (given (o .fixed) (instead o (finally role M cs .sm)) (b .bytes) place ≡ record { reply = reply badMemory noPlace 0; sm = finally role M cs .sm; buf = b .bytes })
 
 -- THE CLAIM
 abbrev pub Claim : Type 0

@@ -2,20 +2,19 @@
 use mathlib.Core.Path.{_≡_}
 use mathlib.Core.List.{List, []}
 use Prim.Native.Nat.{ℕ, _<_}
-use lib.Dec.{eqb}
 use Rattle.layout.specs.Layout.{stateOf}
 use Rattle.entries.specs.Decoded.{recordCount, recordsOf}
 use Rattle.marking.specs.States.{statesOf}
 use Rattle.represents.specs.Represents.{messagesOf}
 use Rattle.marking.specs.States.{StatesOnly}
-use Rattle.main_theorem.specs.Calls.{Memory, messageCount}
+use Rattle.main_theorem.specs.Calls.{Memory, messageCount, isCaller}
 use Rattle.main_theorem.specs.Demand3.{openedBy, CallsOn, finally, traced}
 use Rattle.main_theorem.specs.Deeds.{Deed, deeds, Fate, messagesBrought, weAccepted, BroughtFor, AsAccepted}
 
 -- What the bytes consumed and given did, unit by unit, as the log cuts them.
 abbrev pub done : ℕ → (M : Memory) → CallsOn M → List Deed
 done role M cs =
-    deeds (recordsOf (M .titles .bytes) (M .names .bytes) (M .bodies .bytes) (M .table .bytes)) (eqb role 1) (statesOf (M .table .bytes)) (traced role M cs)
+    deeds (recordsOf (M .titles .bytes) (M .names .bytes) (M .bodies .bytes) (M .table .bytes)) (isCaller role) (statesOf (M .table .bytes)) (traced role M cs)
 
 pub record InWords (role : ℕ) (M : Memory) (cs : CallsOn M) : Type 0 where
   -- each record is forwarded, declined or as it was, as Fate says

@@ -4,7 +4,6 @@ use mathlib.Core.Path.{_≡_}
 use mathlib.Core.Bool.{false, cond}
 use mathlib.Core.List.{List, [], _∷_, _++_, map}
 use Prim.Native.Nat.{ℕ}
-use lib.Dec.{eqb}
 use lib.ListN.{length, drop}
 use Rattle.grammar.specs.Bytes.{Bytes}
 use Rattle.grammar.specs.Scan.{bodyOf}
@@ -17,7 +16,7 @@ use Rattle.marking.specs.States.{statesOf}
 use Rattle.represents.specs.Laid.{bodiesBytes}
 use Rattle.represents.specs.Represents.{messagesOf}
 use Rattle.main_theorem.specs.Demand2.{callOf, shelfIn}
-use Rattle.main_theorem.specs.Calls.{Memory, messageCount}
+use Rattle.main_theorem.specs.Calls.{Memory, messageCount, isCaller}
 use Rattle.main_theorem.specs.Demand3.{openedBy, CallsOn, finally}
 
 -- The session just before the byte that ended it, of the bytes of one receive; where none ended it, the session after them.
@@ -45,7 +44,7 @@ written s = bodiesBytes (s .memory .inbox) ++ underWay (s .phase)
 
 -- The session on lists just before the same calls ended it, or after them.
 abbrev pub lastOf : ℕ → (M : Memory) → CallsOn M → Session
-lastOf role M cs = lastLive (shelfIn M) (opened (eqb role 1) (statesOf (M .table .bytes))) (map callOf cs)
+lastOf role M cs = lastLive (shelfIn M) (opened (isCaller role) (statesOf (M .table .bytes))) (map callOf cs)
 
 pub record StoreHolds (role : ℕ) (M : Memory) (cs : CallsOn M) : Type 0 where
   -- the bytes so far of the transfer under way; its reading, and so its body, has come from them (`Sound.soFar` of crates/demand2)

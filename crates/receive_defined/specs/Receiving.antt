@@ -1,5 +1,5 @@
 -- 01, "receive (bytes from the link)": a byte at a time on the state as session memory holds it and on the lent bytes, then the call, for
--- any memory. That this is what crates/session says, on lists, is proved in crates/lent.
+-- any memory. That this is what crates/session says, on lists, is proved in crates/represents.
 use mathlib.Core.Bool.{Bool, true, false, cond, not, _&&_, _||_}
 use mathlib.Core.List.{List, [], _∷_, _++_}
 use Prim.Native.Nat.{ℕ, suc, _+_, _*_}
@@ -55,6 +55,10 @@ unfoldable pub refusedOf : Session → Session
 refusedOf s =
     withNow (inPhase 7 (s .now)) (withSay (withFirst 0 (withThen 0 (withPos 0 (s .say)))) (withLine (withAfterCr false (withBytes 0 (s .line .bytes) (s .line))) s))
 
+-- After a refusal with this number: the number leaves nothing behind.
+abbrev pub refusedFor : ℕ → Session → Session
+refusedFor n s = refusedOf s
+
 -- What is said is not given yet.
 abbrev pub unsaid : Say → Say
 unsaid y = withPos 0 y
@@ -82,7 +86,7 @@ unfoldable pub settleOf : Session → Judged → Bool → Bytes → Settled
 settleOf s j afterCr table =
     cond (eqb (j .answer) 0)
     (settled 0 (spokenOf s j afterCr (markAll (held (j .marks .places)) (j .marks .state) table)) (markAll (held (j .marks .places)) (j .marks .state) table))
-    (settled (j .answer) (refusedOf s) table)
+    (settled (j .answer) (refusedFor (j .answer) s) table)
 
 -- ---------------------------------------------------------------- a byte of a line
 
@@ -94,7 +98,7 @@ lineMoved dropped s b table known inbox store = settled 0 s table
 lineMoved ends s b table known inbox store =
     settleOf s (judgeOf (trim (take (s .line .len) (s .line .bytes))) (s .now) (s .say) (s .keep) (s .reading .reader) table known inbox store) true table
 lineMoved grows s b table known inbox store = settled 0 (longer s b) table
-lineMoved overruns s b table known inbox store = settled lineTooLong (refusedOf s) table
+lineMoved overruns s b table known inbox store = settled lineTooLong (refusedFor lineTooLong s) table
 
 unfoldable pub lineStepOf : Session → ℕ → Bytes → Bytes → Bytes → ℕ → Settled
 lineStepOf s b table known inbox store = lineMoved (lineByte false (s .line .len) b) s b table known inbox store
@@ -133,9 +137,9 @@ reading s r heading = withReading (record { reader = r; heading = heading }) (wi
 abbrev pub transferMoved : Outcome → Session → Bytes → Bytes → Bytes → Moved
 transferMoved More s table inbox store = moved 0 (cs s table inbox store)
 transferMoved Whole s table inbox store = moved (keepOf s table .answer) (cs (keepOf s table .session) (keepOf s table .table) (keptInbox s inbox) store)
-transferMoved Malformed s table inbox store = moved badTransfer (cs (refusedOf s) table inbox store)
-transferMoved WrongSum s table inbox store = moved badChecksum (cs (refusedOf s) table inbox store)
-transferMoved NoRoom s table inbox store = moved storeFull (cs (refusedOf s) table inbox store)
+transferMoved Malformed s table inbox store = moved badTransfer (cs (refusedFor badTransfer s) table inbox store)
+transferMoved WrongSum s table inbox store = moved badChecksum (cs (refusedFor badChecksum s) table inbox store)
+transferMoved NoRoom s table inbox store = moved storeFull (cs (refusedFor storeFull s) table inbox store)
 
 -- The message under way lies in the store after the bytes that kept messages use.
 abbrev pub transferStep : Cs → ℕ → Stepped → Moved
@@ -162,7 +166,7 @@ lineByteOf known c b =
 unfoldable pub byteOf : Bytes → Cs → ℕ → Moved
 byteOf known c b =
     cond (c .session .line .«after_cr» && eqb b LF) (moved 0 (cs (lfDropped (c .session)) (c .table) (c .inbox) (c .store)))
-    (cond (waits (c .session .say)) (moved bytesWait (cs (refusedOf (c .session)) (c .table) (c .inbox) (c .store)))
+    (cond (waits (c .session .say)) (moved bytesWait (cs (refusedFor bytesWait (c .session)) (c .table) (c .inbox) (c .store)))
     (cond (eqb (c .session .now .phase) 5) (transferStepOf c b) (lineByteOf known c b)))
 
 -- ---------------------------------------------------------------- the call

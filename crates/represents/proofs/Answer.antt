@@ -12,7 +12,7 @@ use Rattle.grammar.specs.Bytes.{Bytes, isSome}
 use Rattle.grammar.specs.Ascii.{text}
 use Rattle.grammar.specs.Refusals.{badAnswer, lineNotAllowed}
 use Rattle.grammar.specs.Fields.{after}
-use Rattle.grammar.specs.Answers.{Sign, readFs, fsNumber, writeSign}
+use Rattle.grammar.specs.Answers.{Sign, readFs, fsNumber, writeSign, level0}
 use Rattle.mail.specs.Mail.{Record, accepted, transfersText}
 use Rattle.session.specs.Choices.{Shelf}
 use Rattle.session.specs.Session as on-lists
@@ -32,10 +32,10 @@ use Rattle.waiting.specs.Waiting.{firstText, thenText, sendingText}
 use Rattle.receive_defined.specs.Receiving.{cs}
 use Rattle.marking.specs.States.{markAll}
 use Rattle.form_closed.specs.Fixed.{Fixed}
-use Rattle.represents.specs.Represents.{Represents}
+use Rattle.represents.specs.Represents.{Represents, Holds}
 use Rattle.represents.proofs.Table.{picked-accepted, zerosAfter}
 use Rattle.represents.proofs.Says.{first-nothing, then-nothing, sending-text}
-use Rattle.represents.proofs.Parts.{Holds, Ready, no-entries}
+use Rattle.represents.proofs.Parts.{Ready, no-entries}
 use Rattle.represents.proofs.Settle.{holds-answer, left, settled-is}
 use Rattle.represents.proofs.Settle as settle
 use Rattle.represents.proofs.Leads.{Leads}
@@ -43,9 +43,9 @@ use Rattle.represents.proofs.Proposals.{no-proposals}
 use Rattle.form_closed.proofs.Laws.{held-length}
 
 -- the signs as they stand on the line
-read-signs : (n : ℕ) (ln : Bytes) → n ≤ 5 → answerSigns n ln ≡ zeroed (signBytes (readFs n ln))
+read-signs : (n : ℕ) (ln : Bytes) → n ≤ 5 → answerSigns n ln ≡ zeroed (signBytes (readFs level0 n ln))
 unfolding answerSigns answered
-read-signs n ln few = ap (λ (c : Bool). zeroed (signBytes (cond c none (readFs n ln)))) (le-ltb 5 n few)
+read-signs n ln few = ap (λ (c : Bool). zeroed (signBytes (cond c none (readFs level0 n ln)))) (le-ltb 5 n few)
 
 module _ (F : Fixed) (E : Shelf) (s : Session) (a : Bool) (i st : Bytes)
     (w : Await) (y : Say) (k : Keep) (r : Reader) (t : Bytes) (m : Memory) (ready : Ready F E (s .reading .heading) i st w y k t m) where
@@ -72,8 +72,8 @@ module _ (F : Fixed) (E : Shelf) (s : Session) (a : Bool) (i st : Bytes)
       said : firstText (y .first) (y .signs) ++ thenText 4 (w .ours) (fiveOf (j ∷ is)) u (F .titles) (F .names) (F .bodies) ≡ transfersText (E .table) (j ∷ is)
       said =
           ap (λ (l : Bytes). l ++ sendingText u (F .titles) (F .names) (F .bodies) (held (fiveOf (j ∷ is)))) (first-nothing (y .first) (y .signs) (ready .first))
-          ∙ ap (sendingText u (F .titles) (F .names) (F .bodies)) (held-five (j ∷ is)) ∙ sending-text (F .titles) (F .names) (F .bodies) u (h .lies .table) (j ∷ is)
-          ∙ ap (λ (T : List Record). transfersText T (j ∷ is)) (h .lies .records)
+          ∙ ap (sendingText u (F .titles) (F .names) (F .bodies)) (held-five (j ∷ is)) ∙ sending-text (F .titles) (F .names) (F .bodies) u (h .shelved .table) (j ∷ is)
+          ∙ ap (λ (T : List Record). transfersText T (j ∷ is)) (h .shelved .records)
 
   taken-law : (ss : List Sign) (z : ℕ) → k .sending .count ≡ 0
       → Lead (answerTaken (zerosAfter ss z) w y k r)
@@ -97,13 +97,13 @@ module _ (F : Fixed) (E : Shelf) (s : Session) (a : Bool) (i st : Bytes)
   -- THE FS LINE, to as many proposals as we made
   pub fs-law : (ln : Bytes) → k .sending .count ≡ 0
       → Lead (answerLine ln w y k r)
-      (on-lists.answerJudged E (held (w .ours)) m (fsNumber (length (held (w .ours))) ln) (readFs (length (held (w .ours))) ln))
+      (on-lists.answerJudged E (held (w .ours)) m (fsNumber level0 (length (held (w .ours))) ln) (readFs level0 (length (held (w .ours))) ln))
   unfolding answerLine
   fs-law ln idle =
-      subst (λ (l : ℕ). Lead (answerLine ln w y k r) (on-lists.answerJudged E (held (w .ours)) m (fsNumber l ln) (readFs l ln))) (sym many)
-      (subst (λ (x : ℕ). As x (answerSigns n ln) (fsNumber n ln) (readFs n ln)) (sym (answer-number n ln few))
-      (subst (λ (x : Bytes). As (fsNumber n ln) x (fsNumber n ln) (readFs n ln)) (sym (read-signs n ln few))
-      (go (isSome (after (text "FS") ln)) (readFs n ln))))
+      subst (λ (l : ℕ). Lead (answerLine ln w y k r) (on-lists.answerJudged E (held (w .ours)) m (fsNumber level0 l ln) (readFs level0 l ln))) (sym many)
+      (subst (λ (x : ℕ). As x (answerSigns n ln) (fsNumber level0 n ln) (readFs level0 n ln)) (sym (answer-number n ln few))
+      (subst (λ (x : Bytes). As (fsNumber level0 n ln) x (fsNumber level0 n ln) (readFs level0 n ln)) (sym (read-signs n ln few))
+      (go (isSome (after (text "FS") ln)) (readFs level0 n ln))))
     where
       n : ℕ
       n = w .ours .count

@@ -28,7 +28,7 @@ use Rattle.represents.specs.Link.{Moving, Receiving}
 use Rattle.marking.proofs.States.{only-same, only-then}
 use Rattle.represents.proofs.Says.{first-nothing, then-nothing}
 use Rattle.form_closed.proofs.Waiting.{waits-none}
-use Rattle.represents.proofs.Parts.{holds-of, represents, refuse-law}
+use Rattle.represents.proofs.Parts.{refuse-law}
 use Rattle.represents.proofs.LineStep.{line-below, awaits-line, says-line, line-step}
 use Rattle.represents.proofs.TransferStep.{reach-least, transfer-step}
 use Rattle.form_closed.specs.Facts.{Octets, Good}
@@ -112,10 +112,14 @@ module _ (F : Fixed) (E : Shelf) {nt ni ns : ℕ} (c : Cs) (g : Good F nt ni ns 
   dropped-law =
       record {
         answer = refl;
-        represents = represents F E (cs (lfDropped (c .session)) (c .table) (c .inbox) (c .store)) (on-lists.withAfterCr false v)
-            (h .entries) (holds-of h)
-            (says-line F (c .session) (c .table) (c .inbox) (c .store) (lfDropped (c .session) .line) (v .out) (h .says))
-            (awaits-line (v .phase) (c .session) (c .table) (c .inbox) (c .store) (lfDropped (c .session) .line) (h .awaits)) (h .part) refl;
+        represents = record {
+          entries = h .entries;
+          holds = h .holds;
+          says = says-line F (c .session) (c .table) (c .inbox) (c .store) (lfDropped (c .session) .line) (v .out) (h .says);
+          awaits = awaits-line (v .phase) (c .session) (c .table) (c .inbox) (c .store) (lfDropped (c .session) .line) (h .awaits);
+          part = h .part;
+          afterCr = refl;
+        };
         spared = record { table = only-same (c .table); inbox = kept-same _ _ (c .inbox) (omega arith); store = kept-same _ _ (c .store) (omega arith) };
       }
 

@@ -21,7 +21,7 @@ use Rattle.layout.proofs.Laws.{withContent, entry-length, message-back, start-b
 use Rattle.form_test.specs.Form.{usedFrom, usedBy}
 use Rattle.session_memory.specs.State.{at}
 use Rattle.represents.specs.Laid.{messageBytes, bodiesBytes}
-use Rattle.represents.specs.Represents.{messagesFrom, messagesOf, InRow, LaidFrom, Written}
+use Rattle.represents.specs.Represents.{messagesFrom, messagesOf, InRow, LaidFrom, Written, Boxed}
 
 -- ---------------------------------------------------------------- the same entries
 
@@ -81,18 +81,8 @@ module _ (e : Bytes) where
 
 -- ---------------------------------------------------------------- the inbox
 
--- so many messages are kept, their bodies use so many bytes of the store, and these they are
-pub record Box (kept used : ℕ) (inbox store : Bytes) (ms : List Message) : Type 0 where
-  pub count : kept ≡ length ms
-  pub messages : messagesOf inbox store kept ≡ ms
-  pub laid : LaidFrom inbox 0 0 ms
-  pub bodies : take used store ≡ bodiesBytes ms
-  pub row : InRow inbox 0 kept 0
-  pub small : used ≤ kept * 65535
-  pub bytes : used ≡ bodyBytes ms
-
-pub box-store : (kept used : ℕ) (inbox store r : Bytes) (ms : List Message) → usedBy inbox kept ≡ used → used ≤ length store → Box kept used inbox store ms
-    → Box kept used inbox (take used store ++ r) ms
+pub box-store : (kept used : ℕ) (inbox store r : Bytes) (ms : List Message) → usedBy inbox kept ≡ used → used ≤ length store → Boxed kept used inbox store ms
+    → Boxed kept used inbox (take used store ++ r) ms
 unfolding messagesOf usedBy
 box-store kept used inbox store r ms sum within h =
     record {
@@ -147,7 +137,7 @@ module _ (kept used : ℕ) (inbox store : Bytes) (ms : List Message) (places n :
   read : partOf store (bodyStart x) (bodyLength x) ≡ take n (drop used store)
   read = rw (s, b) (part-in store used n (g .room))
 
-  box-entry : Box kept used inbox store ms → Box (kept + 1) (used + n) grown store (ms ++ (messageOf x (take n (drop used store)) ∷ []))
+  box-entry : Boxed kept used inbox store ms → Boxed (kept + 1) (used + n) grown store (ms ++ (messageOf x (take n (drop used store)) ∷ []))
   unfolding messagesOf usedBy
   box-entry h =
       record {
@@ -182,12 +172,12 @@ fields-written c e =
 
 -- THE ENTRY of a message: c begins with its proposal's fields
 pub box-more : (kept used : ℕ) (inbox store : Bytes) (ms : List Message) (places n : ℕ) (c heading : Bytes) → Fitting kept used inbox store places n
-    → fieldsSize ≤ length c → length heading ≤ 80 → Written c → Box kept used inbox store ms
-    → Box (kept + 1) (used + n) (putBytes inbox (at (kept * entryLen)) (entryOut c heading used n)) store
+    → fieldsSize ≤ length c → length heading ≤ 80 → Written c → Boxed kept used inbox store ms
+    → Boxed (kept + 1) (used + n) (putBytes inbox (at (kept * entryLen)) (entryOut c heading used n)) store
     (ms ++ (withContent (proposalOf c) heading (take n (drop used store)) ∷ []))
 box-more kept used inbox store ms places n c heading g fields short e h =
     subst
-    (λ (m : Message). Box (kept + 1) (used + n) (putBytes inbox (at (kept * entryLen)) (entryOut c heading used n)) store (ms ++ (m ∷ [])))
+    (λ (m : Message). Boxed (kept + 1) (used + n) (putBytes inbox (at (kept * entryLen)) (entryOut c heading used n)) store (ms ++ (m ∷ [])))
     read-back
     (box-entry kept used inbox store ms places n g (entryOut c heading used n) (entry-length c heading used n fields)
     (start-back c heading used n fields (omega (arith, h .small, g .free, g .few)))

@@ -32,13 +32,12 @@ use Rattle.waiting.specs.Waiting.{thenText}
 use Rattle.pending.specs.Pending.{waits}
 use Rattle.receive_defined.specs.Receiving.{Cs, keptKeep, nextJudged, isPlainAt, keepOf}
 use Rattle.form_closed.specs.Fixed.{Fixed}
-use Rattle.represents.specs.Represents.{Awaits, Represents, signsIn}
+use Rattle.represents.specs.Represents.{Awaits, Represents, signsIn, Boxed, Holds}
 use Rattle.represents.proofs.Proposals.{Found, owing, owed-now, next-found, plain-law, written-form, owed-pluses}
-use Rattle.represents.proofs.Inbox.{Box, Fitting, box-more}
+use Rattle.represents.proofs.Inbox.{Fitting, box-more}
 use Rattle.represents.proofs.Frame.{kept-put}
 use Rattle.represents.proofs.Says.{first-nothing, then-nothing}
 use Rattle.form_closed.proofs.Waiting.{waits-none}
-use Rattle.represents.proofs.Parts.{Holds}
 use Rattle.represents.proofs.Settle.{Settles, settled-is, our-turn-law}
 use Rattle.represents.proofs.Leads.{Settling, Goes, goes-speaking, settle-goes}
 use Rattle.represents.proofs.Line.{await-transfer}
@@ -95,7 +94,7 @@ module _ (F : Fixed) (E : Shelf) {nt ni ns : ℕ} (c : Cs) (g : Good F nt ni ns 
         under .places,
         owed-pluses (u .say .signs) (u .now .block) (u .now .proposals) (g .say .signs) (under .signs) (u .now .current),
         ap (λ (l : List Proposal). length l) (a .1),
-        h .shelved .places,
+        h .holds .shelved .places,
       )
 
   fitting : Fitting (u .keep .kept) (u .keep .used) (c .inbox) st (E .places) n
@@ -103,8 +102,8 @@ module _ (F : Fixed) (E : Shelf) {nt ni ns : ℕ} (c : Cs) (g : Good F nt ni ns 
       let fits = k .fits in
       let behind-size = length-drop (u .keep .used) (c .store) in
       record {
-        size = h .shelved .inbox;
-        few = omega (arith, g .box .limit, h .shelved .places);
+        size = h .holds .shelved .inbox;
+        few = omega (arith, g .box .limit, h .holds .shelved .places);
         free = omega (arith, places);
         limit = omega arith;
         sum = g .box .used;
@@ -125,15 +124,15 @@ module _ (F : Fixed) (E : Shelf) {nt ni ns : ℕ} (c : Cs) (g : Good F nt ni ns 
   pub inbox-kept : Kept (u .keep .kept * entryLen) ((u .keep .kept + 1) * entryLen) (c .inbox) inbox′
   inbox-kept =
       subst (λ (j : ℕ). Kept (u .keep .kept * entryLen) j (c .inbox) inbox′) (omega (arith, entry-fits))
-      (kept-put (c .inbox) (entryOut entry title (u .keep .used) n) (u .keep .kept * entryLen) (omega (arith, entry-fits, h .shelved .inbox, places)))
+      (kept-put (c .inbox) (entryOut entry title (u .keep .used) n) (u .keep .kept * entryLen) (omega (arith, entry-fits, h .holds .shelved .inbox, places)))
 
   holds″ : Holds F E (keptKeep u) (c .table) inbox′ st m′
   holds″ =
       let H = holds′ F E c g v h b in
-      let l = H .lies in
+      let l = H .shelved in
       let same = inbox-kept .size in
       record {
-        lies = record {
+        shelved = record {
           records = l .records;
           known = l .known;
           places = ap (λ (x : ℕ). x / entryLen) same ∙ l .places;
@@ -141,10 +140,13 @@ module _ (F : Fixed) (E : Shelf) {nt ni ns : ℕ} (c : Cs) (g : Good F nt ni ns 
           table = l .table;
           inbox = same ∙ l .inbox;
         };
-        box = subst (λ (x : Message). Box (u .keep .kept + 1) (u .keep .used + n) inbox′ st (v .memory .inbox ++ (x ∷ [])))
+        boxed = subst (λ (x : Message). Boxed (u .keep .kept + 1) (u .keep .used + n) inbox′ st (v .memory .inbox ++ (x ∷ [])))
             (ap (λ (q : Proposal). withContent q title (take n (drop (u .keep .used) st))) (sym this) ∙ ap (λ (x : Bytes). withContent p title (take n x)) (behind-back F E c g v h b))
-            (box-more (u .keep .kept) (u .keep .used) (c .inbox) st (v .memory .inbox) (E .places) n entry title fitting (omega (arith, entry-size)) title-short (h .entries (u .now .current) (under .current)) (H .box));
-        marks = H .marks;
+            (box-more (u .keep .kept) (u .keep .used) (c .inbox) st (v .memory .inbox) (E .places) n entry title fitting (omega (arith, entry-size)) title-short (h .entries (u .now .current) (under .current)) (H .boxed));
+        framed = H .framed;
+        states = H .states;
+        sending = H .sending;
+        flags = H .flags;
       }
 
   -- ---------------------------------------------------------------- then

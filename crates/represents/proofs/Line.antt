@@ -49,11 +49,11 @@ use Rattle.pending.specs.Pending.{waits}
 use Rattle.receive_defined.specs.Receiving.{cs, unsaid}
 use Rattle.marking.specs.States.{markAll}
 use Rattle.form_closed.specs.Fixed.{Fixed}
-use Rattle.represents.specs.Represents.{Awaits, signsIn, Entries}
+use Rattle.represents.specs.Represents.{Awaits, signsIn, Entries, Holds}
 use Rattle.represents.proofs.Choices.{answers-law}
 use Rattle.represents.proofs.Proposals.{no-proposals, proposals-length, proposals-more, entries-more, written-form, signs-back, Found, Owing, owing, owed-now, next-found, start-law, stands-fresh, proper-fits}
 use Rattle.represents.proofs.Says.{first-nothing, then-nothing, waits-not}
-use Rattle.represents.proofs.Parts.{Holds, Ready, no-entries}
+use Rattle.represents.proofs.Parts.{Ready, no-entries}
 use Rattle.represents.proofs.Settle.{holds-turn, holds-mode, left, settled-is, our-turn-law, Settles}
 use Rattle.represents.proofs.Leads.{marking, Leads, goes-leads, goes-speaking}
 use Rattle.form_closed.specs.Facts.{FiveOk}
@@ -239,9 +239,9 @@ module _ (F : Fixed) (E : Shelf) (s : Session) (a : Bool) (i st : Bytes) where
 
     answers-are : answersOf w k t (F .known) i (length st) ≡ fiveOf (map writeSign answers)
     answers-are =
-        answers-law (F .titles) (F .names) (F .bodies) t (F .known) i st E w k (h .lies .records) (h .lies .known) (h .lies .places) (h .lies .bytes)
-        (ap bodyBytes (h .box .messages) ∙ sym (h .box .bytes)) (ready .now .proposals)
-        ∙ ap (λ (ms : List Message). fiveOf (map writeSign (answersTo E ms theirs))) (h .box .messages)
+        answers-law (F .titles) (F .names) (F .bodies) t (F .known) i st E w k (h .shelved .records) (h .shelved .known) (h .shelved .places) (h .shelved .bytes)
+        (ap bodyBytes (h .boxed .messages) ∙ sym (h .boxed .bytes)) (ready .now .proposals)
+        ∙ ap (λ (ms : List Message). fiveOf (map writeSign (answersTo E ms theirs))) (h .boxed .messages)
 
     one-each : length answers ≡ w .proposals
     one-each = one-sign-each E (m .inbox) theirs ∙ proposals-length (w .block) (w .proposals)

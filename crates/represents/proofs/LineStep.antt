@@ -14,7 +14,7 @@ use Rattle.grammar.specs.Refusals.{lineTooLong}
 use Rattle.grammar.specs.Lines.{LineByte, dropped, ends, grows, overruns, lineByte, trim, isComment, isPrompt}
 use Rattle.grammar.specs.Sid.{readSid}
 use Rattle.grammar.specs.Turns.{Proposal, readTurnLine}
-use Rattle.grammar.specs.Answers.{readFs, fsNumber}
+use Rattle.grammar.specs.Answers.{readFs, fsNumber, level0}
 use Rattle.grammar.proofs.AsRead.{turn-read-ok}
 use Rattle.session.specs.Choices.{Shelf}
 use Rattle.session.specs.Session as on-lists
@@ -29,7 +29,7 @@ use Rattle.receive_defined.specs.Receiving.{Cs, cs, Settled, longer, lineMoved,
 use Rattle.form_closed.specs.Fixed.{Fixed}
 use Rattle.represents.specs.Represents.{Says, lineNumber, Awaits, Represents}
 use Rattle.form_closed.proofs.Waiting.{waits-none}
-use Rattle.represents.proofs.Parts.{Ready, holds-of, represents, refuse-law}
+use Rattle.represents.proofs.Parts.{Ready, refuse-law}
 use Rattle.marking.proofs.States.{only-same}
 use Rattle.represents.proofs.Leads.{Settling, Leads, settle-law}
 use Rattle.represents.proofs.Line.{went-on, sid-law, text-law, turn-law}
@@ -71,7 +71,7 @@ module _ (F : Fixed) (E : Shelf) {nt ni ns : ℕ} (c : Cs) (g : Good F nt ni ns 
 
   ready : Ready F E (s .reading .heading) (c .inbox) (c .store) (s .now) (s .say) (s .keep) (c .table) m
   ready =
-      record { now = g .now; heading = g .heading .size; entries = h .entries; holds = holds-of h; first = (waits-none (s .say) quiet) .0; then = (waits-none (s .say) quiet) .1 }
+      record { now = g .now; heading = g .heading .size; entries = h .entries; holds = h .holds; first = (waits-none (s .say) quiet) .0; then = (waits-none (s .say) quiet) .1 }
 
   -- ---------------------------------------------------------------- the line judged
 
@@ -92,7 +92,7 @@ module _ (F : Fixed) (E : Shelf) {nt ni ns : ℕ} (c : Cs) (g : Good F nt ni ns 
     read-law on-lists.awaitsPrompt a =
         text-law F E s true (c .inbox) (c .store) (s .now) (s .say) (s .keep) (s .reading .reader) (c .table) m ready (a .0) (isPrompt ln)
     read-law (on-lists.awaitsTurn ff ps) a =
-        subst (λ (o : Outcome). Lead (judgedIn 3) o) (same (h .framed) (a .1 .0) (a .1 .1))
+        subst (λ (o : Outcome). Lead (judgedIn 3) o) (same (h .holds .framed) (a .1 .0) (a .1 .1))
         (turn-law F E s true (c .inbox) (c .store) (s .now) (s .say) (s .keep) (s .reading .reader) (c .table) m ready (a .0)
         (s .keep .framed) (readTurnLine (s .keep .framed) ln) (turn-read-ok (s .keep .framed) ln))
       where
@@ -100,7 +100,7 @@ module _ (F : Fixed) (E : Shelf) {nt ni ns : ℕ} (c : Cs) (g : Good F nt ni ns 
             → on-lists.turnJudged E (readTurnLine d ln) f qs m ≡ on-lists.turnJudged E (readTurnLine e ln) g rs m
         same p q r = rw (p, q, r)
     read-law (on-lists.awaitsAnswer is) a =
-        subst (λ (js : List ℕ). Lead (judgedIn 4) (on-lists.answerJudged E js m (fsNumber (length js) ln) (readFs (length js) ln))) (a .1)
+        subst (λ (js : List ℕ). Lead (judgedIn 4) (on-lists.answerJudged E js m (fsNumber level0 (length js) ln) (readFs level0 (length js) ln))) (a .1)
         (fs-law F E s true (c .inbox) (c .store) (s .now) (s .say) (s .keep) (s .reading .reader) (c .table) m ready ln (g .awaited .quiet (λ e. omega (arith, e, a .0)) (omega (arith, a .0))))
 
     -- "A line that begins with `;` is ignored wherever a line is awaited"
@@ -113,7 +113,7 @@ module _ (F : Fixed) (E : Shelf) {nt ni ns : ℕ} (c : Cs) (g : Good F nt ni ns 
             (cond x (goesOn (on-lists.aLine a) m []) (on-lists.awaitedJudged E a m raw))
         go true =
             went-on F E s true (c .inbox) (c .store) (s .now) (s .say) (s .keep) (s .reading .reader) (c .table) m ready (s .now) (s .keep) (on-lists.aLine a) m
-            (h .entries) (holds-of h) refl refl w
+            (h .entries) (h .holds) refl refl w
         go false = subst (λ (q : ℕ). Lead (judgedIn q) (on-lists.awaitedJudged E a m raw)) (sym (w .0)) (read-law a w)
 
   -- ---------------------------------------------------------------- a byte
@@ -154,14 +154,15 @@ module _ (F : Fixed) (E : Shelf) {nt ni ns : ℕ} (c : Cs) (g : Good F nt ni ns 
   byte-moves b a x grows room =
       record {
         answer = refl;
-        represents = represents F E (cs (longer s b) (c .table) (c .inbox) (c .store))
-            (on-lists.withPart (v .part ++ (b ∷ [])) (on-lists.withAfterCr false v))
-            (h .entries) (holds-of h)
-            (says-line F s (c .table) (c .inbox) (c .store) (longer s b .line) (v .out) (h .says))
-            (awaits-line (v .phase) s (c .table) (c .inbox) (c .store) (longer s b .line) (h .awaits))
-            (ap (λ (n : ℕ). take n (set (s .line .bytes) (s .line .len) b)) (add-one (s .line .len))
-            ∙ take-suc-set (s .line .bytes) (s .line .len) b (omega (arith, room, g .line .size)) ∙ ap (λ (l : Bytes). l ++ (b ∷ [])) (h .part))
-            refl;
+        represents = record {
+          entries = h .entries;
+          holds = h .holds;
+          says = says-line F s (c .table) (c .inbox) (c .store) (longer s b .line) (v .out) (h .says);
+          awaits = awaits-line (v .phase) s (c .table) (c .inbox) (c .store) (longer s b .line) (h .awaits);
+          part = ap (λ (n : ℕ). take n (set (s .line .bytes) (s .line .len) b)) (add-one (s .line .len))
+              ∙ take-suc-set (s .line .bytes) (s .line .len) b (omega (arith, room, g .line .size)) ∙ ap (λ (l : Bytes). l ++ (b ∷ [])) (h .part);
+          afterCr = refl;
+        };
         count = refl;
         spent = refl;
         table = only-same (c .table);

@@ -2,13 +2,11 @@
 use mathlib.Core.Path.{_≡_, refl, sym, ap, _∙_}
 use mathlib.Core.Bool.{true, false, cond, not}
 use mathlib.Core.List.{List, [], _∷_, _++_, map}
-use Prim.Native.Nat.{ℕ, _<_}
-use native.Mathlib.Omega.{arith}
+use Prim.Native.Nat.{ℕ}
 use lib.Dec.{eqb}
-use lib.ListN.{length, length-append}
 use Rattle.grammar.specs.Bytes.{Bytes}
 use Rattle.grammar.specs.Turns.{Proposal}
-use Rattle.mail.specs.Mail.{Record, headingFor, proposalOf, recordAt, transferOf, turnText, transfersText}
+use Rattle.mail.specs.Mail.{Record, proposalOf, recordAt, transferOf, turnText, transfersText}
 use Rattle.entries.specs.Decoded.{recordsOf}
 use Rattle.session_memory.specs.declared.Five.{Five}
 use Rattle.session_memory.specs.declared.Say.{Say}
@@ -16,7 +14,6 @@ use Rattle.waiting.specs.Waiting.{proposalAt, blockText, sendingText, firstText
 use Rattle.pending.specs.Pending.{waits}
 use Rattle.marking.proofs.States.{Whole}
 use Rattle.represents.proofs.Table.{record-at}
-use Rattle.form_closed.proofs.Waiting.{some-transfer}
 
 -- ---------------------------------------------------------------- nothing
 
@@ -54,9 +51,3 @@ module _ (ti na bo t : Bytes) (w : Whole t) where
   sending-text (i ∷ is) =
       ap (λ (r : Record). transferOf r ++ sendingText t ti na bo is) (sym (record-at ti na bo t i w))
       ∙ ap (λ (l : Bytes). transferOf (recordAt (recordsOf ti na bo t) i) ++ l) (sending-text is)
-
-pub some-transfers : (T : List Record) (i : ℕ) (is : List ℕ) → 0 < length (transfersText T (i ∷ is))
-unfolding transfersText
-some-transfers T i is =
-    let r = recordAt T i in
-    simp length-append (omega (arith, some-transfer (r .form) (headingFor (r .form) r) (r .body)))

@@ -31,17 +31,17 @@ use Rattle.waiting.specs.Waiting.{waitingOf, firstText, thenText, blockText}
 use Rattle.receive_defined.specs.Receiving.{cs, unsaid}
 use Rattle.marking.specs.States.{markAll}
 use Rattle.form_closed.specs.Fixed.{Fixed}
-use Rattle.represents.specs.Represents.{Awaits, Represents, Entries}
+use Rattle.represents.specs.Represents.{Awaits, Represents, Entries, Shelved, Holds}
 use Rattle.marking.proofs.States.{records-mark, whole-mark, states-marked}
 use Rattle.represents.proofs.Table.{states-declined, picked-accepted, flags-deferred, zerosAfter}
 use Rattle.represents.proofs.Choices.{choose-law}
 use Rattle.represents.proofs.Says.{block-text}
-use Rattle.represents.proofs.Parts.{Lies, Holds, represents, no-entries}
+use Rattle.represents.proofs.Parts.{no-entries}
 
 -- ---------------------------------------------------------------- the session's memory after marks
 
-lies-mark : (F : Fixed) (E : Shelf) (t i st : Bytes) (is : List ℕ) (v : ℕ) → Lies F E t i st → Lies F E (markAll is v t) i st
-lies-mark F E t i st is v h =
+shelved-mark : (F : Fixed) (E : Shelf) (t i st : Bytes) (is : List ℕ) (v : ℕ) → Shelved F E t i st → Shelved F E (markAll is v t) i st
+shelved-mark F E t i st is v h =
     record {
       records = records-mark (F .titles) (F .names) (F .bodies) v is t ∙ h .records;
       known = h .known;
@@ -56,21 +56,17 @@ module _ (F : Fixed) (E : Shelf) (k : Keep) (t i st : Bytes) (m : Memory) (h : H
   pub holds-turn : Holds F E (settledKeep k) (markAll (held (k .sending)) 1 t) i st (on-lists.turnMarks m)
   holds-turn =
       record {
-        lies = lies-mark F E t i st (held (k .sending)) 1 (h .lies);
-        box = h .box;
-        marks = record {
-          mode = h .marks .mode;
-          states = states-marked (held (k .sending)) t (h .lies .table) ∙ ap (marked (held (k .sending))) (h .marks .states)
-              ∙ ap (λ (is : List ℕ). marked is (m .states)) (h .marks .sending);
-          sending = refl;
-          flags = h .marks .flags;
-        };
+        shelved = shelved-mark F E t i st (held (k .sending)) 1 (h .shelved);
+        boxed = h .boxed;
+        framed = h .framed;
+        states = states-marked (held (k .sending)) t (h .shelved .table) ∙ ap (marked (held (k .sending))) (h .states)
+            ∙ ap (λ (is : List ℕ). marked is (m .states)) (h .sending);
+        sending = refl;
+        flags = h .flags;
       }
 
   pub holds-mode : (md : Bool) → Holds F E (judge.inMode md k) t i st (on-lists.withFramed md m)
-  holds-mode md =
-      let g = h .marks in
-      record { lies = h .lies; box = h .box; marks = record { mode = refl; states = g .states; sending = g .sending; flags = g .flags } }
+  holds-mode md = record { shelved = h .shelved; boxed = h .boxed; framed = refl; states = h .states; sending = h .sending; flags = h .flags }
 
   -- the partner's signs on our records at these places
   pub holds-answer : (is : List ℕ) (ss : List Sign) (z : ℕ) → k .sending .count ≡ 0
@@ -78,17 +74,15 @@ module _ (F : Fixed) (E : Shelf) (k : Keep) (t i st : Bytes) (m : Memory) (h : H
       (markAll (held (fiveOf (picked 45 is (zerosAfter ss z)))) 2 t) i st (on-lists.answerMarks is ss m)
   holds-answer is ss z none =
       let zs = zerosAfter ss z in
-      let before : m .sending ≡ [] = sym (h .marks .sending) ∙ ap (λ (n : ℕ). take n (k .sending .items)) none in
+      let before : m .sending ≡ [] = sym (h .sending) ∙ ap (λ (n : ℕ). take n (k .sending .items)) none in
       record {
-        lies = lies-mark F E t i st (held (fiveOf (picked 45 is zs))) 2 (h .lies);
-        box = h .box;
-        marks = record {
-          mode = h .marks .mode;
-          states = ap (λ (js : List ℕ). statesOf (markAll js 2 t)) (held-five (picked 45 is zs)) ∙ states-declined is ss z t (h .lies .table)
-              ∙ ap (declined is ss) (h .marks .states);
-          sending = held-five (picked 43 is zs) ∙ picked-accepted is ss z ∙ ap (λ (js : List ℕ). js ++ accepted ss is) (sym before);
-          flags = flags-deferred is ss z (k .deferred) ∙ ap (on-lists.deferring is ss) (h .marks .flags);
-        };
+        shelved = shelved-mark F E t i st (held (fiveOf (picked 45 is zs))) 2 (h .shelved);
+        boxed = h .boxed;
+        framed = h .framed;
+        states = ap (λ (js : List ℕ). statesOf (markAll js 2 t)) (held-five (picked 45 is zs)) ∙ states-declined is ss z t (h .shelved .table)
+            ∙ ap (declined is ss) (h .states);
+        sending = held-five (picked 43 is zs) ∙ picked-accepted is ss z ∙ ap (λ (js : List ℕ). js ++ accepted ss is) (sym before);
+        flags = flags-deferred is ss z (k .deferred) ∙ ap (on-lists.deferring is ss) (h .flags);
       }
 
 -- ---------------------------------------------------------------- the relation again
@@ -109,7 +103,7 @@ module _ (F : Fixed) (E : Shelf) (s : Session) (a : Bool) (i st : Bytes) where
       → Entries (w .block) (w .proposals) → Holds F E k t i st m → textOf w y k t ≡ o → Awaits (cs (left w y k r) t i st) p
       → Represents F E (cs (left w y k r) t i st) (after p m o)
   unfolding waitingOf
-  settled-is w y k r t p m o b h text await = represents F E (cs (left w y k r) t i st) (after p m o) b h text await refl refl
+  settled-is w y k r t p m o b h text await = record { entries = b; holds = h; says = text; awaits = await; part = refl; afterCr = refl }
 
   -- what is left stands for the outcome, which is no refusal
   abbrev pub Settles : Await → Say → Keep → Reader → Bytes → Outcome → Type 0
@@ -138,8 +132,8 @@ module _ (F : Fixed) (E : Shelf) (s : Session) (a : Bool) (i st : Bytes) where
       where
         ours : blockText t (j ∷ is) ≡ turnText (map (λ (n : ℕ). proposalOf (recordAt (E .table) n)) (j ∷ is))
         ours =
-            block-text (F .titles) (F .names) (F .bodies) t (h .lies .table) (j ∷ is)
-            ∙ ap (λ (T : List Record). turnText (map (λ (n : ℕ). proposalOf (recordAt T n)) (j ∷ is))) (h .lies .records)
+            block-text (F .titles) (F .names) (F .bodies) t (h .shelved .table) (j ∷ is)
+            ∙ ap (λ (T : List Record). turnText (map (λ (n : ℕ). proposalOf (recordAt T n)) (j ∷ is))) (h .shelved .records)
 
     -- the same with the records that we choose
     pub our-turn-law : (ff : Bool) → SpeaksAs (speakOf w y k t ff) (on-lists.ourTurn E (firstText (y .first) (y .signs)) ff m)
@@ -151,7 +145,7 @@ module _ (F : Fixed) (E : Shelf) (s : Session) (a : Bool) (i st : Bytes) where
         choice : chooseOf t (k .framed) (k .deferred) ≡ fiveOf (chosen (E .table) (m .framed) (m .states) (m .deferred))
         choice =
             choose-law (F .titles) (F .names) (F .bodies) t (k .framed) (k .deferred)
-            ∙ same (h .lies .records) (h .marks .mode) (h .marks .states) (h .marks .flags)
+            ∙ same (h .shelved .records) (h .framed) (h .states) (h .flags)
           where
             same : {T U : List Record} {p q : Bool} {x y z w : List ℕ} → T ≡ U → p ≡ q → x ≡ y → z ≡ w → fiveOf (chosen T p x z) ≡ fiveOf (chosen U q y w)
             same e₁ e₂ e₃ e₄ = rw (e₁, e₂, e₃, e₄)

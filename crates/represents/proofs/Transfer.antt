@@ -26,10 +26,9 @@ use Rattle.waiting.specs.Waiting.{waitingOf, firstText, thenText}
 use Rattle.pending.specs.Pending.{waits}
 use Rattle.receive_defined.specs.Receiving.{Cs, cs, reading, refusedOf}
 use Rattle.form_closed.specs.Fixed.{Fixed}
-use Rattle.represents.specs.Represents.{Awaits, Represents}
+use Rattle.represents.specs.Represents.{Awaits, Represents, Holds}
 use Rattle.represents.proofs.Inbox.{box-store}
 use Rattle.represents.proofs.Frame.{kept-behind}
-use Rattle.represents.proofs.Parts.{Holds, holds-of, represents}
 use Rattle.form_closed.specs.Facts.{Good}
 
 -- ---------------------------------------------------------------- one byte as a portion
@@ -97,16 +96,19 @@ module _ (F : Fixed) (E : Shelf) {nt ni ns : ℕ} (c : Cs) (g : Good F nt ni ns 
   room-same = ap (λ (n : ℕ). min n 65535) (one-kept (roomOf behind) (s .reading .reader) b (s .reading .heading) behind .size)
 
   pub room-law : on-lists.roomFor E (v .memory) ≡ roomOf behind
-  room-law = omega (arith, length-drop (s .keep .used) (c .store), h .shelved .bytes, h .boxed .used)
+  room-law = omega (arith, length-drop (s .keep .used) (c .store), h .holds .shelved .bytes, h .holds .boxed .bytes)
 
   pub holds′ : Holds F E (s .keep) (c .table) (c .inbox) store′ (v .memory)
   holds′ =
-      let k = holds-of h in
-      let l = k .lies in
+      let k = h .holds in
+      let l = k .shelved in
       record {
-        lies = record { records = l .records; known = l .known; places = l .places; bytes = store-kept .size ∙ l .bytes; table = l .table; inbox = l .inbox };
-        box = box-store (s .keep .kept) (s .keep .used) (c .inbox) (c .store) behind′ (v .memory .inbox) (g .box .used) (g .box .within) (k .box);
-        marks = k .marks;
+        shelved = record { records = l .records; known = l .known; places = l .places; bytes = store-kept .size ∙ l .bytes; table = l .table; inbox = l .inbox };
+        boxed = box-store (s .keep .kept) (s .keep .used) (c .inbox) (c .store) behind′ (v .memory .inbox) (g .box .used) (g .box .within) (k .boxed);
+        framed = k .framed;
+        states = k .states;
+        sending = k .sending;
+        flags = k .flags;
       }
 
   -- ---------------------------------------------------------------- the reading goes on, or is refused
@@ -117,18 +119,21 @@ module _ (F : Fixed) (E : Shelf) {nt ni ns : ℕ} (c : Cs) (g : Good F nt ni ns 
       (on-lists.withPhase (on-lists.awaitsTransfer p ps sc′) (on-lists.withAfterCr false v))
   unfolding waitingOf
   goes-on p ps sc sc′ a k =
-      represents F E (cs s′ (c .table) (c .inbox) store′)
-      (on-lists.withPhase (on-lists.awaitsTransfer p ps sc′) (on-lists.withAfterCr false v))
-      (h .entries) holds′ (h .says) (
-        a .0,
-        a .1,
-        subst (λ (l : Bytes). Stands (roomOf l) (stepped .reader) heading′ l sc′) (sym behind-back)
-            (subst (λ (n : ℕ). Stands n (stepped .reader) heading′ behind′ sc′) (sym room-same) k),
-      )
-      (h .part) refl
+      record {
+        entries = h .entries;
+        holds = holds′;
+        says = h .says;
+        awaits = (
+          a .0,
+          a .1,
+          subst (λ (l : Bytes). Stands (roomOf l) (stepped .reader) heading′ l sc′) (sym behind-back)
+              (subst (λ (n : ℕ). Stands n (stepped .reader) heading′ behind′ sc′) (sym room-same) k),
+        );
+        part = h .part;
+        afterCr = refl;
+      }
 
   pub refused-here : (n : ℕ) → Represents F E (cs (refusedOf s′) (c .table) (c .inbox) store′) (on-lists.refused v n .session)
   unfolding refusedOf waitingOf waits firstText thenText
   refused-here n =
-      represents F E (cs (refusedOf s′) (c .table) (c .inbox) store′) (on-lists.refused v n .session)
-      (h .entries) holds′ refl (omega arith, refl) refl refl
+      record { entries = h .entries; holds = holds′; says = refl; awaits = (omega arith, refl); part = refl; afterCr = refl }

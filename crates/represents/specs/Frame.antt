@@ -7,11 +7,12 @@ use Rattle.transfer_read.specs.Meaning.{Kept}
 use Rattle.session_memory.specs.declared.Session.{Session}
 use Rattle.marking.specs.States.{StatesOnly}
 use Rattle.receive_defined.specs.Receiving.{Cs}
+use Rattle.phase.specs.Phase.{phaseTransfer, phaseLeaving}
 
 -- How far the inbox store is written: kept messages, then "the body bytes received so far of the message under way, or of one that
--- failed" (phase 5, or the session is over).
+-- failed" (a transfer is awaited, or the session is over).
 abbrev pub reachOf : Session → ℕ
-reachOf s = s .keep .used + cond (ltb (s .now .phase) 5) 0 (cond (eqb (s .now .phase) 6) 0 (s .reading .reader .body))
+reachOf s = s .keep .used + cond (ltb (s .now .phase) phaseTransfer) 0 (cond (eqb (s .now .phase) phaseLeaving) 0 (s .reading .reader .body))
 
 -- From c to d only states of the table, inbox entries from c's count up to d's, and store bytes from where c's reached to where d's reach
 -- have changed: "the rest is untouched, and so are inbox places past the count"

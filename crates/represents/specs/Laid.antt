@@ -8,6 +8,7 @@ use Rattle.grammar.specs.Fields.{formNumber}
 use Rattle.grammar.specs.Turns.{Proposal}
 use Rattle.mail.specs.Mail.{Message}
 use Rattle.layout.specs.Layout.{le2, le4, fieldOut, fieldsOut, proposalOut}
+use Rattle.places.specs.Places.{headingMax}
 
 -- A proposal in the block of session memory.
 abbrev pub proposalBytes : Proposal → Bytes
@@ -17,7 +18,7 @@ proposalBytes p = proposalOut (formNumber (p .form)) (p .type) (p .from) (p .at)
 abbrev pub messageBytes : Message → ℕ → Bytes
 messageBytes m start =
     fieldsOut (formNumber (m .form)) (m .type) (m .from) (m .at) (m .to) (m .bid)
-    ++ (fieldOut 80 (m .heading) ++ (le4 start ++ le2 (length (m .body))))
+    ++ (fieldOut headingMax (m .heading) ++ (le4 start ++ le2 (length (m .body))))
 
 -- The entries of these messages, in order; the first body begins at start, "bodies lie one after another".
 abbrev pub entriesBytes : ℕ → List Message → Bytes

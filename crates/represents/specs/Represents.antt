@@ -9,7 +9,7 @@ use lib.Dec.{eqb}
 use lib.ListN.{length, take, drop}
 use Rattle.grammar.specs.Bytes.{Bytes}
 use Rattle.grammar.specs.Turns.{Proposal}
-use Rattle.grammar.specs.Answers.{Sign, accept, decline, defer}
+use Rattle.grammar.specs.Answers.{Sign, accept, decline, defer, plusSign, minusSign}
 use Rattle.grammar.specs.Transfers.{partOf}
 use Rattle.mail.specs.Mail.{Message, accepted}
 use Rattle.session.specs.Choices.{Shelf, bodyBytes}
@@ -27,6 +27,9 @@ use Rattle.pending.specs.Pending.{waits}
 use Rattle.receive_defined.specs.Receiving.{Cs}
 use Rattle.represents.specs.Laid.{proposalBytes, messageBytes, bodiesBytes}
 use Rattle.form_closed.specs.Fixed.{Fixed}
+use Rattle.grammar.specs.Fields.{bodyLimit}
+use Rattle.phase.specs.Phase.{phaseCalledSid, phaseCallerSid, phasePrompt, phaseTurn, phaseFs, phaseTransfer, phaseLeaving, phaseOver}
+use Rattle.session_memory.specs.declared.Keep.{Keep}
 
 -- ---------------------------------------------------------------- lists in lent memory
 
@@ -57,7 +60,7 @@ Written c = proposalBytes (proposalOf c) ≡ c
 
 -- The sign that a byte of our FS line is; our lines hold no other.
 abbrev pub signIs : ℕ → Sign
-signIs b = cond (eqb b 43) accept (cond (eqb b 45) decline defer)
+signIs b = cond (eqb b plusSign) accept (cond (eqb b minusSign) decline defer)
 
 abbrev pub signsIn : List ℕ → List Sign
 signsIn [] = []
@@ -73,24 +76,34 @@ owed s = accepted (signsIn (drop (s .now .current) (held (s .say .signs)))) (dro
 abbrev pub Entries : Bytes → ℕ → Type 0
 Entries block n = (i : ℕ) → i < n → Written (entryAt proposalSize block i)
 
--- The table, known BIDs, inbox and store are those of the shelf; buffers of entries hold a whole number of them.
-pub record Shelved (F : Fixed) (E : Shelf) (c : Cs) : Type 0 where
-  pub records : recordsOf (F .titles) (F .names) (F .bodies) (c .table) ≡ E .table
+-- Table t, inbox i and store st, with the known BIDs, are those of the shelf; buffers of entries hold a whole number of them.
+pub record Shelved (F : Fixed) (E : Shelf) (t i st : Bytes) : Type 0 where
+  pub records : recordsOf (F .titles) (F .names) (F .bodies) t ≡ E .table
   pub known : knownBids (F .known) ≡ E .known
-  pub places : placeCount (c .inbox) ≡ E .places
-  pub bytes : length (c .store) ≡ E .bytes
-  pub table : length (c .table) ≡ recordCount (c .table) * recordSize
-  pub inbox : length (c .inbox) ≡ E .places * entrySize
+  pub places : placeCount i ≡ E .places
+  pub bytes : length st ≡ E .bytes
+  pub table : length t ≡ recordCount t * recordSize
+  pub inbox : length i ≡ E .places * entrySize
 
--- The inbox up to its count is these messages, and their bodies lie in a row at the beginning of the store, each of 65,535 bytes at most.
-pub record Boxed (c : Cs) (ms : List Message) : Type 0 where
-  pub kept : c .session .keep .kept ≡ length ms
-  pub messages : messagesOf (c .inbox) (c .store) (c .session .keep .kept) ≡ ms
-  pub laid : LaidFrom (c .inbox) 0 0 ms
-  pub bodies : take (c .session .keep .used) (c .store) ≡ bodiesBytes ms
-  pub row : InRow (c .inbox) 0 (c .session .keep .kept) 0
-  pub small : c .session .keep .used ≤ c .session .keep .kept * 65535
-  pub used : c .session .keep .used ≡ bodyBytes ms
+-- So many messages are kept, and these they are; their bodies lie in a row at the beginning of the store, use so many bytes of it, and each has 65,535
+-- bytes at most.
+pub record Boxed (kept used : ℕ) (i st : Bytes) (ms : List Message) : Type 0 where
+  pub count : kept ≡ length ms
+  pub messages : messagesOf i st kept ≡ ms
+  pub laid : LaidFrom i 0 0 ms
+  pub bodies : take used st ≡ bodiesBytes ms
+  pub row : InRow i 0 kept 0
+  pub small : used ≤ kept * bodyLimit
+  pub bytes : used ≡ bodyBytes ms
+
+-- The session's memory: what is kept k, with table, inbox and store.
+pub record Holds (F : Fixed) (E : Shelf) (k : Keep) (t i st : Bytes) (m : on-lists.Memory) : Type 0 where
+  pub shelved : Shelved F E t i st
+  pub boxed : Boxed (k .kept) (k .used) i st (m .inbox)
+  pub framed : k .framed ≡ m .framed
+  pub states : statesOf t ≡ m .states
+  pub sending : held (k .sending) ≡ m .sending
+  pub flags : k .deferred ≡ m .deferred
 
 -- What waits is what is still to be given.
 abbrev pub Says : Fixed → Cs → Bytes → Type 0
@@ -98,10 +111,10 @@ Says F c out = drop (c .session .say .pos) (waitingOf (c .session) (c .table) (F
 
 -- The number of the line that is awaited, and what is held with it.
 abbrev pub lineNumber : on-lists.Awaited → ℕ
-lineNumber (on-lists.awaitsSid caller) = cond caller 1 0
-lineNumber on-lists.awaitsPrompt = 2
-lineNumber (on-lists.awaitsTurn ff ps) = 3
-lineNumber (on-lists.awaitsAnswer is) = 4
+lineNumber (on-lists.awaitsSid caller) = cond caller phaseCallerSid phaseCalledSid
+lineNumber on-lists.awaitsPrompt = phasePrompt
+lineNumber (on-lists.awaitsTurn ff ps) = phaseTurn
+lineNumber (on-lists.awaitsAnswer is) = phaseFs
 
 abbrev pub HeldFor : Await → on-lists.Awaited → Type 0
 HeldFor w (on-lists.awaitsSid caller) = Unit {0}
@@ -113,22 +126,17 @@ HeldFor w (on-lists.awaitsAnswer is) = held (w .ours) ≡ is
 abbrev pub Awaits : Cs → on-lists.Phase → Type 0
 Awaits c (on-lists.aLine a) = (c .session .now .phase ≡ lineNumber a) × HeldFor (c .session .now) a
 Awaits c (on-lists.awaitsTransfer p ps sc) =
-    (c .session .now .phase ≡ 5) × (owed (c .session) ≡ p ∷ ps)
+    (c .session .now .phase ≡ phaseTransfer) × (owed (c .session) ≡ p ∷ ps)
     × Stands (roomOf (drop (c .session .keep .used) (c .store))) (c .session .reading .reader) (c .session .reading .heading) (drop (c .session .keep .used) (c .store)) sc
-Awaits c on-lists.leaving = c .session .now .phase ≡ 6
-Awaits c on-lists.over = (7 ≤ c .session .now .phase) × (waits (c .session .say) ≡ false)
+Awaits c on-lists.leaving = c .session .now .phase ≡ phaseLeaving
+Awaits c on-lists.over = (phaseOver ≤ c .session .now .phase) × (waits (c .session .say) ≡ false)
 
 -- ---------------------------------------------------------------- the relation
 
 pub record Represents (F : Fixed) (E : Shelf) (c : Cs) (s : on-lists.Session) : Type 0 where
   pub entries : Entries (c .session .now .block) (c .session .now .proposals)
-  pub shelved : Shelved F E c
-  pub boxed : Boxed c (s .memory .inbox)
+  pub holds : Holds F E (c .session .keep) (c .table) (c .inbox) (c .store) (s .memory)
   pub says : Says F c (s .out)
   pub awaits : Awaits c (s .phase)
   pub part : take (c .session .line .len) (c .session .line .bytes) ≡ s .part
   pub afterCr : c .session .line .«after_cr» ≡ s .afterCr
-  pub framed : c .session .keep .framed ≡ s .memory .framed
-  pub states : statesOf (c .table) ≡ s .memory .states
-  pub sending : held (c .session .keep .sending) ≡ s .memory .sending
-  pub flags : c .session .keep .deferred ≡ s .memory .deferred

@@ -16,7 +16,7 @@ use Rattle.grammar.specs.Answers.{Sign, readFs, fsNumber, fsLine}
 use Rattle.grammar.specs.Scan.{Scan, Scanned, goes, got, malformed, wrongSum, noRoom, scanByte, scanFrom}
 use Rattle.mail.specs.Mail.{messageOf, transfersText, accepted}
 use Rattle.session.specs.Choices.{Shelf, chosen, answersTo}
-use Rattle.session.specs.Session.{Awaited, awaitsSid, awaitsPrompt, awaitsTurn, awaitsAnswer, Phase, aLine, newTurn, awaitsTransfer, leaving, over, Memory, Session, withFramed, withPhase, withPart, withAfterCr, between, Outcome, refuses, goesOn, speaking, ourTurn, turnMarks, answering, answered, turnJudged, answerMarks, answerJudged, afterSid, sidJudged, textJudged, awaitedJudged, lineJudged, Stepped, refused, moved, settled, lineMoved, isPlain, keptIn, nextTransfer, transferMoved, roomFor, phaseStep, freeStep, step}
+use Rattle.session.specs.Session.{Awaited, awaitsSid, awaitsPrompt, awaitsTurn, awaitsAnswer, Phase, aLine, newTurn, awaitsTransfer, leaving, over, Memory, Session, withFramed, withPhase, withPart, withAfterCr, between, Outcome, refuses, goesOn, speaking, ourTurn, turnMarks, answering, answered, turnJudged, answerMarks, answerJudged, afterSid, sidJudged, textJudged, awaitedJudged, lineJudged, Stepped, refused, moved, settled, lineMoved, isPlain, keptIn, nextTransfer, transferMoved, roomFor, phaseStep, freeStep, step, levelInForce}
 
 -- ---------------------------------------------------------------- what we say
 
@@ -64,7 +64,7 @@ pub data Wrong (m : Memory) (ln : Bytes) : Awaited → ℕ → Type 0 where
   emptyBlock : (ff : Bool) → readTurnLine (m .framed) (trim ln) ≡ endsBlock → Wrong m ln (awaitsTurn ff []) proposalCount
   tooMany : (ff : Bool) (ps : List Proposal) (q : Proposal) → readTurnLine (m .framed) (trim ln) ≡ proposes q → ltb (length ps) 5 ≡ false
       → Wrong m ln (awaitsTurn ff ps) proposalCount
-  noAnswer : (is : List ℕ) → readFs (length is) (trim ln) ≡ none → Wrong m ln (awaitsAnswer is) (fsNumber (length is) (trim ln))
+  noAnswer : (is : List ℕ) → readFs (levelInForce m) (length is) (trim ln) ≡ none → Wrong m ln (awaitsAnswer is) (fsNumber (levelInForce m) (length is) (trim ln))
 
 -- What a line that is no comment comes to.
 pub data Judged (E : Shelf) (m : Memory) (ln : Bytes) : Awaited → Outcome → Type 0 where
@@ -79,7 +79,7 @@ pub data Judged (E : Shelf) (m : Memory) (ln : Bytes) : Awaited → Outcome → 
   hearsFQ : readTurnLine (m .framed) (trim ln) ≡ saysFQ → Judged E m ln (awaitsTurn true []) (goesOn over m [])
   hearsEnd : (ff : Bool) (p : Proposal) (ps : List Proposal) → readTurnLine (m .framed) (trim ln) ≡ endsBlock
       → Judged E m ln (awaitsTurn ff (p ∷ ps)) (answered E (p ∷ ps) (turnMarks m))
-  hearsFs : (is : List ℕ) (ss : List Sign) → readFs (length is) (trim ln) ≡ some ss
+  hearsFs : (is : List ℕ) (ss : List Sign) → readFs (levelInForce m) (length is) (trim ln) ≡ some ss
       → Judged E m ln (awaitsAnswer is) (goesOn (newTurn false) (answerMarks is ss m) (transfersText (E .table) (accepted ss is)))
 
 module _ (E : Shelf) (m : Memory) (ln : Bytes) where
@@ -112,9 +112,9 @@ module _ (E : Shelf) (m : Memory) (ln : Bytes) where
       go true f = hearsProposal ff ps q e f
       go false f = isWrong proposalCount (tooMany ff ps q e f)
 
-  answer-way : (is : List ℕ) (o : Option (List Sign)) → readFs (length is) (trim ln) ≡ o
-      → Judged E m ln (awaitsAnswer is) (answerJudged E is m (fsNumber (length is) (trim ln)) o)
-  answer-way is none e = isWrong (fsNumber (length is) (trim ln)) (noAnswer is e)
+  answer-way : (is : List ℕ) (o : Option (List Sign)) → readFs (levelInForce m) (length is) (trim ln) ≡ o
+      → Judged E m ln (awaitsAnswer is) (answerJudged E is m (fsNumber (levelInForce m) (length is) (trim ln)) o)
+  answer-way is none e = isWrong (fsNumber (levelInForce m) (length is) (trim ln)) (noAnswer is e)
   answer-way is (some ss) e = hearsFs is ss e
 
   -- ALL THAT A LINE COMES TO
@@ -122,7 +122,7 @@ module _ (E : Shelf) (m : Memory) (ln : Bytes) where
   judged (awaitsSid c) = sid-way c (readSid (trim ln)) refl
   judged awaitsPrompt = text-way (isPrompt (trim ln)) refl
   judged (awaitsTurn ff ps) = turn-way (readTurnLine (m .framed) (trim ln)) ff ps refl
-  judged (awaitsAnswer is) = answer-way is (readFs (length is) (trim ln)) refl
+  judged (awaitsAnswer is) = answer-way is (readFs (levelInForce m) (length is) (trim ln)) refl
 
 -- ---------------------------------------------------------------- a byte
 

@@ -5,10 +5,11 @@ use Prim.Native.Nat.{ℕ, suc, _+_, _-_}
 use lib.Dec.{eqb, ltb}
 use lib.ListN.{length, getD}
 use Rattle.grammar.specs.Bytes.{Bytes}
-use Rattle.grammar.specs.Fields.{sameBid}
+use Rattle.grammar.specs.Fields.{sameBid, bodyLimit}
 use Rattle.grammar.specs.Turns.{Proposal, inMode, ourBlock}
 use Rattle.grammar.specs.Answers.{Sign, accept, decline, defer}
 use Rattle.mail.specs.Mail.{Record, Message, recordAt}
+use Rattle.phase.specs.Phase.{stateWaiting}
 
 -- What a session is opened with beside its role: the table's records, the known BIDs, how many inbox places and store bytes there are.
 pub record Shelf : Type 0 where
@@ -21,7 +22,7 @@ pub record Shelf : Type 0 where
 
 -- "waiting records .. form 0 in plain mode, 1 and 2 in framed mode, none deferred in this session"; flags: 1 where deferred
 abbrev pub wanted : Bool → Record → ℕ → ℕ → Bool
-wanted framed r state flag = inMode framed (r .form) && (eqb state 0 && eqb flag 0)
+wanted framed r state flag = inMode framed (r .form) && (eqb state stateWaiting && eqb flag 0)
 
 -- "in table order": the places of the wanted records, from place i on
 abbrev pub candidates : Bool → List ℕ → List ℕ → ℕ → List Record → List ℕ
@@ -70,7 +71,7 @@ haveBid E inbox acc b =
 -- "else `=` if the size is over 65,535, or over the free store less the sizes accepted in this block, or no inbox place is free for it"
 abbrev pub noRoomFor : Shelf → List Message → List Proposal → ℕ → Bool
 noRoomFor E inbox acc size =
-    ltb 65535 size || (ltb (E .bytes - bodyBytes inbox - announced acc) size || not (ltb (length inbox + length acc) (E .places)))
+    ltb bodyLimit size || (ltb (E .bytes - bodyBytes inbox - announced acc) size || not (ltb (length inbox + length acc) (E .places)))
 
 -- "else `+`"; acc: those accepted earlier in this block
 abbrev pub signFor : Shelf → List Message → List Proposal → Proposal → Sign

@@ -9,13 +9,13 @@ use lib.Dec.{eqb, ltb}
 use lib.ListN.{length, set, replicate}
 use Rattle.grammar.specs.Bytes.{Bytes, LF, null}
 use Rattle.grammar.specs.Refusals.{lineTooLong, notSid, noForwarding, lineNotAllowed, proposalCount, badTransfer, badChecksum, storeFull, bytesWait, sessionEnded}
-use Rattle.grammar.specs.Fields.{Form, plain, message, file}
+use Rattle.grammar.specs.Fields.{Form, plain, message, file, bodyLimit}
 use Rattle.grammar.specs.Lines.{LineByte, dropped, ends, grows, overruns, lineByte, trim, isComment, isPrompt}
-use Rattle.grammar.specs.Sid.{readSid, hasFeature, framed}
-use Rattle.grammar.specs.Turns.{Proposal, TurnLine, saysFF, saysFQ, endsBlock, notAllowed, proposes, readTurnLine, fixedText, ourSid, ourPrompt, ourFF, ourFQ, withCr}
-use Rattle.grammar.specs.Answers.{Sign, accept, decline, defer, readFs, fsNumber, fsLine}
+use Rattle.grammar.specs.Sid.{readSid, hasFeature, framed, letterF}
+use Rattle.grammar.specs.Turns.{Proposal, TurnLine, saysFF, saysFQ, endsBlock, notAllowed, proposes, readTurnLine, fixedText, ourSid, ourPrompt, ourFF, ourFQ, withCr, blockLimit}
+use Rattle.grammar.specs.Answers.{Sign, accept, decline, defer, readFs, fsNumber, fsLine, Level, level0}
 use Rattle.grammar.specs.Scan.{Scan, Scanned, goes, got, malformed, wrongSum, noRoom, scanFrom, scanByte}
-use Rattle.mail.specs.Mail.{Message, messageOf, proposalOf, recordAt, turnText, transfersText, accepted, marked, declined}
+use Rattle.mail.specs.Mail.{Message, messageOf, proposalOf, recordAt, turnText, transfersText, accepted, marked, declined, recordLimit}
 use Rattle.session.specs.Choices.{Shelf, chosen, answersTo, bodyBytes}
 
 -- ---------------------------------------------------------------- the state
@@ -41,7 +41,7 @@ abbrev pub newTurn : Bool → Phase
 newTurn ff = aLine (awaitsTurn ff [])
 
 -- The mode; each record's state; the places of the records that the partner accepted and whose state is not set yet; the messages kept;
--- 64 flags, 1 where a record was deferred in this session.
+-- a flag for each record that a table may have, 1 where a record was deferred in this session.
 pub record Memory : Type 0 where
   pub framed : Bool
   pub states : List ℕ
@@ -132,7 +132,7 @@ turnJudged E saysFQ ff (p ∷ ps) m = refuses lineNotAllowed
 turnJudged E endsBlock ff [] m = refuses proposalCount
 turnJudged E endsBlock ff (p ∷ ps) m = answered E (p ∷ ps) (turnMarks m)
 turnJudged E notAllowed ff ps m = refuses lineNotAllowed
-turnJudged E (proposes q) ff ps m = cond (ltb (length ps) 5) (goesOn (aLine (awaitsTurn ff (ps ++ (q ∷ [])))) m []) (refuses proposalCount)
+turnJudged E (proposes q) ff ps m = cond (ltb (length ps) blockLimit) (goesOn (aLine (awaitsTurn ff (ps ++ (q ∷ [])))) m []) (refuses proposalCount)
 
 -- ---------------------------------------------------------------- the partner's FS line
 
@@ -148,6 +148,10 @@ abbrev pub answerMarks : List ℕ → List Sign → Memory → Memory
 answerMarks is ss m =
     withStates (declined is ss (m .states)) (withSending (m .sending ++ accepted ss is) (withDeferred (deferring is ss (m .deferred)) m))
 
+-- The level at which the partner's FS line is read.
+abbrev pub levelInForce : Memory → Level
+levelInForce m = level0
+
 abbrev pub answerJudged : Shelf → List ℕ → Memory → ℕ → Option (List Sign) → Outcome
 answerJudged E is m n none = refuses n
 answerJudged E is m n (some ss) = goesOn (newTurn false) (answerMarks is ss m) (transfersText (E .table) (accepted ss is))
@@ -160,7 +164,7 @@ afterSid false = newTurn false
 
 abbrev pub sidJudged : Bool → Memory → Option (List ℕ) → Outcome
 sidJudged caller m none = refuses notSid
-sidJudged caller m (some fs) = cond (hasFeature 5 fs) (goesOn (afterSid caller) (withFramed (framed fs) m) []) (refuses noForwarding)
+sidJudged caller m (some fs) = cond (hasFeature letterF fs) (goesOn (afterSid caller) (withFramed (framed fs) m) []) (refuses noForwarding)
 
 -- "skip text lines until the prompt, then send SID and first turn"
 abbrev pub textJudged : Shelf → Bool → Memory → Outcome
@@ -174,7 +178,7 @@ abbrev pub awaitedJudged : Shelf → Awaited → Memory → Bytes → Outcome
 awaitedJudged E (awaitsSid c) m ln = sidJudged c m (readSid (trim ln))
 awaitedJudged E awaitsPrompt m ln = textJudged E (isPrompt (trim ln)) m
 awaitedJudged E (awaitsTurn ff ps) m ln = turnJudged E (readTurnLine (m .framed) (trim ln)) ff ps m
-awaitedJudged E (awaitsAnswer is) m ln = answerJudged E is m (fsNumber (length is) (trim ln)) (readFs (length is) (trim ln))
+awaitedJudged E (awaitsAnswer is) m ln = answerJudged E is m (fsNumber (levelInForce m) (length is) (trim ln)) (readFs (levelInForce m) (length is) (trim ln))
 
 -- "A line that begins with `;` is ignored wherever a line is awaited"
 abbrev pub lineJudged : Shelf → Awaited → Memory → Bytes → Outcome
@@ -229,7 +233,7 @@ transferMoved E p ps s noRoom = refused s storeFull
 
 -- "body byte without room, the 65,536th included": what the store has left for the message under way
 abbrev pub roomFor : Shelf → Memory → ℕ
-roomFor E m = min 65535 (E .bytes - bodyBytes (m .inbox))
+roomFor E m = min bodyLimit (E .bytes - bodyBytes (m .inbox))
 
 abbrev pub lineStep : Shelf → Awaited → Session → ℕ → Stepped
 lineStep E a s b = lineMoved E a s b (lineByte false (length (s .part)) b)
@@ -270,4 +274,4 @@ greeting false = withCr (fixedText ourSid) ++ withCr (fixedText ourPrompt)
 abbrev pub opened : Bool → List ℕ → Session
 opened caller states =
     between (aLine (awaitsSid caller)) false (greeting caller)
-    (record { framed = false; states = states; sending = []; inbox = []; deferred = replicate 64 0 })
+    (record { framed = false; states = states; sending = []; inbox = []; deferred = replicate recordLimit 0 })

@@ -26,7 +26,7 @@ use Rattle.session_memory.specs.declared.Reading.{Reading}
 use Rattle.session_memory.specs.declared.Line.{Line}
 use Rattle.session_memory.specs.declared.Session.{Session}
 use Rattle.session_memory.specs.declared.Sizes.{Sizes}
-use Rattle.session_memory.specs.State.{at, held, fiveOf, flag, fiveAt, arrayAt, loadAwait, loadSay, loadKeep, loadReading, loadLine, loadOf, loadSizes, smallOut, numbersOut, arraysOut, numberPart, saveOf, sizesOut, saveSizes, freshOf}
+use Rattle.session_memory.specs.State.{at, held, fiveOf, flag, fiveAt, arrayAt, loadAwait, loadSay, loadKeep, loadReading, loadLine, loadOf, loadSizes, smallOut, numbersOut, arraysOut, numberPart, saveOf, sizesOut, saveSizes}
 
 -- ---------------------------------------------------------------- a state in shape: arrays of their sizes, numbers that fit their bytes
 
@@ -359,15 +359,4 @@ load-shaped sm o =
       keep = record { used = le8-small sm b usedAt; sending = array-length 5 sm (sendingAt + 1); deferred = array-length deferredLen sm (arraysAt + deferredAt) };
       reading = record { left = le2-small sm b leftAt; body = le4-small sm b bodyAt; heading = array-length headingLen sm (arraysAt + headingAt) };
       line = record { len = le2-small sm b lineLengthAt; bytes = array-length lineLen sm (arraysAt + lineAt) };
-    }
-
-pub fresh-shaped : (caller : Bool) → Shaped (freshOf caller)
-unfolding freshOf
-fresh-shaped caller =
-    record {
-      now = record { ours = refl; block = length-replicate {A = ℕ} 360 0 };
-      say = record { pos = omega arith; signs = refl };
-      keep = record { used = omega arith; sending = refl; deferred = length-replicate {A = ℕ} 64 0 };
-      reading = record { left = omega arith; body = omega arith; heading = length-replicate {A = ℕ} 80 0 };
-      line = record { len = omega arith; bytes = length-replicate {A = ℕ} 256 0 };
     }

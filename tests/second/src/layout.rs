@@ -58,7 +58,7 @@ impl Out {
     }
 }
 
-/// "A record of the table (89 bytes)". A field over its limit is cut, but not
+/// "A record of the table (89 bytes, `RECORD`)". A field over its limit is cut, but not
 /// its length, so that it is bad in bytes too.
 pub fn write_record(record: &Record) -> Vec<u8> {
     let mut out = Out(vec![record.state as u8]);
@@ -70,14 +70,14 @@ pub fn write_record(record: &Record) -> Vec<u8> {
     out.0
 }
 
-/// "A known BID (13 bytes): its length (1 to 12), then its bytes."
+/// "A known BID (13 bytes, `KNOWN`): its length (1 to 12), then its bytes."
 pub fn write_known(bid: &[u8]) -> Vec<u8> {
     let mut out = Out::default();
     out.field(bid, BID_LIMIT);
     out.0
 }
 
-/// "A message of the inbox (155 bytes)".
+/// "A message of the inbox (155 bytes, `ENTRY`)".
 pub fn write_message(message: &Message) -> Vec<u8> {
     let mut out = Out::default();
     out.envelope(&message.envelope);
