@@ -1,11 +1,8 @@
 // The call give.
 use buffer::Cursor;
-use session_memory::Session;
-ghost use mathlib.Core.Path.{_≡_};
-ghost use Prim.Native.Nat.{_-_, _≤_};
-ghost use lib.ListN.{length};
-ghost use Rattle.waiting.specs.Waiting.{waitingOf};
-ghost use Rattle.give.specs.Giving.{Hands, handedOf, giveOf};
+use give_place::Place;
+use number_at::eight;
+use number_write::bytes8;
 
 // What a call answers: 01's number, the place of a bad record (255: none; 0 but for number 1), the bytes dealt with.
 #[repr(C)]
@@ -15,56 +12,87 @@ pub struct Reply {
     pub count: usize,
 }
 
-// The state after a give, and how many bytes it gave.
+// How many bytes a give gave, and whether more wait.
 struct Handout {
-    state: Session,
     count: usize,
+    left: bool,
 }
 
-// The state after n bytes more are given, of those that are left.
-fn handed<'a>(
-    s: Session,
-    n: usize,
-    table: &[u8],
-    titles: &'a [u8],
-    names: &'a [u8],
-    bodies: &[u8],
-) -> Session
-    requires { ⌜ n ≤ length (waitingOf s (now table) (now titles) (now names) (now bodies)) - s .say .pos ⌝ }
-    ensures { λ r. ⌜ r ≡ handedOf s n (length (waitingOf s (now (table .entry)) (now (titles .entry)) (now (names .entry)) (now (bodies .entry)))) ⌝ }
+// 1 for the byte 1, 0 for any other.
+fn flag(b: u8) -> u8
 {
-    let pos = s.say.pos + n;
-    if waiting::is_left(s, pos, table, titles, names, bodies) {
-        let mut t = s;
-        t.say.pos = pos;
-        return t;
-    }
-    pending::silent(s)
+    if b == 1 { 1 } else { 0 }
 }
 
-// Writes what waits into buf from place on, as far as it fits.
+// Answer 0 with this count.
+fn given(count: usize) -> Reply
+{
+    Reply {
+        answer: 0,
+        place: 0,
+        count: count,
+    }
+}
+
+// Writes what waits from a place in it on into buf, as far as it fits.
 fn hand<'a>(
     buf: &mut [u8],
     place: usize,
-    s: Session,
+    p: Place,
+    sm: &[u8],
     table: &[u8],
     titles: &'a [u8],
     names: &'a [u8],
     bodies: &[u8],
 ) -> Handout
-    ensures { λ r. ⌜ Hands s (waitingOf s (now (table .entry)) (now (titles .entry)) (now (names .entry)) (now (bodies .entry))) (now (buf .entry)) place r (now (buf .exit)) ⌝ }
 {
     let c = Cursor {
         at: place,
-        skip: s.say.pos,
+        skip: p.offset,
     };
-    let d = waiting::write_waiting(buf, c, s, table, titles, names, bodies);
+    let d = waiting::write_from(buf, c, p.piece, sm, table, titles, names, bodies);
     let count = d.at - place;
-    let t = handed(s, count, table, titles, names, bodies);
-    Handout {
-        state: t,
-        count: count,
+    let given = p.offset + count;
+    if given < p.length {
+        return Handout {
+            count: count,
+            left: true,
+        };
     }
+    if d.at < buf.len() {
+        return Handout {
+            count: count,
+            left: false,
+        };
+    }
+    Handout {
+        count: count,
+        left: give_place::is_left(p.piece, given, sm, table, titles, names, bodies),
+    }
+}
+
+fn put_pos(sm: &mut [u8], pos: usize)
+{
+    let b = bytes8(pos);
+    sm[places::POS] = b[0];
+    sm[places::POS + 1] = b[1];
+    sm[places::POS + 2] = b[2];
+    sm[places::POS + 3] = b[3];
+    sm[places::POS + 4] = b[4];
+    sm[places::POS + 5] = b[5];
+    sm[places::POS + 6] = b[6];
+    sm[places::POS + 7] = b[7];
+}
+
+// In session memory: these pieces wait, and pos of their bytes are given.
+fn keep(sm: &mut [u8], first: u8, then: u8, pos: usize)
+{
+    sm[places::FF] = flag(sm[places::FF]);
+    sm[places::FRAMED] = flag(sm[places::FRAMED]);
+    sm[places::AFTER_CR] = flag(sm[places::AFTER_CR]);
+    sm[places::FIRST] = first;
+    sm[places::THEN] = then;
+    put_pos(sm, pos);
 }
 
 // Hands out as many waiting bytes as fit into buf from place on.
@@ -80,36 +108,31 @@ pub fn give<'a>(
     buf: &mut [u8],
     place: usize,
 ) -> Reply
-    ensures { λ r. ⌜ record { reply = r; sm = now (sm .exit); buf = now (buf .exit) } ≡ giveOf (now (sm .entry)) (now (table .entry)) (now (titles .entry)) (now (names .entry)) (now (bodies .entry)) (now (known .entry)) (now (inbox .entry)) (now (store .entry)) (now (buf .entry)) place ⌝ }
 {
-    if !form_test::form(sm, table, titles, names, bodies, known, inbox, store) {
+    let t = form_test::test(sm, table, titles, names, bodies, known, inbox, store);
+    if !t.ok {
         return Reply {
             answer: 1,
             place: 255,
             count: 0,
         };
     }
-    let s = session_memory::load(sm);
-    if !pending::has_to_give(s) {
-        return Reply {
-            answer: 0,
-            place: 0,
-            count: 0,
-        };
+    let p = t.place;
+    if !p.left {
+        return given(0);
+    }
+    if phase::LEAVING < sm[places::PHASE] {
+        return given(0);
     }
     if buf.len() <= place {
-        return Reply {
-            answer: 0,
-            place: 0,
-            count: 0,
-        };
+        return given(0);
     }
-    let h = hand(buf, place, s, table, titles, names, bodies);
-    let t = h.state;
-    state_save::save(sm, t);
-    Reply {
-        answer: 0,
-        place: 0,
-        count: h.count,
+    let h = hand(buf, place, p, sm, table, titles, names, bodies);
+    if h.left {
+        let pos = eight(sm, places::POS) + h.count;
+        keep(sm, sm[places::FIRST], sm[places::THEN], pos);
+    } else {
+        keep(sm, 0, 0, 0);
     }
+    given(h.count)
 }
