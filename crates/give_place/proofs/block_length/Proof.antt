@@ -1,3 +1,7 @@
+-- A proposal of the records in use, or what ends the block.
+use native.Mathlib.Omega.{arith}
+use Rattle.session_memory.specs.State.{loadOf, loadAwait}
+use Rattle.give_place.proofs.Laws.{end-length, proposed-length}
 use borrow.Author.Needs.{needs}
 use Rattle.give_place.proofs.block_length.Statement.{statement}
 use Rattle.give_place.proofs.block_length.Tie as tie
@@ -16,7 +20,8 @@ in-use-requires c κs = search needs
 
 -- src/lib.rt:45:9
 returns : tie.Need-returns
-returns c = ?
+unfolding loadOf loadAwait
+returns c = let a = c .before .before .before .before .before .args in let p = c .before .before .before .before .before .pre in end-length (a .sm .now) (a .table .now) (a .k) (p .1 .0) (c .before .in-use .ensures) (c .if1 .taken) (p .1 .1)
 
 -- src/lib.rt:47:37
 add-proposal : tie.Need-add-proposal
@@ -32,7 +37,8 @@ proposal-requires c κs = search needs
 
 -- src/lib.rt:40:1
 returns-2 : tie.Need-returns-2
-returns-2 c = ?
+unfolding loadOf loadAwait
+returns-2 c = let a = c .before .before .before .before .before .before .before .args in let p = c .before .before .before .before .before .before .before .pre in proposed-length (a .sm .now) (a .table .now) (a .k) (p .1 .0) (c .before .before .before .in-use .ensures) (omega (arith, p .0)) (c .before .before .if1 .left) (c .proposal .ensures)
 
 pub block-length-spec : {M : Type 1} → statement M
 block-length-spec =

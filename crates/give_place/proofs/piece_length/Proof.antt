@@ -1,3 +1,11 @@
+-- By what is said: the first piece, a fixed line, a piece of our block, a transfer.
+use mathlib.Core.Path.{ap, _∙_}
+use native.Mathlib.Omega.{arith}
+use lib.ListN.{length}
+use Rattle.session_memory.specs.State.{loadOf, loadSay}
+use Rattle.waiting.proofs.Pieces.{piece-block, bound-block}
+use Rattle.waiting.proofs.Said.{zero-text}
+use Rattle.give_place.proofs.Laws.{fixed-length, sent-length}
 use borrow.Author.Needs.{needs}
 use Rattle.give_place.proofs.piece_length.Statement.{statement}
 use Rattle.give_place.proofs.piece_length.Tie as tie
@@ -13,7 +21,7 @@ first-length-requires c κs = search needs
 
 -- src/lib.rt:63:9
 returns : tie.Need-returns
-returns c = ?
+returns c = let a = c .before .before .before .before .before .before .before .args in c .first-length .ensures ∙ ap length (zero-text (loadOf (a .sm .now)) (a .table .now) (a .titles .now) (a .names .now) (a .bodies .now) (a .k) (c .before .if1 .taken))
 
 -- src/lib.rt:65:16
 shared-slice-read-then : tie.Need-shared-slice-read-then
@@ -21,15 +29,18 @@ shared-slice-read-then c = search needs
 
 -- src/lib.rt:67:9
 returns-2 : tie.Need-returns-2
-returns-2 c = ?
+unfolding loadOf loadSay
+returns-2 c = let a = c .before .before .before .before .before .before .before .before .args in fixed-length (loadOf (a .sm .now)) (a .table .now) (a .titles .now) (a .names .now) (a .bodies .now) (a .k) (c .before .before .if1 .left) (c .before .before .before .before .before .before .before .before .pre .1) (c .if2 .taken)
 
 -- src/lib.rt:70:9
 block-length-requires : tie.Need-block-length-requires
-block-length-requires c κs = ?
+unfolding loadOf loadSay
+block-length-requires c κs = let a = c .before .before .before .before .before .before .before .before .before .args in (c .before .before .before .before .before .before .before .before .before .pre .0, bound-block (loadOf (a .sm .now)) (a .table .now) (a .titles .now) (a .names .now) (a .bodies .now) (a .k) (c .before .before .before .if1 .left) (c .before .before .before .before .before .before .before .before .before .pre .1) (c .if3 .taken))
 
 -- src/lib.rt:70:9
 returns-3 : tie.Need-returns-3
-returns-3 c = ?
+unfolding loadOf loadSay
+returns-3 c = let a = c .before .before .before .before .before .before .before .before .before .before .args in c .block-length .ensures ∙ ap length (piece-block (loadOf (a .sm .now)) (a .table .now) (a .titles .now) (a .names .now) (a .bodies .now) (a .k) (c .before .before .before .before .if1 .left) (c .before .before .before .before .before .before .before .before .before .before .pre .1) (c .before .if3 .taken))
 
 -- src/lib.rt:72:37
 add-transfer : tie.Need-add-transfer
@@ -45,7 +56,8 @@ transfer-requires c κs = search needs
 
 -- src/lib.rt:51:1
 returns-4 : tie.Need-returns-4
-returns-4 c = ?
+unfolding loadOf loadSay
+returns-4 c = let a = c .before .before .before .before .before .before .before .before .before .before .before .args in sent-length (a .sm .now) (a .table .now) (a .titles .now) (a .names .now) (a .bodies .now) (a .k) (omega (arith, c .before .before .before .before .before .before .before .before .before .before .before .pre .0)) (c .before .before .before .before .before .if1 .left) (c .before .before .before .before .before .before .before .before .before .before .before .pre .1) (c .before .before .before .if2 .left) (c .before .before .if3 .left) (c .transfer .ensures)
 
 pub piece-length-spec : {M : Type 1} → statement M
 piece-length-spec =
