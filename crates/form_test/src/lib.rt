@@ -4,6 +4,31 @@ use number_at::eight;
 use number_at::four;
 use number_at::two;
 use number_at::wide;
+ghost use mathlib.Core.Path.{_≡_};
+ghost use mathlib.Core.Bool.{true, false, cond, _&&_};
+ghost use Prim.Native.Nat.{_+_, _*_, _≤_};
+ghost use lib.Dec.{eqb, leb};
+ghost use lib.ListN.{length, drop};
+ghost use Rattle.places.specs.Places.{entryLen};
+ghost use Rattle.session_memory.specs.State.{sessionSize, held, loadOf, loadSizes};
+ghost use Rattle.pending.specs.Pending.{waits};
+ghost use Rattle.form_test.specs.Form.{markOk, sameSizes, countsOk, usedBy, inboxOk, waitingOk, pluses, transferOk, phaseOk, lentSizes, formOf, Next};
+
+// The mark FM01 as a number, little end first.
+const FM01: u32 = 825249094;
+
+// A message of the inbox, and where in it its body's length stands.
+const ENTRY: usize = places::ENTRY as usize;
+
+const BODY_LENGTH: usize = places::ENTRY_BODY as usize + 4;
+
+// "up to 64 messages"
+const MESSAGES: usize = 64;
+
+// The longest line and the longest body.
+const LINE_MAX: u16 = 256;
+
+const BODY_MAX: u32 = 65535;
 
 // Whether the memory passes, and where the next byte to give is.
 pub struct Tested {
@@ -13,8 +38,10 @@ pub struct Tested {
 
 // The counts are within their arrays.
 fn counts_ok(sm: &[u8]) -> bool
+    requires { ⌜ length (now sm) ≡ sessionSize ⌝ }
+    ensures { λ r. ⌜ r ≡ countsOk (loadOf (now (sm .entry))) ⌝ }
 {
-    if 256 < two(sm, places::LINE_LENGTH) {
+    if LINE_MAX < two(sm, places::LINE_LENGTH) {
         return false;
     }
     if phase::BLOCK_LIMIT < sm[places::OURS] {
@@ -37,13 +64,15 @@ fn counts_ok(sm: &[u8]) -> bool
 
 // How many store bytes the first n messages of the inbox use.
 fn used_by(inbox: &[u8], n: u8) -> usize
+    requires { ⌜ entryLen * n ≤ length (now inbox) ⌝ }
+    ensures { λ r. ⌜ r ≡ usedBy (now (inbox .entry)) n ⌝ }
 {
     let mut total = 0usize;
-    let mut at = 153usize;
+    let mut at = BODY_LENGTH;
     let mut i = 0u8;
     while i < n {
         total += two(inbox, at) as usize;
-        at += 155;
+        at += ENTRY;
         i += 1;
     }
     total
@@ -51,12 +80,14 @@ fn used_by(inbox: &[u8], n: u8) -> usize
 
 // The inbox has at most 64 places, and the messages kept have theirs there and in the store.
 fn inbox_ok(sm: &[u8], inbox: &[u8], store: &[u8]) -> bool
+    requires { ⌜ length (now sm) ≡ sessionSize ⌝ }
+    ensures { λ r. ⌜ r ≡ inboxOk (loadOf (now (sm .entry))) (now (inbox .entry)) (now (store .entry)) ⌝ }
 {
-    if 64 < inbox.len() / 155 {
+    if MESSAGES < inbox.len() / ENTRY {
         return false;
     }
     let kept = sm[places::KEPT];
-    if inbox.len() < 155 * wide(kept) {
+    if inbox.len() < ENTRY * wide(kept) {
         return false;
     }
     let used = eight(sm, places::USED);
@@ -68,6 +99,7 @@ fn inbox_ok(sm: &[u8], inbox: &[u8], store: &[u8]) -> bool
 
 // 1 for the sign `+`, 0 for any other byte.
 fn plus(sign: u8) -> u8
+    ensures { λ r. ⌜ (r ≡ cond (eqb sign 43) 1 0) × (r ≤ 1) ⌝ }
 {
     if sign == b'+' {
         return 1;
@@ -77,6 +109,8 @@ fn plus(sign: u8) -> u8
 
 // How many `+` are among the signs from a place on.
 fn pluses_from(sm: &[u8], from: u8) -> u8
+    requires { ⌜ length (now sm) ≡ sessionSize ⌝ }
+    ensures { λ r. ⌜ r ≡ pluses (drop from (held ((loadOf (now (sm .entry))) .say .signs))) ⌝ }
 {
     let count = sm[places::SIGNS];
     let mut n = 0u8;
@@ -93,8 +127,9 @@ fn pluses_from(sm: &[u8], from: u8) -> u8
 
 // The bytes received so far of the body under way are few enough, and lie in the store after those kept.
 fn body_ok(used: usize, body: u32, store: usize) -> bool
+    ensures { λ r. ⌜ r ≡ leb body 65535 && leb (used + body) store ⌝ }
 {
-    if 65535 < body {
+    if BODY_MAX < body {
         return false;
     }
     if store < used {
@@ -105,6 +140,8 @@ fn body_ok(used: usize, body: u32, store: usize) -> bool
 
 // A transfer under way is that of an accepted proposal, and it and those after it have their places and room.
 fn transfer_ok(sm: &[u8], inbox: &[u8], store: &[u8]) -> bool
+    requires { ⌜ length (now sm) ≡ sessionSize ⌝ }
+    ensures { λ r. ⌜ r ≡ transferOk (loadOf (now (sm .entry))) (now (inbox .entry)) (now (store .entry)) ⌝ }
 {
     let current = sm[places::CURRENT];
     if sm[places::PROPOSALS] <= current {
@@ -113,12 +150,16 @@ fn transfer_ok(sm: &[u8], inbox: &[u8], store: &[u8]) -> bool
     if sm[places::SIGNS] != sm[places::PROPOSALS] {
         return false;
     }
-    if sm[places::SIGNS + 1 + current as usize] != b'+' {
+    if phase::BLOCK_LIMIT <= current {
         return false;
     }
-    let owed = pluses_from(sm, current) as usize;
-    let kept = sm[places::KEPT] as usize;
-    if inbox.len() < 155 * (kept + owed) {
+    let at = wide(current);
+    if sm[places::SIGNS + 1 + at] != b'+' {
+        return false;
+    }
+    let owed = wide(pluses_from(sm, current));
+    let kept = wide(sm[places::KEPT]);
+    if inbox.len() < ENTRY * (kept + owed) {
         return false;
     }
     body_ok(eight(sm, places::USED), four(sm, places::BODY), store.len())
@@ -126,6 +167,8 @@ fn transfer_ok(sm: &[u8], inbox: &[u8], store: &[u8]) -> bool
 
 // Records are being sent only in phase 3 and from phase 6 on; a transfer is under way in phase 5.
 fn phase_ok(sm: &[u8], inbox: &[u8], store: &[u8]) -> bool
+    requires { ⌜ length (now sm) ≡ sessionSize ⌝ }
+    ensures { λ r. ⌜ r ≡ phaseOk (loadOf (now (sm .entry))) (now (inbox .entry)) (now (store .entry)) ⌝ }
 {
     let awaited = sm[places::PHASE];
     if awaited == phase::TURN {
@@ -145,8 +188,10 @@ fn phase_ok(sm: &[u8], inbox: &[u8], store: &[u8]) -> bool
 
 // Session memory begins with the mark that open leaves, FM01.
 fn mark_ok(sm: &[u8]) -> bool
+    requires { ⌜ length (now sm) ≡ sessionSize ⌝ }
+    ensures { λ r. ⌜ r ≡ markOk (now (sm .entry)) ⌝ }
 {
-    four(sm, places::MARK) == 825249094
+    four(sm, places::MARK) == FM01
 }
 
 // The sizes of what is lent are those that open kept.
@@ -160,6 +205,8 @@ fn sizes_ok(
     inbox: &[u8],
     store: &[u8],
 ) -> bool
+    requires { ⌜ length (now sm) ≡ sessionSize ⌝ }
+    ensures { λ r. ⌜ r ≡ sameSizes (loadSizes (now (sm .entry))) (lentSizes (now (table .entry)) (now (titles .entry)) (now (names .entry)) (now (bodies .entry)) (now (known .entry)) (now (inbox .entry)) (now (store .entry))) ⌝ }
 {
     if eight(sm, places::SIZE_TABLE) != table.len() {
         return false;
@@ -182,8 +229,8 @@ fn sizes_ok(
     eight(sm, places::SIZE_STORE) == store.len()
 }
 
-// All but what waits.
-fn but_waiting(
+// All that is tested beside what waits.
+fn apart_ok(
     sm: &[u8],
     table: &[u8],
     titles: &[u8],
@@ -193,6 +240,8 @@ fn but_waiting(
     inbox: &[u8],
     store: &[u8],
 ) -> bool
+    requires { ⌜ length (now sm) ≡ sessionSize ⌝ }
+    ensures { λ r. ⌜ r ≡ markOk (now (sm .entry)) && (sameSizes (loadSizes (now (sm .entry))) (lentSizes (now (table .entry)) (now (titles .entry)) (now (names .entry)) (now (bodies .entry)) (now (known .entry)) (now (inbox .entry)) (now (store .entry))) && (countsOk (loadOf (now (sm .entry))) && (inboxOk (loadOf (now (sm .entry))) (now (inbox .entry)) (now (store .entry)) && phaseOk (loadOf (now (sm .entry))) (now (inbox .entry)) (now (store .entry))))) ⌝ }
 {
     if !mark_ok(sm) {
         return false;
@@ -209,6 +258,29 @@ fn but_waiting(
     phase_ok(sm, inbox, store)
 }
 
+// Something waits.
+fn is_waiting(sm: &[u8]) -> bool
+    requires { ⌜ length (now sm) ≡ sessionSize ⌝ }
+    ensures { λ r. ⌜ r ≡ waits ((loadOf (now (sm .entry))) .say) ⌝ }
+{
+    if sm[places::FIRST] != phase::PIECE_NONE {
+        return true;
+    }
+    sm[places::THEN] != phase::PIECE_NONE
+}
+
+// No byte is left to give.
+fn nowhere() -> Place
+    ensures { λ r. ⌜ r .left ≡ false ⌝ }
+{
+    Place {
+        left: false,
+        piece: 0,
+        offset: 0,
+        length: 0,
+    }
+}
+
 // Where something waits, not all of it is given.
 fn waiting_ok<'a>(
     sm: &[u8],
@@ -217,30 +289,19 @@ fn waiting_ok<'a>(
     names: &'a [u8],
     bodies: &[u8],
 ) -> Tested
+    requires { ⌜ length (now sm) ≡ sessionSize ⌝ }
+    ensures { λ r. ⌜ (r .ok ≡ waitingOk (loadOf (now (sm .entry))) (now (table .entry)) (now (titles .entry)) (now (names .entry)) (now (bodies .entry))) × (r .ok ≡ true → Next (loadOf (now (sm .entry))) (now (table .entry)) (now (titles .entry)) (now (names .entry)) (now (bodies .entry)) (r .place)) ⌝ }
 {
-    if sm[places::FIRST] == phase::PIECE_NONE {
-        if sm[places::THEN] == phase::PIECE_NONE {
-            return Tested {
-                ok: true,
-                place: nowhere(),
-            };
-        }
+    if !is_waiting(sm) {
+        return Tested {
+            ok: true,
+            place: nowhere(),
+        };
     }
     let p = give_place::locate(eight(sm, places::POS), sm, table, titles, names, bodies);
     Tested {
         ok: p.left,
         place: p,
-    }
-}
-
-// No byte is left to give.
-fn nowhere() -> Place
-{
-    Place {
-        left: false,
-        piece: 0,
-        offset: 0,
-        length: 0,
     }
 }
 
@@ -255,6 +316,7 @@ pub fn test<'a>(
     inbox: &[u8],
     store: &[u8],
 ) -> Tested
+    ensures { λ r. ⌜ (r .ok ≡ formOf (now (sm .entry)) (now (table .entry)) (now (titles .entry)) (now (names .entry)) (now (bodies .entry)) (now (known .entry)) (now (inbox .entry)) (now (store .entry))) × (r .ok ≡ true → Next (loadOf (now (sm .entry))) (now (table .entry)) (now (titles .entry)) (now (names .entry)) (now (bodies .entry)) (r .place)) ⌝ }
 {
     if sm.len() != places::SESSION {
         return Tested {
@@ -262,7 +324,7 @@ pub fn test<'a>(
             place: nowhere(),
         };
     }
-    if !but_waiting(sm, table, titles, names, bodies, known, inbox, store) {
+    if !apart_ok(sm, table, titles, names, bodies, known, inbox, store) {
         return Tested {
             ok: false,
             place: nowhere(),
@@ -282,6 +344,7 @@ pub fn form<'a>(
     inbox: &[u8],
     store: &[u8],
 ) -> bool
+    ensures { λ r. ⌜ r ≡ formOf (now (sm .entry)) (now (table .entry)) (now (titles .entry)) (now (names .entry)) (now (bodies .entry)) (now (known .entry)) (now (inbox .entry)) (now (store .entry)) ⌝ }
 {
     let t = test(sm, table, titles, names, bodies, known, inbox, store);
     t.ok

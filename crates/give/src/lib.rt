@@ -50,7 +50,7 @@ fn hand<'a>(
         at: place,
         skip: p.offset,
     };
-    let d = waiting::write_from(buf, c, p.piece, sm, table, titles, names, bodies);
+    let d = waiting_write::write_from(buf, c, p.piece, sm, table, titles, names, bodies);
     let count = d.at - place;
     let given = p.offset + count;
     if given < p.length {
