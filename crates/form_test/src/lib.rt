@@ -20,7 +20,7 @@ const FM01: u32 = 825249094;
 // A message of the inbox, and where in it its body's length stands.
 const ENTRY: usize = places::ENTRY as usize;
 
-const BODY_LENGTH: usize = places::ENTRY_BODY as usize + 4;
+const BODY_LENGTH: usize = places::ENTRY_BODY_LEN as usize;
 
 // "up to 64 messages"
 const MESSAGES: usize = 64;

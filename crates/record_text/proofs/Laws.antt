@@ -15,7 +15,7 @@ use Rattle.grammar.proofs.Basics.{by-cond}
 use Rattle.mail.specs.Mail.{transferOf, headingFor}
 use Rattle.layout.specs.Layout.{byteAt, le4At, recordOf}
 use Rattle.layout.proofs.Places.{part-in}
-use Rattle.places.specs.Places.{recordForm, recordTitle, recordName}
+use Rattle.places.specs.Places.{recordForm, recordTitle, recordTitleLength, recordName, recordNameLength}
 use Rattle.record_text.specs.Texts.{headingIn, bodyIn}
 
 -- ---------------------------------------------------------------- numbers that were read
@@ -67,11 +67,11 @@ module _ (titles names bodies r : Bytes) where
   unfolding bodyIn
   by-form k e = ap (λ (o : Form). writeTransfer o (headingFor o (recordOf titles names bodies r)) (bodyIn bodies r)) (sym e)
 
-  title-is : (byteAt r recordForm ≡ 2 → ⊥) → headingIn titles names r ≡ partOf titles (le4At r recordTitle) (byteAt r 77)
+  title-is : (byteAt r recordForm ≡ 2 → ⊥) → headingIn titles names r ≡ partOf titles (le4At r recordTitle) (byteAt r recordTitleLength)
   unfolding headingIn
   title-is n = rw (ne-eqb (byteAt r recordForm) 2 n)
 
-  name-is : byteAt r recordForm ≡ 2 → headingIn titles names r ≡ partOf names (le4At r recordName) (byteAt r 82)
+  name-is : byteAt r recordForm ≡ 2 → headingIn titles names r ≡ partOf names (le4At r recordName) (byteAt r recordNameLength)
   unfolding headingIn
   name-is e = rw (eq-eqb (byteAt r recordForm) 2 e)
 

@@ -15,20 +15,17 @@ pub const MESSAGE: u8 = 1;
 
 pub const FILE: u8 = 2;
 
-// How long the number is that tells where a text starts; the text's length stands after it.
-const START: usize = 4;
-
 // The heading of its transfer: the file name for a file, else the title.
 pub fn heading<'a>(r: &[u8], titles: &'a [u8], names: &'a [u8]) -> &'a [u8]
     requires { ⌜ length (now r) ≡ recordLen ⌝ }
     ensures { λ h. ⌜ (now h ≡ headingIn (now (titles .entry)) (now (names .entry)) (now (r .entry))) × (length (now h) ≤ 255) ⌝ }
 {
-    let name = places::RECORD_NAME as usize;
-    let title = places::RECORD_TITLE as usize;
     if byte(r, places::RECORD_FORM as usize) == FILE {
-        part(names, four(r, name) as usize, wide(byte(r, name + START)))
+        let start = four(r, places::RECORD_NAME as usize) as usize;
+        part(names, start, wide(byte(r, places::RECORD_NAME_LEN as usize)))
     } else {
-        part(titles, four(r, title) as usize, wide(byte(r, title + START)))
+        let start = four(r, places::RECORD_TITLE as usize) as usize;
+        part(titles, start, wide(byte(r, places::RECORD_TITLE_LEN as usize)))
     }
 }
 
@@ -37,6 +34,6 @@ pub fn body<'a>(r: &[u8], bodies: &'a [u8]) -> &'a [u8]
     requires { ⌜ length (now r) ≡ recordLen ⌝ }
     ensures { λ b. ⌜ (now b ≡ bodyIn (now (bodies .entry)) (now (r .entry))) × (length (now b) ≤ 65535) ⌝ }
 {
-    let at = places::RECORD_BODY as usize;
-    part(bodies, four(r, at) as usize, two(r, at + START) as usize)
+    let start = four(r, places::RECORD_BODY as usize) as usize;
+    part(bodies, start, two(r, places::RECORD_BODY_LEN as usize) as usize)
 }

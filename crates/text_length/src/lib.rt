@@ -93,6 +93,6 @@ pub fn proposal(table: &[u8], i: u8) -> usize
     let at = field_length(r, places::RECORD_AT, places::AT_MAX);
     let to = field_length(r, places::RECORD_TO, places::CALL_MAX);
     let bid = field_length(r, places::RECORD_BID, places::BID_MAX);
-    let size = number4(r, places::RECORD_SIZE as u16) as u32;
+    let size = number4(r, places::RECORD_SIZE_FIELD as u16) as u32;
     PROPOSAL + from + at + to + bid + digits(size)
 }

@@ -31,7 +31,7 @@ fn write_nothing(buf: &mut [u8], c: Cursor) -> Cursor
 fn write_proposal(buf: &mut [u8], c: Cursor, r: &[u8]) -> Cursor
     ensures { λ d. ⌜ Puts (now (buf .entry)) c (withCr (proposalLine (proposalOf (recordOf [] [] [] (now (r .entry)))))) d (now (buf .exit)) ⌝ }
 {
-    let size = number4(r, places::RECORD_SIZE as u16) as u32;
+    let size = number4(r, places::RECORD_SIZE_FIELD as u16) as u32;
     our_line::write_proposal(
         buf,
         c,
