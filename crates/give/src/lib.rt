@@ -2,7 +2,16 @@
 use buffer::Cursor;
 use give_place::Place;
 use number_at::eight;
-use number_write::bytes8;
+use numbers_in_place::put_say;
+ghost use mathlib.Core.Path.{_≡_};
+ghost use lib.ListN.{length};
+ghost use Rattle.grammar.specs.Refusals.{badMemory};
+ghost use Rattle.places.specs.Places.{sessionLen};
+ghost use Rattle.session_memory.specs.State.{loadOf, saveOf};
+ghost use Rattle.waiting.specs.Waiting.{waitingOf};
+ghost use Rattle.waiting.specs.Pieces.{piecesOf};
+ghost use Rattle.give_place.specs.Located.{At};
+ghost use Rattle.give.specs.Giving.{reply, Hands, leftOf, giveOf};
 
 // What a call answers: 01's number, the place of a bad record (255: none; 0 but for number 1), the bytes dealt with.
 #[repr(C)]
@@ -12,25 +21,35 @@ pub struct Reply {
     pub count: usize,
 }
 
-// How many bytes a give gave, and whether more wait.
+// How many bytes a give gives, how many are given then in all, and whether more are left.
 struct Handout {
     count: usize,
+    pos: usize,
     left: bool,
 }
 
-// 1 for the byte 1, 0 for any other.
-fn flag(b: u8) -> u8
-{
-    if b == 1 { 1 } else { 0 }
-}
+// No record is bad.
+const NO_PLACE: u8 = 255;
 
 // Answer 0 with this count.
 fn given(count: usize) -> Reply
+    ensures { λ r. ⌜ r ≡ reply 0 0 count ⌝ }
 {
     Reply {
         answer: 0,
         place: 0,
         count: count,
+    }
+}
+
+// Answer 1: the memory fails the form test.
+fn bad() -> Reply
+    ensures { λ r. ⌜ r ≡ reply badMemory 255 0 ⌝ }
+{
+    Reply {
+        answer: refusal::BAD_MEMORY,
+        place: NO_PLACE,
+        count: 0,
     }
 }
 
@@ -45,54 +64,51 @@ fn hand<'a>(
     names: &'a [u8],
     bodies: &[u8],
 ) -> Handout
+    requires { ⌜ (length (now sm) ≡ sessionLen) × At (piecesOf (loadOf (now sm)) (now table) (now titles) (now names) (now bodies)) (loadOf (now sm) .say .pos) p ⌝ }
+    ensures { λ r. ⌜ Hands (loadOf (now (sm .entry))) (waitingOf (loadOf (now (sm .entry))) (now (table .entry)) (now (titles .entry)) (now (names .entry)) (now (bodies .entry))) (now (buf .entry)) place r (now (buf .exit)) ⌝ }
 {
     let c = Cursor {
         at: place,
         skip: p.offset,
     };
     let d = waiting_write::write_from(buf, c, p.piece, sm, table, titles, names, bodies);
-    let count = d.at - place;
+    let at = d.at;
+    let count = at - place;
+    let pos = eight(sm, places::POS) + count;
     let given = p.offset + count;
     if given < p.length {
         return Handout {
             count: count,
+            pos: pos,
             left: true,
         };
     }
-    if d.at < buf.len() {
+    if at < buf.len() {
         return Handout {
             count: count,
+            pos: pos,
             left: false,
         };
     }
     Handout {
         count: count,
+        pos: pos,
         left: give_place::is_left(p.piece, given, sm, table, titles, names, bodies),
     }
 }
 
-fn put_pos(sm: &mut [u8], pos: usize)
+// In session memory: pos bytes are given and more are left, or nothing waits.
+fn keep(sm: &mut [u8], left: bool, pos: usize)
+    requires { ⌜ length (now sm) ≡ sessionLen ⌝ }
+    ensures { λ _. ⌜ now (sm .exit) ≡ saveOf (now (sm .entry)) (leftOf left pos (loadOf (now (sm .entry)))) ⌝ }
 {
-    let b = bytes8(pos);
-    sm[places::POS] = b[0];
-    sm[places::POS + 1] = b[1];
-    sm[places::POS + 2] = b[2];
-    sm[places::POS + 3] = b[3];
-    sm[places::POS + 4] = b[4];
-    sm[places::POS + 5] = b[5];
-    sm[places::POS + 6] = b[6];
-    sm[places::POS + 7] = b[7];
-}
-
-// In session memory: these pieces wait, and pos of their bytes are given.
-fn keep(sm: &mut [u8], first: u8, then: u8, pos: usize)
-{
-    sm[places::FF] = flag(sm[places::FF]);
-    sm[places::FRAMED] = flag(sm[places::FRAMED]);
-    sm[places::AFTER_CR] = flag(sm[places::AFTER_CR]);
-    sm[places::FIRST] = first;
-    sm[places::THEN] = then;
-    put_pos(sm, pos);
+    if left {
+        let first = sm[places::FIRST];
+        let then = sm[places::THEN];
+        put_say(sm, first, then, pos);
+        return;
+    }
+    put_say(sm, phase::PIECE_NONE, phase::PIECE_NONE, 0);
 }
 
 // Hands out as many waiting bytes as fit into buf from place on.
@@ -108,14 +124,11 @@ pub fn give<'a>(
     buf: &mut [u8],
     place: usize,
 ) -> Reply
+    ensures { λ r. ⌜ record { reply = r; sm = now (sm .exit); buf = now (buf .exit) } ≡ giveOf (now (sm .entry)) (now (table .entry)) (now (titles .entry)) (now (names .entry)) (now (bodies .entry)) (now (known .entry)) (now (inbox .entry)) (now (store .entry)) (now (buf .entry)) place ⌝ }
 {
     let t = form_test::test(sm, table, titles, names, bodies, known, inbox, store);
     if !t.ok {
-        return Reply {
-            answer: 1,
-            place: 255,
-            count: 0,
-        };
+        return bad();
     }
     let p = t.place;
     if !p.left {
@@ -128,11 +141,6 @@ pub fn give<'a>(
         return given(0);
     }
     let h = hand(buf, place, p, sm, table, titles, names, bodies);
-    if h.left {
-        let pos = eight(sm, places::POS) + h.count;
-        keep(sm, sm[places::FIRST], sm[places::THEN], pos);
-    } else {
-        keep(sm, 0, 0, 0);
-    }
+    keep(sm, h.left, h.pos);
     given(h.count)
 }

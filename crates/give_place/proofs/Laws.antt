@@ -117,7 +117,7 @@ module _ (ps : List Bytes) (pos p k : ℕ) (a : From ps pos p k) where
   pub from-found : k < length ps → {m : ℕ} → m ≡ length (getD ps k []) → p < m → Located ps pos (place true m)
   from-found h q g =
       let i = in-piece ps k h p q g in
-      (sym (a .test ∙ i .0), λ t. record { rest = a .rest; few = i .1; before = a .before })
+      (sym (a .test ∙ i .0), λ t. record { rest = a .rest; few = i .1; before = a .before; there = ltb-true pos (length (joined ps)) (a .test ∙ i .0) })
 
   pub from-end : length ps ≤ k → Located ps pos (place false 0)
   from-end h = (sym (a .test ∙ past-all ps k p h), λ t. absurd (true≢false (sym t)))

@@ -2,7 +2,7 @@
 use mathlib.Core.Path.{_≡_}
 use mathlib.Core.Bool.{true}
 use mathlib.Core.List.{List}
-use Prim.Native.Nat.{ℕ, _≤_}
+use Prim.Native.Nat.{ℕ, _<_, _≤_}
 use lib.Dec.{ltb}
 use lib.ListN.{length, drop}
 use Rattle.grammar.specs.Bytes.{Bytes}
@@ -14,6 +14,7 @@ pub record At (ps : List Bytes) (pos : ℕ) (p : Place) : Type 0 where
   pub rest : drop pos (joined ps) ≡ drop (p .offset) (joined (drop (p .piece) ps))
   pub few : p .length ≤ length (joined (drop (p .piece) ps))
   pub before : p .offset ≤ pos
+  pub there : pos < length (joined ps)
 
 -- whether it is there, and where
 abbrev pub Located : List Bytes → ℕ → Place → Type 0
