@@ -1,20 +1,30 @@
 -- Laws of the form test, on plain values.
-use mathlib.Core.Path.{_≡_, refl, sym, ap, _∙_}
-use mathlib.Core.Bool.{Bool, true, false, cond}
+use mathlib.Core.Path.{_≡_, refl, sym, ap, subst, _∙_}
+use mathlib.Core.Bool.{Bool, true, false, cond, not, _&&_, true≢false}
 use mathlib.Core.List.{List, _∷_}
-use Prim.Native.Nat.{ℕ, suc, _+_, _-_, _<_, _≤_}
+use Prim.Native.Nat.{ℕ, suc, _+_, _-_, _*_, _/_, _<_, _≤_}
 use native.Mathlib.Omega.{arith}
 use native.Mathlib.Nat.{sub-zero}
 use native.Mathlib.Numerals.{add-one}
-use lib.Dec.{eqb, leb}
-use lib.ListN.{length, getD, drop, length-take, drop-of-length-le}
-use lib.Seq.{drop-cons, getD-take}
-use borrow.Author.Tests.{eq-eqb, ne-eqb, le-leb, lt-leb, leb-true, leb-false}
+use lib.Dec.{eqb, ltb, leb}
+use lib.ListN.{length, getD, take, drop, length-take, drop-of-length-le, List·getD-eq-default}
+use lib.Seq.{drop-cons, getD-take, getD-drop}
+use borrow.Author.Tests.{eq-eqb, ne-eqb, eqb-true, eqb-false, le-leb, lt-leb, leb-true, leb-false, not-true, not-false}
 use Rattle.grammar.specs.Bytes.{Bytes}
-use Rattle.layout.specs.Layout.{entryAt, entrySize, bodyLength}
-use Rattle.session_memory.specs.State.{held}
+use Rattle.layout.specs.Layout.{byteAt, le2At, le4At, entryAt, entrySize, bodyLength}
+use Rattle.layout.proofs.Places.{part-in}
+use Rattle.session_memory.specs.State.{sessionSize, held, fiveAt, loadOf, loadSizes}
+use Rattle.session_memory.proofs.Laws.{array-length}
 use Rattle.session_memory.specs.declared.Five.{Five}
-use Rattle.form_test.specs.Form.{usedFrom, usedBy, pluses}
+use Rattle.session_memory.specs.declared.Session.{Session}
+use Rattle.places.specs.Places.{markAt, signsAt, entryLen}
+use Rattle.waiting.specs.Waiting.{waitingOf}
+use Rattle.waiting.specs.Pieces.{piecesOf}
+use Rattle.waiting.proofs.Pieces.{item-read, pieces-joined}
+use Rattle.give_place.specs.Located.{At, Located}
+use Rattle.give_place.specs.declared.Place.{Place}
+use Rattle.pending.specs.Pending.{waits}
+use Rattle.form_test.specs.Form.{markOk, sameSizes, countsOk, usedFrom, usedBy, inboxOk, waitingOk, pluses, phaseOk, stateOk, lentSizes, formOf, Next}
 
 -- ---------------------------------------------------------------- store bytes of the messages kept
 
@@ -82,17 +92,133 @@ room-same used body n h = go (leb body (n - used)) refl
     go true e = let k = leb-true body (n - used) e in sym (le-leb (used + body) n (omega arith))
     go false e = let k = leb-false body (n - used) e in sym (lt-leb (used + body) n (omega arith))
 
--- ---------------------------------------------------------------- a test of a number that was read
+-- ---------------------------------------------------------------- a number that was read
 
-pub read-is : {x y : ℕ} (k : ℕ) → x ≡ y → x ≡ k → eqb y k ≡ true
-read-is {x} {y} k q e = eq-eqb y k (sym q ∙ e)
+pub read-le : {x y : ℕ} (k : ℕ) → x ≡ y → x ≤ k → leb y k ≡ true
+read-le {x} {y} k q h = le-leb y k (omega arith)
 
-pub read-not : {x y : ℕ} (k : ℕ) → x ≡ y → (x ≡ k → ⊥) → eqb y k ≡ false
-read-not {x} {y} k q n = ne-eqb y k (λ e. n (q ∙ e))
+pub read-gt : {x y : ℕ} (k : ℕ) → x ≡ y → k < x → leb y k ≡ false
+read-gt {x} {y} k q h = lt-leb y k (omega arith)
 
--- the same for the places of the transfers still owed, o of them
-pub owed-is : {o p : ℕ} (kept n : ℕ) → o ≡ p → kept + o ≤ n → leb (kept + p) n ≡ true
-owed-is {o} {p} kept n q h = le-leb (kept + p) n (omega arith)
+-- the same for the places of the transfers still owed, o of them, and of the messages kept, k of them
+pub owed-is : {k o p : ℕ} (kept n : ℕ) → k ≡ kept → o ≡ p → entryLen * (k + o) ≤ n → leb (kept + p) (n / entryLen) ≡ true
+owed-is {k} {o} {p} kept n r q h = le-leb (kept + p) (n / 155) (omega arith)
 
-pub owed-not : {o p : ℕ} (kept n : ℕ) → o ≡ p → n < kept + o → leb (kept + p) n ≡ false
-owed-not {o} {p} kept n q h = lt-leb (kept + p) n (omega arith)
+pub owed-not : {k o p : ℕ} (kept n : ℕ) → k ≡ kept → o ≡ p → n < entryLen * (k + o) → leb (kept + p) (n / entryLen) ≡ false
+owed-not {k} {o} {p} kept n r q h = lt-leb (kept + p) (n / 155) (omega arith)
+
+pub kept-is : {k : ℕ} (kept n : ℕ) → k ≡ kept → entryLen * k ≤ n → leb kept (n / entryLen) ≡ true
+kept-is {k} kept n r h = le-leb kept (n / 155) (omega arith)
+
+pub kept-not : {k : ℕ} (kept n : ℕ) → k ≡ kept → n < entryLen * k → leb kept (n / entryLen) ≡ false
+kept-not {k} kept n r h = lt-leb kept (n / 155) (omega arith)
+
+-- a sign where it stands in session memory
+pub sign-read : (sm : Bytes) (i : ℕ) → length sm ≡ sessionSize → i < 5 → byteAt sm (signsAt + 1 + i) ≡ getD (fiveAt sm signsAt .items) i 0
+sign-read sm i n h =
+    let e : signsAt + (i + 1) ≡ signsAt + 1 + i = omega arith in
+    let f : i + 1 - 1 ≡ i = omega arith in
+    ap (byteAt sm) (sym e) ∙ item-read sm signsAt (omega arith) (i + 1) (omega arith) (omega arith) ∙ ap (λ (j : ℕ). getD (fiveAt sm signsAt .items) j 0) f
+
+module _ (sm : Bytes) (n : length sm ≡ sessionSize) (i : ℕ) where
+  pub sign-is : i < 5 → {at : ℕ} → at ≡ i → byteAt sm (signsAt + 1 + at) ≡ 43 → eqb (getD (fiveAt sm signsAt .items) i 0) 43 ≡ true
+  sign-is h q e = eq-eqb (getD (fiveAt sm signsAt .items) i 0) 43 (sym (sign-read sm i n h) ∙ ap (λ (j : ℕ). byteAt sm (signsAt + 1 + j)) (sym q) ∙ e)
+
+  pub sign-not : i < 5 → {at : ℕ} → at ≡ i → (byteAt sm (signsAt + 1 + at) ≡ 43 → ⊥) → eqb (getD (fiveAt sm signsAt .items) i 0) 43 ≡ false
+  sign-not h q m =
+      ne-eqb (getD (fiveAt sm signsAt .items) i 0) 43 (λ e. m (ap (λ (j : ℕ). byteAt sm (signsAt + 1 + j)) q ∙ sign-read sm i n h ∙ e))
+
+  -- past the five there is no sign
+  pub sign-none : 5 ≤ i → eqb (getD (fiveAt sm signsAt .items) i 0) 43 ≡ false
+  sign-none h =
+      let e : getD (fiveAt sm signsAt .items) i 0 ≡ 0 = List·getD-eq-default (fiveAt sm signsAt .items) 0 {n = i} (omega (arith, array-length 5 sm (signsAt + 1))) in
+      ap (λ (x : ℕ). eqb x 43) e
+
+-- two numbers that were read
+pub both-are : {x y u v : ℕ} → x ≡ u → y ≡ v → x ≡ y → eqb u v ≡ true
+both-are {x} {y} {u} {v} p q e = eq-eqb u v (sym p ∙ e ∙ q)
+
+pub both-not : {x y u v : ℕ} → x ≡ u → y ≡ v → (x ≡ y → ⊥) → eqb u v ≡ false
+both-not {x} {y} {u} {v} p q n = ne-eqb u v (λ e. n (p ∙ e ∙ sym q))
+
+pub body-read : {u v b w : ℕ} (n : ℕ) → u ≡ v → b ≡ w → leb b 65535 && leb (u + b) n ≡ leb w 65535 && leb (v + w) n
+body-read n e f = rw (e, f)
+
+-- the length of a body where it stands in the inbox
+pub length-read : (inbox : Bytes) (i at : ℕ) → at ≡ entryLen * i + 153 → entryLen * (i + 1) ≤ length inbox → {x : ℕ} → x ≡ le2At inbox at
+    → x ≡ bodyLength (entryAt entrySize inbox i)
+length-read inbox i at e h q =
+    let t : Bytes = take 155 (drop (i * 155) inbox) in
+    let b : (j : ℕ) → j < 155 → byteAt t j ≡ byteAt inbox (i * 155 + j) =
+    λ j g. getD-take 155 (drop (i * 155) inbox) j 0 g ∙ getD-drop (i * 155) inbox j 0 in
+    let f : at ≡ i * 155 + 153 = omega arith in
+    let g : at + 1 ≡ i * 155 + 154 = omega arith in
+    let w : bodyLength (entryAt entrySize inbox i) ≡ byteAt inbox (i * 155 + 153) + 256 * byteAt inbox (i * 155 + 154) =
+    ap bodyLength (part-in inbox (i * 155) 155 (omega arith)) ∙ ap (λ (x : ℕ). x + 256 * byteAt t 154) (b 153 (omega arith))
+    ∙ ap (λ (x : ℕ). byteAt inbox (i * 155 + 153) + 256 * x) (b 154 (omega arith)) in
+    q ∙ ap (λ (j : ℕ). byteAt inbox j + 256 * byteAt inbox (at + 1)) f ∙ ap (λ (j : ℕ). byteAt inbox (i * 155 + 153) + 256 * byteAt inbox j) g ∙ sym w
+
+-- ---------------------------------------------------------------- the mark
+
+module _ (sm : Bytes) (small : (i : ℕ) → byteAt sm i < 256) where
+  mark-bytes : le4At sm markAt ≡ 825249094 → (byteAt sm 0 ≡ 70) × (byteAt sm 1 ≡ 77) × (byteAt sm 2 ≡ 48) × (byteAt sm 3 ≡ 49)
+  mark-bytes e =
+      let h₀ = small 0 in
+      let h₁ = small 1 in
+      let h₂ = small 2 in
+      let h₃ = small 3 in
+      (omega arith, omega arith, omega arith, omega arith)
+
+  pub mark-read : {x : ℕ} → x ≡ le4At sm markAt → eqb x 825249094 ≡ markOk sm
+  mark-read {x} q = go (eqb (byteAt sm 0) 70) (eqb (byteAt sm 1) 77) (eqb (byteAt sm 2) 48) (eqb (byteAt sm 3) 49) refl refl refl refl
+    where
+      go : (a b c d : Bool) → eqb (byteAt sm 0) 70 ≡ a → eqb (byteAt sm 1) 77 ≡ b → eqb (byteAt sm 2) 48 ≡ c → eqb (byteAt sm 3) 49 ≡ d → eqb x 825249094 ≡ markOk sm
+      go false b c d e f g h = ne-eqb x 825249094 (λ o. eqb-false (byteAt sm 0) 70 e (mark-bytes (sym q ∙ o) .0)) ∙ sym (rw e)
+      go true false c d e f g h = ne-eqb x 825249094 (λ o. eqb-false (byteAt sm 1) 77 f (mark-bytes (sym q ∙ o) .1)) ∙ sym (rw (e, f))
+      go true true false d e f g h = ne-eqb x 825249094 (λ o. eqb-false (byteAt sm 2) 48 g (mark-bytes (sym q ∙ o) .2)) ∙ sym (rw (e, f, g))
+      go true true true false e f g h = ne-eqb x 825249094 (λ o. eqb-false (byteAt sm 3) 49 h (mark-bytes (sym q ∙ o) .3)) ∙ sym (rw (e, f, g, h))
+      go true true true true e f g h =
+          eq-eqb x 825249094 (omega (arith, q, eqb-true (byteAt sm 0) 70 e, eqb-true (byteAt sm 1) 77 f, eqb-true (byteAt sm 2) 48 g, eqb-true (byteAt sm 3) 49 h)) ∙ sym (rw (e, f, g, h))
+
+-- ---------------------------------------------------------------- what waits
+
+module _ (s : Session) (table titles names bodies : Bytes) where
+  -- nothing waits
+  pub quiet-next : waits (s .say) ≡ false → {p : Place} → p .left ≡ false
+      → (true ≡ waitingOk s table titles names bodies) × (true ≡ true → Next s table titles names bodies p)
+  unfolding waitingOk
+  quiet-next w l = (rw w, λ t. (l ∙ sym w, λ o. absurd (true≢false (sym o ∙ l))))
+
+  -- something does: the byte at pos is there, or it isn't
+  pub located-next : waits (s .say) ≡ true → {pos : ℕ} {p : Place} → pos ≡ s .say .pos → Located (piecesOf s table titles names bodies) pos p
+      → (p .left ≡ waitingOk s table titles names bodies) × (p .left ≡ true → Next s table titles names bodies p)
+  unfolding waitingOk
+  located-next w {pos} {p} q a =
+      (rw w (a .0 ∙ ap (λ (l : Bytes). ltb pos (length l)) (pieces-joined s table titles names bodies) ∙ ap (λ (n : ℕ). ltb n (length (waitingOf s table titles names bodies))) q),
+      λ t. (t ∙ sym w, λ o. subst (λ (n : ℕ). At (piecesOf s table titles names bodies) n p) q (a .1 t)))
+
+-- ---------------------------------------------------------------- all but the last
+
+-- five tests, and then a sixth
+pub and-last : (a b c d e w : Bool) → a && (b && (c && (d && (e && w)))) ≡ (a && (b && (c && (d && e)))) && w
+and-last false b c d e w = refl
+and-last true false c d e w = refl
+and-last true true false d e w = refl
+and-last true true true false e w = refl
+and-last true true true true e w = refl
+
+-- the form test of a memory of the right size: x is all but what waits
+module _ (sm table titles names bodies known inbox store : Bytes) (n : length sm ≡ sessionSize) {x : Bool}
+    (q : x ≡ markOk sm && (sameSizes (loadSizes sm) (lentSizes table titles names bodies known inbox store) && (countsOk (loadOf sm) && (inboxOk (loadOf sm) inbox store && phaseOk (loadOf sm) inbox store)))) where
+  form-last : formOf sm table titles names bodies known inbox store ≡ x && waitingOk (loadOf sm) table titles names bodies
+  unfolding formOf stateOk
+  form-last =
+      rw (eq-eqb (length sm) sessionSize n)
+      (and-last (markOk sm) (sameSizes (loadSizes sm) (lentSizes table titles names bodies known inbox store)) (countsOk (loadOf sm)) (inboxOk (loadOf sm) inbox store) (phaseOk (loadOf sm) inbox store) (waitingOk (loadOf sm) table titles names bodies)
+      ∙ ap (λ (b : Bool). b && waitingOk (loadOf sm) table titles names bodies) (sym q))
+
+  pub form-fails : not x ≡ true → false ≡ formOf sm table titles names bodies known inbox store
+  form-fails e = sym (form-last ∙ ap (λ (b : Bool). b && waitingOk (loadOf sm) table titles names bodies) (not-true x e))
+
+  pub form-waits : not x ≡ false → {y : Bool} → y ≡ waitingOk (loadOf sm) table titles names bodies → y ≡ formOf sm table titles names bodies known inbox store
+  form-waits e f = f ∙ sym (form-last ∙ ap (λ (b : Bool). b && waitingOk (loadOf sm) table titles names bodies) (not-false x e))

@@ -1,5 +1,6 @@
 -- 01, "Receive and give answer 1 .. exactly if a lent size isn't the one open kept in session memory or the lent memory fails a form test.
 -- The test is listed in docs/": here it is, in the order of docs/MEMORY.md.
+use mathlib.Core.Path.{_≡_}
 use mathlib.Core.Bool.{Bool, true, cond, not, _&&_, _||_}
 use mathlib.Core.List.{List, [], _∷_}
 use Prim.Native.Nat.{ℕ, zero, suc, _+_}
@@ -12,6 +13,9 @@ use Rattle.session_memory.specs.declared.Session.{Session}
 use Rattle.session_memory.specs.declared.Sizes.{Sizes}
 use Rattle.entries.specs.Decoded.{placeCount}
 use Rattle.waiting.specs.Waiting.{waitingOf}
+use Rattle.waiting.specs.Pieces.{piecesOf}
+use Rattle.give_place.specs.Located.{At}
+use Rattle.give_place.specs.declared.Place.{Place}
 use Rattle.pending.specs.Pending.{waits}
 
 -- The mark that open leaves.
@@ -81,3 +85,7 @@ unfoldable pub formOf : Bytes → Bytes → Bytes → Bytes → Bytes → Bytes 
 formOf sm table titles names bodies known inbox store =
     eqb (length sm) sessionSize && (markOk sm && (sameSizes (loadSizes sm) (lentSizes table titles names bodies known inbox store)
     && stateOk (loadOf sm) table titles names bodies inbox store))
+
+-- What give needs of a memory that passes: whether something waits, and where the next byte to give is.
+abbrev pub Next : Session → Bytes → Bytes → Bytes → Bytes → Place → Type 0
+Next s table titles names bodies p = (p .left ≡ waits (s .say)) × (p .left ≡ true → At (piecesOf s table titles names bodies) (s .say .pos) p)

@@ -1,127 +1,100 @@
 // The form test: whether lent memory is as an accepted open, a receive or a give leaves it.
-use layout::byte_at;
-use layout::entry;
-use number_read::number2;
-use session_memory::Five;
-use session_memory::Session;
-use session_memory::Sizes;
+use give_place::Place;
+use number_at::eight;
+use number_at::four;
+use number_at::two;
+use number_at::wide;
 ghost use mathlib.Core.Path.{_≡_};
-ghost use mathlib.Core.Bool.{cond, _&&_};
-ghost use Prim.Native.Nat.{_+_, _≤_};
+ghost use mathlib.Core.Bool.{true, false, cond, _&&_};
+ghost use Prim.Native.Nat.{_+_, _*_, _≤_};
 ghost use lib.Dec.{eqb, leb};
-ghost use lib.ListN.{getD, drop};
-ghost use Rattle.layout.specs.Layout.{bodyLength};
-ghost use Rattle.session_memory.specs.State.{held, loadSizes};
-ghost use Rattle.form_test.specs.Form.{sameSizes, countsOk, usedBy, inboxOk, waitingOk, pluses, transferOk, phaseOk, stateOk, lentSizes, formOf, markOk};
+ghost use lib.ListN.{length, drop};
+ghost use Rattle.places.specs.Places.{entryLen};
+ghost use Rattle.session_memory.specs.State.{sessionSize, held, loadOf, loadSizes};
+ghost use Rattle.pending.specs.Pending.{waits};
+ghost use Rattle.form_test.specs.Form.{markOk, sameSizes, countsOk, usedBy, inboxOk, waitingOk, pluses, transferOk, phaseOk, lentSizes, formOf, Next};
 
-// The sizes are the same, each of them.
-fn same_sizes(a: Sizes, b: Sizes) -> bool
-    ensures { λ r. ⌜ r ≡ sameSizes a b ⌝ }
-{
-    if a.table != b.table {
-        return false;
-    }
-    if a.titles != b.titles {
-        return false;
-    }
-    if a.names != b.names {
-        return false;
-    }
-    if a.bodies != b.bodies {
-        return false;
-    }
-    if a.known != b.known {
-        return false;
-    }
-    if a.inbox != b.inbox {
-        return false;
-    }
-    a.store == b.store
+// The mark FM01 as a number, little end first.
+const FM01: u32 = 825249094;
+
+// A message of the inbox, and where in it its body's length stands.
+const ENTRY: usize = places::ENTRY as usize;
+
+const BODY_LENGTH: usize = places::ENTRY_BODY_LEN as usize;
+
+// "up to 64 messages"
+const MESSAGES: usize = 64;
+
+// The longest line and the longest body.
+const LINE_MAX: u16 = 256;
+
+const BODY_MAX: u32 = 65535;
+
+// Whether the memory passes, and where the next byte to give is.
+pub struct Tested {
+    pub ok: bool,
+    pub place: Place,
 }
 
 // The counts are within their arrays.
-fn counts_ok(s: Session) -> bool
-    ensures { λ r. ⌜ r ≡ countsOk s ⌝ }
+fn counts_ok(sm: &[u8]) -> bool
+    requires { ⌜ length (now sm) ≡ sessionSize ⌝ }
+    ensures { λ r. ⌜ r ≡ countsOk (loadOf (now (sm .entry))) ⌝ }
 {
-    if 256 < s.line.len {
+    if LINE_MAX < two(sm, places::LINE_LENGTH) {
         return false;
     }
-    if 5 < s.now.ours.count {
+    if phase::BLOCK_LIMIT < sm[places::OURS] {
         return false;
     }
-    if 5 < s.say.signs.count {
+    if phase::BLOCK_LIMIT < sm[places::SIGNS] {
         return false;
     }
-    if 5 < s.keep.sending.count {
+    if phase::BLOCK_LIMIT < sm[places::SENDING] {
         return false;
     }
-    if 5 < s.now.proposals {
+    if phase::BLOCK_LIMIT < sm[places::PROPOSALS] {
         return false;
     }
-    s.reading.reader.head <= 80
-}
-
-// The length of the body of a message in the inbox.
-fn body_length(message: &[u8]) -> u16
-    ensures { λ r. ⌜ r ≡ bodyLength (now (message .entry)) ⌝ }
-{
-    number2(message, 153) as u16
+    if places::HEADING_MAX < sm[places::HEAD] {
+        return false;
+    }
+    true
 }
 
 // How many store bytes the first n messages of the inbox use.
 fn used_by(inbox: &[u8], n: u8) -> usize
+    requires { ⌜ entryLen * n ≤ length (now inbox) ⌝ }
     ensures { λ r. ⌜ r ≡ usedBy (now (inbox .entry)) n ⌝ }
 {
     let mut total = 0usize;
+    let mut at = BODY_LENGTH;
     let mut i = 0u8;
     while i < n {
-        total += body_length(entry(layout::ENTRY, inbox, i as u16)) as usize;
+        total += two(inbox, at) as usize;
+        at += ENTRY;
         i += 1;
     }
     total
 }
 
 // The inbox has at most 64 places, and the messages kept have theirs there and in the store.
-fn inbox_ok(s: Session, inbox: &[u8], store: &[u8]) -> bool
-    ensures { λ r. ⌜ r ≡ inboxOk s (now (inbox .entry)) (now (store .entry)) ⌝ }
+fn inbox_ok(sm: &[u8], inbox: &[u8], store: &[u8]) -> bool
+    requires { ⌜ length (now sm) ≡ sessionSize ⌝ }
+    ensures { λ r. ⌜ r ≡ inboxOk (loadOf (now (sm .entry))) (now (inbox .entry)) (now (store .entry)) ⌝ }
 {
-    let places = inbox.len() / 155;
-    if 64 < places {
+    if MESSAGES < inbox.len() / ENTRY {
         return false;
     }
-    let kept = s.keep.kept;
-    if places < kept as usize {
+    let kept = sm[places::KEPT];
+    if inbox.len() < ENTRY * wide(kept) {
         return false;
     }
-    if used_by(inbox, kept) != s.keep.used {
+    let used = eight(sm, places::USED);
+    if used_by(inbox, kept) != used {
         return false;
     }
-    s.keep.used <= store.len()
-}
-
-// Where something waits, not all of it is given.
-fn waiting_ok<'a>(
-    s: Session,
-    table: &[u8],
-    titles: &'a [u8],
-    names: &'a [u8],
-    bodies: &[u8],
-) -> bool
-    ensures { λ r. ⌜ r ≡ waitingOk s (now (table .entry)) (now (titles .entry)) (now (names .entry)) (now (bodies .entry)) ⌝ }
-{
-    let say = s.say;
-    if !pending::is_waiting(say) {
-        return true;
-    }
-    waiting::is_left(s, s.say.pos, table, titles, names, bodies)
-}
-
-// The sign at a place; 0 past the five.
-fn sign_at(signs: Five, i: u8) -> u8
-    ensures { λ r. ⌜ r ≡ getD (signs .items) i 0 ⌝ }
-{
-    let items = signs.items;
-    byte_at(&items, i as usize)
+    used <= store.len()
 }
 
 // 1 for the sign `+`, 0 for any other byte.
@@ -135,17 +108,18 @@ fn plus(sign: u8) -> u8
 }
 
 // How many `+` are among the signs from a place on.
-fn pluses_from(signs: Five, from: u8) -> u8
-    ensures { λ r. ⌜ r ≡ pluses (drop from (held signs)) ⌝ }
+fn pluses_from(sm: &[u8], from: u8) -> u8
+    requires { ⌜ length (now sm) ≡ sessionSize ⌝ }
+    ensures { λ r. ⌜ r ≡ pluses (drop from (held ((loadOf (now (sm .entry))) .say .signs))) ⌝ }
 {
-    let items = signs.items;
+    let count = sm[places::SIGNS];
     let mut n = 0u8;
     let mut i = from;
     while i < 5 {
-        if signs.count <= i {
+        if count <= i {
             return n;
         }
-        n += plus(items[i as usize]);
+        n += plus(sm[places::SIGNS + 1 + i as usize]);
         i += 1;
     }
     n
@@ -155,7 +129,7 @@ fn pluses_from(signs: Five, from: u8) -> u8
 fn body_ok(used: usize, body: u32, store: usize) -> bool
     ensures { λ r. ⌜ r ≡ leb body 65535 && leb (used + body) store ⌝ }
 {
-    if 65535 < body {
+    if BODY_MAX < body {
         return false;
     }
     if store < used {
@@ -165,86 +139,59 @@ fn body_ok(used: usize, body: u32, store: usize) -> bool
 }
 
 // A transfer under way is that of an accepted proposal, and it and those after it have their places and room.
-fn transfer_ok(s: Session, inbox: &[u8], store: &[u8]) -> bool
-    ensures { λ r. ⌜ r ≡ transferOk s (now (inbox .entry)) (now (store .entry)) ⌝ }
+fn transfer_ok(sm: &[u8], inbox: &[u8], store: &[u8]) -> bool
+    requires { ⌜ length (now sm) ≡ sessionSize ⌝ }
+    ensures { λ r. ⌜ r ≡ transferOk (loadOf (now (sm .entry))) (now (inbox .entry)) (now (store .entry)) ⌝ }
 {
-    let current = s.now.current;
-    if s.now.proposals <= current {
+    let current = sm[places::CURRENT];
+    if sm[places::PROPOSALS] <= current {
         return false;
     }
-    if s.say.signs.count != s.now.proposals {
+    if sm[places::SIGNS] != sm[places::PROPOSALS] {
         return false;
     }
-    let signs = s.say.signs;
-    if sign_at(signs, current) != b'+' {
+    if phase::BLOCK_LIMIT <= current {
         return false;
     }
-    let owed = pluses_from(signs, current) as usize;
-    let kept = s.keep.kept as usize;
-    if inbox.len() / 155 < kept + owed {
+    let at = wide(current);
+    if sm[places::SIGNS + 1 + at] != b'+' {
         return false;
     }
-    body_ok(s.keep.used, s.reading.reader.body, store.len())
+    let owed = wide(pluses_from(sm, current));
+    let kept = wide(sm[places::KEPT]);
+    if inbox.len() < ENTRY * (kept + owed) {
+        return false;
+    }
+    body_ok(eight(sm, places::USED), four(sm, places::BODY), store.len())
 }
 
 // Records are being sent only in phase 3 and from phase 6 on; a transfer is under way in phase 5.
-fn phase_ok(s: Session, inbox: &[u8], store: &[u8]) -> bool
-    ensures { λ r. ⌜ r ≡ phaseOk s (now (inbox .entry)) (now (store .entry)) ⌝ }
+fn phase_ok(sm: &[u8], inbox: &[u8], store: &[u8]) -> bool
+    requires { ⌜ length (now sm) ≡ sessionSize ⌝ }
+    ensures { λ r. ⌜ r ≡ phaseOk (loadOf (now (sm .entry))) (now (inbox .entry)) (now (store .entry)) ⌝ }
 {
-    let phase = s.now.phase;
-    if phase == 3 {
+    let awaited = sm[places::PHASE];
+    if awaited == phase::TURN {
         return true;
     }
-    if 5 < phase {
+    if phase::TRANSFER < awaited {
         return true;
     }
-    if s.keep.sending.count != 0 {
+    if sm[places::SENDING] != 0 {
         return false;
     }
-    if phase == 5 {
-        return transfer_ok(s, inbox, store);
+    if awaited == phase::TRANSFER {
+        return transfer_ok(sm, inbox, store);
     }
     true
 }
 
-// The state is one that a call leaves.
-fn state_ok<'a>(
-    s: Session,
-    table: &[u8],
-    titles: &'a [u8],
-    names: &'a [u8],
-    bodies: &[u8],
-    inbox: &[u8],
-    store: &[u8],
-) -> bool
-    ensures { λ r. ⌜ r ≡ stateOk s (now (table .entry)) (now (titles .entry)) (now (names .entry)) (now (bodies .entry)) (now (inbox .entry)) (now (store .entry)) ⌝ }
-{
-    if !counts_ok(s) {
-        return false;
-    }
-    if !inbox_ok(s, inbox, store) {
-        return false;
-    }
-    if !phase_ok(s, inbox, store) {
-        return false;
-    }
-    waiting_ok(s, table, titles, names, bodies)
-}
-
 // Session memory begins with the mark that open leaves, FM01.
 fn mark_ok(sm: &[u8]) -> bool
+    requires { ⌜ length (now sm) ≡ sessionSize ⌝ }
     ensures { λ r. ⌜ r ≡ markOk (now (sm .entry)) ⌝ }
 {
-    if byte_at(sm, 0) != b'F' {
-        return false;
-    }
-    if byte_at(sm, 1) != b'M' {
-        return false;
-    }
-    if byte_at(sm, 2) != b'0' {
-        return false;
-    }
-    byte_at(sm, 3) == b'1'
+    four(sm, places::MARK) == FM01
 }
 
 // The sizes of what is lent are those that open kept.
@@ -258,18 +205,132 @@ fn sizes_ok(
     inbox: &[u8],
     store: &[u8],
 ) -> bool
+    requires { ⌜ length (now sm) ≡ sessionSize ⌝ }
     ensures { λ r. ⌜ r ≡ sameSizes (loadSizes (now (sm .entry))) (lentSizes (now (table .entry)) (now (titles .entry)) (now (names .entry)) (now (bodies .entry)) (now (known .entry)) (now (inbox .entry)) (now (store .entry))) ⌝ }
 {
-    let z = Sizes {
-        table: table.len(),
-        titles: titles.len(),
-        names: names.len(),
-        bodies: bodies.len(),
-        known: known.len(),
-        inbox: inbox.len(),
-        store: store.len(),
-    };
-    same_sizes(session_memory::load_sizes(sm), z)
+    if eight(sm, places::SIZE_TABLE) != table.len() {
+        return false;
+    }
+    if eight(sm, places::SIZE_TITLES) != titles.len() {
+        return false;
+    }
+    if eight(sm, places::SIZE_NAMES) != names.len() {
+        return false;
+    }
+    if eight(sm, places::SIZE_BODIES) != bodies.len() {
+        return false;
+    }
+    if eight(sm, places::SIZE_KNOWN) != known.len() {
+        return false;
+    }
+    if eight(sm, places::SIZE_INBOX) != inbox.len() {
+        return false;
+    }
+    eight(sm, places::SIZE_STORE) == store.len()
+}
+
+// All that is tested beside what waits.
+fn apart_ok(
+    sm: &[u8],
+    table: &[u8],
+    titles: &[u8],
+    names: &[u8],
+    bodies: &[u8],
+    known: &[u8],
+    inbox: &[u8],
+    store: &[u8],
+) -> bool
+    requires { ⌜ length (now sm) ≡ sessionSize ⌝ }
+    ensures { λ r. ⌜ r ≡ markOk (now (sm .entry)) && (sameSizes (loadSizes (now (sm .entry))) (lentSizes (now (table .entry)) (now (titles .entry)) (now (names .entry)) (now (bodies .entry)) (now (known .entry)) (now (inbox .entry)) (now (store .entry))) && (countsOk (loadOf (now (sm .entry))) && (inboxOk (loadOf (now (sm .entry))) (now (inbox .entry)) (now (store .entry)) && phaseOk (loadOf (now (sm .entry))) (now (inbox .entry)) (now (store .entry))))) ⌝ }
+{
+    if !mark_ok(sm) {
+        return false;
+    }
+    if !sizes_ok(sm, table, titles, names, bodies, known, inbox, store) {
+        return false;
+    }
+    if !counts_ok(sm) {
+        return false;
+    }
+    if !inbox_ok(sm, inbox, store) {
+        return false;
+    }
+    phase_ok(sm, inbox, store)
+}
+
+// Something waits.
+fn is_waiting(sm: &[u8]) -> bool
+    requires { ⌜ length (now sm) ≡ sessionSize ⌝ }
+    ensures { λ r. ⌜ r ≡ waits ((loadOf (now (sm .entry))) .say) ⌝ }
+{
+    if sm[places::FIRST] != phase::PIECE_NONE {
+        return true;
+    }
+    sm[places::THEN] != phase::PIECE_NONE
+}
+
+// No byte is left to give.
+fn nowhere() -> Place
+    ensures { λ r. ⌜ r .left ≡ false ⌝ }
+{
+    Place {
+        left: false,
+        piece: 0,
+        offset: 0,
+        length: 0,
+    }
+}
+
+// Where something waits, not all of it is given.
+fn waiting_ok<'a>(
+    sm: &[u8],
+    table: &[u8],
+    titles: &'a [u8],
+    names: &'a [u8],
+    bodies: &[u8],
+) -> Tested
+    requires { ⌜ length (now sm) ≡ sessionSize ⌝ }
+    ensures { λ r. ⌜ (r .ok ≡ waitingOk (loadOf (now (sm .entry))) (now (table .entry)) (now (titles .entry)) (now (names .entry)) (now (bodies .entry))) × (r .ok ≡ true → Next (loadOf (now (sm .entry))) (now (table .entry)) (now (titles .entry)) (now (names .entry)) (now (bodies .entry)) (r .place)) ⌝ }
+{
+    if !is_waiting(sm) {
+        return Tested {
+            ok: true,
+            place: nowhere(),
+        };
+    }
+    let p = give_place::locate(eight(sm, places::POS), sm, table, titles, names, bodies);
+    Tested {
+        ok: p.left,
+        place: p,
+    }
+}
+
+// The form test, and where the next byte to give is.
+pub fn test<'a>(
+    sm: &[u8],
+    table: &[u8],
+    titles: &'a [u8],
+    names: &'a [u8],
+    bodies: &[u8],
+    known: &[u8],
+    inbox: &[u8],
+    store: &[u8],
+) -> Tested
+    ensures { λ r. ⌜ (r .ok ≡ formOf (now (sm .entry)) (now (table .entry)) (now (titles .entry)) (now (names .entry)) (now (bodies .entry)) (now (known .entry)) (now (inbox .entry)) (now (store .entry))) × (r .ok ≡ true → Next (loadOf (now (sm .entry))) (now (table .entry)) (now (titles .entry)) (now (names .entry)) (now (bodies .entry)) (r .place)) ⌝ }
+{
+    if sm.len() != places::SESSION {
+        return Tested {
+            ok: false,
+            place: nowhere(),
+        };
+    }
+    if !apart_ok(sm, table, titles, names, bodies, known, inbox, store) {
+        return Tested {
+            ok: false,
+            place: nowhere(),
+        };
+    }
+    waiting_ok(sm, table, titles, names, bodies)
 }
 
 // The form test: lent memory is as an accepted open, a receive or a give leaves it.
@@ -285,22 +346,6 @@ pub fn form<'a>(
 ) -> bool
     ensures { λ r. ⌜ r ≡ formOf (now (sm .entry)) (now (table .entry)) (now (titles .entry)) (now (names .entry)) (now (bodies .entry)) (now (known .entry)) (now (inbox .entry)) (now (store .entry)) ⌝ }
 {
-    if sm.len() != session_memory::SESSION {
-        return false;
-    }
-    if !mark_ok(sm) {
-        return false;
-    }
-    if !sizes_ok(sm, table, titles, names, bodies, known, inbox, store) {
-        return false;
-    }
-    state_ok(
-        session_memory::load(sm),
-        table,
-        titles,
-        names,
-        bodies,
-        inbox,
-        store,
-    )
+    let t = test(sm, table, titles, names, bodies, known, inbox, store);
+    t.ok
 }

@@ -1,83 +1,239 @@
--- Laws of give, one for each of its answers, on plain values.
-use mathlib.Core.Path.{_≡_, sym, ap, _∙_}
-use mathlib.Core.Bool.{Bool, true, false}
-use Prim.Native.Nat.{ℕ, _+_, _-_, _<_, _≤_}
+-- Laws of give on plain values: what is handed out from a place in what waits, what is kept of it, and one law for each answer.
+use mathlib.Core.Path.{_≡_, refl, sym, ap, subst, _∙_}
+use mathlib.Core.Bool.{Bool, true, false, cond, not, _&&_}
+use mathlib.Core.List.{List}
+use Prim.Native.Nat.{ℕ, _+_, _-_, _<_, _≤_, min}
 use native.Mathlib.Omega.{arith}
-use lib.ListN.{length}
-use borrow.Author.Tests.{lt-ltb, le-ltb}
+use lib.Dec.{eqb, ltb}
+use lib.ListN.{length, take, drop, length-drop}
+use borrow.Author.Tests.{eq-eqb, ne-eqb, eqb-true, eqb-false, lt-ltb, le-ltb, ltb-true, ltb-false, not-true, not-false}
 use Rattle.grammar.specs.Bytes.{Bytes}
-use Rattle.buffer.specs.Put.{Puts, cut}
+use Rattle.grammar.specs.Refusals.{badMemory}
+use Rattle.grammar.proofs.Basics.{and2}
+use Rattle.layout.specs.Layout.{byteAt, le8At}
+use Rattle.places.specs.Places.{sessionLen, phaseAt, firstAt, thenAt, posAt, oursAt, sendingAt, signsAt}
+use Rattle.places.specs.Places as places
+use Rattle.buffer.specs.Put.{Puts, cut, wrote, putBytes}
 use Rattle.buffer.specs.declared.Cursor.{Cursor}
 use Rattle.buffer.proofs.Laws.{cursor, cursor-at, cut-length}
-use Rattle.session_memory.specs.State.{loadOf, saveOf}
+use Rattle.session_memory.specs.State.{at, loadOf, loadAwait, loadSay, loadKeep, saveOf}
+use Rattle.session_memory.specs.Setters as setters
 use Rattle.session_memory.specs.declared.Session.{Session}
+use Rattle.session_memory.proofs.Laws.{array-length}
+use Rattle.numbers.specs.Whole.{wholeOf, numbersAt, sayNumbers, numberBytes}
+use Rattle.numbers.proofs.Laws.{load-whole}
+use Rattle.numbers_in_place.specs.Changed.{withSay}
+use Rattle.numbers_in_place.proofs.Arrays.{arraysIn, saved-numbers}
 use Rattle.waiting.specs.Waiting.{waitingOf}
-use Rattle.pending.specs.Pending.{hasToGive}
-use Rattle.form_test.specs.Form.{formOf}
+use Rattle.waiting.specs.Pieces.{joined, piecesOf}
+use Rattle.waiting.proofs.Pieces.{pieces-joined}
+use Rattle.waiting.proofs.Short.{record-short, waiting-short}
+use Rattle.pending.specs.Pending.{waits, overOf, hasToGive, silentOf}
+use Rattle.give_place.specs.Located.{At}
+use Rattle.give_place.specs.declared.Place.{Place}
+use Rattle.form_test.specs.Form.{formOf, Next}
 use Rattle.give.specs.declared.Reply.{Reply}
 use Rattle.give.specs.declared.Handout.{Handout}
-use Rattle.give.specs.Giving.{Given, Hands, reply, handedOf, handing, giveOf}
+use Rattle.give.specs.Giving.{Given, Hands, reply, handedOf, handing, leftOf, giveOf}
 
 -- ---------------------------------------------------------------- for `hand`
 
--- w put into the buffer from place on, the first pos bytes passed over
-module _ (buf : Bytes) (place pos : ℕ) (w : Bytes) {d : Cursor} {e : Bytes} (a : Puts buf (cursor place pos) w d e) where
-  at-is : d .at ≡ place + length (cut (length buf - place) pos w)
-  at-is = ap (λ (x : Cursor). x .at) (a .0) ∙ cursor-at (length buf) (cursor place pos) w
+-- the pieces from p's on, put into the buffer from place on, where p is the place of byte pos
+module _ (ps : List Bytes) (pos : ℕ) (p : Place) (a : At ps pos p) (buf : Bytes) (place : ℕ) {d : Cursor} {e : Bytes}
+    (q : Puts buf (cursor place (p .offset)) (joined (drop (p .piece) ps)) d e) where
+  abbrev all : Bytes
+  all = joined ps
+
+  abbrev rest : Bytes
+  rest = joined (drop (p .piece) ps)
+
+  -- as much is left from p on as from byte pos on
+  same-left : length all - pos ≡ length rest - p .offset
+  same-left = sym (length-drop pos all) ∙ ap length (a .rest) ∙ length-drop (p .offset) rest
+
+  same-cut : (n : ℕ) → cut n (p .offset) rest ≡ cut n pos all
+  same-cut n = ap (take n) (sym (a .rest))
+
+  at-is : d .at ≡ place + length (cut (length buf - place) pos all)
+  at-is =
+      ap (λ (x : Cursor). x .at) (q .0) ∙ cursor-at (length buf) (cursor place (p .offset)) rest
+      ∙ ap (λ (l : Bytes). place + length l) (same-cut (length buf - place))
 
   pub hand-grows : place ≤ d .at
   hand-grows = omega (arith, at-is)
 
-  pub hand-count : d .at - place ≡ length (cut (length buf - place) pos w)
+  pub hand-count : d .at - place ≡ length (cut (length buf - place) pos all)
   hand-count = omega (arith, at-is)
 
   -- no more is given than is left
-  pub hand-few : d .at - place ≤ length w - pos
-  hand-few = omega (arith, hand-count, cut-length (length buf - place) pos w)
+  pub hand-few : pos + (d .at - place) ≤ length all
+  hand-few = omega (arith, hand-count, cut-length (length buf - place) pos all, a .there)
 
--- the sum is a number of 64 bits, since what waits is short
-pub pos-fits : (pos n : ℕ) (w : Bytes) → pos < 18446744073709551616 → n ≤ length w - pos → length w ≤ 2000020 → pos + n < 18446744073709551616
-pos-fits pos n w p h k = omega arith
+  pub hand-offset : p .offset + (d .at - place) ≤ length all
+  hand-offset = omega (arith, hand-few, a .before)
+
+  hand-bytes : e ≡ putBytes buf (cursor place pos) all
+  unfolding putBytes
+  hand-bytes = q .1 ∙ ap (λ (l : Bytes). wrote buf place l) (same-cut (length buf - place))
+
+  -- the piece isn't given whole
+  pub more-here : p .offset + (d .at - place) < p .length → true ≡ ltb (pos + (d .at - place)) (length all)
+  more-here h = sym (lt-ltb (pos + (d .at - place)) (length all) (omega (arith, same-left, a .few, a .there)))
+
+  -- room is left
+  pub none-left : d .at < length buf → false ≡ ltb (pos + (d .at - place)) (length all)
+  none-left h = sym (le-ltb (pos + (d .at - place)) (length all) (omega (arith, at-is, hand-count, cut-length (length buf - place) pos all)))
+
+  pub more-later : {b : Bool} → b ≡ ltb (p .offset + (d .at - place)) (length rest) → b ≡ ltb (pos + (d .at - place)) (length all)
+  more-later f = f ∙ go (ltb (pos + (d .at - place)) (length all)) refl
+    where
+      go : (b : Bool) → ltb (pos + (d .at - place)) (length all) ≡ b → ltb (p .offset + (d .at - place)) (length rest) ≡ b
+      go true g =
+          let h = ltb-true (pos + (d .at - place)) (length all) g in
+          lt-ltb (p .offset + (d .at - place)) (length rest) (omega (arith, same-left, a .there))
+      go false g =
+          let h = ltb-false (pos + (d .at - place)) (length all) g in
+          le-ltb (p .offset + (d .at - place)) (length rest) (omega (arith, same-left, a .there))
+
+-- what is handed out, as the definition says it
+module _ (sm table titles names bodies : Bytes) (p : Place) where
+  abbrev s : Session
+  s = loadOf sm
+
+  module _ (a : At (piecesOf s table titles names bodies) (s .say .pos) p) (buf : Bytes) (place : ℕ) {d : Cursor} {e : Bytes}
+      (q : Puts buf (cursor place (p .offset)) (joined (drop (p .piece) (piecesOf s table titles names bodies))) d e) where
+    pub hands : {n : ℕ} {b : Bool} → n ≡ le8At sm posAt → b ≡ ltb (s .say .pos + (d .at - place)) (length (joined (piecesOf s table titles names bodies)))
+        → Hands s (waitingOf s table titles names bodies) buf place (record { count = d .at - place; pos = n + (d .at - place); left = b }) e
+    unfolding loadOf loadSay
+    hands {n} {b} f g =
+        subst (λ (w : Bytes). Hands s w buf place (record { count = d .at - place; pos = n + (d .at - place); left = b }) e) (pieces-joined s table titles names bodies)
+        (hand-count (piecesOf s table titles names bodies) (s .say .pos) p a buf place q, ap (λ (k : ℕ). k + (d .at - place)) f,
+        g ∙ ap (λ (k : ℕ). ltb (k + (d .at - place)) (length (joined (piecesOf s table titles names bodies)))) (sym f),
+        hand-bytes (piecesOf s table titles names bodies) (s .say .pos) p a buf place q)
+
+  -- all that waits is short
+  pub short : ((i : ℕ) → byteAt table i < 256) → length (joined (piecesOf s table titles names bodies)) ≤ 2000020
+  unfolding loadOf loadAwait loadSay loadKeep
+  short o =
+      let k = waiting-short table titles names bodies (record-short table titles names bodies o) s (array-length 5 sm (oursAt + 1)) (array-length 5 sm (signsAt + 1)) (array-length 5 sm (sendingAt + 1)) in
+      omega (arith, ap length (pieces-joined s table titles names bodies))
+
+-- ---------------------------------------------------------------- for `keep`
+
+module _ (sm : Bytes) (n : length sm ≡ sessionLen) (pos : ℕ) {m : Bytes} where
+  pub keep-some : {first then : ℕ} → first ≡ byteAt sm firstAt → then ≡ byteAt sm thenAt
+      → m ≡ putBytes sm (at places.numbersStart) (numberBytes (withSay first then pos (numbersAt sm))) → {b : Bool} → b ≡ true → m ≡ saveOf sm (leftOf b pos (loadOf sm))
+  unfolding wholeOf numbersAt sayNumbers
+  keep-some {first} {then} f g e {b} t =
+      let h = withSay (byteAt sm firstAt) (byteAt sm thenAt) pos (numbersAt sm) in
+      saved-numbers sm h n
+      (e ∙ ap (λ (x : ℕ). putBytes sm (at places.numbersStart) (numberBytes (withSay x then pos (numbersAt sm)))) f
+      ∙ ap (λ (x : ℕ). putBytes sm (at places.numbersStart) (numberBytes (withSay (byteAt sm firstAt) x pos (numbersAt sm)))) g)
+      ∙ ap (saveOf sm) (ap (λ (x : Session). setters.withSay (setters.withPos pos (x .say)) x) (sym (load-whole sm n)) ∙ ap (λ (x : Bool). leftOf x pos (loadOf sm)) (sym t))
+
+  pub keep-none : m ≡ putBytes sm (at places.numbersStart) (numberBytes (withSay 0 0 0 (numbersAt sm))) → {b : Bool} → b ≡ false → m ≡ saveOf sm (leftOf b pos (loadOf sm))
+  unfolding wholeOf silentOf
+  keep-none e {b} t =
+      saved-numbers sm (withSay 0 0 0 (numbersAt sm)) n e
+      ∙ ap (saveOf sm) (ap silentOf (sym (load-whole sm n)) ∙ ap (λ (x : Bool). leftOf x pos (loadOf sm)) (sym t))
 
 -- ---------------------------------------------------------------- for `give`
+
+-- a memory that passes has its size
+pub form-size : (sm table titles names bodies known inbox store : Bytes) → formOf sm table titles names bodies known inbox store ≡ true → length sm ≡ sessionLen
+unfolding formOf
+form-size sm table titles names bodies known inbox store e = eqb-true (length sm) sessionLen (and2 (eqb (length sm) sessionLen) _ e .0)
+
+-- whether something is to be given
+module _ (s : Session) {b : Bool} (w : b ≡ waits (s .say)) where
+  silent-not : b ≡ false → hasToGive s ≡ false
+  unfolding hasToGive
+  silent-not e = ap (λ (x : Bool). cond (overOf s) false x) (sym w ∙ e) ∙ same (overOf s)
+    where
+      same : (c : Bool) → cond c false false ≡ false
+      same true = refl
+      same false = refl
+
+  ended-not : 6 < s .now .phase → hasToGive s ≡ false
+  unfolding hasToGive overOf
+  ended-not h = rw (le-ltb (s .now .phase) 6 (omega arith), ne-eqb (s .now .phase) 6 (λ e. omega arith))
+
+  due : b ≡ true → s .now .phase ≤ 6 → hasToGive s ≡ true
+  unfolding hasToGive overOf
+  due e h = go (ltb (s .now .phase) 6) refl
+    where
+      v : waits (s .say) ≡ true
+      v = sym w ∙ e
+
+      go : (c : Bool) → ltb (s .now .phase) 6 ≡ c → hasToGive s ≡ true
+      go true f = rw (f, v)
+      go false f =
+          let k = ltb-false (s .now .phase) 6 f in
+          simp (f, eq-eqb (s .now .phase) 6 (omega arith), v)
 
 abbrev given : Reply → Bytes → Bytes → Given
 given r m b = record { reply = r; sm = m; buf = b }
 
-same-given : {n o : ℕ} {m p b c : Bytes} → n ≡ o → m ≡ p → b ≡ c → given (reply 0 0 n) m b ≡ given (reply 0 0 o) p c
-same-given e f g = rw (e, f, g)
+same-given : {r : Reply} {n o : ℕ} {m p b c : Bytes} → r ≡ reply 0 0 n → n ≡ o → m ≡ p → b ≡ c → given r m b ≡ given (reply 0 0 o) p c
+same-given t e f g = rw (t, e, f, g)
 
--- the state t is saved that `hand` gave
-handed-out : (s : Session) (w sm buf : Bytes) (place : ℕ) {r : Handout} {m e : Bytes} → Hands s w buf place r e → m ≡ saveOf sm (r .state)
-    → given (reply 0 0 (r .count)) m e ≡ handing s w sm buf place
-handed-out s w sm buf place h q =
-    same-given (h .0) (q ∙ ap (λ (t : Session). saveOf sm t) (h .1 ∙ ap (λ (n : ℕ). handedOf s n (length w)) (h .0))) (h .2)
+-- what `hand` gave is kept
+handed-out : (s : Session) (w sm buf : Bytes) (place : ℕ) {h : Handout} {r : Reply} {m e : Bytes} → r ≡ reply 0 0 (h .count) → Hands s w buf place h e
+    → m ≡ saveOf sm (leftOf (h .left) (h .pos) s) → given r m e ≡ handing s w sm buf place
+unfolding handedOf
+handed-out s w sm buf place {h} t x q =
+    same-given t (x .0)
+    (q ∙ ap (λ (b : Bool). saveOf sm (leftOf b (h .pos) s)) (x .2) ∙ ap (λ (n : ℕ). saveOf sm (leftOf (ltb n (length w)) n s)) (x .1)
+    ∙ ap (λ (n : ℕ). saveOf sm (handedOf s n (length w))) (x .0))
+    (x .3)
 
 module _ (sm table titles names bodies known inbox store buf : Bytes) (place : ℕ) {b : Bool} (f : b ≡ formOf sm table titles names bodies known inbox store) where
   -- the memory fails the form test
-  pub give-bad : b ≡ false → given (reply 1 255 0) sm buf ≡ giveOf sm table titles names bodies known inbox store buf place
+  pub give-bad : {r : Reply} → r ≡ reply badMemory 255 0 → not b ≡ true → given r sm buf ≡ giveOf sm table titles names bodies known inbox store buf place
   unfolding giveOf
-  give-bad q = rw (sym f ∙ q)
+  give-bad t q = rw (sym f ∙ not-true b q, t)
 
-  module _ (q : b ≡ true) {s : Session} {v : Bool} (l : s ≡ loadOf sm) (w : v ≡ hasToGive s) where
-    test-is : v ≡ hasToGive (loadOf sm)
-    test-is = w ∙ ap hasToGive l
+  module _ (q : not b ≡ false) where
+    passes : formOf sm table titles names bodies known inbox store ≡ true
+    passes = sym f ∙ not-false b q
 
-    -- nothing is to be given
-    pub give-quiet : v ≡ false → given (reply 0 0 0) sm buf ≡ giveOf sm table titles names bodies known inbox store buf place
+    pub size : length sm ≡ sessionLen
+    size = form-size sm table titles names bodies known inbox store passes
+
+    quiet : {r : Reply} → r ≡ reply 0 0 0 → hasToGive (loadOf sm) ≡ false → given r sm buf ≡ giveOf sm table titles names bodies known inbox store buf place
     unfolding giveOf
-    give-quiet o = rw (sym f ∙ q, sym test-is ∙ o)
+    quiet t o = rw (passes, o, t)
 
-    -- no room
-    pub give-full : v ≡ true → length buf ≤ place → given (reply 0 0 0) sm buf ≡ giveOf sm table titles names bodies known inbox store buf place
-    unfolding giveOf
-    give-full o h = rw (sym f ∙ q, sym test-is ∙ o, le-ltb place (length buf) h)
+    module _ {p : Place} (x : b ≡ true → Next (loadOf sm) table titles names bodies p) where
+      next : Next (loadOf sm) table titles names bodies p
+      next = x (not-false b q)
 
-    -- bytes are handed out
-    pub give-some : v ≡ true → place < length buf → {r : Handout} {m e : Bytes} → Hands s (waitingOf s table titles names bodies) buf place r e → m ≡ saveOf sm (r .state)
-        → given (reply 0 0 (r .count)) m e ≡ giveOf sm table titles names bodies known inbox store buf place
-    unfolding giveOf
-    give-some o h x y =
-        rw (sym f ∙ q, sym test-is ∙ o, lt-ltb place (length buf) h)
-        (handed-out s (waitingOf s table titles names bodies) sm buf place x y
-        ∙ ap (λ (t : Session). handing t (waitingOf t table titles names bodies) sm buf place) l)
+      pub place-at : not (p .left) ≡ false → At (piecesOf (loadOf sm) table titles names bodies) (loadOf sm .say .pos) p
+      place-at l = next .1 (not-false (p .left) l)
+
+      -- nothing waits
+      pub give-silent : {r : Reply} → r ≡ reply 0 0 0 → not (p .left) ≡ true → given r sm buf ≡ giveOf sm table titles names bodies known inbox store buf place
+      give-silent t l = quiet t (silent-not (loadOf sm) (next .0) (not-true (p .left) l))
+
+      -- the session has ended
+      pub give-ended : {r : Reply} → r ≡ reply 0 0 0 → 6 < byteAt sm phaseAt → given r sm buf ≡ giveOf sm table titles names bodies known inbox store buf place
+      unfolding loadOf loadAwait
+      give-ended t h = quiet t (ended-not (loadOf sm) (next .0) h)
+
+      module _ (l : not (p .left) ≡ false) (h : byteAt sm phaseAt ≤ 6) where
+        to-give : hasToGive (loadOf sm) ≡ true
+        unfolding loadOf loadAwait
+        to-give = due (loadOf sm) (next .0) (not-false (p .left) l) h
+
+        -- no room
+        pub give-full : {r : Reply} → r ≡ reply 0 0 0 → length buf ≤ place → given r sm buf ≡ giveOf sm table titles names bodies known inbox store buf place
+        unfolding giveOf
+        give-full t k = rw (passes, to-give, le-ltb place (length buf) k, t)
+
+        -- bytes are handed out
+        pub give-some : {o : Handout} {r : Reply} {m e : Bytes} → r ≡ reply 0 0 (o .count) → place < length buf
+            → Hands (loadOf sm) (waitingOf (loadOf sm) table titles names bodies) buf place o e → m ≡ saveOf sm (leftOf (o .left) (o .pos) (loadOf sm))
+            → given r m e ≡ giveOf sm table titles names bodies known inbox store buf place
+        unfolding giveOf
+        give-some t k y z =
+            rw (passes, to-give, lt-ltb place (length buf) k) (handed-out (loadOf sm) (waitingOf (loadOf sm) table titles names bodies) sm buf place t y z)

@@ -1,6 +1,6 @@
 -- 01, "give (bytes the link will now take)": the answer and the lent memory after it, for any memory.
 use mathlib.Core.Path.{_≡_}
-use mathlib.Core.Bool.{cond}
+use mathlib.Core.Bool.{Bool, cond}
 use Prim.Native.Nat.{ℕ, _+_, _-_}
 use lib.Dec.{ltb}
 use lib.ListN.{length}
@@ -41,11 +41,15 @@ handing s w sm buf place =
       buf = putBytes buf (record { at = place; skip = s .say .pos }) w;
     }
 
--- How a state and a buffer are left when what waits is handed out: the count, the state after it, the buffer e.
+-- What is handed out, and how the buffer is left: the count, how many bytes are given then, whether more are left, the buffer e.
 abbrev pub Hands : Session → Bytes → Bytes → ℕ → Handout → Bytes → Type 0
 Hands s w buf place r e =
-    (r .count ≡ length (cut (length buf - place) (s .say .pos) w)) × (r .state ≡ handedOf s (r .count) (length w))
+    (r .count ≡ length (cut (length buf - place) (s .say .pos) w)) × (r .pos ≡ s .say .pos + r .count) × (r .left ≡ ltb (r .pos) (length w))
     × (e ≡ putBytes buf (record { at = place; skip = s .say .pos }) w)
+
+-- The state after a give: pos bytes are given and more are left, or nothing waits.
+abbrev pub leftOf : Bool → ℕ → Session → Session
+leftOf left pos s = cond left (withSay (withPos pos (s .say)) s) (silentOf s)
 
 -- "a place beyond the end writes nothing and reports 0"; "Give on an ended session writes nothing and answers 0 with count 0."
 unfoldable pub giveOf : Bytes → Bytes → Bytes → Bytes → Bytes → Bytes → Bytes → Bytes → Bytes → ℕ → Given

@@ -1,11 +1,17 @@
 // The call give.
 use buffer::Cursor;
-use session_memory::Session;
+use give_place::Place;
+use number_at::eight;
+use numbers_in_place::put_say;
 ghost use mathlib.Core.Path.{_≡_};
-ghost use Prim.Native.Nat.{_-_, _≤_};
 ghost use lib.ListN.{length};
+ghost use Rattle.grammar.specs.Refusals.{badMemory};
+ghost use Rattle.places.specs.Places.{sessionLen};
+ghost use Rattle.session_memory.specs.State.{loadOf, saveOf};
 ghost use Rattle.waiting.specs.Waiting.{waitingOf};
-ghost use Rattle.give.specs.Giving.{Hands, handedOf, giveOf};
+ghost use Rattle.waiting.specs.Pieces.{piecesOf};
+ghost use Rattle.give_place.specs.Located.{At};
+ghost use Rattle.give.specs.Giving.{reply, Hands, leftOf, giveOf};
 
 // What a call answers: 01's number, the place of a bad record (255: none; 0 but for number 1), the bytes dealt with.
 #[repr(C)]
@@ -15,56 +21,94 @@ pub struct Reply {
     pub count: usize,
 }
 
-// The state after a give, and how many bytes it gave.
+// How many bytes a give gives, how many are given then in all, and whether more are left.
 struct Handout {
-    state: Session,
     count: usize,
+    pos: usize,
+    left: bool,
 }
 
-// The state after n bytes more are given, of those that are left.
-fn handed<'a>(
-    s: Session,
-    n: usize,
-    table: &[u8],
-    titles: &'a [u8],
-    names: &'a [u8],
-    bodies: &[u8],
-) -> Session
-    requires { ⌜ n ≤ length (waitingOf s (now table) (now titles) (now names) (now bodies)) - s .say .pos ⌝ }
-    ensures { λ r. ⌜ r ≡ handedOf s n (length (waitingOf s (now (table .entry)) (now (titles .entry)) (now (names .entry)) (now (bodies .entry)))) ⌝ }
+// No record is bad.
+const NO_PLACE: u8 = 255;
+
+// Answer 0 with this count.
+fn given(count: usize) -> Reply
+    ensures { λ r. ⌜ r ≡ reply 0 0 count ⌝ }
 {
-    let pos = s.say.pos + n;
-    if waiting::is_left(s, pos, table, titles, names, bodies) {
-        let mut t = s;
-        t.say.pos = pos;
-        return t;
+    Reply {
+        answer: 0,
+        place: 0,
+        count: count,
     }
-    pending::silent(s)
 }
 
-// Writes what waits into buf from place on, as far as it fits.
+// Answer 1: the memory fails the form test.
+fn bad() -> Reply
+    ensures { λ r. ⌜ r ≡ reply badMemory 255 0 ⌝ }
+{
+    Reply {
+        answer: refusal::BAD_MEMORY,
+        place: NO_PLACE,
+        count: 0,
+    }
+}
+
+// Writes what waits from a place in it on into buf, as far as it fits.
 fn hand<'a>(
     buf: &mut [u8],
     place: usize,
-    s: Session,
+    p: Place,
+    sm: &[u8],
     table: &[u8],
     titles: &'a [u8],
     names: &'a [u8],
     bodies: &[u8],
 ) -> Handout
-    ensures { λ r. ⌜ Hands s (waitingOf s (now (table .entry)) (now (titles .entry)) (now (names .entry)) (now (bodies .entry))) (now (buf .entry)) place r (now (buf .exit)) ⌝ }
+    requires { ⌜ (length (now sm) ≡ sessionLen) × At (piecesOf (loadOf (now sm)) (now table) (now titles) (now names) (now bodies)) (loadOf (now sm) .say .pos) p ⌝ }
+    ensures { λ r. ⌜ Hands (loadOf (now (sm .entry))) (waitingOf (loadOf (now (sm .entry))) (now (table .entry)) (now (titles .entry)) (now (names .entry)) (now (bodies .entry))) (now (buf .entry)) place r (now (buf .exit)) ⌝ }
 {
     let c = Cursor {
         at: place,
-        skip: s.say.pos,
+        skip: p.offset,
     };
-    let d = waiting::write_waiting(buf, c, s, table, titles, names, bodies);
-    let count = d.at - place;
-    let t = handed(s, count, table, titles, names, bodies);
-    Handout {
-        state: t,
-        count: count,
+    let d = waiting_write::write_from(buf, c, p.piece, sm, table, titles, names, bodies);
+    let at = d.at;
+    let count = at - place;
+    let pos = eight(sm, places::POS) + count;
+    let given = p.offset + count;
+    if given < p.length {
+        return Handout {
+            count: count,
+            pos: pos,
+            left: true,
+        };
     }
+    if at < buf.len() {
+        return Handout {
+            count: count,
+            pos: pos,
+            left: false,
+        };
+    }
+    Handout {
+        count: count,
+        pos: pos,
+        left: give_place::is_left(p.piece, given, sm, table, titles, names, bodies),
+    }
+}
+
+// In session memory: pos bytes are given and more are left, or nothing waits.
+fn keep(sm: &mut [u8], left: bool, pos: usize)
+    requires { ⌜ length (now sm) ≡ sessionLen ⌝ }
+    ensures { λ _. ⌜ now (sm .exit) ≡ saveOf (now (sm .entry)) (leftOf left pos (loadOf (now (sm .entry)))) ⌝ }
+{
+    if left {
+        let first = sm[places::FIRST];
+        let then = sm[places::THEN];
+        put_say(sm, first, then, pos);
+        return;
+    }
+    put_say(sm, phase::PIECE_NONE, phase::PIECE_NONE, 0);
 }
 
 // Hands out as many waiting bytes as fit into buf from place on.
@@ -82,34 +126,21 @@ pub fn give<'a>(
 ) -> Reply
     ensures { λ r. ⌜ record { reply = r; sm = now (sm .exit); buf = now (buf .exit) } ≡ giveOf (now (sm .entry)) (now (table .entry)) (now (titles .entry)) (now (names .entry)) (now (bodies .entry)) (now (known .entry)) (now (inbox .entry)) (now (store .entry)) (now (buf .entry)) place ⌝ }
 {
-    if !form_test::form(sm, table, titles, names, bodies, known, inbox, store) {
-        return Reply {
-            answer: 1,
-            place: 255,
-            count: 0,
-        };
+    let t = form_test::test(sm, table, titles, names, bodies, known, inbox, store);
+    if !t.ok {
+        return bad();
     }
-    let s = session_memory::load(sm);
-    if !pending::has_to_give(s) {
-        return Reply {
-            answer: 0,
-            place: 0,
-            count: 0,
-        };
+    let p = t.place;
+    if !p.left {
+        return given(0);
+    }
+    if phase::LEAVING < sm[places::PHASE] {
+        return given(0);
     }
     if buf.len() <= place {
-        return Reply {
-            answer: 0,
-            place: 0,
-            count: 0,
-        };
+        return given(0);
     }
-    let h = hand(buf, place, s, table, titles, names, bodies);
-    let t = h.state;
-    state_save::save(sm, t);
-    Reply {
-        answer: 0,
-        place: 0,
-        count: h.count,
-    }
+    let h = hand(buf, place, p, sm, table, titles, names, bodies);
+    keep(sm, h.left, h.pos);
+    given(h.count)
 }

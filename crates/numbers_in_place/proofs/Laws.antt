@@ -196,3 +196,18 @@ module _ (sm : Bytes) (n : length sm ≡ sessionLen) (small : (i : ℕ) → byte
         ap (λ (x : Bytes). sets m leftAt (getD x 0 0 ∷ getD x 1 0 ∷ getD b 0 0 ∷ getD b 1 0 ∷ getD b 2 0 ∷ getD b 3 0 ∷ [])) d
         ∙ ap (λ (x : Bytes). sets m leftAt (getD (le2 (r .left)) 0 0 ∷ getD (le2 (r .left)) 1 0 ∷ getD x 0 0 ∷ getD x 1 0 ∷ getD x 2 0 ∷ getD x 3 0 ∷ [])) i
         ∙ ap (λ (x : Bytes). sets (sets x placeAt (small-out r)) leftAt (sizes-out r)) starts ∙ reader-saved r
+
+  module _ (f g h : ℕ) (e : f ≡ ff) (i : g ≡ framed) (j : h ≡ after-cr) where
+    pub say-written : (first then pos : ℕ) (p : Bytes) → p ≡ le8 pos
+        → sets (sets sm ffAt (f ∷ g ∷ h ∷ first ∷ then ∷ [])) posAt
+        (getD p 0 0 ∷ getD p 1 0 ∷ getD p 2 0 ∷ getD p 3 0 ∷ getD p 4 0 ∷ getD p 5 0 ∷ getD p 6 0 ∷ getD p 7 0 ∷ [])
+        ≡ putBytes sm (at places.numbersStart) (numberBytes (withSay first then pos (numbersAt sm)))
+    say-written first then pos p d =
+        ap (λ (x : ℕ). sets (sets sm ffAt (x ∷ g ∷ h ∷ first ∷ then ∷ [])) posAt (eight p)) e
+        ∙ ap (λ (x : ℕ). sets (sets sm ffAt (ff ∷ x ∷ h ∷ first ∷ then ∷ [])) posAt (eight p)) i
+        ∙ ap (λ (x : ℕ). sets (sets sm ffAt (ff ∷ framed ∷ x ∷ first ∷ then ∷ [])) posAt (eight p)) j
+        ∙ ap (λ (x : Bytes). sets (sets sm ffAt (ff ∷ framed ∷ after-cr ∷ first ∷ then ∷ [])) posAt (eight x)) d
+        ∙ say-saved first then pos
+      where
+        eight : Bytes → Bytes
+        eight l = getD l 0 0 ∷ getD l 1 0 ∷ getD l 2 0 ∷ getD l 3 0 ∷ getD l 4 0 ∷ getD l 5 0 ∷ getD l 6 0 ∷ getD l 7 0 ∷ []

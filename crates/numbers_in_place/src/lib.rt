@@ -1,6 +1,7 @@
 // Some of the numbers changed where they stand in session memory, as if all were loaded, changed and saved.
 use number_write::bytes2;
 use number_write::bytes4;
+use number_write::bytes8;
 use transfer_step::Reader;
 ghost use mathlib.Core.Path.{_≡_};
 ghost use lib.Dec.{eqb};
@@ -10,7 +11,7 @@ ghost use Rattle.places.specs.Places.{sessionLen};
 ghost use Rattle.places.specs.Places as places;
 ghost use Rattle.session_memory.specs.State.{at, flag};
 ghost use Rattle.numbers.specs.Whole.{numbersAt, numberBytes};
-ghost use Rattle.numbers_in_place.specs.Changed.{withLine, withReader};
+ghost use Rattle.numbers_in_place.specs.Changed.{withLine, withReader, withSay};
 
 // A flag as it is saved: 1 for the byte 1, 0 for any other.
 fn flag(b: u8) -> u8
@@ -60,4 +61,28 @@ pub fn put_reader(sm: &mut [u8], r: Reader)
     sm[places::BODY + 1] = body[1];
     sm[places::BODY + 2] = body[2];
     sm[places::BODY + 3] = body[3];
+}
+
+// These pieces wait for give, and pos of their bytes are given.
+pub fn put_say(sm: &mut [u8], first: u8, then: u8, pos: usize)
+    requires { ⌜ length (now sm) ≡ sessionLen ⌝ }
+    ensures { λ _. ⌜ now (sm .exit) ≡ putBytes (now (sm .entry)) (at places.numbersStart) (numberBytes (withSay first then pos (numbersAt (now (sm .entry))))) ⌝ }
+{
+    let ff = flag(sm[places::FF]);
+    let framed = flag(sm[places::FRAMED]);
+    let after_cr = flag(sm[places::AFTER_CR]);
+    let p = bytes8(pos);
+    sm[places::FF] = ff;
+    sm[places::FRAMED] = framed;
+    sm[places::AFTER_CR] = after_cr;
+    sm[places::FIRST] = first;
+    sm[places::THEN] = then;
+    sm[places::POS] = p[0];
+    sm[places::POS + 1] = p[1];
+    sm[places::POS + 2] = p[2];
+    sm[places::POS + 3] = p[3];
+    sm[places::POS + 4] = p[4];
+    sm[places::POS + 5] = p[5];
+    sm[places::POS + 6] = p[6];
+    sm[places::POS + 7] = p[7];
 }

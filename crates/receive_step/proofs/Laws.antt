@@ -1,15 +1,16 @@
 -- What each way through the code leaves, over plain values: a transfer's run, a byte.
-use mathlib.Core.Path.{_≡_, sym, ap, _∙_, subst}
+use mathlib.Core.Path.{_≡_, sym, ap, _∙_}
 use mathlib.Core.Bool.{Bool, true, false, cond, not, _&&_}
 use mathlib.Core.List.{[], _∷_, _++_, append-nil}
-use Prim.Native.Nat.{ℕ, _-_, _<_, _≤_}
+use Prim.Native.Nat.{ℕ, _+_, _-_, _<_, _≤_}
 use native.Mathlib.Omega.{arith}
 use lib.Dec.{eqb}
 use lib.ListN.{length, getD, take, drop, length-drop, drop-of-length-le}
-use lib.Seq.{drop-cons}
+use lib.Seq.{drop-cons, length-take-le}
 use borrow.Author.Tests.{eq-eqb, ne-eqb}
 use Rattle.grammar.specs.Bytes.{Bytes, LF}
 use Rattle.grammar.proofs.Basics.{to-end}
+use Rattle.places.specs.Places.{arraysLen, headingAt, headingLen}
 use Rattle.transfer_read.specs.declared.Fed.{Fed}
 use Rattle.transfer_step.specs.declared.Outcome.{Outcome}
 use Rattle.transfer_step.specs.declared.Outcome.the-variants.{More, Whole, Malformed, WrongSum, NoRoom}
@@ -18,91 +19,109 @@ use Rattle.transfer_read.specs.Feed.{roomOf, feedOf}
 use Rattle.transfer_read.proofs.Room.{feed-within}
 use Rattle.session_memory.specs.declared.Session.{Session}
 use Rattle.pending.specs.Pending.{waits}
+use Rattle.region.specs.Region.{region, lent}
+use Rattle.numbers.specs.declared.Numbers.{Numbers}
+use Rattle.numbers.specs.Whole.{wholeOf}
+use Rattle.numbers_in_place.specs.Changed.{withReader}
+use Rattle.numbers_in_place.proofs.Arrays.{heading-lent}
 use Rattle.settling.specs.declared.Left.{Left}
 use Rattle.receive_defined.specs.Receiving.{Cs, Moved, cs, moved, refusedOf, Settled, settled, lineStepOf, keptInbox, keepOf, reading, transferMoved, transferStepOf, lfDropped, lineByteOf, byteOf, Run, run}
+use Rattle.receive_defined.specs.Portion.{fed, counted, ofTransfer, transferPortionOf, portionOf}
 use Rattle.kept_message.specs.Keeping.{Keepable}
 use Rattle.receive_step.specs.declared.Taken.{Taken}
 use Rattle.receive_step.specs.declared.Reached.{Reached}
-use Rattle.receive_defined.specs.Portion.{fed, counted, ofTransfer, transferPortionOf, portionOf}
 use Rattle.receive_step.specs.Parts.{taken, ReadOn, Leaves}
 
 -- ---------------------------------------------------------------- what a transfer's bytes came to
 
-module _ (s : Session) (table inbox : Bytes) (o : Outcome) where
-  pub leaves-more : o ≡ More → Leaves o s table inbox (record { answer = 0; session = s }) table inbox
-  leaves-more e st = ap (λ (x : Outcome). transferMoved x s table inbox st) (sym e)
+module _ (s : Numbers) (m table inbox : Bytes) (o : Outcome) where
+  pub leaves-more : o ≡ More → Leaves o s m table inbox (record { answer = 0; session = s }) table inbox
+  leaves-more e st = ap (λ (x : Outcome). transferMoved x (wholeOf s m) table inbox st) (sym e)
 
-  pub leaves-whole : (r : Left) (table′ inbox′ : Bytes) → o ≡ Whole → settled (r .answer) (r .session) table′ ≡ keepOf s table → inbox′ ≡ keptInbox s inbox → Leaves o s table inbox r table′ inbox′
+  pub leaves-whole : (r : Left) (table′ inbox′ : Bytes) → o ≡ Whole → settled (r .answer) (wholeOf (r .session) m) table′ ≡ keepOf (wholeOf s m) table
+      → inbox′ ≡ keptInbox (wholeOf s m) inbox → Leaves o s m table inbox r table′ inbox′
   leaves-whole r table′ inbox′ e k i st =
+      let w : Session = wholeOf s m in
       ap (λ (y : Settled). moved (y .answer) (cs (y .session) (y .table) inbox′ st)) k
-      ∙ ap (λ (y : Bytes). moved (keepOf s table .answer) (cs (keepOf s table .session) (keepOf s table .table) y st)) i
-      ∙ ap (λ (x : Outcome). transferMoved x s table inbox st) (sym e)
+      ∙ ap (λ (y : Bytes). moved (keepOf w table .answer) (cs (keepOf w table .session) (keepOf w table .table) y st)) i
+      ∙ ap (λ (x : Outcome). transferMoved x w table inbox st) (sym e)
 
-  module _ (x : Session) (f : x ≡ refusedOf s) where
-    refusal : (n : ℕ) (st : Bytes) → moved n (cs x table inbox st) ≡ moved n (cs (refusedOf s) table inbox st)
+  module _ (x : Numbers) (f : wholeOf x m ≡ refusedOf (wholeOf s m)) where
+    refusal : (n : ℕ) (st : Bytes) → moved n (cs (wholeOf x m) table inbox st) ≡ moved n (cs (refusedOf (wholeOf s m)) table inbox st)
     refusal n st = ap (λ (y : Session). moved n (cs y table inbox st)) f
 
-    pub leaves-malformed : o ≡ Malformed → Leaves o s table inbox (record { answer = 8; session = x }) table inbox
-    leaves-malformed e st = refusal 8 st ∙ ap (λ (y : Outcome). transferMoved y s table inbox st) (sym e)
+    pub leaves-malformed : o ≡ Malformed → Leaves o s m table inbox (record { answer = 8; session = x }) table inbox
+    leaves-malformed e st = refusal 8 st ∙ ap (λ (y : Outcome). transferMoved y (wholeOf s m) table inbox st) (sym e)
 
-    pub leaves-wrong-sum : o ≡ WrongSum → Leaves o s table inbox (record { answer = 9; session = x }) table inbox
-    leaves-wrong-sum e st = refusal 9 st ∙ ap (λ (y : Outcome). transferMoved y s table inbox st) (sym e)
+    pub leaves-wrong-sum : o ≡ WrongSum → Leaves o s m table inbox (record { answer = 9; session = x }) table inbox
+    leaves-wrong-sum e st = refusal 9 st ∙ ap (λ (y : Outcome). transferMoved y (wholeOf s m) table inbox st) (sym e)
 
-    pub leaves-no-room : o ≡ NoRoom → Leaves o s table inbox (record { answer = 10; session = x }) table inbox
-    leaves-no-room e st = refusal 10 st ∙ ap (λ (y : Outcome). transferMoved y s table inbox st) (sym e)
+    pub leaves-no-room : o ≡ NoRoom → Leaves o s m table inbox (record { answer = 10; session = x }) table inbox
+    leaves-no-room e st = refusal 10 st ∙ ap (λ (y : Outcome). transferMoved y (wholeOf s m) table inbox st) (sym e)
 
 -- ---------------------------------------------------------------- a transfer's run
 
-pub taken-by : (t : Taken) (n k : ℕ) (x : Session) (table inbox store : Bytes) (y : Run) → t ≡ taken n k x → run n k (cs x table inbox store) ≡ y → run (t .answer) (t .count) (cs (t .session) table inbox store) ≡ y
-taken-by t n k x table inbox store y e f = ap (λ (u : Taken). run (u .answer) (u .count) (cs (u .session) table inbox store)) e ∙ f
+pub taken-by : (t : Taken) (n k : ℕ) (x : Numbers) (m table inbox store : Bytes) (y : Run) → t ≡ taken n k x → run n k (cs (wholeOf x m) table inbox store) ≡ y
+    → run (t .answer) (t .count) (cs (wholeOf (t .session) m) table inbox store) ≡ y
+taken-by t n k x m table inbox store y e f = ap (λ (u : Taken). run (u .answer) (u .count) (cs (wholeOf (u .session) m) table inbox store)) e ∙ f
 
--- the part of the store behind the kept messages is lent
-module _ (s : Session) (bs st : Bytes) (f : Fed) (hd w : Bytes)
-    (e : transfer.run f hd w ≡ feedOf (roomOf (take (length st - s .keep .used) (drop (s .keep .used) st))) (s .reading .reader) bs (s .reading .heading) (take (length st - s .keep .used) (drop (s .keep .used) st))) where
-  whole : transfer.run f hd w ≡ fed (cs s [] [] st) bs
-  whole = e ∙ ap (λ (l : Bytes). feedOf (roomOf l) (s .reading .reader) bs (s .reading .heading) l) (to-end st (s .keep .used))
+-- the heading's place is lent and given back as u, the part of the store behind the kept messages as w
+module _ (s : Numbers) (m : Bytes) (n : length m ≡ arraysLen) (bs st : Bytes) (f : Fed) (u w : Bytes) (l : length u ≡ length (take headingLen (drop headingAt m)))
+    (e : transfer.run f u w ≡ feedOf (roomOf (take (length st - s .keep .used) (drop (s .keep .used) st))) (s .reader) bs (take headingLen (drop headingAt m)) (take (length st - s .keep .used) (drop (s .keep .used) st))) where
+  abbrev before : Cs
+  before = cs (wholeOf s m) [] [] st
+
+  whole : transfer.run f u w ≡ fed before bs
+  unfolding wholeOf region
+  whole = e ∙ ap (λ (x : Bytes). feedOf (roomOf x) (s .reader) bs (take headingLen (drop headingAt m)) x) (to-end st (s .keep .used))
 
   nothing-after : w ++ drop (length st - s .keep .used) (drop (s .keep .used) st) ≡ w
   nothing-after =
       let z : drop (length st - s .keep .used) (drop (s .keep .used) st) ≡ [] = drop-of-length-le (drop (s .keep .used) st) {i = length st - s .keep .used} (simp length-drop (omega arith)) in
       rw (z, append-nil w)
 
-  pub read-on : ReadOn (cs s [] [] st) bs (record { outcome = f .outcome; count = f .count; session = reading s (f .reader) hd })
-      (take (s .keep .used) st ++ (w ++ drop (length st - s .keep .used) (drop (s .keep .used) st)))
+  session-after : wholeOf (withReader (f .reader) s) (lent headingAt headingLen m u) ≡ reading (wholeOf s m) (f .reader) u
+  unfolding wholeOf
+  session-after = heading-lent (withReader (f .reader) s) m u n (l ∙ length-take-le headingLen (drop headingAt m) (simp length-drop (omega arith)))
+
+  pub read-on : ReadOn before bs (record { outcome = f .outcome; count = f .count; session = withReader (f .reader) s })
+      (take headingAt m ++ (u ++ drop headingLen (drop headingAt m))) (take (s .keep .used) st ++ (w ++ drop (length st - s .keep .used) (drop (s .keep .used) st)))
+  unfolding lent wholeOf
   read-on =
       record {
-        outcome = ap (λ (u : transfer.Run). u .fed .outcome) whole;
-        count = ap (λ (u : transfer.Run). u .fed .count) whole;
-        session = ap (λ (u : transfer.Run). reading s (u .fed .reader) (u .heading)) whole;
-        store = ap (λ (l : Bytes). take (s .keep .used) st ++ l) (nothing-after ∙ ap (λ (u : transfer.Run). u .store) whole);
+        outcome = ap (λ (v : transfer.Run). v .fed .outcome) whole;
+        count = ap (λ (v : transfer.Run). v .fed .count) whole;
+        session = session-after ∙ ap (λ (v : transfer.Run). reading (wholeOf s m) (v .fed .reader) (v .heading)) whole;
+        store = ap (λ (x : Bytes). take (s .keep .used) st ++ x) (nothing-after ∙ ap (λ (v : transfer.Run). v .store) whole);
       }
 
-module _ (s : Session) (bs st : Bytes) (r : Reached) (st′ : Bytes) (q : ReadOn (cs s [] [] st) bs r st′) where
+module _ (s : Numbers) (m bs st : Bytes) (r : Reached) (m′ st′ : Bytes) (q : ReadOn (cs (wholeOf s m) [] [] st) bs r m′ st′) where
   -- the numbers of a kept message still fit
-  pub run-fits : s .keep .kept ≤ 64 → s .keep .used ≤ length st → s .reading .reader .body ≤ roomOf (drop (s .keep .used) st) → length st < 18446744073709551616
+  pub run-fits : s .keep .kept ≤ 64 → s .keep .used ≤ length st → s .reader .body ≤ roomOf (drop (s .keep .used) st) → length st < 18446744073709551616
       → Keepable (r .session)
+  unfolding wholeOf
   run-fits k u b l =
-      let h = feed-within (roomOf (drop (s .keep .used) st)) (s .reading .reader) bs (s .reading .heading) (drop (s .keep .used) st) b in
+      let c : Cs = cs (wholeOf s m) [] [] st in
+      let h = feed-within (roomOf (drop (s .keep .used) st)) (s .reader) bs (c .session .reading .heading) (drop (s .keep .used) st) b in
       let d : length (drop (s .keep .used) st) ≡ length st - s .keep .used = length-drop (s .keep .used) st in
-      subst Keepable (sym (q .session)) (k, omega (arith, h, d, u, l))
+      let kept : r .session .keep .kept ≡ s .keep .kept = ap (λ (x : Session). x .keep .kept) (q .session) in
+      let used : r .session .keep .used ≡ s .keep .used = ap (λ (x : Session). x .keep .used) (q .session) in
+      let body : r .session .reader .body ≡ fed c bs .fed .reader .body = ap (λ (x : Session). x .reading .reader .body) (q .session) in
+      (omega (arith, k, kept), omega (arith, h, d, u, l, used, body))
 
-  pub run-by : (table inbox : Bytes) (m : Left) (table′ inbox′ : Bytes) → Leaves (r .outcome) (r .session) table inbox m table′ inbox′
-      → run (m .answer) (r .count) (cs (m .session) table′ inbox′ st′) ≡ transferPortionOf (cs s table inbox st) bs
+  pub run-by : (table inbox : Bytes) (v : Left) (table′ inbox′ : Bytes) → Leaves (r .outcome) (r .session) m′ table inbox v table′ inbox′
+      → run (v .answer) (r .count) (cs (wholeOf (v .session) m′) table′ inbox′ st′) ≡ transferPortionOf (cs (wholeOf s m) table inbox st) bs
   unfolding transferPortionOf
-  run-by table inbox m table′ inbox′ l =
+  run-by table inbox v table′ inbox′ l =
+      let c : Cs = cs (wholeOf s m) [] [] st in
+      let x : Session = reading (wholeOf s m) (fed c bs .fed .reader) (fed c bs .heading) in
       ap (counted (r .count)) (l st′)
-      ∙ ap (λ (x : Outcome). counted (r .count) (transferMoved x (r .session) table inbox st′)) (q .outcome)
-      ∙ ap (λ (x : Session). counted (r .count) (transferMoved (fed (cs s [] [] st) bs .fed .outcome) x table inbox st′)) (q .session)
-      ∙ ap (λ (x : Bytes). counted (r .count) (transferMoved (fed (cs s [] [] st) bs .fed .outcome) (reading s (fed (cs s [] [] st) bs .fed .reader) (fed (cs s [] [] st) bs .heading)) table inbox x)) (q .store)
-      ∙ ap (λ (n : ℕ). counted n (transferMoved (fed (cs s [] [] st) bs .fed .outcome) (reading s (fed (cs s [] [] st) bs .fed .reader) (fed (cs s [] [] st) bs .heading)) table inbox (take (s .keep .used) st ++ fed (cs s [] [] st) bs .store))) (q .count)
+      ∙ ap (λ (o : Outcome). counted (r .count) (transferMoved o (wholeOf (r .session) m′) table inbox st′)) (q .outcome)
+      ∙ ap (λ (y : Session). counted (r .count) (transferMoved (fed c bs .fed .outcome) y table inbox st′)) (q .session)
+      ∙ ap (λ (y : Bytes). counted (r .count) (transferMoved (fed c bs .fed .outcome) x table inbox y)) (q .store)
+      ∙ ap (λ (n : ℕ). counted n (transferMoved (fed c bs .fed .outcome) x table inbox (take (wholeOf s m .keep .used) st ++ fed c bs .store))) (q .count)
 
 -- ---------------------------------------------------------------- a byte, or a run
-
-pub dropped-no : (a : Bool) (b : ℕ) → a ≡ false → false ≡ a && eqb b 10
-dropped-no a b e = ap (λ (x : Bool). x && eqb b 10) (sym e)
-
-pub dropped-yes : (a : Bool) (b : ℕ) → a ≡ true → eqb b 10 ≡ a && eqb b 10
-dropped-yes a b e = ap (λ (x : Bool). x && eqb b 10) (sym e)
 
 pub portion-none : (known : Bytes) (c : Cs) (bs : Bytes) → length bs ≡ 0 → run 0 0 c ≡ portionOf known c bs
 unfolding portionOf
@@ -158,11 +177,11 @@ module _ (known : Bytes) (s : Session) (table inbox store bs : Bytes) (n : lengt
             ∙ ap (λ (x : Bool). cond x (transferPortionOf here (first ∷ drop 1 bs)) (counted 1 (byteOf known here first))) (sym (of-phase ∙ eq-eqb _ _ p))
             ∙ ap (portionOf known here) (sym split)
 
-        pub portion-line : (r : Left) (table′ : Bytes) → (s .now .phase ≡ 5 → ⊥) → settled (r .answer) (r .session) table′ ≡ lineStepOf s first table known inbox (length store)
-            → run (r .answer) 1 (cs (r .session) table′ inbox store) ≡ portionOf known here bs
+        pub portion-line : (k : ℕ) (x : Session) (table′ : Bytes) → (s .now .phase ≡ 5 → ⊥) → settled k x table′ ≡ lineStepOf s first table known inbox (length store)
+            → run k 1 (cs x table′ inbox store) ≡ portionOf known here bs
         unfolding byteOf
-        portion-line r table′ p e =
-            by-byte (moved (r .answer) (cs (r .session) table′ inbox store)) (of-phase ∙ ne-eqb _ _ p)
+        portion-line k x table′ p e =
+            by-byte (moved k (cs x table′ inbox store)) (of-phase ∙ ne-eqb _ _ p)
             (ap (λ (t : Settled). moved (t .answer) (cs (t .session) (t .table) inbox store)) e
             ∙ ap (rest false false) (sym (ne-eqb _ _ p))
             ∙ ap (λ (y : Bool). rest false y (eqb (s .now .phase) 5)) (sym (sym E ∙ Q)) ∙ ap (λ (y : Bool). rest y (waits (s .say)) (eqb (s .now .phase) 5)) (sym not-dropped))

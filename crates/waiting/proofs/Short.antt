@@ -18,6 +18,7 @@ use Rattle.grammar.proofs.Fields.{num-field}
 use Rattle.mail.specs.Mail.{Record, headingFor, transferOf, proposalLines, turnText}
 use Rattle.layout.specs.Layout.{byteAt, le2At, le4At, fieldIn, entryAt, recordSize, recordOf}
 use Rattle.layout.proofs.Laws.{le2-small}
+use Rattle.record_text.proofs.Laws.{part-short, part-octets}
 use Rattle.our_line.specs.Lines.{fsText}
 use Rattle.session_memory.specs.State.{held}
 use Rattle.session_memory.specs.declared.Five.{Five}
@@ -25,24 +26,6 @@ use Rattle.session_memory.specs.declared.Session.{Session}
 use Rattle.waiting.specs.Waiting.{proposalAt, firstText, blockText, sendingText, thenText, waitingOf}
 
 -- ---------------------------------------------------------------- parts, fields and lists of five
-
-pub part-short : (s : Bytes) (start len : ℕ) → length (partOf s start len) ≤ len
-part-short s start len =
-    let P : Bytes → Type 0 = λ l. length l ≤ len in
-    by-cond P (leb start (length s)) (by-cond P (leb len (length s - start)) (simp length-take (omega arith)) (omega arith)) (omega arith)
-
--- a part of memory holds bytes, as the memory does
-part-octets : (s : Bytes) → ((i : ℕ) → byteAt s i < 256) → (start len i : ℕ) → byteAt (partOf s start len) i < 256
-part-octets s o start len i =
-    let P : Bytes → Type 0 = λ l. byteAt l i < 256 in
-    by-cond P (leb start (length s)) (by-cond P (leb len (length s - start)) (within (ltb i len) refl) (omega arith)) (omega arith)
-  where
-    within : (b : Bool) → ltb i len ≡ b → byteAt (take len (drop start s)) i < 256
-    within true e = rw (getD-take len (drop start s) i 0 (ltb-true i len e), getD-drop start s i 0) (o (start + i))
-    within false e =
-        let h = ltb-false i len e in
-        let l = length-take len (drop start s) in
-        rw (List·getD-eq-default (take len (drop start s)) 0 {n = i} (omega arith)) (omega arith)
 
 field-short : (n at : ℕ) (s : Bytes) → length (fieldIn n at s) ≤ n
 field-short n at s = omega (arith, part-short s (at + 1) (min n (byteAt s at)))

@@ -1,32 +1,74 @@
 -- The definition's tests are the code's, the store bytes in use as they were counted.
+use mathlib.Core.Path.{ap}
+use Prim.Native.Nat.{ℕ}
+use native.Mathlib.Omega.{arith}
+use lib.Dec.{leb}
+use lib.ListN.{length}
 use borrow.Author.Tests.{le-leb, lt-leb}
+use Rattle.layout.specs.Layout.{byteAt}
+use Rattle.places.specs.Places.{keptAt}
+use Rattle.session_memory.specs.State.{loadOf, loadKeep}
 use Rattle.form_test.specs.Form.{inboxOk}
-use Rattle.form_test.proofs.Laws.{read-is, read-not}
+use Rattle.form_test.proofs.Laws.{kept-is, kept-not, both-are, both-not}
 use borrow.Author.Needs.{needs}
 use Rattle.form_test.proofs.inbox_ok.Statement.{statement}
 use Rattle.form_test.proofs.inbox_ok.Tie as tie
+use Rattle.form_test.proofs.inbox_ok.Reads as reads
+use Rattle.form_test.proofs.inbox_ok.Lts as lts
+use Rattle.form_test.proofs.used_by.Reads as used-by-reads
+use Rattle.number_at.proofs.eight.Reads as eight-reads
+use Rattle.number_at.proofs.wide.Reads as wide-reads
 
+-- src/lib.rt:87:9
 returns : tie.Need-returns
-unfolding inboxOk
+unfolding inboxOk loadOf loadKeep
 returns c = rw (lt-leb _ _ (c .if1 .taken))
 
-cast-if2 : tie.Need-cast-if2
-cast-if2 c = search needs
+-- src/lib.rt:89:16
+shared-slice-read-kept : tie.Need-shared-slice-read-kept
+shared-slice-read-kept c = search needs
 
+-- src/lib.rt:90:30
+wide-requires : tie.Need-wide-requires
+wide-requires c κs = search needs
+
+-- src/lib.rt:90:22
+mul-if2 : tie.Need-mul-if2
+mul-if2 c = search needs
+
+-- src/lib.rt:91:9
 returns-2 : tie.Need-returns-2
-unfolding inboxOk
-returns-2 c = rw (le-leb _ _ (c .before .if1 .left), lt-leb _ _ (c .if2 .taken))
+unfolding inboxOk loadOf loadKeep
+returns-2 c = let a = c .before .before .before .before .before .before .before .args in rw (le-leb _ _ (c .before .before .before .if1 .left), kept-not (byteAt (a .sm .now) keptAt) (length (a .inbox .now)) (c .before .wide .ensures .0) (c .if2 .taken))
 
+-- src/lib.rt:93:9
+eight-requires : tie.Need-eight-requires
+eight-requires c κs = search needs
+
+-- src/lib.rt:94:8
 used-by-requires : tie.Need-used-by-requires
-used-by-requires c κs = search needs
+used-by-requires c κs = omega (arith, c .before .before .wide .ensures .0, c .before .if2 .left)
 
+-- src/lib.rt:95:9
 returns-3 : tie.Need-returns-3
-unfolding inboxOk
-returns-3 c = rw (le-leb _ _ (c .before .before .before .before .if1 .left), le-leb _ _ (c .before .before .before .if2 .left), read-not (c .before .before .before .before .before .before .before .args .s .keep .used) (c .before .before .used-by .ensures) (c .if3 .taken))
+unfolding inboxOk loadOf loadKeep
+returns-3 c = let a = c .before .before .before .before .before .before .before .before .before .before .args in rw (le-leb _ _ (c .before .before .before .before .before .before .if1 .left), kept-is (byteAt (a .sm .now) keptAt) (length (a .inbox .now)) (c .before .before .before .before .wide .ensures .0) (c .before .before .before .if2 .left), both-not (c .before .used-by .ensures) (c .before .before .eight .ensures) (c .if3 .taken))
 
+-- src/lib.rt:82:1
 returns-4 : tie.Need-returns-4
-unfolding inboxOk
-returns-4 c = rw (le-leb _ _ (c .before .before .before .before .before .if1 .left), le-leb _ _ (c .before .before .before .before .if2 .left), read-is (c .before .before .before .before .before .before .before .before .args .s .keep .used) (c .before .before .before .used-by .ensures) (c .before .if3 .left))
+unfolding inboxOk loadOf loadKeep
+returns-4 c = let a = c .before .before .before .before .before .before .before .before .before .before .args in rw (le-leb _ _ (c .before .before .before .before .before .before .if1 .left), kept-is (byteAt (a .sm .now) keptAt) (length (a .inbox .now)) (c .before .before .before .before .wide .ensures .0) (c .before .before .before .if2 .left), both-are (c .before .used-by .ensures) (c .before .before .eight .ensures) (c .if3 .left)) (ap (λ (n : ℕ). leb n (length (a .store .now))) (c .before .before .eight .ensures))
 
 pub inbox-ok-spec : {M : Type 1} → statement M
-inbox-ok-spec = tie.close (tie.spec returns cast-if2 returns-2 used-by-requires returns-3 returns-4)
+inbox-ok-spec =
+    tie.close
+    (tie.spec
+    returns
+    shared-slice-read-kept
+    wide-requires
+    mul-if2
+    returns-2
+    eight-requires
+    used-by-requires
+    returns-3
+    returns-4)

@@ -1,0 +1,2 @@
+-- Where the next byte to give is.
+pub mod Located

@@ -1,0 +1,2 @@
+-- The texts of a record, as parts of the stores.
+pub mod Texts

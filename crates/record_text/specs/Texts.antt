@@ -1,0 +1,16 @@
+-- The texts of a record r of the table, as parts of the three lent stores.
+use mathlib.Core.Bool.{cond}
+use lib.Dec.{eqb}
+use Rattle.grammar.specs.Bytes.{Bytes}
+use Rattle.grammar.specs.Transfers.{partOf}
+use Rattle.layout.specs.Layout.{byteAt, le2At, le4At}
+use Rattle.places.specs.Places.{recordForm, recordTitle, recordTitleLength, recordName, recordNameLength, recordBody, recordBodyLength}
+
+-- "the title for a message or the file name for a file"
+unfoldable pub headingIn : Bytes → Bytes → Bytes → Bytes
+headingIn titles names r =
+    cond (eqb (byteAt r recordForm) 2) (partOf names (le4At r recordName) (byteAt r recordNameLength))
+    (partOf titles (le4At r recordTitle) (byteAt r recordTitleLength))
+
+unfoldable pub bodyIn : Bytes → Bytes → Bytes
+bodyIn bodies r = partOf bodies (le4At r recordBody) (le2At r recordBodyLength)

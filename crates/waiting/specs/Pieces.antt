@@ -1,0 +1,43 @@
+-- What waits for give, piece by piece: the first piece, which may be empty, then each line or transfer after it. Put together they are
+-- `waitingOf` (proofs/Pieces).
+use mathlib.Core.Bool.{cond}
+use mathlib.Core.List.{List, [], _∷_, _++_}
+use Prim.Native.Nat.{ℕ}
+use lib.Dec.{eqb}
+use Rattle.grammar.specs.Bytes.{Bytes}
+use Rattle.grammar.specs.Turns.{fixedText, withCr, proposalLine, ourFF, ourFQ, ourEnd}
+use Rattle.mail.specs.Mail.{transferOf}
+use Rattle.layout.specs.Layout.{entryAt, recordSize, recordOf}
+use Rattle.session_memory.specs.State.{held}
+use Rattle.session_memory.specs.declared.Five.{Five}
+use Rattle.session_memory.specs.declared.Session.{Session}
+use Rattle.phase.specs.Phase.{pieceNone, pieceFF, pieceFQ, pieceBlock}
+use Rattle.waiting.specs.Waiting.{proposalAt, firstText}
+
+unfoldable pub joined : List Bytes → Bytes
+joined [] = []
+joined (p ∷ ps) = p ++ joined ps
+
+-- the proposals of the records at these places, and `F>`
+unfoldable pub blockPieces : Bytes → List ℕ → List Bytes
+blockPieces table [] = withCr (fixedText ourEnd) ∷ []
+blockPieces table (i ∷ is) = withCr (proposalLine (proposalAt table i)) ∷ blockPieces table is
+
+-- the transfers of the records at these places
+unfoldable pub sendingPieces : Bytes → Bytes → Bytes → Bytes → List ℕ → List Bytes
+sendingPieces table titles names bodies [] = []
+sendingPieces table titles names bodies (i ∷ is) =
+    transferOf (recordOf titles names bodies (entryAt recordSize table i)) ∷ sendingPieces table titles names bodies is
+
+unfoldable pub thenPieces : ℕ → Five → Five → Bytes → Bytes → Bytes → Bytes → List Bytes
+thenPieces then ours sending table titles names bodies =
+    cond (eqb then pieceNone) []
+    (cond (eqb then pieceFF) (withCr (fixedText ourFF) ∷ [])
+    (cond (eqb then pieceFQ) (withCr (fixedText ourFQ) ∷ [])
+    (cond (eqb then pieceBlock) (blockPieces table (held ours))
+    (sendingPieces table titles names bodies (held sending)))))
+
+-- ALL PIECES THAT WAIT
+unfoldable pub piecesOf : Session → Bytes → Bytes → Bytes → Bytes → List Bytes
+piecesOf s table titles names bodies =
+    firstText (s .say .first) (s .say .signs) ∷ thenPieces (s .say .then) (s .now .ours) (s .keep .sending) table titles names bodies
