@@ -1,8 +1,8 @@
 -- Four numbers: texts put as one.
 use Rattle.buffer.proofs.Laws.{puts-then}
 use borrow.Author.Needs.{needs}
-use Rattle.state_save.proofs.save_table_sizes.Statement.{statement}
-use Rattle.state_save.proofs.save_table_sizes.Tie as tie
+use Rattle.open_memory.proofs.save_table_sizes.Statement.{statement}
+use Rattle.open_memory.proofs.save_table_sizes.Tie as tie
 
 put8-requires : tie.Need-put8-requires
 put8-requires c κs = search needs

@@ -2,8 +2,8 @@
 use Rattle.buffer.proofs.Laws.{puts-then}
 use Rattle.session_memory.specs.State.{sizesOut, saveSizes}
 use borrow.Author.Needs.{needs}
-use Rattle.state_save.proofs.save_sizes.Statement.{statement}
-use Rattle.state_save.proofs.save_sizes.Tie as tie
+use Rattle.open_memory.proofs.save_sizes.Statement.{statement}
+use Rattle.open_memory.proofs.save_sizes.Tie as tie
 
 slice-aggregate-put : tie.Need-slice-aggregate-put
 slice-aggregate-put c = search needs
