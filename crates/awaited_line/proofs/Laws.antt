@@ -15,9 +15,9 @@ use Rattle.grammar.specs.Sid.{hasFeature, framed}
 use Rattle.sid.specs.declared.Sid.{Sid}
 use Rattle.sid.specs.Meaning.{sidOf}
 use Rattle.transfer_step.specs.declared.Reader.{Reader}
-use Rattle.session_memory.specs.declared.Await.{Await}
+use Rattle.session_memory.specs.Session.{Await}
 use Rattle.session_memory.specs.declared.Say.{Say}
-use Rattle.session_memory.specs.declared.Keep.{Keep}
+use Rattle.session_memory.specs.Session.{Keep}
 use Rattle.phase.specs.Phase.{phaseCallerSid, phasePrompt}
 use Rattle.places.specs.Places.{deferredAt, deferredLen, headingAt, headingLen, lineLen, blockAt, blockLen, arraysLen}
 use Rattle.region.specs.Region.{region, lent}

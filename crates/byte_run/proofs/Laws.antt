@@ -15,7 +15,7 @@ use Rattle.grammar.proofs.Basics.{to-end}
 use Rattle.phase.specs.Phase.{phaseTransfer}
 use Rattle.places.specs.Places.{arraysAt, arraysLen, lineAt}
 use Rattle.places.specs.Places as places
-use Rattle.session_memory.specs.declared.Session.{Session}
+use Rattle.session_memory.specs.Session.{Session}
 use Rattle.pending.specs.Pending.{waits, overOf}
 use Rattle.numbers.specs.declared.Numbers.{Numbers}
 use Rattle.numbers.specs.Whole.{wholeOf, numbersAt, numberBytes}

@@ -16,8 +16,8 @@ use Rattle.places.specs.Places.{entryLen, proposalLen, recordLen}
 use Rattle.layout.specs.Layout.{recordOf, messageOf, proposalOf}
 use Rattle.session_memory.specs.State.{held}
 use Rattle.session_memory.specs.declared.Five.{Five}
-use Rattle.session_memory.specs.declared.Await.{Await}
-use Rattle.session_memory.specs.declared.Keep.{Keep}
+use Rattle.session_memory.specs.Session.{Await}
+use Rattle.session_memory.specs.Session.{Keep}
 use Rattle.session_memory.proofs.Laws.{held-five}
 use Rattle.our_turn.specs.Turn.{chooseOf}
 use Rattle.our_answer.specs.Answers.{shelfOf, answersOf}

@@ -17,7 +17,7 @@ use Rattle.places.specs.Places.{entryLen, knownLen, numbersStart, recordLen, se
 use Rattle.layout.specs.Layout.{le8}
 use Rattle.layout.proofs.Laws.{octets}
 use Rattle.session_memory.specs.State.{at, flag, loadOf, loadSizes, saveOf, sizesOut, saveSizes, freshOf}
-use Rattle.session_memory.specs.declared.Session.{Session}
+use Rattle.session_memory.specs.Session.{Session}
 use Rattle.session_memory.specs.declared.Sizes.{Sizes}
 use Rattle.session_memory.proofs.Laws.{sizes-length, Sized, sizes-saved, load-sizes, Shaped}
 use Rattle.entries.specs.Decoded.{placeCount}

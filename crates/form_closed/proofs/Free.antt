@@ -14,7 +14,7 @@ use Rattle.buffer.specs.Put.{cut}
 use Rattle.places.specs.Places.{markAt, numbersStart, arraysLen, sessionLen}
 use Rattle.layout.proofs.Places.{part-after}
 use Rattle.session_memory.specs.State.{loadOf, saveOf, sizesOut, saveSizes, freshOf, arraysOut}
-use Rattle.session_memory.specs.declared.Session.{Session}
+use Rattle.session_memory.specs.Session.{Session}
 use Rattle.session_memory.specs.declared.Sizes.{Sizes}
 use Rattle.session_memory.proofs.Laws.{Shaped, free-kept, end-kept, sizes-length}
 use Rattle.waiting.specs.Waiting.{waitingOf}

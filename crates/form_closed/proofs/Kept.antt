@@ -16,7 +16,7 @@ use Rattle.layout.specs.Layout.{entryAt, proposalSize, entryOut, le2, le4}
 use Rattle.layout.proofs.Laws.{entry-length, length-back}
 use Rattle.layout.proofs.Places.{part-in}
 use Rattle.session_memory.specs.State.{at, held}
-use Rattle.session_memory.specs.declared.Session.{Session}
+use Rattle.session_memory.specs.Session.{Session}
 use Rattle.entries.specs.Decoded.{placeCount}
 use Rattle.line_effect.specs.Judge.{noMarks, judged, toTransfer, nextAccepted, readerFor}
 use Rattle.line_effect.specs.Judged.{Judged}

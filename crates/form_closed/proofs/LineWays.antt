@@ -18,9 +18,9 @@ use Rattle.grammar.proofs.Basics.{by-cond}
 use Rattle.fs_line.specs.Answers.{answerNumber}
 use Rattle.transfer_step.specs.declared.Reader.{Reader}
 use Rattle.session_memory.specs.declared.Five.{Five}
-use Rattle.session_memory.specs.declared.Await.{Await}
+use Rattle.session_memory.specs.Session.{Await}
 use Rattle.session_memory.specs.declared.Say.{Say}
-use Rattle.session_memory.specs.declared.Keep.{Keep}
+use Rattle.session_memory.specs.Session.{Keep}
 use Rattle.our_answer.specs.Answers.{answersOf}
 use Rattle.line_effect.specs.Judge.{judged, refusal, sidRead, sidLine, textLine, endLine, answered, nextAccepted, readerFor, proposalLine, ffLine, fqLine, turnRead, turnLine, answerLine, judgeOf}
 use Rattle.line_effect.specs.declared.Marks.{Marks}

@@ -24,9 +24,9 @@ use Rattle.layout.specs.Layout.{proposalOut}
 use Rattle.transfer_step.specs.declared.Reader.{Reader}
 use Rattle.session_memory.specs.State.{at, held, fiveOf, noFive}
 use Rattle.session_memory.specs.declared.Five.{Five}
-use Rattle.session_memory.specs.declared.Await.{Await}
+use Rattle.session_memory.specs.Session.{Await}
 use Rattle.session_memory.specs.declared.Say.{Say}
-use Rattle.session_memory.specs.declared.Keep.{Keep}
+use Rattle.session_memory.specs.Session.{Keep}
 use Rattle.our_answer.specs.Answers.{answersOf}
 use Rattle.entries.specs.Decoded.{placeCount}
 use Rattle.line_effect.specs.Judge.{noMarks, judged, refusal, wentOn, inPhase, toTurn, toTransfer, saysFirst, saysThen, saysSigns, inMode, sends, afterSid, sidRead, sidLine, textLine, turnMarks, settledKeep, nextAccepted, readerFor, answered, endLine, withProposal, proposalLine, ffLine, fqLine, turnRead, turnLine, picked, flagged, transfersAfter, answerTaken, answerLine, lineIn, judgeOf}

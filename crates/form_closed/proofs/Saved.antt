@@ -15,7 +15,7 @@ use Rattle.places.specs.Places.{arraysAt, numbersStart, sessionLen, sizeStore}
 use Rattle.layout.specs.Layout.{byteAt}
 use Rattle.layout.proofs.Laws.{octets, le8-small}
 use Rattle.session_memory.specs.State.{at, loadOf, loadSizes, arraysOut, numberPart, saveOf}
-use Rattle.session_memory.specs.declared.Session.{Session}
+use Rattle.session_memory.specs.Session.{Session}
 use Rattle.session_memory.specs.declared.Sizes.{Sizes}
 use Rattle.session_memory.proofs.Laws.{save-length, save-first, save-sizes-kept, load-save}
 use Rattle.form_test.specs.Form.{markOk, sameSizes, lentSizes, stateOk, formOf}

@@ -15,7 +15,7 @@ use Rattle.layout.specs.Layout.{entryAt, recordSize, recordOf}
 use Rattle.our_line.specs.Lines.{fsText}
 use Rattle.session_memory.specs.State.{held}
 use Rattle.session_memory.specs.declared.Five.{Five}
-use Rattle.session_memory.specs.declared.Session.{Session}
+use Rattle.session_memory.specs.Session.{Session}
 use Rattle.waiting.specs.Waiting.{proposalAt, firstText, blockText, sendingText, thenText, waitingOf}
 use Rattle.pending.specs.Pending.{waits}
 use Rattle.form_closed.specs.Facts.{FiveOk}

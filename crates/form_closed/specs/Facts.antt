@@ -7,10 +7,10 @@ use lib.ListN.{length, getD, drop}
 use Rattle.grammar.specs.Bytes.{Bytes, all, isByte, byteValues, wordValues}
 use Rattle.transfer_step.specs.declared.Reader.{Reader}
 use Rattle.session_memory.specs.State.{held}
-use Rattle.session_memory.specs.declared.Await.{Await}
+use Rattle.session_memory.specs.Session.{Await}
 use Rattle.session_memory.specs.declared.Say.{Say}
-use Rattle.session_memory.specs.declared.Keep.{Keep}
-use Rattle.session_memory.specs.declared.Line.{Line}
+use Rattle.session_memory.specs.Session.{Keep}
+use Rattle.session_memory.specs.Session.{Line}
 use Rattle.entries.specs.Decoded.{placeCount}
 use Rattle.waiting.specs.Waiting.{waitingOf}
 use Rattle.pending.specs.Pending.{waits}

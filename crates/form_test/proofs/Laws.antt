@@ -16,7 +16,7 @@ use Rattle.layout.proofs.Places.{part-in}
 use Rattle.session_memory.specs.State.{sessionSize, held, fiveAt, loadOf, loadSizes}
 use Rattle.session_memory.proofs.Laws.{array-length}
 use Rattle.session_memory.specs.declared.Five.{Five}
-use Rattle.session_memory.specs.declared.Session.{Session}
+use Rattle.session_memory.specs.Session.{Session}
 use Rattle.places.specs.Places.{markAt, signsAt, entryLen}
 use Rattle.waiting.specs.Waiting.{waitingOf}
 use Rattle.waiting.specs.Pieces.{piecesOf}

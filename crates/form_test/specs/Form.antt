@@ -9,7 +9,7 @@ use lib.ListN.{length, getD, drop}
 use Rattle.grammar.specs.Bytes.{Bytes}
 use Rattle.layout.specs.Layout.{byteAt, entryAt, entrySize, bodyLength}
 use Rattle.session_memory.specs.State.{sessionSize, held, loadOf, loadSizes}
-use Rattle.session_memory.specs.declared.Session.{Session}
+use Rattle.session_memory.specs.Session.{Session}
 use Rattle.session_memory.specs.declared.Sizes.{Sizes}
 use Rattle.entries.specs.Decoded.{placeCount}
 use Rattle.waiting.specs.Waiting.{waitingOf}

@@ -16,9 +16,9 @@ use Rattle.fs_line.specs.Answers.{answerNumber, answerSigns}
 use Rattle.transfer_step.specs.declared.Reader.{Reader}
 use Rattle.session_memory.specs.State.{held, fiveOf, noFive}
 use Rattle.session_memory.specs.declared.Five.{Five}
-use Rattle.session_memory.specs.declared.Await.{Await}
+use Rattle.session_memory.specs.Session.{Await}
 use Rattle.session_memory.specs.declared.Say.{Say}
-use Rattle.session_memory.specs.declared.Keep.{Keep}
+use Rattle.session_memory.specs.Session.{Keep}
 use Rattle.five.specs.Filled.{Filled}
 use Rattle.five.proofs.Laws.{five-held, five-filled, five-next, five-count}
 use Rattle.line_effect.specs.Judged.{Judged}

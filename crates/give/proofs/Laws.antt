@@ -18,7 +18,7 @@ use Rattle.buffer.specs.declared.Cursor.{Cursor}
 use Rattle.buffer.proofs.Laws.{cursor, cursor-at, cut-length}
 use Rattle.session_memory.specs.State.{at, loadOf, loadAwait, loadSay, loadKeep, saveOf}
 use Rattle.session_memory.specs.Setters as setters
-use Rattle.session_memory.specs.declared.Session.{Session}
+use Rattle.session_memory.specs.Session.{Session}
 use Rattle.session_memory.proofs.Laws.{array-length}
 use Rattle.numbers.specs.Whole.{wholeOf, numbersAt, sayNumbers, numberBytes}
 use Rattle.numbers.proofs.Laws.{load-whole}

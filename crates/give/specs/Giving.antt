@@ -9,7 +9,7 @@ use Rattle.grammar.specs.Refusals.{badMemory}
 use Rattle.buffer.specs.Put.{putBytes, cut}
 use Rattle.session_memory.specs.State.{loadOf, saveOf}
 use Rattle.session_memory.specs.Setters.{withPos, withSay}
-use Rattle.session_memory.specs.declared.Session.{Session}
+use Rattle.session_memory.specs.Session.{Session}
 use Rattle.waiting.specs.Waiting.{waitingOf}
 use Rattle.pending.specs.Pending.{hasToGive, silentOf}
 use Rattle.form_test.specs.Form.{formOf}

@@ -16,7 +16,7 @@ use Rattle.places.specs.Places.{recordLen, oursAt, sendingAt}
 use Rattle.our_line.specs.Lines.{fsText}
 use Rattle.session_memory.specs.State.{held, fiveAt, loadOf}
 use Rattle.session_memory.specs.declared.Five.{Five}
-use Rattle.session_memory.specs.declared.Session.{Session}
+use Rattle.session_memory.specs.Session.{Session}
 use Rattle.session_memory.proofs.Laws.{array-length}
 use Rattle.waiting.specs.Waiting.{firstText}
 use Rattle.waiting.specs.Pieces.{joined, blockPieces, piecesOf}

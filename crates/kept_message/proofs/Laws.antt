@@ -10,9 +10,9 @@ use Rattle.phase.specs.Phase.{noProposal, ourTurn}
 use Rattle.places.specs.Places.{arraysLen, blockAt, proposalLen}
 use Rattle.layout.specs.Layout.{byteAt, entryAt}
 use Rattle.transfer_step.specs.declared.Reader.{Reader}
-use Rattle.session_memory.specs.declared.Await.{Await}
-use Rattle.session_memory.specs.declared.Keep.{Keep}
-use Rattle.session_memory.specs.declared.Session.{Session}
+use Rattle.session_memory.specs.Session.{Await}
+use Rattle.session_memory.specs.Session.{Keep}
+use Rattle.session_memory.specs.Session.{Session}
 use Rattle.line_effect.specs.Judged.{Judged}
 use Rattle.line_effect.specs.declared.Marks.{Marks}
 use Rattle.line_effect.specs.Judge.{noMarks, judged, wentOn, toTransfer, nextAccepted, readerFor}

@@ -15,7 +15,7 @@ use Rattle.line.specs.Byte.{lineByteIs}
 use Rattle.buffer.specs.Put.{putBytes}
 use Rattle.layout.proofs.Places.{put-fits}
 use Rattle.session_memory.specs.State.{at}
-use Rattle.session_memory.specs.declared.Session.{Session}
+use Rattle.session_memory.specs.Session.{Session}
 use Rattle.places.specs.Places.{arraysLen, lineAt}
 use Rattle.region.specs.Region.{region}
 use Rattle.region.proofs.Laws.{set-in, set-before, set-after}

@@ -21,9 +21,9 @@ use Rattle.transfer_step.specs.Step.{startOf}
 use Rattle.session_memory.specs.State.{at, held, fiveOf, noFive}
 use Rattle.session_memory.specs.Setters.{withPhase, withFf, withCurrent, withProposals, withOurs, withFirst, withThen, withSigns, withFramed, withSending}
 use Rattle.session_memory.specs.declared.Five.{Five}
-use Rattle.session_memory.specs.declared.Await.{Await}
+use Rattle.session_memory.specs.Session.{Await}
 use Rattle.session_memory.specs.declared.Say.{Say}
-use Rattle.session_memory.specs.declared.Keep.{Keep}
+use Rattle.session_memory.specs.Session.{Keep}
 use Rattle.phase.specs.Phase.{phaseCalledSid, phaseCallerSid, phasePrompt, phaseTurn, phaseFs, phaseTransfer, phaseOver, pieceSid, pieceSigns, pieceTransfers, notOurTurn, ourTurn, ourTurnAfterFF, stateWaiting, stateForwarded, stateDeclined, blockLimit, noProposal}
 use Rattle.places.specs.Places.{formAt}
 use Rattle.our_answer.specs.Answers.{answersOf}

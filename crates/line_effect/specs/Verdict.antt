@@ -3,9 +3,9 @@ use mathlib.Core.Path.{_≡_}
 use Prim.Native.Nat.{_+_}
 use Rattle.grammar.specs.Bytes.{Bytes}
 use Rattle.transfer_step.specs.declared.Reader.{Reader}
-use Rattle.session_memory.specs.declared.Await.{Await}
+use Rattle.session_memory.specs.Session.{Await}
 use Rattle.session_memory.specs.declared.Say.{Say}
-use Rattle.session_memory.specs.declared.Keep.{Keep}
+use Rattle.session_memory.specs.Session.{Keep}
 use Rattle.places.specs.Places.{headingAt, headingLen, lineLen}
 use Rattle.region.specs.Region.{region}
 use Rattle.numbers.specs.declared.Numbers.{Numbers}

@@ -20,7 +20,7 @@ use Rattle.buffer.specs.Put.{wrote, putBytes}
 use Rattle.buffer.proofs.Laws.{wrote-nil}
 use Rattle.transfer_read.proofs.Untouched.{kept-same}
 use Rattle.session_memory.specs.State.{loadOf, saveOf}
-use Rattle.session_memory.specs.declared.Session.{Session}
+use Rattle.session_memory.specs.Session.{Session}
 use Rattle.session_memory.specs.declared.Sizes.{Sizes}
 use Rattle.waiting.specs.Waiting.{waitingOf, firstText, thenText}
 use Rattle.pending.specs.Pending.{waits, overOf, hasToGive, silentOf}

@@ -7,7 +7,7 @@ use Rattle.grammar.specs.Bytes.{Bytes}
 use Rattle.session.specs.Choices.{Shelf}
 use Rattle.session.specs.Session as on-lists
 use Rattle.session_memory.specs.State.{loadOf, loadSizes, saveOf}
-use Rattle.session_memory.specs.declared.Session.{Session}
+use Rattle.session_memory.specs.Session.{Session}
 use Rattle.session_memory.specs.declared.Sizes.{Sizes}
 use Rattle.session_memory.proofs.Laws.{load-save, save-sizes-kept}
 use Rattle.receive_defined.specs.Receiving.{Cs, cs}

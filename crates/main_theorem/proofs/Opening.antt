@@ -14,7 +14,7 @@ use Rattle.session.specs.Session as on-lists
 use Rattle.demand3.specs.Demand.{GoodTable}
 use Rattle.places.specs.Places.{entryLen, knownLen, recordLen, sessionLen}
 use Rattle.session_memory.specs.State.{sessionSize, loadOf, saveOf, saveSizes, freshOf}
-use Rattle.session_memory.specs.declared.Session.{Session}
+use Rattle.session_memory.specs.Session.{Session}
 use Rattle.session_memory.proofs.Laws.{Sized, load-save, load-sizes, sizes-length, save-sizes-kept}
 use Rattle.entries.specs.Decoded.{recordsOf, knownBids, placeCount, recordCount}
 use Rattle.marking.specs.States.{statesOf}

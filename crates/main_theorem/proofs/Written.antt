@@ -15,7 +15,7 @@ use Rattle.grammar.proofs.Basics.{no-both}
 use Rattle.session.specs.Choices.{Shelf}
 use Rattle.session.specs.Session as on-lists
 use Rattle.session.specs.Session.{Phase}
-use Rattle.session_memory.specs.declared.Session.{Session}
+use Rattle.session_memory.specs.Session.{Session}
 use Rattle.receive_defined.specs.Receiving.{Cs}
 use Rattle.represents.specs.Laid.{bodiesBytes}
 use Rattle.form_closed.specs.Fixed.{Fixed}

@@ -7,10 +7,10 @@ use Rattle.places.specs.Places.{phaseAt, ffAt, framedAt, afterCrAt, firstAt, th
 use Rattle.layout.specs.Layout.{byteAt, le2At, le4At, le8At}
 use Rattle.transfer_step.specs.declared.Reader.{Reader}
 use Rattle.session_memory.specs.State.{fiveAt, numberPart}
-use Rattle.session_memory.specs.declared.Await.{Await}
+use Rattle.session_memory.specs.Session.{Await}
 use Rattle.session_memory.specs.declared.Say.{Say}
-use Rattle.session_memory.specs.declared.Keep.{Keep}
-use Rattle.session_memory.specs.declared.Session.{Session}
+use Rattle.session_memory.specs.Session.{Keep}
+use Rattle.session_memory.specs.Session.{Session}
 use Rattle.region.specs.Region.{region}
 use Rattle.numbers.specs.declared.AwaitNumbers.{AwaitNumbers}
 use Rattle.numbers.specs.declared.KeepNumbers.{KeepNumbers}

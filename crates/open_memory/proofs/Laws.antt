@@ -16,7 +16,7 @@ use Rattle.transfer_step.specs.Step.{startOf}
 use Rattle.transfer_step.specs.declared.Reader.{Reader}
 use Rattle.session_memory.specs.State.{at, noFive, saveOf, freshOf}
 use Rattle.session_memory.specs.declared.Five.{Five}
-use Rattle.session_memory.specs.declared.Session.{Session}
+use Rattle.session_memory.specs.Session.{Session}
 use Rattle.numbers.specs.declared.Numbers.{Numbers}
 use Rattle.numbers.specs.Whole.{wholeOf, numberBytes}
 use Rattle.numbers.proofs.Laws.{save-whole}

@@ -7,8 +7,8 @@ use Rattle.session.specs.Choices.{Shelf, answersTo}
 use Rattle.phase.specs.Phase.{blockLimit}
 use Rattle.session_memory.specs.State.{fiveOf}
 use Rattle.session_memory.specs.declared.Five.{Five}
-use Rattle.session_memory.specs.declared.Await.{Await}
-use Rattle.session_memory.specs.declared.Keep.{Keep}
+use Rattle.session_memory.specs.Session.{Await}
+use Rattle.session_memory.specs.Session.{Keep}
 use Rattle.entries.specs.Decoded.{recordsOf, knownBids, headsOf, proposalsOf, placeCount}
 
 -- A shelf whose store has so many bytes left for bodies.

@@ -8,9 +8,9 @@ use Rattle.session.specs.Choices.{chosen}
 use Rattle.phase.specs.Phase.{phaseLeaving, pieceFF, pieceFQ, pieceBlock}
 use Rattle.session_memory.specs.State.{fiveOf}
 use Rattle.session_memory.specs.declared.Five.{Five}
-use Rattle.session_memory.specs.declared.Await.{Await}
+use Rattle.session_memory.specs.Session.{Await}
 use Rattle.session_memory.specs.declared.Say.{Say}
-use Rattle.session_memory.specs.declared.Keep.{Keep}
+use Rattle.session_memory.specs.Session.{Keep}
 use Rattle.entries.specs.Decoded.{recordsOf}
 use Rattle.marking.specs.States.{statesOf}
 use Rattle.numbers.specs.declared.Numbers.{Numbers}

@@ -18,9 +18,9 @@ use Rattle.proposal.proofs.Laws.{says-as}
 use Rattle.transfer_step.specs.declared.Reader.{Reader}
 use Rattle.session_memory.specs.State.{at}
 use Rattle.session_memory.specs.declared.Five.{Five}
-use Rattle.session_memory.specs.declared.Await.{Await}
+use Rattle.session_memory.specs.Session.{Await}
 use Rattle.session_memory.specs.declared.Say.{Say}
-use Rattle.session_memory.specs.declared.Keep.{Keep}
+use Rattle.session_memory.specs.Session.{Keep}
 use Rattle.phase.specs.Phase.{phaseOver, notOurTurn, ourTurn, ourTurnAfterFF, blockLimit, noProposal}
 use Rattle.places.specs.Places.{proposalLen}
 use Rattle.our_answer.specs.Answers.{answersOf}

@@ -3,7 +3,7 @@ use mathlib.Core.Bool.{Bool, true, false, cond, not}
 use lib.Dec.{eqb, ltb}
 use Rattle.session_memory.specs.Setters.{withFirst, withThen, withPos, withSay}
 use Rattle.session_memory.specs.declared.Say.{Say}
-use Rattle.session_memory.specs.declared.Session.{Session}
+use Rattle.session_memory.specs.Session.{Session}
 
 -- Something waits.
 unfoldable pub waits : Say → Bool

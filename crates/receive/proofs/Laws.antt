@@ -13,7 +13,7 @@ use Rattle.grammar.specs.Refusals.{badMemory, sessionEnded}
 use Rattle.buffer.specs.Put.{putBytes}
 use Rattle.places.specs.Places.{sessionLen, numbersStart, arraysAt, arraysLen}
 use Rattle.session_memory.specs.State.{at, loadOf}
-use Rattle.session_memory.specs.declared.Session.{Session}
+use Rattle.session_memory.specs.Session.{Session}
 use Rattle.pending.specs.Pending.{overOf}
 use Rattle.form_test.specs.Form.{formOf}
 use Rattle.give.specs.Giving.{reply}

@@ -11,9 +11,9 @@ use borrow.Author.Tests.{eqb-false}
 use Rattle.grammar.specs.Bytes.{Bytes, CR}
 use Rattle.grammar.specs.Lines.{ends, trim}
 use Rattle.session_memory.specs.State.{held}
-use Rattle.session_memory.specs.declared.Await.{Await}
-use Rattle.session_memory.specs.declared.Keep.{Keep}
-use Rattle.session_memory.specs.declared.Session.{Session}
+use Rattle.session_memory.specs.Session.{Await}
+use Rattle.session_memory.specs.Session.{Keep}
+use Rattle.session_memory.specs.Session.{Session}
 use Rattle.places.specs.Places.{arraysLen}
 use Rattle.region.specs.Region.{region}
 use Rattle.numbers.specs.declared.Numbers.{Numbers}

@@ -17,7 +17,7 @@ use Rattle.transfer_step.specs.declared.Outcome.the-variants.{More, Whole, Malf
 use Rattle.transfer_read.specs.Feed as transfer
 use Rattle.transfer_read.specs.Feed.{roomOf, feedOf}
 use Rattle.transfer_read.proofs.Room.{feed-within}
-use Rattle.session_memory.specs.declared.Session.{Session}
+use Rattle.session_memory.specs.Session.{Session}
 use Rattle.pending.specs.Pending.{waits}
 use Rattle.region.specs.Region.{region, lent}
 use Rattle.numbers.specs.declared.Numbers.{Numbers}

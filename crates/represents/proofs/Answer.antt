@@ -21,10 +21,10 @@ use Rattle.fs_line.specs.Answers.{answered, answerSigns, signBytes, zeroed}
 use Rattle.fs_line.proofs.Laws.{answer-number}
 use Rattle.transfer_step.specs.declared.Reader.{Reader}
 use Rattle.session_memory.specs.State.{held, fiveOf}
-use Rattle.session_memory.specs.declared.Await.{Await}
+use Rattle.session_memory.specs.Session.{Await}
 use Rattle.session_memory.specs.declared.Say.{Say}
-use Rattle.session_memory.specs.declared.Keep.{Keep}
-use Rattle.session_memory.specs.declared.Session.{Session}
+use Rattle.session_memory.specs.Session.{Keep}
+use Rattle.session_memory.specs.Session.{Session}
 use Rattle.session_memory.proofs.Laws.{held-five}
 use Rattle.line_effect.specs.Judge.{refusal, toTurn, saysThen, picked, flagged, sends, transfersAfter, answerTaken, answerLine}
 use Rattle.line_effect.specs.Judged.{Judged}

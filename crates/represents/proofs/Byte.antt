@@ -17,7 +17,7 @@ use Rattle.session.specs.Choices.{Shelf}
 use Rattle.session.specs.Session as on-lists
 use Rattle.session.specs.Session.{Phase}
 use Rattle.session.specs.Calls as calls
-use Rattle.session_memory.specs.declared.Session.{Session}
+use Rattle.session_memory.specs.Session.{Session}
 use Rattle.waiting.specs.Waiting.{waitingOf, thenText}
 use Rattle.pending.specs.Pending.{waits, overOf}
 use Rattle.receive_defined.specs.Receiving.{Cs, cs, Moved, moved, lfDropped, refusedOf, lineStepOf, lineByteOf, transferStepOf, byteOf, Run, run, stops, receiveFrom}

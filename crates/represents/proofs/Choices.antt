@@ -19,8 +19,8 @@ use Rattle.our_turn.proofs.Block.{chosen-stores}
 use Rattle.our_answer.proofs.Signs.{bids-same, answers-same}
 use Rattle.entries.proofs.Laws.{entries-length, no-bodies}
 use Rattle.session_memory.specs.State.{fiveOf}
-use Rattle.session_memory.specs.declared.Await.{Await}
-use Rattle.session_memory.specs.declared.Keep.{Keep}
+use Rattle.session_memory.specs.Session.{Await}
+use Rattle.session_memory.specs.Session.{Keep}
 use Rattle.represents.specs.Represents.{messagesFrom, messagesOf}
 
 -- the records that we propose

@@ -23,7 +23,7 @@ use Rattle.layout.proofs.Laws.{withContent, entry-length}
 use Rattle.transfer_read.specs.Feed.{roomOf}
 use Rattle.transfer_read.specs.Meaning.{Stands, Kept}
 use Rattle.session_memory.specs.State.{at, held}
-use Rattle.session_memory.specs.declared.Session.{Session}
+use Rattle.session_memory.specs.Session.{Session}
 use Rattle.entries.specs.Decoded.{proposalsOf}
 use Rattle.line_effect.specs.Judge.{noMarks, judged, toTransfer, plusFrom, nextAccepted, readerFor}
 use Rattle.our_turn.specs.Turn.{speakOf}

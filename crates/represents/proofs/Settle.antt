@@ -15,10 +15,10 @@ use Rattle.session.specs.Session.{Memory, Phase, Outcome, refuses, goesOn}
 use Rattle.transfer_step.specs.declared.Reader.{Reader}
 use Rattle.session_memory.specs.State.{held, fiveOf}
 use Rattle.session_memory.specs.declared.Five.{Five}
-use Rattle.session_memory.specs.declared.Await.{Await}
+use Rattle.session_memory.specs.Session.{Await}
 use Rattle.session_memory.specs.declared.Say.{Say}
-use Rattle.session_memory.specs.declared.Keep.{Keep}
-use Rattle.session_memory.specs.declared.Session.{Session}
+use Rattle.session_memory.specs.Session.{Keep}
+use Rattle.session_memory.specs.Session.{Session}
 use Rattle.session_memory.proofs.Laws.{held-five}
 use Rattle.marking.specs.States.{statesOf}
 use Rattle.entries.specs.Decoded.{proposalsOf}

@@ -15,7 +15,7 @@ use Rattle.transfer_step.specs.declared.Outcome.the-variants.{More, Whole, Malf
 use Rattle.transfer_step.specs.Step.{goesOn, stepOf}
 use Rattle.transfer_step.proofs.Ways.{by-ways}
 use Rattle.transfer_read.specs.Feed.{headingPut, storePut, roomOf}
-use Rattle.session_memory.specs.declared.Session.{Session}
+use Rattle.session_memory.specs.Session.{Session}
 use Rattle.pending.specs.Pending.{waits, overOf}
 use Rattle.receive_defined.specs.Receiving.{Cs, Moved, reading, transferMoved, transferStep, transferStepOf, lineByteOf, byteOf, stops}
 

@@ -21,7 +21,7 @@ use Rattle.transfer_read.specs.Feed.{Run, run, after, feedOf, headingPut, store
 use Rattle.transfer_read.specs.Meaning.{Stands, FedAs, Kept, Untouched}
 use Rattle.transfer_read.proofs.Follows.{feed-stands}
 use Rattle.transfer_read.proofs.Untouched.{feed-untouched}
-use Rattle.session_memory.specs.declared.Session.{Session}
+use Rattle.session_memory.specs.Session.{Session}
 use Rattle.waiting.specs.Waiting.{waitingOf, firstText, thenText}
 use Rattle.pending.specs.Pending.{waits}
 use Rattle.receive_defined.specs.Receiving.{Cs, cs, reading, refusedOf}

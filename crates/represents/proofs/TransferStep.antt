@@ -18,7 +18,7 @@ use Rattle.transfer_read.specs.Feed.{roomOf}
 use Rattle.transfer_read.specs.Meaning.{FedAs, Stands, Kept}
 use Rattle.transfer_read.proofs.Untouched.{kept-same, kept-then}
 use Rattle.places.specs.Places.{entryLen}
-use Rattle.session_memory.specs.declared.Session.{Session}
+use Rattle.session_memory.specs.Session.{Session}
 use Rattle.pending.specs.Pending.{waits}
 use Rattle.receive_defined.specs.Receiving.{Cs, cs, Moved, moved, transferMoved, transferStepOf, keepOf, keptInbox, refusedOf}
 use Rattle.form_closed.specs.Fixed.{Fixed}

@@ -4,7 +4,7 @@ use Prim.Native.Nat.{ℕ, _+_, _*_}
 use lib.Dec.{eqb, ltb}
 use Rattle.layout.specs.Layout.{entrySize}
 use Rattle.transfer_read.specs.Meaning.{Kept}
-use Rattle.session_memory.specs.declared.Session.{Session}
+use Rattle.session_memory.specs.Session.{Session}
 use Rattle.marking.specs.States.{StatesOnly}
 use Rattle.receive_defined.specs.Receiving.{Cs}
 use Rattle.phase.specs.Phase.{phaseTransfer, phaseLeaving}

@@ -18,8 +18,8 @@ use Rattle.layout.specs.Layout.{entryAt, recordSize, entrySize, proposalSize, p
 use Rattle.transfer_read.specs.Feed.{roomOf}
 use Rattle.transfer_read.specs.Meaning.{Stands}
 use Rattle.session_memory.specs.State.{held}
-use Rattle.session_memory.specs.declared.Await.{Await}
-use Rattle.session_memory.specs.declared.Session.{Session}
+use Rattle.session_memory.specs.Session.{Await}
+use Rattle.session_memory.specs.Session.{Session}
 use Rattle.entries.specs.Decoded.{recordsOf, knownBids, proposalsOf, placeCount, recordCount}
 use Rattle.marking.specs.States.{statesOf}
 use Rattle.waiting.specs.Waiting.{waitingOf}
@@ -29,7 +29,7 @@ use Rattle.represents.specs.Laid.{proposalBytes, messageBytes, bodiesByt
 use Rattle.form_closed.specs.Fixed.{Fixed}
 use Rattle.grammar.specs.Fields.{bodyLimit}
 use Rattle.phase.specs.Phase.{phaseCalledSid, phaseCallerSid, phasePrompt, phaseTurn, phaseFs, phaseTransfer, phaseLeaving, phaseOver}
-use Rattle.session_memory.specs.declared.Keep.{Keep}
+use Rattle.session_memory.specs.Session.{Keep}
 
 -- ---------------------------------------------------------------- lists in lent memory
 

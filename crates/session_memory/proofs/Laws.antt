@@ -19,12 +19,12 @@ use Rattle.layout.specs.Layout.{byteAt, le8At}
 use Rattle.layout.proofs.Places.{byte-skip, le2-skip, le4-skip, le8-skip, part-skip, part-in, part-front, part-here, part-before, part-after, put-fits, le8-kept}
 use Rattle.layout.proofs.Laws.{le2-here, le4-here, le8-here, le2-small, le4-small, le8-small, octets}
 use Rattle.session_memory.specs.declared.Five.{Five}
-use Rattle.session_memory.specs.declared.Await.{Await}
+use Rattle.session_memory.specs.Session.{Await}
 use Rattle.session_memory.specs.declared.Say.{Say}
-use Rattle.session_memory.specs.declared.Keep.{Keep}
-use Rattle.session_memory.specs.declared.Reading.{Reading}
-use Rattle.session_memory.specs.declared.Line.{Line}
-use Rattle.session_memory.specs.declared.Session.{Session}
+use Rattle.session_memory.specs.Session.{Keep}
+use Rattle.session_memory.specs.Session.{Reading}
+use Rattle.session_memory.specs.Session.{Line}
+use Rattle.session_memory.specs.Session.{Session}
 use Rattle.session_memory.specs.declared.Sizes.{Sizes}
 use Rattle.session_memory.specs.State.{at, held, fiveOf, flag, fiveAt, arrayAt, loadAwait, loadSay, loadKeep, loadReading, loadLine, loadOf, loadSizes, smallOut, numbersOut, arraysOut, numberPart, saveOf, sizesOut, saveSizes}
 

@@ -4,12 +4,12 @@ use Prim.Native.Nat.{ℕ}
 use Rattle.grammar.specs.Bytes.{Bytes}
 use Rattle.transfer_step.specs.declared.Reader.{Reader}
 use Rattle.session_memory.specs.declared.Five.{Five}
-use Rattle.session_memory.specs.declared.Await.{Await}
+use Rattle.session_memory.specs.Session.{Await}
 use Rattle.session_memory.specs.declared.Say.{Say}
-use Rattle.session_memory.specs.declared.Keep.{Keep}
-use Rattle.session_memory.specs.declared.Reading.{Reading}
-use Rattle.session_memory.specs.declared.Line.{Line}
-use Rattle.session_memory.specs.declared.Session.{Session}
+use Rattle.session_memory.specs.Session.{Keep}
+use Rattle.session_memory.specs.Session.{Reading}
+use Rattle.session_memory.specs.Session.{Line}
+use Rattle.session_memory.specs.Session.{Session}
 
 -- ---------------------------------------------------------------- what is awaited
 

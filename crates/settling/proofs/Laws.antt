@@ -7,7 +7,7 @@ use lib.ListN.{take}
 use borrow.Author.Tests.{eq-eqb, ne-eqb}
 use Rattle.grammar.specs.Bytes.{Bytes}
 use Rattle.session_memory.specs.State.{held}
-use Rattle.session_memory.specs.declared.Session.{Session}
+use Rattle.session_memory.specs.Session.{Session}
 use Rattle.phase.specs.Phase.{ourTurnAfterFF}
 use Rattle.places.specs.Places.{headingAt}
 use Rattle.region.specs.Region.{region}

@@ -15,7 +15,7 @@ use Rattle.mail.specs.Mail.{transferOf, proposalLines, turnText}
 use Rattle.layout.specs.Layout.{byteAt, entryAt, recordSize, recordOf}
 use Rattle.session_memory.specs.State.{held, fiveAt}
 use Rattle.session_memory.specs.declared.Five.{Five}
-use Rattle.session_memory.specs.declared.Session.{Session}
+use Rattle.session_memory.specs.Session.{Session}
 use Rattle.session_memory.proofs.Laws.{array-in, array-length}
 use Rattle.waiting.specs.Waiting.{proposalAt, firstText, blockText, sendingText, thenText, waitingOf}
 use Rattle.waiting.specs.Pieces.{joined, blockPieces, sendingPieces, thenPieces, piecesOf}

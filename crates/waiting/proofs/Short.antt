@@ -22,7 +22,7 @@ use Rattle.record_text.proofs.Laws.{part-short, part-octets}
 use Rattle.our_line.specs.Lines.{fsText}
 use Rattle.session_memory.specs.State.{held}
 use Rattle.session_memory.specs.declared.Five.{Five}
-use Rattle.session_memory.specs.declared.Session.{Session}
+use Rattle.session_memory.specs.Session.{Session}
 use Rattle.waiting.specs.Waiting.{proposalAt, firstText, blockText, sendingText, thenText, waitingOf}
 
 -- ---------------------------------------------------------------- parts, fields and lists of five

@@ -10,7 +10,7 @@ use Rattle.mail.specs.Mail.{transferOf}
 use Rattle.layout.specs.Layout.{entryAt, recordSize, recordOf}
 use Rattle.session_memory.specs.State.{held}
 use Rattle.session_memory.specs.declared.Five.{Five}
-use Rattle.session_memory.specs.declared.Session.{Session}
+use Rattle.session_memory.specs.Session.{Session}
 use Rattle.phase.specs.Phase.{pieceNone, pieceFF, pieceFQ, pieceBlock}
 use Rattle.waiting.specs.Waiting.{proposalAt, firstText}
 

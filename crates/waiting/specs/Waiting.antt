@@ -12,7 +12,7 @@ use Rattle.layout.specs.Layout.{entryAt, recordSize, recordOf}
 use Rattle.our_line.specs.Lines.{fsText}
 use Rattle.session_memory.specs.State.{held}
 use Rattle.session_memory.specs.declared.Five.{Five}
-use Rattle.session_memory.specs.declared.Session.{Session}
+use Rattle.session_memory.specs.Session.{Session}
 
 -- The proposal of the record at a place of the table.
 abbrev pub proposalAt : Bytes → ℕ → Proposal

@@ -1,6 +1,6 @@
 -- What the reader of SIDs answers, in the words of the definition.
 use mathlib.Core.Path.{ap, _∙_}
-use Rattle.session_memory.specs.declared.Await.{Await}
+use Rattle.session_memory.specs.Session.{Await}
 use Rattle.numbers.specs.Whole.{awaitOf, keepOf}
 use Rattle.line_effect.specs.Judge.{wentOn, inMode, sidLine}
 use Rattle.awaited_line.proofs.Laws.{sid-no, sid-prompt, sid-turn}

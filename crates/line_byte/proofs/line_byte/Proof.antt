@@ -1,7 +1,7 @@
 -- Each case of what the byte is.
 use mathlib.Core.Path.{refl, ap}
 use Rattle.line.specs.declared.LineByte as code
-use Rattle.session_memory.specs.declared.Session.{Session}
+use Rattle.session_memory.specs.Session.{Session}
 use Rattle.grammar.specs.Refusals.{lineTooLong}
 use Rattle.receive_defined.specs.Receiving.{settled}
 use Rattle.numbers.specs.Whole.{wholeOf}

@@ -2,7 +2,7 @@
 use mathlib.Core.Path.{_≡_, ap}
 use borrow.Author.Tests.{eq-eqb, ne-eqb}
 use Rattle.grammar.specs.Bytes.{Bytes}
-use Rattle.session_memory.specs.declared.Await.{Await}
+use Rattle.session_memory.specs.Session.{Await}
 use Rattle.phase.specs.Phase.{pieceFF}
 use Rattle.line_effect.specs.Judge.{saysThen}
 use Rattle.our_turn.specs.Turn.{spoken}
