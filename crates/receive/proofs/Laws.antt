@@ -1,27 +1,37 @@
 -- Laws for `take_bytes` and `receive`, on plain values: one for a turn of the loop and one for each way out.
 use mathlib.Core.Path.{_≡_, refl, sym, ap, _∙_, subst}
-use mathlib.Core.Bool.{Bool, true, false}
+use mathlib.Core.Bool.{Bool, true, false, _&&_}
 use mathlib.Core.List.{[], _∷_}
 use Prim.Native.Nat.{ℕ, suc, _+_, _-_, _≤_, _<_}
 use native.Mathlib.Omega.{arith}
 use lib.ListN.{length, getD, take, drop, length-drop, drop-of-length-le}
 use lib.Seq.{take-all, drop-cons, drop-drop}
-use borrow.Author.Tests.{eq-eqb, ne-eqb}
+use borrow.Author.Tests.{eq-eqb, ne-eqb, eqb-true}
 use Rattle.grammar.specs.Bytes.{Bytes}
 use Rattle.layout.specs.Layout.{byteAt}
-use Rattle.session_memory.specs.State.{loadOf, saveOf}
+use Rattle.grammar.specs.Refusals.{badMemory, sessionEnded}
+use Rattle.buffer.specs.Put.{putBytes}
+use Rattle.places.specs.Places.{sessionLen, numbersStart, arraysAt, arraysLen}
+use Rattle.session_memory.specs.State.{at, loadOf}
 use Rattle.session_memory.specs.declared.Session.{Session}
 use Rattle.pending.specs.Pending.{overOf}
 use Rattle.form_test.specs.Form.{formOf}
 use Rattle.give.specs.Giving.{reply}
-use Rattle.receive_defined.specs.Receiving.{Cs, cs, moved, Run, run, stops, receiveFrom, Received, receiveOf}
+use Rattle.give.specs.declared.Reply.{Reply}
+use Rattle.region.specs.Region.{lent}
+use Rattle.numbers.specs.declared.Numbers.{Numbers}
+use Rattle.numbers.specs.Whole.{wholeOf, numbersAt, numberBytes}
+use Rattle.numbers_in_place.proofs.Arrays.{arraysIn, arrays-length, load-arrays, saved-lent}
+use Rattle.byte_run.specs.Taking.{Takes, Live}
+use Rattle.receive_defined.specs.Receiving.{Cs, cs, moved, Run, run, stops, receiveFrom, Received, saved, receiveOf}
 use Rattle.receive_defined.specs.Portion.{portionOf, Roomy}
 use Rattle.form_closed.specs.Fixed.{Fixed}
 use Rattle.form_closed.specs.Facts.{Octets, Good}
 use Rattle.form_closed.proofs.Laws.{octets-nil, octets-cons, octets-drop}
 use Rattle.form_closed.proofs.Saved.{good}
 use Rattle.receive.specs.Sound.{Sound}
-use Rattle.receive.proofs.Portions.{good-roomy, further, portion-count, portion-law, portion-good}
+use Rattle.receive_defined.proofs.Portions.{further, portion-count, portion-law}
+use Rattle.receive.proofs.Portions.{good-roomy, portion-good}
 
 -- ---------------------------------------------------------------- bytes
 
@@ -102,23 +112,60 @@ module _ (known : Bytes) (c₀ : Cs) (bs : Bytes) {c : Cs} {i : ℕ} (t : Taking
           same = on ∙ rw (eq-eqb (p .answer) 0 a, sym o ∙ v) (ap (receiveFrom known (p .cs) (i + p .count)) (ap (drop (p .count)) (sym here) ∙ drop-drop (p .count) i bs));
         }
 
+-- ---------------------------------------------------------------- for `take_all`
+
+module _ (h : Numbers) (sm bs : Bytes) (v : Live h sm bs) where
+  pub loads : loadOf sm ≡ wholeOf h (arraysIn sm)
+  loads = load-arrays sm (v .size) ∙ ap (λ (x : Numbers). wholeOf x (arraysIn sm)) (sym (v .numbers))
+
+  pub loaded-sound : (table inbox store : Bytes) → Sound (cs (loadOf sm) table inbox store) → Sound (cs (wholeOf h (arraysIn sm)) table inbox store)
+  loaded-sound table inbox store s = subst (λ (x : Session). Sound (cs x table inbox store)) loads s
+
+  -- the kept messages lie in the store
+  pub used-within : (table inbox store : Bytes) → Sound (cs (loadOf sm) table inbox store) → h .keep .used ≤ length store
+  unfolding wholeOf
+  used-within table inbox store s = sound-roomy (loaded-sound table inbox store s) .used
+
+  -- the arrays are w after the bytes, and then the numbers are saved
+  pub all-saved : (known table inbox store : Bytes) (n k : ℕ) (t : Numbers) (w table′ inbox′ store′ x : Bytes) (r : Reply) → length w ≡ length (arraysIn sm)
+      → run n k (cs (wholeOf t w) table′ inbox′ store′) ≡ receiveFrom known (cs (wholeOf h (arraysIn sm)) table inbox store) 0 bs
+      → x ≡ putBytes (lent arraysAt arraysLen sm w) (at numbersStart) (numberBytes t) → r ≡ reply n 0 k
+      → _≡_ {A = Received} (record { reply = r; sm = x; table = table′; inbox = inbox′; store = store′ }) (saved sm (receiveFrom known (cs (loadOf sm) table inbox store) 0 bs))
+  all-saved known table inbox store n k t w table′ inbox′ store′ x r l e f g =
+      let z : length w ≡ arraysLen = l ∙ arrays-length sm (v .size) in
+      ap (λ (y : Reply). record { reply = y; sm = x; table = table′; inbox = inbox′; store = store′ }) g
+      ∙ ap (λ (y : Bytes). record { reply = reply n 0 k; sm = y; table = table′; inbox = inbox′; store = store′ }) (saved-lent sm w t (v .size) z f)
+      ∙ ap (saved sm) e ∙ ap (λ (y : Session). saved sm (receiveFrom known (cs y table inbox store) 0 bs)) (sym loads)
+
 -- ---------------------------------------------------------------- for `receive`
+
+and-first : (a b : Bool) → a && b ≡ true → a ≡ true
+and-first true b e = refl
+and-first false b e = e
 
 module _ (sm table titles names bodies known inbox store bs : Bytes) {b : Bool} (f : b ≡ formOf sm table titles names bodies known inbox store) where
   abbrev asked : Received
   asked = receiveOf sm table titles names bodies known inbox store bs
 
+  abbrev unchanged : Reply → Received
+  unchanged r = record { reply = r; sm = sm; table = table; inbox = inbox; store = store }
+
   fixed : Fixed
   fixed = record { titles = titles; names = names; bodies = bodies; known = known }
 
   -- the memory fails the form test
-  pub receive-bad : b ≡ false → record { reply = reply 1 255 0; sm = sm; table = table; inbox = inbox; store = store } ≡ asked
+  pub receive-bad : b ≡ false → {r : Reply} → r ≡ reply badMemory 255 0 → unchanged r ≡ asked
   unfolding receiveOf
-  receive-bad q = rw (sym f ∙ q)
+  receive-bad q e = ap unchanged e ∙ rw (sym f ∙ q)
 
-  module _ (q : b ≡ true) {s : Session} (l : s ≡ loadOf sm) where
+  module _ (q : b ≡ true) where
+    -- the form test has looked at the size
+    pub form-size : length sm ≡ sessionLen
+    unfolding formOf
+    form-size = eqb-true (length sm) sessionLen (and-first _ _ (sym f ∙ q))
+
     -- the facts of the form test hold of the state that is loaded
-    pub receive-sound : Octets sm → Octets table → Octets inbox → Octets store → Sound (cs s table inbox store)
+    pub receive-sound : Octets sm → Octets table → Octets inbox → Octets store → Sound (cs (loadOf sm) table inbox store)
     unfolding fixed
     receive-sound os ot oi oo =
         record {
@@ -126,26 +173,52 @@ module _ (sm table titles names bodies known inbox store bs : Bytes) {b : Bool} 
           table = length table;
           inbox = length inbox;
           store = length store;
-          good = subst (λ (t : Session). Good fixed (length table) (length inbox) (length store) (cs t table inbox store)) (sym l)
-              (good fixed sm table inbox store (record { form = sym f ∙ q; smOctets = os; tableOctets = ot; inboxOctets = oi; storeOctets = oo }));
+          good = good fixed sm table inbox store (record { form = sym f ∙ q; smOctets = os; tableOctets = ot; inboxOctets = oi; storeOctets = oo });
         }
 
-    module _ {v : Bool} (o : v ≡ overOf s) where
+    module _ {v : Bool} {h : Numbers} (e : h ≡ numbersAt sm) (o : (m : Bytes) → v ≡ overOf (wholeOf h m)) where
       over-is : v ≡ overOf (loadOf sm)
-      over-is = o ∙ ap overOf l
+      over-is = o (arraysIn sm) ∙ ap overOf (ap (λ (x : Numbers). wholeOf x (arraysIn sm)) e ∙ sym (load-arrays sm form-size))
 
       -- the session is over
-      pub receive-over : v ≡ true → record { reply = reply 12 0 0; sm = sm; table = table; inbox = inbox; store = store } ≡ asked
+      pub receive-over : v ≡ true → {r : Reply} → r ≡ reply sessionEnded 0 0 → unchanged r ≡ asked
       unfolding receiveOf
-      receive-over w = rw (sym f ∙ q, sym over-is ∙ w)
+      receive-over w d = ap unchanged d ∙ rw (sym f ∙ q, sym over-is ∙ w)
 
       -- there are no bytes
-      pub receive-none : v ≡ false → length bs ≡ 0 → record { reply = reply 0 0 0; sm = sm; table = table; inbox = inbox; store = store } ≡ asked
+      pub receive-none : v ≡ false → length bs ≡ 0 → {r : Reply} → r ≡ reply 0 0 0 → unchanged r ≡ asked
       unfolding receiveOf
-      receive-none w n = rw (sym f ∙ q, sym over-is ∙ w, eq-eqb (length bs) 0 n)
+      receive-none w n d = ap unchanged d ∙ rw (sym f ∙ q, sym over-is ∙ w, eq-eqb (length bs) 0 n)
 
-      -- bytes are taken, and the state after them is saved
-      pub receive-taken : v ≡ false → (length bs ≡ 0 → ⊥) → {r : Run} {m : Bytes} → r ≡ receiveFrom known (cs s table inbox store) 0 bs → m ≡ saveOf sm (r .cs .session)
-          → record { reply = reply (r .answer) 0 (r .count); sm = m; table = r .cs .table; inbox = r .cs .inbox; store = r .cs .store } ≡ asked
-      unfolding receiveOf
-      receive-taken w n e k = rw (sym f ∙ q, sym over-is ∙ w, ne-eqb (length bs) 0 n, k, e, l)
+      module _ (w : v ≡ false) (n : length bs ≡ 0 → ⊥) where
+        pub receive-live : Live h sm bs
+        receive-live = record { size = form-size; numbers = e; going = sym over-is ∙ w; some = n }
+
+        -- bytes are taken, and the state after them is saved
+        pub receive-saved : {x : Received} → x ≡ saved sm (receiveFrom known (cs (loadOf sm) table inbox store) 0 bs) → x ≡ asked
+        unfolding receiveOf
+        receive-saved k = k ∙ rw (sym f ∙ q, sym over-is ∙ w, ne-eqb (length bs) 0 n)
+
+        -- where the state stands
+        pub receive-run : (a : Bool) (x st : Bytes) → Takes a sm store bs x st → a ≡ true → {r : Reply} → r ≡ reply 0 0 (length bs)
+            → _≡_ {A = Received} (record { reply = r; sm = x; table = table; inbox = inbox; store = st }) asked
+        receive-run a x st t k d =
+            receive-saved
+            (ap (λ (y : Reply). record { reply = y; sm = x; table = table; inbox = inbox; store = st }) d
+            ∙ sym (subst (λ (y : Bool). Takes y sm store bs x st) k t known table inbox))
+
+    -- not so: nothing was changed
+    module _ (a : Bool) (x st : Bytes) (t : Takes a sm store bs x st) (k : a ≡ false) where
+      kept : (x ≡ sm) × (st ≡ store)
+      kept = subst (λ (y : Bool). Takes y sm store bs x st) k t
+
+      pub still-live : {h : Numbers} → Live h sm bs → Live h x bs
+      still-live {h} l = subst (λ (y : Bytes). Live h y bs) (sym (kept .0)) l
+
+      pub still-sound : Sound (cs (loadOf sm) table inbox store) → Sound (cs (loadOf x) table inbox st)
+      still-sound s = subst (λ (y : Bytes). Sound (cs (loadOf x) table inbox y)) (sym (kept .1)) (subst (λ (y : Bytes). Sound (cs (loadOf y) table inbox store)) (sym (kept .0)) s)
+
+      pub still-saved : {r : Received} → r ≡ saved x (receiveFrom known (cs (loadOf x) table inbox st) 0 bs) → r ≡ saved sm (receiveFrom known (cs (loadOf sm) table inbox store) 0 bs)
+      still-saved e =
+          e ∙ ap (λ (y : Bytes). saved y (receiveFrom known (cs (loadOf y) table inbox st) 0 bs)) (kept .0)
+          ∙ ap (λ (y : Bytes). saved sm (receiveFrom known (cs (loadOf sm) table inbox y) 0 bs)) (kept .1)

@@ -1,14 +1,15 @@
--- One law for each answer: the memory fails the form test, the session is over, there are no bytes, bytes are taken and the state after them is saved. That the
--- facts of the form test hold of the loaded state is what `take_bytes` asks. In the answers f is the place of the form test, b
--- that of the bytes taken.
+-- The form test, the session's end, no bytes, bytes taken where the state stands, bytes taken by the whole state: each is a law.
 use borrow.Author.Tests.{not-true, not-false}
-use Rattle.receive.proofs.Laws.{octets-of, receive-bad, receive-sound, receive-over, receive-none, receive-taken}
+use Rattle.receive.proofs.Laws.{octets-of, used-within, form-size, receive-bad, receive-sound, receive-over, receive-none, receive-live, receive-saved, receive-run, still-live, still-sound, still-saved}
 use borrow.Author.Needs.{needs}
 use Rattle.receive.proofs.receive.Statement.{statement}
 use Rattle.receive.proofs.receive.Tie as tie
 
 form-requires : tie.Need-form-requires
 form-requires c κs = search needs
+
+reply-requires : tie.Need-reply-requires
+reply-requires c κs = search needs
 
 same-length : tie.Need-same-length
 same-length c = search needs
@@ -24,16 +25,21 @@ same-length-4 c = search needs
 
 returns : tie.Need-returns
 returns c =
-    let f = c .before in
-    let a = f .before .before .before .before .before .before .before .before .before .before .before .before .before .before .args in
-    receive-bad (a .sm .now) (a .table .now) (a .titles .now) (a .names .now) (a .bodies .now) (a .known .now) (a .inbox .now) (a .store .now) (a .bytes .now)
-    (f .form .ensures) (not-true _ (c .if1 .taken))
+    let a = c .before .before .before .before .before .before .before .before .before .before .before .before .before .before .before .before .args in
+    receive-bad (a .sm .now) (a .table .now) (a .titles .now) (a .names .now) (a .bodies .now) (a .known .now) (a .inbox .now) (a .store .now) (a .bytes .now) (c .before .before .form .ensures) (not-true _ (c .before .if1 .taken)) (c .reply .ensures)
 
 load-requires : tie.Need-load-requires
-load-requires c κs = search needs
+load-requires c κs =
+    let a = c .before .before .before .before .before .before .before .before .before .before .before .before .before .before .before .before .args in
+    let f = c .before .before .form .ensures in
+    let q = not-false _ (c .before .if1 .left) in
+    form-size (a .sm .now) (a .table .now) (a .titles .now) (a .names .now) (a .bodies .now) (a .known .now) (a .inbox .now) (a .store .now) (a .bytes .now) f q
 
 is-over-requires : tie.Need-is-over-requires
 is-over-requires c κs = search needs
+
+reply-requires-2 : tie.Need-reply-requires-2
+reply-requires-2 c κs = search needs
 
 same-length-5 : tie.Need-same-length-5
 same-length-5 c = search needs
@@ -49,10 +55,13 @@ same-length-8 c = search needs
 
 returns-2 : tie.Need-returns-2
 returns-2 c =
-    let f = c .before .before .before .before .before in
-    let a = f .before .before .before .before .before .before .before .before .before .before .before .before .before .before .args in
-    receive-over (a .sm .now) (a .table .now) (a .titles .now) (a .names .now) (a .bodies .now) (a .known .now) (a .inbox .now) (a .store .now) (a .bytes .now)
-    (f .form .ensures) (not-false _ (c .before .before .before .before .if1 .left)) (c .before .before .load .ensures) (c .before .is-over .ensures) (c .if2 .taken)
+    let a = c .before .before .before .before .before .before .before .before .before .before .before .before .before .before .before .before .before .before .before .before .args in
+    let f = c .before .before .before .before .before .before .form .ensures in
+    let q = not-false _ (c .before .before .before .before .before .if1 .left) in
+    receive-over (a .sm .now) (a .table .now) (a .titles .now) (a .names .now) (a .bodies .now) (a .known .now) (a .inbox .now) (a .store .now) (a .bytes .now) f q (c .before .before .before .load .ensures) (c .before .before .is-over .ensures) (c .before .if2 .taken) (c .reply2 .ensures)
+
+reply-requires-3 : tie.Need-reply-requires-3
+reply-requires-3 c κs = search needs
 
 same-length-9 : tie.Need-same-length-9
 same-length-9 c = search needs
@@ -68,24 +77,21 @@ same-length-12 c = search needs
 
 returns-3 : tie.Need-returns-3
 returns-3 c =
-    let f = c .before .before .before .before .before .before in
-    let a = f .before .before .before .before .before .before .before .before .before .before .before .before .before .before .args in
-    receive-none (a .sm .now) (a .table .now) (a .titles .now) (a .names .now) (a .bodies .now) (a .known .now) (a .inbox .now) (a .store .now) (a .bytes .now)
-    (f .form .ensures) (not-false _ (c .before .before .before .before .before .if1 .left)) (c .before .before .before .load .ensures) (c .before .before .is-over .ensures) (c .before .if2 .left) (c .if3 .taken)
+    let a = c .before .before .before .before .before .before .before .before .before .before .before .before .before .before .before .before .before .before .before .before .before .args in
+    let f = c .before .before .before .before .before .before .before .form .ensures in
+    let q = not-false _ (c .before .before .before .before .before .before .if1 .left) in
+    receive-none (a .sm .now) (a .table .now) (a .titles .now) (a .names .now) (a .bodies .now) (a .known .now) (a .inbox .now) (a .store .now) (a .bytes .now) f q (c .before .before .before .before .load .ensures) (c .before .before .before .is-over .ensures) (c .before .before .if2 .left) (c .before .if3 .taken) (c .reply3 .ensures)
 
-take-bytes-requires : tie.Need-take-bytes-requires
-take-bytes-requires c κs =
-    let f = c .before .before .before .before .before .before .before .before .before in
-    let a = f .before .before .before .before .before .before .before .before .before .before .before .before .before .before .args in
-    receive-sound (a .sm .now) (a .table .now) (a .titles .now) (a .names .now) (a .bodies .now) (a .known .now) (a .inbox .now) (a .store .now) (a .bytes .now)
-    (f .form .ensures) (not-false _ (c .before .before .before .before .before .before .before .before .if1 .left)) (c .before .before .before .before .before .before .load .ensures)
-    (octets-of (a .sm .now) (λ i. (f .before .before .before .before .before .before .before .before .before .before .before .before .before .slice-known .given i) .fits))
-    (octets-of (a .table .now) (λ i. (f .before .before .before .before .before .before .before .before .before .before .before .before .slice-known2 .given i) .fits))
-    (octets-of (a .inbox .now) (λ i. (f .before .before .before .before .before .before .before .slice-known3 .given i) .fits))
-    (octets-of (a .store .now) (λ i. (f .before .before .before .before .before .before .slice-known4 .given i) .fits))
+take-requires : tie.Need-take-requires
+take-requires c κs =
+    let a = c .before .before .before .before .before .before .before .before .before .before .before .before .before .before .before .before .before .before .before .before .before .before .args in
+    let f = c .before .before .before .before .before .before .before .before .form .ensures in
+    let q = not-false _ (c .before .before .before .before .before .before .before .if1 .left) in
+    let v = receive-live (a .sm .now) (a .table .now) (a .titles .now) (a .names .now) (a .bodies .now) (a .known .now) (a .inbox .now) (a .store .now) (a .bytes .now) f q (c .before .before .before .before .before .load .ensures) (c .before .before .before .before .is-over .ensures) (c .before .before .before .if2 .left) (c .before .before .if3 .left) in
+    (v, used-within _ (a .sm .now) (a .bytes .now) v (a .table .now) (a .inbox .now) (a .store .now) (receive-sound (a .sm .now) (a .table .now) (a .titles .now) (a .names .now) (a .bodies .now) (a .known .now) (a .inbox .now) (a .store .now) (a .bytes .now) f q (octets-of (a .sm .now) (λ i. (c .before .before .before .before .before .before .before .before .before .before .before .before .before .before .before .before .before .before .before .before .before .slice-known .given i) .fits)) (octets-of (a .table .now) (λ i. (c .before .before .before .before .before .before .before .before .before .before .before .before .before .before .before .before .before .before .before .before .slice-known2 .given i) .fits)) (octets-of (a .inbox .now) (λ i. (c .before .before .before .before .before .before .before .before .before .before .before .before .before .before .before .slice-known3 .given i) .fits)) (octets-of (a .store .now) (λ i. (c .before .before .before .before .before .before .before .before .before .before .before .before .before .before .slice-known4 .given i) .fits))))
 
-save-requires : tie.Need-save-requires
-save-requires c κs = search needs
+reply-requires-4 : tie.Need-reply-requires-4
+reply-requires-4 c κs = search needs
 
 same-length-13 : tie.Need-same-length-13
 same-length-13 c = search needs
@@ -101,18 +107,44 @@ same-length-16 c = search needs
 
 returns-4 : tie.Need-returns-4
 returns-4 c =
-    let b = c .before .before .before .before .before .before .before .before .before .before .before in
-    let f = b .before .before .before .before .before .before .before .before .before .before in
-    let a = f .before .before .before .before .before .before .before .before .before .before .before .before .before .before .args in
-    receive-taken (a .sm .now) (a .table .now) (a .titles .now) (a .names .now) (a .bodies .now) (a .known .now) (a .inbox .now) (a .store .now) (a .bytes .now)
-    (f .form .ensures) (not-false _ (b .before .before .before .before .before .before .before .before .before .if1 .left)) (b .before .before .before .before .before .before .before .load .ensures) (b .before .before .before .before .before .before .is-over .ensures) (b .before .before .before .before .before .if2 .left) (b .before .before .before .before .if3 .left)
-    (b .take-bytes .ensures) (c .before .before .save .ensures)
+    let a = c .before .before .before .before .before .before .before .before .before .before .before .before .before .before .before .before .before .before .before .before .before .before .before .before .before .before .before .before .before .args in
+    let f = c .before .before .before .before .before .before .before .before .before .before .before .before .before .before .before .form .ensures in
+    let q = not-false _ (c .before .before .before .before .before .before .before .before .before .before .before .before .before .before .if1 .left) in
+    receive-run (a .sm .now) (a .table .now) (a .titles .now) (a .names .now) (a .bodies .now) (a .known .now) (a .inbox .now) (a .store .now) (a .bytes .now) f q (c .before .before .before .before .before .before .before .before .before .before .before .before .load .ensures) (c .before .before .before .before .before .before .before .before .before .before .before .is-over .ensures) (c .before .before .before .before .before .before .before .before .before .before .if2 .left) (c .before .before .before .before .before .before .before .before .before .if3 .left) (c .before .before .before .before .before .before .take .result) (c .before .before .before .before .before .before .take .last .1 .1 .0) (c .before .before .before .before .before .before .take .last .1 .1 .1 .0) (c .before .before .before .before .before .before .take .ensures) (c .before .if4 .taken) (c .reply4 .ensures)
+
+take-all-requires : tie.Need-take-all-requires
+take-all-requires c κs =
+    let a = c .before .before .before .before .before .before .before .before .before .before .before .before .before .before .before .before .before .before .before .before .before .before .before .before .before .before .before .before .before .before .before .before .args in
+    let f = c .before .before .before .before .before .before .before .before .before .before .before .before .before .before .before .before .before .before .form .ensures in
+    let q = not-false _ (c .before .before .before .before .before .before .before .before .before .before .before .before .before .before .before .before .before .if1 .left) in
+    let v = receive-live (a .sm .now) (a .table .now) (a .titles .now) (a .names .now) (a .bodies .now) (a .known .now) (a .inbox .now) (a .store .now) (a .bytes .now) f q (c .before .before .before .before .before .before .before .before .before .before .before .before .before .before .before .load .ensures) (c .before .before .before .before .before .before .before .before .before .before .before .before .before .before .is-over .ensures) (c .before .before .before .before .before .before .before .before .before .before .before .before .before .if2 .left) (c .before .before .before .before .before .before .before .before .before .before .before .before .if3 .left) in
+    (still-live (a .sm .now) (a .table .now) (a .titles .now) (a .names .now) (a .bodies .now) (a .known .now) (a .inbox .now) (a .store .now) (a .bytes .now) f q (c .before .before .before .before .before .before .before .before .before .take .result) (c .before .before .before .before .before .before .before .before .before .take .last .1 .1 .0) (c .before .before .before .before .before .before .before .before .before .take .last .1 .1 .1 .0) (c .before .before .before .before .before .before .before .before .before .take .ensures) (c .before .before .before .before .if4 .left) v, still-sound (a .sm .now) (a .table .now) (a .titles .now) (a .names .now) (a .bodies .now) (a .known .now) (a .inbox .now) (a .store .now) (a .bytes .now) f q (c .before .before .before .before .before .before .before .before .before .take .result) (c .before .before .before .before .before .before .before .before .before .take .last .1 .1 .0) (c .before .before .before .before .before .before .before .before .before .take .last .1 .1 .1 .0) (c .before .before .before .before .before .before .before .before .before .take .ensures) (c .before .before .before .before .if4 .left) (receive-sound (a .sm .now) (a .table .now) (a .titles .now) (a .names .now) (a .bodies .now) (a .known .now) (a .inbox .now) (a .store .now) (a .bytes .now) f q (octets-of (a .sm .now) (λ i. (c .before .before .before .before .before .before .before .before .before .before .before .before .before .before .before .before .before .before .before .before .before .before .before .before .before .before .before .before .before .before .before .slice-known .given i) .fits)) (octets-of (a .table .now) (λ i. (c .before .before .before .before .before .before .before .before .before .before .before .before .before .before .before .before .before .before .before .before .before .before .before .before .before .before .before .before .before .before .slice-known2 .given i) .fits)) (octets-of (a .inbox .now) (λ i. (c .before .before .before .before .before .before .before .before .before .before .before .before .before .before .before .before .before .before .before .before .before .before .before .before .before .slice-known3 .given i) .fits)) (octets-of (a .store .now) (λ i. (c .before .before .before .before .before .before .before .before .before .before .before .before .before .before .before .before .before .before .before .before .before .before .before .before .slice-known4 .given i) .fits))))
+
+same-length-17 : tie.Need-same-length-17
+same-length-17 c = search needs
+
+same-length-18 : tie.Need-same-length-18
+same-length-18 c = search needs
+
+same-length-19 : tie.Need-same-length-19
+same-length-19 c = search needs
+
+same-length-20 : tie.Need-same-length-20
+same-length-20 c = search needs
+
+returns-5 : tie.Need-returns-5
+returns-5 c =
+    let a = c .before .before .before .before .before .before .before .before .before .before .before .before .before .before .before .before .before .before .before .before .before .before .before .before .before .before .before .before .before .before .before .before .before .before .before .before .before .before .before .before .before .args in
+    let f = c .before .before .before .before .before .before .before .before .before .before .before .before .before .before .before .before .before .before .before .before .before .before .before .before .before .before .before .form .ensures in
+    let q = not-false _ (c .before .before .before .before .before .before .before .before .before .before .before .before .before .before .before .before .before .before .before .before .before .before .before .before .before .before .if1 .left) in
+    receive-saved (a .sm .now) (a .table .now) (a .titles .now) (a .names .now) (a .bodies .now) (a .known .now) (a .inbox .now) (a .store .now) (a .bytes .now) f q (c .before .before .before .before .before .before .before .before .before .before .before .before .before .before .before .before .before .before .before .before .before .before .before .before .load .ensures) (c .before .before .before .before .before .before .before .before .before .before .before .before .before .before .before .before .before .before .before .before .before .before .before .is-over .ensures) (c .before .before .before .before .before .before .before .before .before .before .before .before .before .before .before .before .before .before .before .before .before .before .if2 .left) (c .before .before .before .before .before .before .before .before .before .before .before .before .before .before .before .before .before .before .before .before .before .if3 .left) (still-saved (a .sm .now) (a .table .now) (a .titles .now) (a .names .now) (a .bodies .now) (a .known .now) (a .inbox .now) (a .store .now) (a .bytes .now) f q (c .before .before .before .before .before .before .before .before .before .before .before .before .before .before .before .before .before .before .take .result) (c .before .before .before .before .before .before .before .before .before .before .before .before .before .before .before .before .before .before .take .last .1 .1 .0) (c .before .before .before .before .before .before .before .before .before .before .before .before .before .before .before .before .before .before .take .last .1 .1 .1 .0) (c .before .before .before .before .before .before .before .before .before .before .before .before .before .before .before .before .before .before .take .ensures) (c .before .before .before .before .before .before .before .before .before .before .before .before .before .if4 .left) (c .before .before .before .before .before .before .before .before .take-all .ensures))
 
 pub receive-spec : {M : Type 1} → statement M
 receive-spec =
     tie.close
     (tie.spec
     form-requires
+    reply-requires
     same-length
     same-length-2
     same-length-3
@@ -120,20 +152,28 @@ receive-spec =
     returns
     load-requires
     is-over-requires
+    reply-requires-2
     same-length-5
     same-length-6
     same-length-7
     same-length-8
     returns-2
+    reply-requires-3
     same-length-9
     same-length-10
     same-length-11
     same-length-12
     returns-3
-    take-bytes-requires
-    save-requires
+    take-requires
+    reply-requires-4
     same-length-13
     same-length-14
     same-length-15
     same-length-16
-    returns-4)
+    returns-4
+    take-all-requires
+    same-length-17
+    same-length-18
+    same-length-19
+    same-length-20
+    returns-5)

@@ -104,7 +104,7 @@ same-length-4 c = search needs
 -- src/lib.rt:78:1
 returns-4 : tie.Need-returns-4
 unfolding loadOf loadSay
-returns-4 c = let a = c .before .before .before .before .before .before .before .before .before .before .before .before .before .args in puts-as (a .buf .now) (a .c) (first-signs (loadOf (a .sm .now) .say .first) (loadOf (a .sm .now) .say .signs) (c .before .before .before .before .before .before .before .before .before .if1 .left) (c .before .before .before .before .before .before .before .before .if2 .left) (c .before .before .before .before .before .before .before .if3  .left) (signs-read (a .sm .now) (omega (arith, c .before .before .before .before .before .before .before .before .before .before .before .before .before .pre)) (c .before .before .before .before .before .in-use .ensures))) (c .before .before .write-fs .ensures)
+returns-4 c = let a = c .before .before .before .before .before .before .before .before .before .before .before .before .before .args in puts-as (a .buf .now) (a .c) (first-signs (loadOf (a .sm .now) .say .first) (loadOf (a .sm .now) .say .signs) (c .before .before .before .before .before .before .before .before .before .if1 .left) (c .before .before .before .before .before .before .before .before .if2 .left) (c .before .before .before .before .before .before .before .if3 .left) (signs-read (a .sm .now) (omega (arith, c .before .before .before .before .before .before .before .before .before .before .before .before .before .pre)) (c .before .before .before .before .before .in-use .ensures))) (c .before .before .write-fs .ensures)
 
 pub write-first-spec : {M : Type 1} → statement M
 write-first-spec =
