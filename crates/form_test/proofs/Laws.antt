@@ -193,9 +193,10 @@ module _ (s : Session) (table titles names bodies : Bytes) where
   pub located-next : waits (s .say) ≡ true → {pos : ℕ} {p : Place} → pos ≡ s .say .pos → Located (piecesOf s table titles names bodies) pos p
       → (p .left ≡ waitingOk s table titles names bodies) × (p .left ≡ true → Next s table titles names bodies p)
   unfolding waitingOk
-  located-next w {pos} {p} q a =
-      (rw w (a .0 ∙ ap (λ (l : Bytes). ltb pos (length l)) (pieces-joined s table titles names bodies) ∙ ap (λ (n : ℕ). ltb n (length (waitingOf s table titles names bodies))) q),
-      λ t. (t ∙ sym w, λ o. subst (λ (n : ℕ). At (piecesOf s table titles names bodies) n p) q (a .1 t)))
+  located-next w {pos} {p} q a = (
+    rw w (a .0 ∙ ap (λ (l : Bytes). ltb pos (length l)) (pieces-joined s table titles names bodies) ∙ ap (λ (n : ℕ). ltb n (length (waitingOf s table titles names bodies))) q),
+    λ t. (t ∙ sym w, λ o. subst (λ (n : ℕ). At (piecesOf s table titles names bodies) n p) q (a .1 t)),
+  )
 
 -- ---------------------------------------------------------------- all but the last
 

@@ -106,10 +106,12 @@ module _ (sm table titles names bodies : Bytes) (p : Place) where
         → Hands s (waitingOf s table titles names bodies) buf place (record { count = d .at - place; pos = n + (d .at - place); left = b }) e
     unfolding loadOf loadSay
     hands {n} {b} f g =
-        subst (λ (w : Bytes). Hands s w buf place (record { count = d .at - place; pos = n + (d .at - place); left = b }) e) (pieces-joined s table titles names bodies)
-        (hand-count (piecesOf s table titles names bodies) (s .say .pos) p a buf place q, ap (λ (k : ℕ). k + (d .at - place)) f,
-        g ∙ ap (λ (k : ℕ). ltb (k + (d .at - place)) (length (joined (piecesOf s table titles names bodies)))) (sym f),
-        hand-bytes (piecesOf s table titles names bodies) (s .say .pos) p a buf place q)
+        subst (λ (w : Bytes). Hands s w buf place (record { count = d .at - place; pos = n + (d .at - place); left = b }) e) (pieces-joined s table titles names bodies) (
+          hand-count (piecesOf s table titles names bodies) (s .say .pos) p a buf place q,
+          ap (λ (k : ℕ). k + (d .at - place)) f,
+          g ∙ ap (λ (k : ℕ). ltb (k + (d .at - place)) (length (joined (piecesOf s table titles names bodies)))) (sym f),
+          hand-bytes (piecesOf s table titles names bodies) (s .say .pos) p a buf place q,
+        )
 
   -- all that waits is short
   pub short : ((i : ℕ) → byteAt table i < 256) → length (joined (piecesOf s table titles names bodies)) ≤ 2000020

@@ -29,7 +29,7 @@ struct Handout {
 }
 
 // No record is bad.
-const NO_PLACE: u8 = 255;
+pub const NO_PLACE: u8 = 255;
 
 // Answer 0 with this count.
 fn given(count: usize) -> Reply

@@ -69,7 +69,13 @@ fn piece_length<'a>(
     if then == phase::PIECE_BLOCK {
         return block_length(k, sm, table);
     }
-    text_length::transfer(table, sm[places::SENDING + k as usize], titles, names, bodies)
+    text_length::transfer(
+        table,
+        sm[places::SENDING + k as usize],
+        titles,
+        names,
+        bodies,
+    )
 }
 
 // Byte pos of all that waits.

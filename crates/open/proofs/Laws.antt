@@ -5,16 +5,18 @@ use Prim.Native.Nat.{ℕ, suc, _+_, _-_, _<_, _≤_}
 use native.Mathlib.Omega.{arith}
 use native.Mathlib.Numerals.{add-one}
 use lib.Dec.{eqb}
-use borrow.Author.Tests.{le-leb, lt-leb, eq-eqb, ne-eqb}
+use lib.ListN.{length}
+use borrow.Author.Tests.{le-leb, lt-leb, eq-eqb, ne-eqb, eqb-true}
 use Rattle.grammar.specs.Bytes.{Bytes}
 use Rattle.grammar.specs.Fields.{Form, isBid, isBody}
 use Rattle.grammar.specs.Transfers.{partOf}
 use Rattle.grammar.specs.Refusals.{badMemory}
-use Rattle.grammar.proofs.Basics.{told, told-not}
+use Rattle.grammar.proofs.Basics.{and2, told, told-not}
 use Rattle.session.specs.Choices.{among}
 use Rattle.layout.specs.Layout.{fieldIn, entryAt, recordSize, knownSize}
-use Rattle.session_memory.specs.State.{saveOf, saveSizes, freshOf}
-use Rattle.session_memory.specs.declared.Session.{Session}
+use Rattle.session_memory.specs.State.{sessionSize, saveOf, saveSizes, freshOf}
+use Rattle.session_memory.specs.declared.Sizes.{Sizes}
+use Rattle.session_memory.proofs.Laws.{sizes-length}
 use Rattle.entries.specs.Decoded.{entries}
 use Rattle.form_test.specs.Form.{lentSizes}
 use Rattle.give.specs.Giving.{reply}
@@ -131,9 +133,16 @@ module _ (role : ℕ) (sm table titles names bodies known inbox store : Bytes) w
             (ap (λ (x : Reply). opened x sm) (e ∙ ap (λ (p : ℕ). reply badMemory p 0) q))
 
         pub open-good : place ≡ 255 → (m : Bytes) → m ≡ saveSizes sm (lentSizes table titles names bodies known inbox store)
-            → (s : Session) → s ≡ freshOf (eqb role 1) → (n : Bytes) → n ≡ saveOf m s → opened (reply 0 0 0) n ≡ answer
+            → (n : Bytes) → n ≡ saveOf m (freshOf (eqb role 1)) → opened (reply 0 0 0) n ≡ answer
         unfolding openOf
-        open-good p m v s w n z =
+        open-good p m v n z =
             rw (le-leb role 1 h, told f g, told k l, eq-eqb (tableFault table titles names bodies) 255 (sym q ∙ p))
             (ap (λ (x : Bytes). opened (reply 0 0 0) x)
-            (z ∙ ap (λ (x : Bytes). saveOf x s) v ∙ ap (λ (x : Session). saveOf (saveSizes sm (lentSizes table titles names bodies known inbox store)) x) w))
+            (z ∙ ap (λ (x : Bytes). saveOf x (freshOf (eqb role 1))) v))
+
+-- the size that was tested, after the sizes are saved
+pub size-told : (sm table known inbox : Bytes) {b : Bool} → b ≡ sizesOk sm table known inbox → not b ≡ false → (z : Sizes) {m : Bytes} → m ≡ saveSizes sm z
+    → length m ≡ sessionSize
+unfolding sizesOk
+size-told sm table known inbox e h z f =
+    ap length f ∙ sizes-length sm z ∙ eqb-true (length sm) sessionSize (and2 (eqb (length sm) sessionSize) _ (told e h) .0)

@@ -1,4 +1,5 @@
 // The call open.
+use give::NO_PLACE;
 use give::Reply;
 use layout::byte_at;
 use layout::entry;
@@ -19,6 +20,45 @@ ghost use Rattle.session_memory.specs.State.{sessionSize};
 ghost use Rattle.entries.specs.Decoded.{recordCount, knownCount};
 ghost use Rattle.give.specs.Giving.{reply};
 ghost use Rattle.open.specs.Opening.{lengthOk, numbersOk, fieldsOk, within, headingOk, textsOk, recordOk, placeOk, tableFault, knownOk, entriesOk, sizesOk, openOf, Opened};
+
+// Roles: called, caller.
+const CALLER: u8 = 1;
+
+// Where a record tells its state, form, type and size, and where title, name and body lie; 01's largest size.
+const STATE: usize = 0;
+
+const FORM: usize = places::RECORD_FORM as usize;
+
+const TYPE: usize = places::RECORD_TYPE as usize;
+
+const SIZE: u16 = places::RECORD_SIZE_FIELD as u16;
+
+const SIZE_MAX: usize = 999999;
+
+const TITLE: u16 = places::RECORD_TITLE as u16;
+
+const TITLE_LEN: usize = places::RECORD_TITLE_LEN as usize;
+
+const NAME: u16 = places::RECORD_NAME as u16;
+
+const NAME_LEN: usize = places::RECORD_NAME_LEN as usize;
+
+const BODY: u16 = places::RECORD_BODY as u16;
+
+const BODY_LEN: u16 = places::RECORD_BODY_LEN as u16;
+
+// "up to 64 records", "up to 1,024 BIDs", "up to 64 messages", and how long each is.
+const RECORDS: usize = 64;
+
+const RECORD: usize = places::RECORD as usize;
+
+const BIDS: usize = 1024;
+
+const KNOWN: usize = places::KNOWN as usize;
+
+const MESSAGES: usize = 64;
+
+const ENTRY: usize = places::ENTRY as usize;
 
 // The field's length fits its place.
 fn length_ok(c: &[u8], at: u8, n: u8) -> bool
@@ -41,62 +81,62 @@ fn type_ok(kind: u8) -> bool
 fn numbers_ok(c: &[u8]) -> bool
     ensures { λ r. ⌜ r ≡ numbersOk (now (c .entry)) ⌝ }
 {
-    if 2 < byte_at(c, 0) {
+    if phase::STATE_DECLINED < byte_at(c, STATE) {
         return false;
     }
-    if 2 < byte_at(c, 1) {
+    if record_text::FILE < byte_at(c, FORM) {
         return false;
     }
-    if !type_ok(byte_at(c, 2)) {
+    if !type_ok(byte_at(c, TYPE)) {
         return false;
     }
-    number4(c, 69) <= 999999
+    number4(c, SIZE) <= SIZE_MAX
 }
 
 // The field at this place is a callsign.
 fn call_ok(c: &[u8], at: u8) -> bool
     ensures { λ r. ⌜ r ≡ lengthOk (now (c .entry)) at 6 && isCall (fieldIn 6 at (now (c .entry))) ⌝ }
 {
-    if !length_ok(c, at, 6) {
+    if !length_ok(c, at, places::CALL_MAX) {
         return false;
     }
-    field::is_call(layout::field(c, at, 6))
+    field::is_call(layout::field(c, at, places::CALL_MAX))
 }
 
 // The field at this place is an at field.
 fn at_ok(c: &[u8], at: u8) -> bool
     ensures { λ r. ⌜ r ≡ lengthOk (now (c .entry)) at 38 && isAt (fieldIn 38 at (now (c .entry))) ⌝ }
 {
-    if !length_ok(c, at, 38) {
+    if !length_ok(c, at, places::AT_MAX) {
         return false;
     }
-    field::is_at(layout::field(c, at, 38))
+    field::is_at(layout::field(c, at, places::AT_MAX))
 }
 
 // The field at this place is a BID.
 fn bid_ok(c: &[u8], at: u8) -> bool
     ensures { λ r. ⌜ r ≡ lengthOk (now (c .entry)) at 12 && isBid (fieldIn 12 at (now (c .entry))) ⌝ }
 {
-    if !length_ok(c, at, 12) {
+    if !length_ok(c, at, places::BID_MAX) {
         return false;
     }
-    field::is_bid(layout::field(c, at, 12))
+    field::is_bid(layout::field(c, at, places::BID_MAX))
 }
 
 // From, at, to and BID.
 fn fields_ok(c: &[u8]) -> bool
     ensures { λ r. ⌜ r ≡ fieldsOk (now (c .entry)) ⌝ }
 {
-    if !call_ok(c, 3) {
+    if !call_ok(c, places::RECORD_FROM) {
         return false;
     }
-    if !at_ok(c, 10) {
+    if !at_ok(c, places::RECORD_AT) {
         return false;
     }
-    if !call_ok(c, 49) {
+    if !call_ok(c, places::RECORD_TO) {
         return false;
     }
-    bid_ok(c, 56)
+    bid_ok(c, places::RECORD_BID)
 }
 
 // The len bytes from start on lie in the store.
@@ -128,9 +168,9 @@ fn title_ok(c: &[u8], titles: &[u8]) -> bool
 {
     heading_ok(
         titles,
-        number4(c, 73),
-        byte_at(c, 77) as usize,
-        byte_at(c, 1) != 2,
+        number4(c, TITLE),
+        byte_at(c, TITLE_LEN) as usize,
+        byte_at(c, FORM) != record_text::FILE,
     )
 }
 
@@ -140,9 +180,9 @@ fn name_ok(c: &[u8], names: &[u8]) -> bool
 {
     heading_ok(
         names,
-        number4(c, 78),
-        byte_at(c, 82) as usize,
-        byte_at(c, 1) == 2,
+        number4(c, NAME),
+        byte_at(c, NAME_LEN) as usize,
+        byte_at(c, FORM) == record_text::FILE,
     )
 }
 
@@ -150,9 +190,9 @@ fn name_ok(c: &[u8], names: &[u8]) -> bool
 fn body_ok(c: &[u8], bodies: &[u8]) -> bool
     ensures { λ r. ⌜ r ≡ within (now (bodies .entry)) (le4At (now (c .entry)) 83) (le2At (now (c .entry)) 87) && isBody (formIs (byteAt (now (c .entry)) 1)) (partOf (now (bodies .entry)) (le4At (now (c .entry)) 83) (le2At (now (c .entry)) 87)) ⌝ }
 {
-    let form = byte_at(c, 1);
-    let start = number4(c, 83);
-    let len = number2(c, 87);
+    let form = byte_at(c, FORM);
+    let start = number4(c, BODY);
+    let len = number2(c, BODY_LEN);
     if !lies_within(bodies, start, len) {
         return false;
     }
@@ -189,20 +229,26 @@ fn record_ok(c: &[u8], titles: &[u8], names: &[u8], bodies: &[u8]) -> bool
 fn place_ok(table: &[u8], titles: &[u8], names: &[u8], bodies: &[u8], i: u16) -> bool
     ensures { λ r. ⌜ r ≡ placeOk (now (table .entry)) (now (titles .entry)) (now (names .entry)) (now (bodies .entry)) i ⌝ }
 {
-    let c = entry(layout::RECORD, table, i);
+    let c = entry(places::RECORD, table, i);
     if !record_ok(c, titles, names, bodies) {
         return false;
     }
-    !bid::has_bid(layout::RECORD, table, i, 56, layout::field(c, 56, 12))
+    !bid::has_bid(
+        places::RECORD,
+        table,
+        i,
+        places::RECORD_BID,
+        layout::field(c, places::RECORD_BID, places::BID_MAX),
+    )
 }
 
 // How many records the table has, 64 at most.
 fn records(table: &[u8]) -> u8
     ensures { λ r. ⌜ r ≡ recordCount (now (table .entry)) ⌝ }
 {
-    let n = table.len() / 89;
-    if 64 < n {
-        return 64;
+    let n = table.len() / RECORD;
+    if RECORDS < n {
+        return RECORDS as u8;
     }
     n as u8
 }
@@ -211,9 +257,9 @@ fn records(table: &[u8]) -> u8
 fn known_bids(known: &[u8]) -> u16
     ensures { λ r. ⌜ r ≡ knownCount (now (known .entry)) ⌝ }
 {
-    let n = known.len() / 13;
-    if 1024 < n {
-        return 1024;
+    let n = known.len() / KNOWN;
+    if BIDS < n {
+        return BIDS as u16;
     }
     n as u16
 }
@@ -230,7 +276,7 @@ fn table_fault(table: &[u8], titles: &[u8], names: &[u8], bodies: &[u8]) -> u8
         }
         i += 1;
     }
-    255
+    NO_PLACE
 }
 
 // Every known BID is one.
@@ -240,7 +286,7 @@ fn known_ok(known: &[u8]) -> bool
     let n = known_bids(known);
     let mut i = 0u16;
     while i < n {
-        if !bid_ok(entry(layout::KNOWN, known, i), 0) {
+        if !bid_ok(entry(places::KNOWN, known, i), 0) {
             return false;
         }
         i += 1;
@@ -263,16 +309,16 @@ fn entries_ok(len: usize, size: usize, most: usize) -> bool
 fn sizes_ok(sm: usize, table: usize, known: usize, inbox: usize) -> bool
     ensures { λ r. ⌜ r ≡ eqb sm sessionSize && (entriesOk table recordSize 64 && (entriesOk known knownSize 1024 && entriesOk inbox entrySize 64)) ⌝ }
 {
-    if sm != session_memory::SESSION {
+    if sm != places::SESSION {
         return false;
     }
-    if !entries_ok(table, 89, 64) {
+    if !entries_ok(table, RECORD, RECORDS) {
         return false;
     }
-    if !entries_ok(known, 13, 1024) {
+    if !entries_ok(known, KNOWN, BIDS) {
         return false;
     }
-    entries_ok(inbox, 155, 64)
+    entries_ok(inbox, ENTRY, MESSAGES)
 }
 
 // Answer 1, bad memory, with this place.
@@ -280,7 +326,7 @@ fn bad(place: u8) -> Reply
     ensures { λ r. ⌜ r ≡ reply badMemory place 0 ⌝ }
 {
     Reply {
-        answer: 1,
+        answer: refusal::BAD_MEMORY,
         place: place,
         count: 0,
     }
@@ -300,17 +346,17 @@ pub fn open(
 ) -> Reply
     ensures { λ r. ⌜ record { reply = r; sm = now (sm .exit) } ≡ openOf role (now (sm .entry)) (now (table .entry)) (now (titles .entry)) (now (names .entry)) (now (bodies .entry)) (now (known .entry)) (now (inbox .entry)) (now (store .entry)) ⌝ }
 {
-    if 1 < role {
-        return bad(255);
+    if CALLER < role {
+        return bad(NO_PLACE);
     }
     if !sizes_ok(sm.len(), table.len(), known.len(), inbox.len()) {
-        return bad(255);
+        return bad(NO_PLACE);
     }
     if !known_ok(known) {
-        return bad(255);
+        return bad(NO_PLACE);
     }
     let place = table_fault(table, titles, names, bodies);
-    if place != 255 {
+    if place != NO_PLACE {
         return bad(place);
     }
     let z = Sizes {
@@ -322,8 +368,8 @@ pub fn open(
         inbox: inbox.len(),
         store: store.len(),
     };
-    state_save::save_sizes(sm, z);
-    state_save::save(sm, session_memory::fresh(role == 1));
+    open_memory::save_sizes(sm, z);
+    open_memory::save_fresh(sm, role == CALLER);
     Reply {
         answer: 0,
         place: 0,

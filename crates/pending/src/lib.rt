@@ -4,7 +4,7 @@ use session_memory::Say;
 ghost use mathlib.Core.Path.{_≡_};
 ghost use Rattle.grammar.specs.Bytes.{Bytes};
 ghost use Rattle.numbers.specs.Whole.{wholeOf};
-ghost use Rattle.pending.specs.Pending.{waits, overOf, hasToGive};
+ghost use Rattle.pending.specs.Pending.{waits, overOf};
 
 // Something waits.
 pub fn is_waiting(say: Say) -> bool
@@ -29,15 +29,4 @@ pub fn is_over(s: Numbers) -> bool
         return !is_waiting(say);
     }
     true
-}
-
-// Something is to be given: it waits, and the session has not ended.
-pub fn has_to_give(s: Numbers) -> bool
-    ensures { λ r. ⌜ ((m : Bytes) → r ≡ hasToGive (wholeOf s m)) ⌝ }
-{
-    if is_over(s) {
-        return false;
-    }
-    let say = s.say;
-    is_waiting(say)
 }

@@ -22,10 +22,18 @@ pub fn heading<'a>(r: &[u8], titles: &'a [u8], names: &'a [u8]) -> &'a [u8]
 {
     if byte(r, places::RECORD_FORM as usize) == FILE {
         let start = four(r, places::RECORD_NAME as usize) as usize;
-        part(names, start, wide(byte(r, places::RECORD_NAME_LEN as usize)))
+        part(
+            names,
+            start,
+            wide(byte(r, places::RECORD_NAME_LEN as usize)),
+        )
     } else {
         let start = four(r, places::RECORD_TITLE as usize) as usize;
-        part(titles, start, wide(byte(r, places::RECORD_TITLE_LEN as usize)))
+        part(
+            titles,
+            start,
+            wide(byte(r, places::RECORD_TITLE_LEN as usize)),
+        )
     }
 }
 
@@ -35,5 +43,9 @@ pub fn body<'a>(r: &[u8], bodies: &'a [u8]) -> &'a [u8]
     ensures { λ b. ⌜ (now b ≡ bodyIn (now (bodies .entry)) (now (r .entry))) × (length (now b) ≤ 65535) ⌝ }
 {
     let start = four(r, places::RECORD_BODY as usize) as usize;
-    part(bodies, start, two(r, places::RECORD_BODY_LEN as usize) as usize)
+    part(
+        bodies,
+        start,
+        two(r, places::RECORD_BODY_LEN as usize) as usize,
+    )
 }

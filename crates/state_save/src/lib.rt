@@ -5,13 +5,11 @@ use number_write::bytes4;
 use number_write::bytes8;
 use session_memory::Five;
 use session_memory::Session;
-use session_memory::Sizes;
 ghost use mathlib.Core.Path.{_≡_};
 ghost use mathlib.Core.Bool.{cond};
-ghost use mathlib.Core.List.{_++_};
 ghost use Rattle.buffer.specs.Put.{Puts};
 ghost use Rattle.layout.specs.Layout.{le2, le4, le8};
-ghost use Rattle.session_memory.specs.State.{flag, fiveOut, smallOut, numbersOut, arraysOut, saveOf, saveSizes};
+ghost use Rattle.session_memory.specs.State.{flag, fiveOut, smallOut, numbersOut, arraysOut, saveOf};
 
 // 1 for yes, 0 for no.
 fn flag(b: bool) -> u8
@@ -151,32 +149,4 @@ pub fn save(sm: &mut [u8], s: Session)
         },
         s,
     );
-}
-
-// The sizes of the table and its three stores.
-fn save_table_sizes(sm: &mut [u8], c: Cursor, z: Sizes) -> Cursor
-    ensures { λ r. ⌜ Puts (now (sm .entry)) c (le8 (z .table) ++ (le8 (z .titles) ++ (le8 (z .names) ++ le8 (z .bodies)))) r (now (sm .exit)) ⌝ }
-{
-    let c1 = put8(sm, c, z.table);
-    let c2 = put8(sm, c1, z.titles);
-    let c3 = put8(sm, c2, z.names);
-    put8(sm, c3, z.bodies)
-}
-
-// The mark and the sizes into session memory.
-pub fn save_sizes(sm: &mut [u8], z: Sizes)
-    ensures { λ _. ⌜ now (sm .exit) ≡ saveSizes (now (sm .entry)) z ⌝ }
-{
-    let c = buffer::put(
-        sm,
-        Cursor {
-            at: places::MARK,
-            skip: 0,
-        },
-        b"FM01",
-    );
-    let c1 = save_table_sizes(sm, c, z);
-    let c2 = put8(sm, c1, z.known);
-    let c3 = put8(sm, c2, z.inbox);
-    let _c4 = put8(sm, c3, z.store);
 }

@@ -39,13 +39,7 @@ fn framed(heading: usize, body: usize) -> usize
 }
 
 // The transfer of the record at this place of the table.
-pub fn transfer<'a>(
-    table: &[u8],
-    i: u8,
-    titles: &'a [u8],
-    names: &'a [u8],
-    bodies: &[u8],
-) -> usize
+pub fn transfer<'a>(table: &[u8], i: u8, titles: &'a [u8], names: &'a [u8], bodies: &[u8]) -> usize
     ensures { λ n. ⌜ n ≡ length (transferOf (recordOf (now (titles .entry)) (now (names .entry)) (now (bodies .entry)) (entryAt recordLen (now (table .entry)) i))) ⌝ }
 {
     let r = entry(places::RECORD, table, i as u16);

@@ -81,7 +81,6 @@ held-clipped n l e = go (ltb n 5) refl
 pub held-in-use : (f : Five) (n : ℕ) → n ≡ min 5 (f .count) → length (f .items) ≡ 5 → take n (f .items) ≡ held f
 held-in-use f n e h = ap (λ (m : ℕ). take m (f .items)) e ∙ held-clipped (f .count) (f .items) h
 
-
 -- up to five numbers where they stand in session memory: their count, then they
 module _ (sm : Bytes) (a : ℕ) (h : a + 6 ≤ length sm) where
   pub item-read : (k : ℕ) → 1 ≤ k → k ≤ 5 → byteAt sm (a + k) ≡ getD (fiveAt sm a .items) (k - 1) 0

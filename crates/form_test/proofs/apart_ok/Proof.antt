@@ -3,51 +3,34 @@ use Rattle.grammar.proofs.Basics.{told, told-not}
 use borrow.Author.Needs.{needs}
 use Rattle.form_test.proofs.apart_ok.Statement.{statement}
 use Rattle.form_test.proofs.apart_ok.Tie as tie
-use Rattle.form_test.proofs.apart_ok.Reads as reads
-use Rattle.form_test.proofs.apart_ok.Lts as lts
-use Rattle.form_test.proofs.counts_ok.Reads as counts-ok-reads
-use Rattle.form_test.proofs.inbox_ok.Reads as inbox-ok-reads
-use Rattle.form_test.proofs.mark_ok.Reads as mark-ok-reads
-use Rattle.form_test.proofs.phase_ok.Reads as phase-ok-reads
-use Rattle.form_test.proofs.sizes_ok.Reads as sizes-ok-reads
 
--- src/lib.rt:242:9
 mark-ok-requires : tie.Need-mark-ok-requires
 mark-ok-requires c κs = search needs
 
--- src/lib.rt:243:9
 returns : tie.Need-returns
 returns c = rw (told-not (c .before .mark-ok .ensures) (c .if1 .taken))
 
--- src/lib.rt:245:9
 sizes-ok-requires : tie.Need-sizes-ok-requires
 sizes-ok-requires c κs = search needs
 
--- src/lib.rt:246:9
 returns-2 : tie.Need-returns-2
 returns-2 c = rw (told (c .before .before .before .mark-ok .ensures) (c .before .before .if1 .left), told-not (c .before .sizes-ok .ensures) (c .if2 .taken))
 
--- src/lib.rt:248:9
 counts-ok-requires : tie.Need-counts-ok-requires
 counts-ok-requires c κs = search needs
 
--- src/lib.rt:249:9
 returns-3 : tie.Need-returns-3
 returns-3 c = rw (told (c .before .before .before .before .before .mark-ok .ensures) (c .before .before .before .before .if1 .left), told (c .before .before .before .sizes-ok .ensures) (c .before .before .if2 .left), told-not (c .before .counts-ok .ensures) (c .if3 .taken))
 
--- src/lib.rt:251:9
 inbox-ok-requires : tie.Need-inbox-ok-requires
 inbox-ok-requires c κs = search needs
 
--- src/lib.rt:252:9
 returns-4 : tie.Need-returns-4
 returns-4 c = rw (told (c .before .before .before .before .before .before .before .mark-ok .ensures) (c .before .before .before .before .before .before .if1 .left), told (c .before .before .before .before .before .sizes-ok .ensures) (c .before .before .before .before .if2 .left), told (c .before .before .before .counts-ok .ensures) (c .before .before .if3 .left), told-not (c .before .inbox-ok .ensures) (c .if4 .taken))
 
--- src/lib.rt:254:5
 phase-ok-requires : tie.Need-phase-ok-requires
 phase-ok-requires c κs = search needs
 
--- src/lib.rt:229:1
 returns-5 : tie.Need-returns-5
 returns-5 c = rw (told (c .before .before .before .before .before .before .before .before .mark-ok .ensures) (c .before .before .before .before .before .before .before .if1 .left), told (c .before .before .before .before .before .before .sizes-ok .ensures) (c .before .before .before .before .before .if2 .left), told (c .before .before .before .before .counts-ok .ensures) (c .before .before .before .if3 .left), told (c .before .before .inbox-ok .ensures) (c .before .if4 .left)) (c .phase-ok .ensures)
 

@@ -6,65 +6,49 @@ use Rattle.form_test.proofs.Laws.{read-le, read-gt}
 use borrow.Author.Needs.{needs}
 use Rattle.form_test.proofs.counts_ok.Statement.{statement}
 use Rattle.form_test.proofs.counts_ok.Tie as tie
-use Rattle.form_test.proofs.counts_ok.Reads as reads
-use Rattle.form_test.proofs.counts_ok.Lts as lts
-use Rattle.number_at.proofs.two.Reads as two-reads
 
--- src/lib.rt:44:19
 two-requires : tie.Need-two-requires
 two-requires c κs = search needs
 
--- src/lib.rt:45:9
 returns : tie.Need-returns
 unfolding countsOk loadOf loadAwait loadSay loadKeep loadReading loadLine
 returns c = rw (read-gt 256 (c .before .two .ensures) (c .if1 .taken))
 
--- src/lib.rt:47:29
 shared-slice-read-if2 : tie.Need-shared-slice-read-if2
 shared-slice-read-if2 c = search needs
 
--- src/lib.rt:48:9
 returns-2 : tie.Need-returns-2
 unfolding countsOk loadOf loadAwait loadSay loadKeep loadReading loadLine
 returns-2 c = rw (read-le 256 (c .before .before .before .two .ensures) (c .before .before .if1 .left), lt-leb _ _ (c .if2 .taken))
 
--- src/lib.rt:50:29
 shared-slice-read-if3 : tie.Need-shared-slice-read-if3
 shared-slice-read-if3 c = search needs
 
--- src/lib.rt:51:9
 returns-3 : tie.Need-returns-3
 unfolding countsOk loadOf loadAwait loadSay loadKeep loadReading loadLine
 returns-3 c = rw (read-le 256 (c .before .before .before .before .before .two .ensures) (c .before .before .before .before .if1 .left), le-leb _ _ (c .before .before .if2 .left), lt-leb _ _ (c .if3 .taken))
 
--- src/lib.rt:53:29
 shared-slice-read-if4 : tie.Need-shared-slice-read-if4
 shared-slice-read-if4 c = search needs
 
--- src/lib.rt:54:9
 returns-4 : tie.Need-returns-4
 unfolding countsOk loadOf loadAwait loadSay loadKeep loadReading loadLine
 returns-4 c = rw (read-le 256 (c .before .before .before .before .before .before .before .two .ensures) (c .before .before .before .before .before .before .if1 .left), le-leb _ _ (c .before .before .before .before .if2 .left), le-leb _ _ (c .before .before .if3 .left), lt-leb _ _ (c .if4 .taken))
 
--- src/lib.rt:56:29
 shared-slice-read-if5 : tie.Need-shared-slice-read-if5
 shared-slice-read-if5 c = search needs
 
--- src/lib.rt:57:9
 returns-5 : tie.Need-returns-5
 unfolding countsOk loadOf loadAwait loadSay loadKeep loadReading loadLine
 returns-5 c = rw (read-le 256 (c .before .before .before .before .before .before .before .before .before .two .ensures) (c .before .before .before .before .before .before .before .before .if1 .left), le-leb _ _ (c .before .before .before .before .before .before .if2 .left), le-leb _ _ (c .before .before .before .before .if3 .left), le-leb _ _ (c .before .before .if4 .left), lt-leb _ _ (c .if5 .taken))
 
--- src/lib.rt:59:30
 shared-slice-read-if6 : tie.Need-shared-slice-read-if6
 shared-slice-read-if6 c = search needs
 
--- src/lib.rt:60:9
 returns-6 : tie.Need-returns-6
 unfolding countsOk loadOf loadAwait loadSay loadKeep loadReading loadLine
 returns-6 c = rw (read-le 256 (c .before .before .before .before .before .before .before .before .before .before .before .two .ensures) (c .before .before .before .before .before .before .before .before .before .before .if1 .left), le-leb _ _ (c .before .before .before .before .before .before .before .before .if2 .left), le-leb _ _ (c .before .before .before .before .before .before .if3 .left), le-leb _ _ (c .before .before .before .before .if4 .left), le-leb _ _ (c .before .before .if5 .left), lt-leb _ _ (c .if6 .taken))
 
--- src/lib.rt:40:1
 returns-7 : tie.Need-returns-7
 unfolding countsOk loadOf loadAwait loadSay loadKeep loadReading loadLine
 returns-7 c = rw (read-le 256 (c .before .before .before .before .before .before .before .before .before .before .before .two .ensures) (c .before .before .before .before .before .before .before .before .before .before .if1 .left), le-leb _ _ (c .before .before .before .before .before .before .before .before .if2 .left), le-leb _ _ (c .before .before .before .before .before .before .if3 .left), le-leb _ _ (c .before .before .before .before .if4 .left), le-leb _ _ (c .before .before .if5 .left), le-leb _ _ (c .if6 .left))

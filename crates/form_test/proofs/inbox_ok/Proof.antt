@@ -13,48 +13,34 @@ use Rattle.form_test.proofs.Laws.{kept-is, kept-not, both-are, both-not
 use borrow.Author.Needs.{needs}
 use Rattle.form_test.proofs.inbox_ok.Statement.{statement}
 use Rattle.form_test.proofs.inbox_ok.Tie as tie
-use Rattle.form_test.proofs.inbox_ok.Reads as reads
-use Rattle.form_test.proofs.inbox_ok.Lts as lts
-use Rattle.form_test.proofs.used_by.Reads as used-by-reads
-use Rattle.number_at.proofs.eight.Reads as eight-reads
-use Rattle.number_at.proofs.wide.Reads as wide-reads
 
--- src/lib.rt:87:9
 returns : tie.Need-returns
 unfolding inboxOk loadOf loadKeep
 returns c = rw (lt-leb _ _ (c .if1 .taken))
 
--- src/lib.rt:89:16
 shared-slice-read-kept : tie.Need-shared-slice-read-kept
 shared-slice-read-kept c = search needs
 
--- src/lib.rt:90:30
 wide-requires : tie.Need-wide-requires
 wide-requires c κs = search needs
 
--- src/lib.rt:90:22
 mul-if2 : tie.Need-mul-if2
 mul-if2 c = search needs
 
--- src/lib.rt:91:9
 returns-2 : tie.Need-returns-2
 unfolding inboxOk loadOf loadKeep
 returns-2 c = let a = c .before .before .before .before .before .before .before .args in rw (le-leb _ _ (c .before .before .before .if1 .left), kept-not (byteAt (a .sm .now) keptAt) (length (a .inbox .now)) (c .before .wide .ensures .0) (c .if2 .taken))
 
--- src/lib.rt:93:9
 eight-requires : tie.Need-eight-requires
 eight-requires c κs = search needs
 
--- src/lib.rt:94:8
 used-by-requires : tie.Need-used-by-requires
 used-by-requires c κs = omega (arith, c .before .before .wide .ensures .0, c .before .if2 .left)
 
--- src/lib.rt:95:9
 returns-3 : tie.Need-returns-3
 unfolding inboxOk loadOf loadKeep
 returns-3 c = let a = c .before .before .before .before .before .before .before .before .before .before .args in rw (le-leb _ _ (c .before .before .before .before .before .before .if1 .left), kept-is (byteAt (a .sm .now) keptAt) (length (a .inbox .now)) (c .before .before .before .before .wide .ensures .0) (c .before .before .before .if2 .left), both-not (c .before .used-by .ensures) (c .before .before .eight .ensures) (c .if3 .taken))
 
--- src/lib.rt:82:1
 returns-4 : tie.Need-returns-4
 unfolding inboxOk loadOf loadKeep
 returns-4 c = let a = c .before .before .before .before .before .before .before .before .before .before .args in rw (le-leb _ _ (c .before .before .before .before .before .before .if1 .left), kept-is (byteAt (a .sm .now) keptAt) (length (a .inbox .now)) (c .before .before .before .before .wide .ensures .0) (c .before .before .before .if2 .left), both-are (c .before .used-by .ensures) (c .before .before .eight .ensures) (c .if3 .left)) (ap (λ (n : ℕ). leb n (length (a .store .now))) (c .before .before .eight .ensures))

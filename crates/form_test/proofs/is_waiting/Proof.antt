@@ -5,23 +5,17 @@ use Rattle.pending.specs.Pending.{waits}
 use borrow.Author.Needs.{needs}
 use Rattle.form_test.proofs.is_waiting.Statement.{statement}
 use Rattle.form_test.proofs.is_waiting.Tie as tie
-use Rattle.form_test.proofs.is_waiting.Reads as reads
-use Rattle.form_test.proofs.is_waiting.Lts as lts
 
--- src/lib.rt:262:8
 shared-slice-read-if1 : tie.Need-shared-slice-read-if1
 shared-slice-read-if1 c = search needs
 
--- src/lib.rt:263:9
 returns : tie.Need-returns
 unfolding waits loadOf loadSay
 returns c = rw (ne-eqb _ _ (c .if1 .taken))
 
--- src/lib.rt:265:5
 shared-slice-read-result : tie.Need-shared-slice-read-result
 shared-slice-read-result c = search needs
 
--- src/lib.rt:258:1
 returns-2 : tie.Need-returns-2
 unfolding waits loadOf loadSay
 returns-2 c = rw (eq-eqb _ _ (c .before .if1 .left))

@@ -5,43 +5,32 @@ use Rattle.form_test.specs.Form.{phaseOk}
 use borrow.Author.Needs.{needs}
 use Rattle.form_test.proofs.phase_ok.Statement.{statement}
 use Rattle.form_test.proofs.phase_ok.Tie as tie
-use Rattle.form_test.proofs.phase_ok.Reads as reads
-use Rattle.form_test.proofs.phase_ok.Lts as lts
-use Rattle.form_test.proofs.transfer_ok.Reads as transfer-ok-reads
 
--- src/lib.rt:169:19
 shared-slice-read-awaited : tie.Need-shared-slice-read-awaited
 shared-slice-read-awaited c = search needs
 
--- src/lib.rt:171:9
 returns : tie.Need-returns
 unfolding phaseOk loadOf loadAwait loadKeep
 returns c = rw (eq-eqb _ _ (c .if1 .taken))
 
--- src/lib.rt:174:9
 returns-2 : tie.Need-returns-2
 unfolding phaseOk loadOf loadAwait loadKeep
 returns-2 c = rw (ne-eqb _ _ (c .before .if1 .left), lt-ltb _ _ (c .if2 .taken))
 
--- src/lib.rt:176:8
 shared-slice-read-if3 : tie.Need-shared-slice-read-if3
 shared-slice-read-if3 c = search needs
 
--- src/lib.rt:177:9
 returns-3 : tie.Need-returns-3
 unfolding phaseOk loadOf loadAwait loadKeep
 returns-3 c = rw (ne-eqb _ _ (c .before .before .before .if1 .left), le-ltb _ _ (c .before .before .if2 .left), ne-eqb _ _ (c .if3 .taken))
 
--- src/lib.rt:180:9
 transfer-ok-requires : tie.Need-transfer-ok-requires
 transfer-ok-requires c κs = search needs
 
--- src/lib.rt:180:9
 returns-4 : tie.Need-returns-4
 unfolding phaseOk loadOf loadAwait loadKeep
 returns-4 c = rw (ne-eqb _ _ (c .before .before .before .before .before .if1 .left), le-ltb _ _ (c .before .before .before .before .if2 .left), eq-eqb _ _ (c .before .before .if3 .left), eq-eqb _ _ (c .before .if4 .taken)) (c .transfer-ok .ensures)
 
--- src/lib.rt:165:1
 returns-5 : tie.Need-returns-5
 unfolding phaseOk loadOf loadAwait loadKeep
 returns-5 c = rw (ne-eqb _ _ (c .before .before .before .before .if1 .left), le-ltb _ _ (c .before .before .before .if2 .left), eq-eqb _ _ (c .before .if3 .left), ne-eqb _ _ (c .if4 .left))

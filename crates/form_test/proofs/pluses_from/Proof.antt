@@ -14,9 +14,6 @@ use Rattle.form_test.specs.Form.{pluses}
 use Rattle.form_test.proofs.Laws.{pluses-more, pluses-end, pluses-all, sign-read}
 use Rattle.form_test.proofs.pluses_from.Statement.{statement}
 use Rattle.form_test.proofs.pluses_from.Tie as tie
-use Rattle.form_test.proofs.pluses_from.Reads as reads
-use Rattle.form_test.proofs.pluses_from.Lts as lts
-use Rattle.form_test.proofs.plus.Reads as plus-reads
 
 abbrev Inv-loop : tie.InvT-loop
 Inv-loop sm from count n₀ i₀ n i =
@@ -25,56 +22,43 @@ Inv-loop sm from count n₀ i₀ n i =
 abbrev μ-loop : tie.MeasureT-loop
 μ-loop sm from count n₀ i₀ n i = 5 - i
 
--- src/lib.rt:115:17
 shared-slice-read-count : tie.Need-shared-slice-read-count Inv-loop μ-loop
 shared-slice-read-count c = search needs
 
--- src/lib.rt:118:5
 loop-holds : tie.Need-loop-holds Inv-loop μ-loop
 loop-holds c = (search needs, search needs, omega arith)
 
--- src/lib.rt:120:13
 returns : tie.Need-returns Inv-loop μ-loop
 unfolding loadOf loadSay
 returns c = let l = c .before .before .loop in let a = c .before .before .before .before .before .args in let f = fiveAt (a .sm .now) signsAt in pluses-end f (array-length 5 (a .sm .now) (signsAt + 1)) (l .i) (l .n) (pluses (drop (a .from) (held f))) (l .inv .2) (c .if1 .taken)
 
--- src/lib.rt:122:22
 add-plus : tie.Need-add-plus Inv-loop μ-loop
 add-plus c = search needs
 
--- src/lib.rt:122:42
 cast-plus : tie.Need-cast-plus Inv-loop μ-loop
 cast-plus c = search needs
 
--- src/lib.rt:122:22
 add-plus-2 : tie.Need-add-plus-2 Inv-loop μ-loop
 add-plus-2 c = search needs
 
--- src/lib.rt:122:19
 shared-slice-read-plus : tie.Need-shared-slice-read-plus Inv-loop μ-loop
 shared-slice-read-plus c = search needs
 
--- src/lib.rt:122:14
 plus-requires : tie.Need-plus-requires Inv-loop μ-loop
 plus-requires c κs = search needs
 
--- src/lib.rt:122:9
 add-n : tie.Need-add-n Inv-loop μ-loop
 add-n c = search needs
 
--- src/lib.rt:123:9
 add-i : tie.Need-add-i Inv-loop μ-loop
 add-i c = search needs
 
--- src/lib.rt:118:5
 loop-less : tie.Need-loop-less Inv-loop μ-loop
 loop-less c = search needs
 
--- src/lib.rt:118:5
 loop-again : tie.Need-loop-again Inv-loop μ-loop
 loop-again c = let l = c .before .before .before .before .loop in let a = c .before .before .before .before .before .before .before .args in let f = fiveAt (a .sm .now) signsAt in (search needs, search needs, pluses-more f (array-length 5 (a .sm .now) (signsAt + 1)) (l .i) (l .n) (pluses (drop (a .from) (held f))) (l .inv .2) (c .before .before .if1 .left) (c .before .before .before .loop-test .taken) (c .plus .ensures .0 ∙ ap (λ (x : ℕ). cond (eqb x 43) 1 0) (sign-read (a .sm .now) (l .i) (c .before .before .before .before .before .before .before .pre) (c .before .before .before .loop-test .taken))))
 
--- src/lib.rt:111:1
 returns-2 : tie.Need-returns-2 Inv-loop μ-loop
 unfolding loadOf loadSay
 returns-2 c = let l = c .before .loop in let a = c .before .before .before .before .args in let f = fiveAt (a .sm .now) signsAt in pluses-all f (array-length 5 (a .sm .now) (signsAt + 1)) (l .i) (l .n) (pluses (drop (a .from) (held f))) (l .inv .2) (c .loop-test .left)

@@ -7,38 +7,26 @@ use Rattle.form_test.proofs.Laws.{form-fails, form-waits}
 use borrow.Author.Needs.{needs}
 use Rattle.form_test.proofs.test.Statement.{statement}
 use Rattle.form_test.proofs.test.Tie as tie
-use Rattle.form_test.proofs.test.Reads as reads
-use Rattle.form_test.proofs.test.Lts as lts
-use Rattle.form_test.proofs.apart_ok.Reads as apart-ok-reads
-use Rattle.form_test.proofs.nowhere.Reads as nowhere-reads
-use Rattle.form_test.proofs.waiting_ok.Reads as waiting-ok-reads
 
--- src/lib.rt:320:20
 nowhere-requires : tie.Need-nowhere-requires
 nowhere-requires c κs = search needs
 
--- src/lib.rt:318:9
 returns : tie.Need-returns
 unfolding formOf
 returns c = (rw (ne-eqb _ _ (c .before .if1 .taken)), λ t. absurd (true≢false (sym t)))
 
--- src/lib.rt:323:9
 apart-ok-requires : tie.Need-apart-ok-requires
 apart-ok-requires c κs = search needs
 
--- src/lib.rt:326:20
 nowhere-requires-2 : tie.Need-nowhere-requires-2
 nowhere-requires-2 c κs = search needs
 
--- src/lib.rt:324:9
 returns-2 : tie.Need-returns-2
 returns-2 c = let a = c .before .before .before .before .before .before .before .before .before .before .before .before .args in (form-fails (a .sm .now) (a .table .now) (a .titles .now) (a .names .now) (a .bodies .now) (a .known .now) (a .inbox .now) (a .store .now) (c .before .before .before .if1 .left) (c .before .before .apart-ok .ensures) (c .before .if2 .taken), λ t. absurd (true≢false (sym t)))
 
--- src/lib.rt:329:5
 waiting-ok-requires : tie.Need-waiting-ok-requires
 waiting-ok-requires c κs = search needs
 
--- src/lib.rt:305:1
 returns-3 : tie.Need-returns-3
 returns-3 c = let a = c .before .before .before .before .before .before .before .before .before .before .before .before .args in (form-waits (a .sm .now) (a .table .now) (a .titles .now) (a .names .now) (a .bodies .now) (a .known .now) (a .inbox .now) (a .store .now) (c .before .before .before .if1 .left) (c .before .before .apart-ok .ensures) (c .before .if2 .left) (c .waiting-ok .ensures .0), c .waiting-ok .ensures .1)
 

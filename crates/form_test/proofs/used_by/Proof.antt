@@ -9,9 +9,6 @@ use Rattle.form_test.specs.Form.{usedFrom}
 use Rattle.form_test.proofs.Laws.{used-start, used-more, used-end, length-read}
 use Rattle.form_test.proofs.used_by.Statement.{statement}
 use Rattle.form_test.proofs.used_by.Tie as tie
-use Rattle.form_test.proofs.used_by.Reads as reads
-use Rattle.form_test.proofs.used_by.Lts as lts
-use Rattle.number_at.proofs.two.Reads as two-reads
 
 abbrev Inv-loop : tie.InvT-loop
 Inv-loop inbox n total₀ at₀ i₀ total at i =
@@ -20,39 +17,30 @@ Inv-loop inbox n total₀ at₀ i₀ total at i =
 abbrev μ-loop : tie.MeasureT-loop
 μ-loop inbox n total₀ at₀ i₀ total at i = n - i
 
--- src/lib.rt:73:5
 loop-holds : tie.Need-loop-holds Inv-loop μ-loop
 loop-holds c = (search needs, omega arith, search needs, used-start (c .before .args .inbox .now) (c .before .args .n))
 
--- src/lib.rt:74:18
 two-requires : tie.Need-two-requires Inv-loop μ-loop
 two-requires c κs = let l = c .before .loop in (omega (arith, l .inv .1, c .before .before .before .pre, c .loop-test .taken), search needs)
 
--- src/lib.rt:74:18
 cast-total : tie.Need-cast-total Inv-loop μ-loop
 cast-total c = search needs
 
--- src/lib.rt:74:9
 add-total : tie.Need-add-total Inv-loop μ-loop
 add-total c = search needs
 
--- src/lib.rt:75:9
 add-at : tie.Need-add-at Inv-loop μ-loop
 add-at c = search needs
 
--- src/lib.rt:76:9
 add-i : tie.Need-add-i Inv-loop μ-loop
 add-i c = search needs
 
--- src/lib.rt:73:5
 loop-less : tie.Need-loop-less Inv-loop μ-loop
 loop-less c = search needs
 
--- src/lib.rt:73:5
 loop-again : tie.Need-loop-again Inv-loop μ-loop
 loop-again c = let l = c .before .before .loop in let a = c .before .before .before .before .args in (search needs, omega (arith, l .inv .1), search needs, used-more (a .inbox .now) (l .i) (a .n) (l .total) (c .two .result) (c .before .loop-test .taken) (length-read (a .inbox .now) (l .i) (l .at) (l .inv .1) (omega (arith, c .before .before .before .before .pre, c .before .loop-test .taken)) (c .two .ensures)) (l .inv .3))
 
--- src/lib.rt:66:1
 returns : tie.Need-returns Inv-loop μ-loop
 returns c = let l = c .before .loop in used-end (c .before .before .before .args .inbox .now) (l .i) (c .before .before .before .args .n) (l .total) (c .loop-test .left) (l .inv .3)
 

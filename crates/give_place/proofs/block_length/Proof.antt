@@ -5,37 +5,26 @@ use Rattle.give_place.proofs.Laws.{end-length, proposed-length}
 use borrow.Author.Needs.{needs}
 use Rattle.give_place.proofs.block_length.Statement.{statement}
 use Rattle.give_place.proofs.block_length.Tie as tie
-use Rattle.give_place.proofs.block_length.Reads as reads
-use Rattle.give_place.proofs.block_length.Lts as lts
-use Rattle.text_length.proofs.proposal.Reads as proposal-reads
-use Rattle.waiting.proofs.in_use.Reads as in-use-reads
 
--- src/lib.rt:44:15
 shared-slice-read-in-use : tie.Need-shared-slice-read-in-use
 shared-slice-read-in-use c = search needs
 
--- src/lib.rt:44:8
 in-use-requires : tie.Need-in-use-requires
 in-use-requires c κs = search needs
 
--- src/lib.rt:45:9
 returns : tie.Need-returns
 unfolding loadOf loadAwait
 returns c = let a = c .before .before .before .before .before .args in let p = c .before .before .before .before .before .pre in end-length (a .sm .now) (a .table .now) (a .k) (p .1 .0) (c .before .in-use .ensures) (c .if1 .taken) (p .1 .1)
 
--- src/lib.rt:47:37
 add-proposal : tie.Need-add-proposal
 add-proposal c = search needs
 
--- src/lib.rt:47:34
 shared-slice-read-proposal : tie.Need-shared-slice-read-proposal
 shared-slice-read-proposal c = search needs
 
--- src/lib.rt:47:5
 proposal-requires : tie.Need-proposal-requires
 proposal-requires c κs = search needs
 
--- src/lib.rt:40:1
 returns-2 : tie.Need-returns-2
 unfolding loadOf loadAwait
 returns-2 c = let a = c .before .before .before .before .before .before .before .args in let p = c .before .before .before .before .before .before .before .pre in proposed-length (a .sm .now) (a .table .now) (a .k) (p .1 .0) (c .before .before .before .in-use .ensures) (omega (arith, p .0)) (c .before .before .if1 .left) (c .proposal .ensures)

@@ -10,50 +10,37 @@ use Rattle.give_place.proofs.Laws.{signs-length}
 use borrow.Author.Needs.{needs}
 use Rattle.give_place.proofs.first_length.Statement.{statement}
 use Rattle.give_place.proofs.first_length.Tie as tie
-use Rattle.give_place.proofs.first_length.Reads as reads
-use Rattle.give_place.proofs.first_length.Lts as lts
-use Rattle.waiting.proofs.in_use.Reads as in-use-reads
 
--- src/lib.rt:26:17
 shared-slice-read-first : tie.Need-shared-slice-read-first
 shared-slice-read-first c = search needs
 
--- src/lib.rt:28:9
 returns : tie.Need-returns
 unfolding loadOf loadSay
 returns c = let a = c .before .before .before .args in ap length (first-none ((loadOf (a .sm .now)) .say .first) ((loadOf (a .sm .now)) .say .signs) (c .if1 .taken))
 
--- src/lib.rt:31:16
 add-result : tie.Need-add-result
 add-result c = search needs
 
--- src/lib.rt:31:9
 returns-2 : tie.Need-returns-2
 unfolding loadOf loadSay
 returns-2 c = let a = c .before .before .before .before .args in ap length (first-both ((loadOf (a .sm .now)) .say .first) ((loadOf (a .sm .now)) .say .signs) (c .if2 .taken))
 
--- src/lib.rt:34:9
 returns-3 : tie.Need-returns-3
 unfolding loadOf loadSay
 returns-3 c = let a = c .before .before .before .before .before .args in ap length (first-sid ((loadOf (a .sm .now)) .say .first) ((loadOf (a .sm .now)) .say .signs) (c .if3 .taken))
 
--- src/lib.rt:36:30
 shared-slice-read-in-use : tie.Need-shared-slice-read-in-use
 shared-slice-read-in-use c = search needs
 
--- src/lib.rt:36:23
 in-use-requires : tie.Need-in-use-requires
 in-use-requires c κs = search needs
 
--- src/lib.rt:36:23
 cast-result : tie.Need-cast-result
 cast-result c = search needs
 
--- src/lib.rt:36:5
 add-result-2 : tie.Need-add-result-2
 add-result-2 c = search needs
 
--- src/lib.rt:22:1
 returns-4 : tie.Need-returns-4
 unfolding loadOf loadSay
 returns-4 c = let a = c .before .before .before .before .before .before .before .args in signs-length ((loadOf (a .sm .now)) .say .first) ((loadOf (a .sm .now)) .say .signs) (array-length 5 (a .sm .now) (signsAt + 1)) (c .before .before .before .before .if1 .left) (c .before .before .before .if2 .left) (c .before .before .if3 .left) (c .in-use .ensures)

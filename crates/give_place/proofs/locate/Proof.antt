@@ -7,11 +7,6 @@ use Rattle.waiting.specs.Pieces.{piecesOf}
 use Rattle.give_place.proofs.Laws.{From, from-more, from-found, from-end, first-found, first-past}
 use Rattle.give_place.proofs.locate.Statement.{statement}
 use Rattle.give_place.proofs.locate.Tie as tie
-use Rattle.give_place.proofs.locate.Reads as reads
-use Rattle.give_place.proofs.locate.Lts as lts
-use Rattle.give_place.proofs.first_length.Reads as first-length-reads
-use Rattle.give_place.proofs.piece_length.Reads as piece-length-reads
-use Rattle.waiting.proofs.piece_count.Reads as piece-count-reads
 
 abbrev Inv-loop : tie.InvT-loop
 Inv-loop pos sm table titles names bodies first n p₀ k₀ p k = From (piecesOf (loadOf sm) table titles names bodies) pos p k
@@ -19,43 +14,33 @@ Inv-loop pos sm table titles names bodies first n p₀ k₀ p k = From (piecesOf
 abbrev μ-loop : tie.MeasureT-loop
 μ-loop pos sm table titles names bodies first n p₀ k₀ p k = n - k
 
--- src/lib.rt:87:9
 first-length-requires : tie.Need-first-length-requires Inv-loop μ-loop
 first-length-requires c κs = search needs
 
--- src/lib.rt:89:9
 returns : tie.Need-returns Inv-loop μ-loop
 returns c = let a = c .before .before .before .before .before .before .before .args in first-found (loadOf (a .sm .now)) (a .table .now) (a .titles .now) (a .names .now) (a .bodies .now) (c .before .first-length .ensures) (a .pos) (c .if1 .taken)
 
--- src/lib.rt:96:9
 piece-count-requires : tie.Need-piece-count-requires Inv-loop μ-loop
 piece-count-requires c κs = search needs
 
--- src/lib.rt:99:5
 loop-holds : tie.Need-loop-holds Inv-loop μ-loop
 loop-holds c = let a = c .before .before .before .before .before .before .before .before .args in first-past (loadOf (a .sm .now)) (a .table .now) (a .titles .now) (a .names .now) (a .bodies .now) (c .before .before .first-length .ensures) (a .pos) (c .before .if1 .left)
 
--- src/lib.rt:100:13
 piece-length-requires : tie.Need-piece-length-requires Inv-loop μ-loop
 piece-length-requires c κs = let a = c .before .before .before .before .before .before .before .before .before .before .args in (c .before .before .before .before .before .before .before .before .before .before .pre, omega (arith, c .loop-test .taken, c .before .before .piece-count .ensures (a .table .now) (a .titles .now) (a .names .now) (a .bodies .now)))
 
--- src/lib.rt:102:13
 returns-2 : tie.Need-returns-2 Inv-loop μ-loop
 returns-2 c = let a = c .before .before .before .before .before .before .before .before .before .before .before .before .args in let l = c .before .before .before .loop in from-found (piecesOf (loadOf (a .sm .now)) (a .table .now) (a .titles .now) (a .names .now) (a .bodies .now)) (a .pos) (l .p) (l .k) (l .inv) (omega (arith, c .before .before .loop-test .taken, c .before .before .before .before .piece-count .ensures (a .table .now) (a .titles .now) (a .names .now) (a .bodies .now))) (c .before .piece-length .ensures) (c .if2 .taken)
 
--- src/lib.rt:110:9
 add-k : tie.Need-add-k Inv-loop μ-loop
 add-k c = search needs
 
--- src/lib.rt:99:5
 loop-less : tie.Need-loop-less Inv-loop μ-loop
 loop-less c = search needs
 
--- src/lib.rt:99:5
 loop-again : tie.Need-loop-again Inv-loop μ-loop
 loop-again c = let a = c .before .before .before .before .before .before .before .before .before .before .before .before .args in let l = c .before .before .before .loop in from-more (piecesOf (loadOf (a .sm .now)) (a .table .now) (a .titles .now) (a .names .now) (a .bodies .now)) (a .pos) (l .p) (l .k) (l .inv) (omega (arith, c .before .before .loop-test .taken, c .before .before .before .before .piece-count .ensures (a .table .now) (a .titles .now) (a .names .now) (a .bodies .now))) (c .before .piece-length .ensures) (c .if2 .left)
 
--- src/lib.rt:76:1
 returns-3 : tie.Need-returns-3 Inv-loop μ-loop
 returns-3 c = let a = c .before .before .before .before .before .before .before .before .before .before .args in let l = c .before .loop in from-end (piecesOf (loadOf (a .sm .now)) (a .table .now) (a .titles .now) (a .names .now) (a .bodies .now)) (a .pos) (l .p) (l .k) (l .inv) (omega (arith, c .loop-test .left, c .before .before .piece-count .ensures (a .table .now) (a .titles .now) (a .names .now) (a .bodies .now)))
 

@@ -1,6 +1,7 @@
 -- One law for each way out: role, sizes, known BIDs, a record, and the session opened.
-use Rattle.open.proofs.Laws.{open-role, open-sizes, open-known, open-fault, open-good}
+use Rattle.open.proofs.Laws.{open-role, open-sizes, open-known, open-fault, open-good, size-told}
 use borrow.Author.Needs.{needs}
+use Rattle.form_test.specs.Form.{lentSizes}
 use Rattle.open.specs.Opening.{sizesOk}
 use Rattle.open.proofs.open.Statement.{statement}
 use Rattle.open.proofs.open.Tie as tie
@@ -56,11 +57,12 @@ returns-4 c =
 save-sizes-requires : tie.Need-save-sizes-requires
 save-sizes-requires c κs = search needs
 
-fresh-requires : tie.Need-fresh-requires
-fresh-requires c κs = search needs
-
-save-requires : tie.Need-save-requires
-save-requires c κs = search needs
+save-fresh-requires : tie.Need-save-fresh-requires
+unfolding sizesOk
+save-fresh-requires c κs =
+    let a = c .before .before .before .before .before .before .before .before .before .before .before .before .before .before .before .before .before .before .before .before .args in
+    size-told (a .sm .now) (a .table .now) (a .known .now) (a .inbox .now) (c .before .before .before .before .before .before .before .before .before .before .sizes-ok .ensures) (c .before .before .before .before .before .before .before .before .before .if2 .left)
+    (lentSizes (a .table .now) (a .titles .now) (a .names .now) (a .bodies .now) (a .known .now) (a .inbox .now) (a .store .now)) (c .before .before .before .save-sizes .ensures)
 
 same-length : tie.Need-same-length
 same-length c = search needs
@@ -68,9 +70,9 @@ same-length c = search needs
 returns-5 : tie.Need-returns-5
 unfolding sizesOk
 returns-5 c =
-    let a = c .before .before .before .before .before .before .before .before .before .before .before .before .before .before .before .before .before .before .before .before .before .before .before .before .args in
+    let a = c .before .before .before .before .before .before .before .before .before .before .before .before .before .before .before .before .before .before .before .before .before .before .before .args in
     open-good (a .role) (a .sm .now) (a .table .now) (a .titles .now) (a .names .now) (a .bodies .now) (a .known .now) (a .inbox .now) (a .store .now)
-    (c .before .before .before .before .before .before .before .before .before .before .before .before .before .before .before .if1 .left) (c .before .before .before .before .before .before .before .before .before .before .before .before .before .before .sizes-ok .ensures) (c .before .before .before .before .before .before .before .before .before .before .before .before .before .if2 .left) (c .before .before .before .before .before .before .before .before .before .before .before .before .known-ok .ensures) (c .before .before .before .before .before .before .before .before .before .before .before .if3 .left) _ (c .before .before .before .before .before .before .before .before .before .before .table-fault .ensures) (c .before .before .before .before .before .before .before .before .before .if4 .left) _ (c .before .before .before .before .before .before .before .save-sizes .ensures) _ (c .before .before .before .fresh .ensures) _ (c .before .before .save .ensures)
+    (c .before .before .before .before .before .before .before .before .before .before .before .before .before .before .if1 .left) (c .before .before .before .before .before .before .before .before .before .before .before .before .before .sizes-ok .ensures) (c .before .before .before .before .before .before .before .before .before .before .before .before .if2 .left) (c .before .before .before .before .before .before .before .before .before .before .before .known-ok .ensures) (c .before .before .before .before .before .before .before .before .before .before .if3 .left) _ (c .before .before .before .before .before .before .before .before .before .table-fault .ensures) (c .before .before .before .before .before .before .before .before .if4 .left) _ (c .before .before .before .before .before .before .save-sizes .ensures) _ (c .before .before .save-fresh .ensures)
 
 pub open-spec : {M : Type 1} → statement M
 open-spec =
@@ -88,7 +90,6 @@ open-spec =
     bad-requires-4
     returns-4
     save-sizes-requires
-    fresh-requires
-    save-requires
+    save-fresh-requires
     same-length
     returns-5)

@@ -9,8 +9,6 @@ use Rattle.our_line.proofs.Laws.{digits-left}
 use Rattle.text_length.proofs.Laws.{digits-more, digits-end}
 use Rattle.text_length.proofs.digits.Statement.{statement}
 use Rattle.text_length.proofs.digits.Tie as tie
-use Rattle.text_length.proofs.digits.Reads as reads
-use Rattle.text_length.proofs.digits.Lts as lts
 
 abbrev Inv-loop : tie.InvT-loop
 Inv-loop size before₀ rest₀ before rest =
@@ -19,29 +17,23 @@ Inv-loop size before₀ rest₀ before rest =
 abbrev μ-loop : tie.MeasureT-loop
 μ-loop size before₀ rest₀ before rest = before
 
--- src/lib.rt:73:5
 loop-holds : tie.Need-loop-holds Inv-loop μ-loop
 loop-holds c = (search needs, search needs, omega arith)
 
--- src/lib.rt:75:9
 sub-before : tie.Need-sub-before Inv-loop μ-loop
 sub-before c = let l = c .before .loop in omega (arith, digits-left (l .rest) (l .before) (l .inv .1) (c .loop-test .taken))
 
--- src/lib.rt:73:5
 loop-less : tie.Need-loop-less Inv-loop μ-loop
 loop-less c = let l = c .before .loop in omega (arith, digits-left (l .rest) (l .before) (l .inv .1) (c .loop-test .taken))
 
--- src/lib.rt:73:5
 loop-again : tie.Need-loop-again Inv-loop μ-loop
 loop-again c = let l = c .before .loop in
     let h = digits-left (l .rest) (l .before) (l .inv .1) (c .loop-test .taken) in
     (omega arith, h .1, digits-more (c .before .before .args .size) (l .rest) (l .before) (h .0) (c .loop-test .taken) (l .inv .2))
 
--- src/lib.rt:77:5
 sub-result : tie.Need-sub-result Inv-loop μ-loop
 sub-result c = search needs
 
--- src/lib.rt:68:1
 returns : tie.Need-returns Inv-loop μ-loop
 returns c = let l = c .before .loop in (digits-end (c .before .before .args .size) (l .rest) (l .before) (l .inv .0) (c .loop-test .left) (l .inv .2), omega arith)
 

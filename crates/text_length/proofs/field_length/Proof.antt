@@ -3,15 +3,10 @@ use Rattle.text_length.proofs.Laws.{field-most}
 use borrow.Author.Needs.{needs}
 use Rattle.text_length.proofs.field_length.Statement.{statement}
 use Rattle.text_length.proofs.field_length.Tie as tie
-use Rattle.text_length.proofs.field_length.Reads as reads
-use Rattle.text_length.proofs.field_length.Lts as lts
-use Rattle.layout.proofs.field.Reads as field-reads
 
--- src/lib.rt:84:5
 field-requires : tie.Need-field-requires
 field-requires c κs = search needs
 
--- src/lib.rt:81:1
 returns : tie.Need-returns
 returns c = let a = c .before .before .args in field-most (a .n) (a .at) (a .r .now) (c .field .ensures)
 

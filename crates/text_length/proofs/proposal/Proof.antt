@@ -4,70 +4,49 @@ use Rattle.text_length.proofs.Laws.{size-small, proposal-length}
 use borrow.Author.Needs.{needs}
 use Rattle.text_length.proofs.proposal.Statement.{statement}
 use Rattle.text_length.proofs.proposal.Tie as tie
-use Rattle.text_length.proofs.proposal.Reads as reads
-use Rattle.text_length.proofs.proposal.Lts as lts
-use Rattle.layout.proofs.entry.Reads as entry-reads
-use Rattle.number_read.proofs.number4.Reads as number4-reads
-use Rattle.text_length.proofs.digits.Reads as digits-reads
-use Rattle.text_length.proofs.field_length.Reads as field-length-reads
 
--- src/lib.rt:91:9
 entry-requires : tie.Need-entry-requires
 entry-requires c κs = search needs
 
--- src/lib.rt:92:9
 field-length-requires : tie.Need-field-length-requires
 field-length-requires c κs = search needs
 
--- src/lib.rt:93:9
 field-length-requires-2 : tie.Need-field-length-requires-2
 field-length-requires-2 c κs = search needs
 
--- src/lib.rt:94:9
 field-length-requires-3 : tie.Need-field-length-requires-3
 field-length-requires-3 c κs = search needs
 
--- src/lib.rt:95:9
 field-length-requires-4 : tie.Need-field-length-requires-4
 field-length-requires-4 c κs = search needs
 
--- src/lib.rt:96:27
 cast-number4 : tie.Need-cast-number4
 cast-number4 c = search needs
 
--- src/lib.rt:96:16
 number4-requires : tie.Need-number4-requires
 number4-requires c κs = search needs
 
--- src/lib.rt:96:16
 cast-size : tie.Need-cast-size
 cast-size c = let a = c .before .before .before .before .before .before .before .args in omega (arith, size-small (a .table .now) (a .i) (c .before .before .before .before .before .entry .ensures) (λ j. (c .before .before .before .before .before .before .shared-slice-known .given j) .fits) (c .number4 .ensures))
 
--- src/lib.rt:97:5
 add-result : tie.Need-add-result
 add-result c = search needs
 
--- src/lib.rt:97:5
 add-result-2 : tie.Need-add-result-2
 add-result-2 c = search needs
 
--- src/lib.rt:97:5
 add-result-3 : tie.Need-add-result-3
 add-result-3 c = search needs
 
--- src/lib.rt:97:5
 add-result-4 : tie.Need-add-result-4
 add-result-4 c = search needs
 
--- src/lib.rt:97:39
 digits-requires : tie.Need-digits-requires
 digits-requires c κs = search needs
 
--- src/lib.rt:97:5
 add-result-5 : tie.Need-add-result-5
 add-result-5 c = search needs
 
--- src/lib.rt:88:1
 returns : tie.Need-returns
 returns c = let a = c .before .before .before .before .before .before .before .before .args in proposal-length (a .table .now) (a .i) (c .before .before .before .before .before .before .entry .ensures) (c .before .before .before .before .before .field-length .ensures .0) (c .before .before .before .before .field-length2 .ensures .0) (c .before .before .before .field-length3 .ensures .0) (c .before .before .field-length4 .ensures .0) (c .before .number4 .ensures) (c .digits .ensures .0)
 

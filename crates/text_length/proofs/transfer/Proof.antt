@@ -5,66 +5,46 @@ use Rattle.text_length.proofs.Laws.{entry-whole, none-length, message-l
 use borrow.Author.Needs.{needs}
 use Rattle.text_length.proofs.transfer.Statement.{statement}
 use Rattle.text_length.proofs.transfer.Tie as tie
-use Rattle.text_length.proofs.transfer.Reads as reads
-use Rattle.text_length.proofs.transfer.Lts as lts
-use Rattle.layout.proofs.entry.Reads as entry-reads
-use Rattle.record_text.proofs.body.Reads as body-reads
-use Rattle.record_text.proofs.heading.Reads as heading-reads
-use Rattle.text_length.proofs.framed.Reads as framed-reads
 
--- src/lib.rt:51:9
 entry-requires : tie.Need-entry-requires
 entry-requires c κs = search needs
 
--- src/lib.rt:52:18
 cast-if1 : tie.Need-cast-if1
 cast-if1 c = search needs
 
--- src/lib.rt:53:9
 returns : tie.Need-returns
 returns c = let a = c .before .before .before .before .before .before .args in none-length (a .table .now) (a .titles .now) (a .names .now) (a .bodies .now) (a .i) (c .before .entry .ensures) (c .if1 .taken)
 
--- src/lib.rt:55:19
 heading-requires : tie.Need-heading-requires
 heading-requires c κs = entry-whole (c .before .before .before .before .before .before .args .table .now) (c .before .before .before .before .before .before .args .i) (c .before .entry .ensures) (c .if1 .left)
 
--- src/lib.rt:56:16
 body-requires : tie.Need-body-requires
 body-requires c κs = entry-whole (c .before .before .before .before .before .before .before .args .table .now) (c .before .before .before .before .before .before .before .args .i) (c .before .before .entry .ensures) (c .before .if1 .left)
 
--- src/lib.rt:57:18
 cast-form : tie.Need-cast-form
 cast-form c = search needs
 
--- src/lib.rt:57:16
 shared-slice-read-form : tie.Need-shared-slice-read-form
 shared-slice-read-form c = search needs
 
--- src/lib.rt:59:9
 framed-requires : tie.Need-framed-requires
 framed-requires c κs = (c .before .before .before .heading .ensures .1, c .before .before .body .ensures .1)
 
--- src/lib.rt:59:9
 returns-2 : tie.Need-returns-2
 returns-2 c = let a = c .before .before .before .before .before .before .before .before .before .before .before .args in message-length (a .table .now) (a .titles .now) (a .names .now) (a .bodies .now) (a .i) (c .before .before .before .before .before .before .entry .ensures) (c .before .before .before .before .heading .ensures .0) (c .before .before .before .body .ensures .0) (c .before .if2 .taken) (c .framed .ensures)
 
--- src/lib.rt:62:9
 framed-requires-2 : tie.Need-framed-requires-2
 framed-requires-2 c κs = (c .before .before .before .before .heading .ensures .1, c .before .before .before .body .ensures .1)
 
--- src/lib.rt:62:9
 returns-3 : tie.Need-returns-3
 returns-3 c = let a = c .before .before .before .before .before .before .before .before .before .before .before .before .args in file-length (a .table .now) (a .titles .now) (a .names .now) (a .bodies .now) (a .i) (c .before .before .before .before .before .before .before .entry .ensures) (c .before .before .before .before .before .heading .ensures .0) (c .before .before .before .before .body .ensures .0) (c .before .if3 .taken) (c .framed2 .ensures)
 
--- src/lib.rt:64:5
 add-result : tie.Need-add-result
 add-result c = search needs
 
--- src/lib.rt:64:5
 add-result-2 : tie.Need-add-result-2
 add-result-2 c = omega (arith, c .before .before .before .before .heading .ensures .1, c .before .before .before .body .ensures .1)
 
--- src/lib.rt:42:1
 returns-4 : tie.Need-returns-4
 returns-4 c = let a = c .before .before .before .before .before .before .before .before .before .before .before .args in other-length (a .table .now) (a .titles .now) (a .names .now) (a .bodies .now) (a .i) (c .before .before .before .before .before .before .entry .ensures) (c .before .before .before .before .heading .ensures .0) (c .before .before .before .body .ensures .0) (c .before .if2 .left) (c .if3 .left)
 

@@ -7,54 +7,40 @@ use Rattle.waiting.proofs.Pieces.{count-none, count-fixed, count-block,
 use borrow.Author.Needs.{needs}
 use Rattle.waiting.proofs.piece_count.Statement.{statement}
 use Rattle.waiting.proofs.piece_count.Tie as tie
-use Rattle.waiting.proofs.piece_count.Reads as reads
-use Rattle.waiting.proofs.piece_count.Lts as lts
-use Rattle.waiting.proofs.in_use.Reads as in-use-reads
 
--- src/lib.rt:24:16
 shared-slice-read-then : tie.Need-shared-slice-read-then
 shared-slice-read-then c = search needs
 
--- src/lib.rt:26:9
 returns : tie.Need-returns
 unfolding loadOf loadAwait loadSay loadKeep
 returns c = λ table titles names bodies. count-none (loadOf (c .before .before .before .args .sm .now)) table titles names bodies (c .if1 .taken)
 
--- src/lib.rt:29:9
 returns-2 : tie.Need-returns-2
 unfolding loadOf loadAwait loadSay loadKeep
 returns-2 c = λ table titles names bodies. count-fixed (loadOf (c .before .before .before .before .args .sm .now)) table titles names bodies (c .before .if1 .left) (c .if2 .taken)
 
--- src/lib.rt:32:23
 shared-slice-read-in-use : tie.Need-shared-slice-read-in-use
 shared-slice-read-in-use c = search needs
 
--- src/lib.rt:32:16
 in-use-requires : tie.Need-in-use-requires
 in-use-requires c κs = search needs
 
--- src/lib.rt:32:16
 add-result : tie.Need-add-result
 add-result c = search needs
 
--- src/lib.rt:32:9
 returns-3 : tie.Need-returns-3
 unfolding loadOf loadAwait loadSay loadKeep
 returns-3 c = λ table titles names bodies. count-block (loadOf (c .before .before .before .before .before .before .before .args .sm .now)) table titles names bodies (c .before .before .if3 .taken) (c .in-use .ensures) (array-length 5 (c .before .before .before .before .before .before .before .args .sm .now) (oursAt + 1))
 
--- src/lib.rt:34:12
 shared-slice-read-in-use-2 : tie.Need-shared-slice-read-in-use-2
 shared-slice-read-in-use-2 c = search needs
 
--- src/lib.rt:34:5
 in-use-requires-2 : tie.Need-in-use-requires-2
 in-use-requires-2 c κs = search needs
 
--- src/lib.rt:34:5
 add-result-2 : tie.Need-add-result-2
 add-result-2 c = search needs
 
--- src/lib.rt:20:1
 returns-4 : tie.Need-returns-4
 unfolding loadOf loadAwait loadSay loadKeep
 returns-4 c = λ table titles names bodies. count-sending (loadOf (c .before .before .before .before .before .before .before .args .sm .now)) table titles names bodies (c .before .before .before .if2 .left) (c .before .before .if3 .left) (c .in-use2 .ensures) (array-length 5 (c .before .before .before .before .before .before .before .args .sm .now) (sendingAt + 1))

@@ -11,59 +11,41 @@ use Rattle.waiting.proofs.Said.{block-text}
 use borrow.Author.Needs.{needs}
 use Rattle.waiting_write.proofs.write_block.Statement.{statement}
 use Rattle.waiting_write.proofs.write_block.Tie as tie
-use Rattle.waiting_write.proofs.write_block.Reads as reads
-use Rattle.waiting_write.proofs.write_block.Lts as lts
-use Rattle.layout.proofs.entry.Reads as entry-reads
-use Rattle.our_line.proofs.write_fixed.Reads as write-fixed-reads
-use Rattle.waiting.proofs.in_use.Reads as in-use-reads
-use Rattle.waiting_write.proofs.write_proposal.Reads as write-proposal-reads
 
--- src/lib.rt:103:15
 shared-slice-read-in-use : tie.Need-shared-slice-read-in-use
 shared-slice-read-in-use c = search needs
 
--- src/lib.rt:103:8
 in-use-requires : tie.Need-in-use-requires
 in-use-requires c κs = search needs
 
--- src/lib.rt:104:9
 write-fixed-requires : tie.Need-write-fixed-requires
 write-fixed-requires c κs = search needs
 
--- src/lib.rt:104:9
 same-length : tie.Need-same-length
 same-length c = search needs
 
--- src/lib.rt:104:9
 returns : tie.Need-returns
 unfolding loadOf loadAwait
 returns c = let a = c .before .before .before .before .before .before .before .before .before .before .args in let p = c .before .before .before .before .before .before .before .before .before .before .pre in puts-as (a .buf .now) (a .c) (sym (block-end (a .table .now) (fiveAt (a .sm .now) oursAt) (array-length 5 (a .sm .now) (oursAt + 1)) (a .k) (p .1 .0) (c .before .before .before .before .before .in-use .ensures) (c .before .before .before .before .if1 .taken) (p .1 .1))) (c .before .before .write-fixed .ensures)
 
--- src/lib.rt:106:16
 add-i : tie.Need-add-i
 add-i c = search needs
 
--- src/lib.rt:106:13
 shared-slice-read-i : tie.Need-shared-slice-read-i
 shared-slice-read-i c = search needs
 
--- src/lib.rt:107:57
 cast-entry : tie.Need-cast-entry
 cast-entry c = let a = c .before .before .before .before .before .before .before .before .args in omega (arith, (c .before .shared-slice-known4 .given (oursAt + a .k)) .fits)
 
--- src/lib.rt:107:28
 entry-requires : tie.Need-entry-requires
 entry-requires c κs = search needs
 
--- src/lib.rt:107:5
 write-proposal-requires : tie.Need-write-proposal-requires
 write-proposal-requires c κs = search needs
 
--- src/lib.rt:99:1
 same-length-2 : tie.Need-same-length-2
 same-length-2 c = search needs
 
--- src/lib.rt:99:1
 returns-2 : tie.Need-returns-2
 unfolding loadOf loadAwait
 returns-2 c = let a = c .before .before .before .before .before .before .before .before .before .before .before .before .args in let p = c .before .before .before .before .before .before .before .before .before .before .before .before .pre in puts-as (a .buf .now) (a .c) (block-text (a .sm .now) (a .table .now) (a .k) (omega (arith, p .0)) (p .1 .0) (c .before .before .before .before .before .before .before .in-use .ensures) (c .before .before .before .before .before .before .if1 .left) (c .before .before .before .entry .ensures)) (c .before .before .write-proposal .ensures)

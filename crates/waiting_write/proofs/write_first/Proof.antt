@@ -7,104 +7,76 @@ use Rattle.waiting_write.proofs.Laws.{signs-read}
 use borrow.Author.Needs.{needs}
 use Rattle.waiting_write.proofs.write_first.Statement.{statement}
 use Rattle.waiting_write.proofs.write_first.Tie as tie
-use Rattle.waiting_write.proofs.write_first.Reads as reads
-use Rattle.waiting_write.proofs.write_first.Lts as lts
-use Rattle.our_line.proofs.write_fixed.Reads as write-fixed-reads
-use Rattle.our_line.proofs.write_fs.Reads as write-fs-reads
-use Rattle.waiting.proofs.in_use.Reads as in-use-reads
-use Rattle.waiting_write.proofs.write_nothing.Reads as write-nothing-reads
 
--- src/lib.rt:82:17
 shared-slice-read-first : tie.Need-shared-slice-read-first
 shared-slice-read-first c = search needs
 
--- src/lib.rt:84:9
 write-nothing-requires : tie.Need-write-nothing-requires
 write-nothing-requires c κs = search needs
 
--- src/lib.rt:84:9
 same-length : tie.Need-same-length
 same-length c = search needs
 
--- src/lib.rt:84:9
 returns : tie.Need-returns
 unfolding loadOf loadSay
 returns c = let a = c .before .before .before .before .before .before .before .before .args in puts-as (a .buf .now) (a .c) (first-none (loadOf (a .sm .now) .say .first) (loadOf (a .sm .now) .say .signs) (c .before .before .before .before .if1 .taken)) (c .before .before .write-nothing .ensures)
 
--- src/lib.rt:87:13
 write-fixed-requires : tie.Need-write-fixed-requires
 write-fixed-requires c κs = search needs
 
--- src/lib.rt:88:9
 write-fixed-requires-2 : tie.Need-write-fixed-requires-2
 write-fixed-requires-2 c κs = search needs
 
--- src/lib.rt:88:9
 same-length-2 : tie.Need-same-length-2
 same-length-2 c = search needs
 
--- src/lib.rt:88:9
 returns-2 : tie.Need-returns-2
 unfolding loadOf loadSay
 returns-2 c = let a = c .before .before .before .before .before .before .before .before .before .before .before .before .before .args in puts-as (a .buf .now) (a .c) (first-both (loadOf (a .sm .now) .say .first) (loadOf (a .sm .now) .say .signs) (c .before .before .before .before .before .before .before .before .if2 .taken)) (puts-then _ _ _ _ (c .before .before .before .before .before .before .write-fixed .ensures) (c .before .before .write-fixed2 .ensures))
 
--- src/lib.rt:91:9
 write-fixed-requires-3 : tie.Need-write-fixed-requires-3
 write-fixed-requires-3 c κs = search needs
 
--- src/lib.rt:91:9
 same-length-3 : tie.Need-same-length-3
 same-length-3 c = search needs
 
--- src/lib.rt:91:9
 returns-3 : tie.Need-returns-3
 unfolding loadOf loadSay
 returns-3 c = let a = c .before .before .before .before .before .before .before .before .before .before .args in puts-as (a .buf .now) (a .c) (first-sid (loadOf (a .sm .now) .say .first) (loadOf (a .sm .now) .say .signs) (c .before .before .before .before .if3 .taken)) (c .before .before .write-fixed3 .ensures)
 
--- src/lib.rt:93:17
 add-start : tie.Need-add-start
 add-start c = search needs
 
--- src/lib.rt:94:30
 shared-slice-read-in-use : tie.Need-shared-slice-read-in-use
 shared-slice-read-in-use c = search needs
 
--- src/lib.rt:94:23
 in-use-requires : tie.Need-in-use-requires
 in-use-requires c κs = search needs
 
--- src/lib.rt:94:23
 cast-end : tie.Need-cast-end
 cast-end c = search needs
 
--- src/lib.rt:94:15
 add-end : tie.Need-add-end
 add-end c = search needs
 
--- src/lib.rt:95:32
 sub-write-fs : tie.Need-sub-write-fs
 sub-write-fs c = search needs
 
--- src/lib.rt:95:32
 part-write-fs-start : tie.Need-part-write-fs-start
 part-write-fs-start c = search needs
 
--- src/lib.rt:95:32
 part-write-fs-end : tie.Need-part-write-fs-end
 part-write-fs-end c = search needs
 
--- src/lib.rt:95:5
 write-fs-requires : tie.Need-write-fs-requires
 write-fs-requires c κs = search needs
 
--- src/lib.rt:78:1
 same-length-4 : tie.Need-same-length-4
 same-length-4 c = search needs
 
--- src/lib.rt:78:1
 returns-4 : tie.Need-returns-4
 unfolding loadOf loadSay
-returns-4 c = let a = c .before .before .before .before .before .before .before .before .before .before .before .before .before .args in puts-as (a .buf .now) (a .c) (first-signs (loadOf (a .sm .now) .say .first) (loadOf (a .sm .now) .say .signs) (c .before .before .before .before .before .before .before .before .before .if1 .left) (c .before .before .before .before .before .before .before .before .if2 .left) (c .before .before .before .before .before .before .before .if3  .left) (signs-read (a .sm .now) (omega (arith, c .before .before .before .before .before .before .before .before .before .before .before .before .before .pre)) (c .before .before .before .before .before .in-use .ensures))) (c .before .before .write-fs .ensures)
+returns-4 c = let a = c .before .before .before .before .before .before .before .before .before .before .before .before .before .args in puts-as (a .buf .now) (a .c) (first-signs (loadOf (a .sm .now) .say .first) (loadOf (a .sm .now) .say .signs) (c .before .before .before .before .before .before .before .before .before .if1 .left) (c .before .before .before .before .before .before .before .before .if2 .left) (c .before .before .before .before .before .before .before .if3 .left) (signs-read (a .sm .now) (omega (arith, c .before .before .before .before .before .before .before .before .before .before .before .before .before .pre)) (c .before .before .before .before .before .in-use .ensures))) (c .before .before .write-fs .ensures)
 
 pub write-first-spec : {M : Type 1} → statement M
 write-first-spec =

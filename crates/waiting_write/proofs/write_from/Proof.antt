@@ -10,11 +10,6 @@ use Rattle.waiting.specs.Pieces.{piecesOf}
 use Rattle.waiting_write.proofs.Laws.{Left, left-more, left-full, left-end}
 use Rattle.waiting_write.proofs.write_from.Statement.{statement}
 use Rattle.waiting_write.proofs.write_from.Tie as tie
-use Rattle.waiting_write.proofs.write_from.Reads as reads
-use Rattle.waiting_write.proofs.write_from.Lts as lts
-use Rattle.waiting.proofs.piece_count.Reads as piece-count-reads
-use Rattle.waiting_write.proofs.write_nothing.Reads as write-nothing-reads
-use Rattle.waiting_write.proofs.write_piece.Reads as write-piece-reads
 
 abbrev Inv-loop : tie.InvT-loop
 Inv-loop buf₀ from sm table titles names bodies n d₀ k₀ buf d k =
@@ -23,47 +18,36 @@ Inv-loop buf₀ from sm table titles names bodies n d₀ k₀ buf d k =
 abbrev μ-loop : tie.MeasureT-loop
 μ-loop buf₀ from sm table titles names bodies n d₀ k₀ buf d k = n - k
 
--- src/lib.rt:155:9
 piece-count-requires : tie.Need-piece-count-requires Inv-loop μ-loop
 piece-count-requires c κs = search needs
 
--- src/lib.rt:158:5
 loop-holds : tie.Need-loop-holds Inv-loop μ-loop
 loop-holds c = (refl, (refl, refl))
 
--- src/lib.rt:161:13
 same-length : tie.Need-same-length Inv-loop μ-loop
 same-length c = search needs
 
--- src/lib.rt:161:13
 returns : tie.Need-returns Inv-loop μ-loop
 returns c = let l = c .before .before .loop in let a = c .before .before .before .before .before .before .before .before .before .before .args in left-full (piecesOf (loadOf (a .sm .now)) (a .table .now) (a .titles .now) (a .names .now) (a .bodies .now)) (a .from) (a .buf .now) (a .c) (l .buf) (l .d) (l .k) (l .inv .1) (c .if1 .taken)
 
--- src/lib.rt:163:9
 write-piece-requires : tie.Need-write-piece-requires Inv-loop μ-loop
 write-piece-requires c κs = let a = c .before .before .before .before .before .before .before .before .before .before .before .args in (c .before .before .before .before .before .before .before .before .before .before .before .pre, omega (arith, c .before .before .loop-test .taken, c .before .before .before .before .piece-count .ensures (a .table .now) (a .titles .now) (a .names .now) (a .bodies .now)))
 
--- src/lib.rt:164:9
 add-k : tie.Need-add-k Inv-loop μ-loop
 add-k c = search needs
 
--- src/lib.rt:158:5
 loop-less : tie.Need-loop-less Inv-loop μ-loop
 loop-less c = search needs
 
--- src/lib.rt:158:5
 loop-again : tie.Need-loop-again Inv-loop μ-loop
 loop-again c = let l = c .before .before .before .before .before .before .loop in let a = c .before .before .before .before .before .before .before .before .before .before .before .before .before .before .args in (search needs, left-more (piecesOf (loadOf (a .sm .now)) (a .table .now) (a .titles .now) (a .names .now) (a .bodies .now)) (a .from) (a .buf .now) (a .c) (l .buf) (l .d) (l .k) (l .inv .1) (omega (arith, c .before .before .before .before .before .loop-test .taken, c .before .before .before .before .before .before .before .piece-count .ensures (a .table .now) (a .titles .now) (a .names .now) (a .bodies .now))) (c .before .before .write-piece .ensures))
 
--- src/lib.rt:166:5
 write-nothing-requires : tie.Need-write-nothing-requires Inv-loop μ-loop
 write-nothing-requires c κs = search needs
 
--- src/lib.rt:142:1
 same-length-2 : tie.Need-same-length-2 Inv-loop μ-loop
 same-length-2 c = search needs
 
--- src/lib.rt:142:1
 returns-2 : tie.Need-returns-2 Inv-loop μ-loop
 returns-2 c = let l = c .before .before .before .before .before .loop in let a = c .before .before .before .before .before .before .before .before .before .before .before .before .before .args in left-end (piecesOf (loadOf (a .sm .now)) (a .table .now) (a .titles .now) (a .names .now) (a .bodies .now)) (a .from) (a .buf .now) (a .c) (l .buf) (l .d) (l .k) (l .inv .1) (omega (arith, c .before .before .before .before .loop-test .left, c .before .before .before .before .before .before .piece-count .ensures (a .table .now) (a .titles .now) (a .names .now) (a .bodies .now))) (c .before .before .write-nothing .ensures)
 

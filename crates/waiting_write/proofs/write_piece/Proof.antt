@@ -7,86 +7,62 @@ use Rattle.waiting.proofs.Said.{zero-text, sent-text}
 use borrow.Author.Needs.{needs}
 use Rattle.waiting_write.proofs.write_piece.Statement.{statement}
 use Rattle.waiting_write.proofs.write_piece.Tie as tie
-use Rattle.waiting_write.proofs.write_piece.Reads as reads
-use Rattle.waiting_write.proofs.write_piece.Lts as lts
-use Rattle.our_line.proofs.write_fixed.Reads as write-fixed-reads
-use Rattle.waiting_write.proofs.write_block.Reads as write-block-reads
-use Rattle.waiting_write.proofs.write_first.Reads as write-first-reads
-use Rattle.waiting_write.proofs.write_transfer.Reads as write-transfer-reads
 
--- src/lib.rt:125:9
 write-first-requires : tie.Need-write-first-requires
 write-first-requires c κs = search needs
 
--- src/lib.rt:125:9
 same-length : tie.Need-same-length
 same-length c = search needs
 
--- src/lib.rt:125:9
 returns : tie.Need-returns
 returns c = let a = c .before .before .before .before .before .before .before .before .before .before .before .args in puts-as (a .buf .now) (a .c) (zero-text (loadOf (a .sm .now)) (a .table .now) (a .titles .now) (a .names .now) (a .bodies .now) (a .k) (c .before .before .before .before .if1 .taken)) (c .before .before .write-first .ensures)
 
--- src/lib.rt:127:16
 shared-slice-read-then : tie.Need-shared-slice-read-then
 shared-slice-read-then c = search needs
 
--- src/lib.rt:129:9
 write-fixed-requires : tie.Need-write-fixed-requires
 write-fixed-requires c κs = search needs
 
--- src/lib.rt:129:9
 same-length-2 : tie.Need-same-length-2
 same-length-2 c = search needs
 
--- src/lib.rt:129:9
 returns-2 : tie.Need-returns-2
 unfolding loadOf loadSay
 returns-2 c = let a = c .before .before .before .before .before .before .before .before .before .before .before .before .before .args in puts-as (a .buf .now) (a .c) (piece-FF (loadOf (a .sm .now)) (a .table .now) (a .titles .now) (a .names .now) (a .bodies .now) (a .k) (c .before .before .before .before .before .before .if1 .left) (c .before .before .before .before .before .before .before .before .before .before .before .before .before .pre .1) (c .before .before .before .before .if2 .taken)) (c .before .before .write-fixed .ensures)
 
--- src/lib.rt:132:9
 write-fixed-requires-2 : tie.Need-write-fixed-requires-2
 write-fixed-requires-2 c κs = search needs
 
--- src/lib.rt:132:9
 same-length-3 : tie.Need-same-length-3
 same-length-3 c = search needs
 
--- src/lib.rt:132:9
 returns-3 : tie.Need-returns-3
 unfolding loadOf loadSay
 returns-3 c = let a = c .before .before .before .before .before .before .before .before .before .before .before .before .before .before .args in puts-as (a .buf .now) (a .c) (piece-FQ (loadOf (a .sm .now)) (a .table .now) (a .titles .now) (a .names .now) (a .bodies .now) (a .k) (c .before .before .before .before .before .before .before .if1 .left) (c .before .before .before .before .before .before .before .before .before .before .before .before .before .before .pre .1) (c .before .before .before .before .if3 .taken)) (c .before .before .write-fixed2 .ensures)
 
--- src/lib.rt:135:9
 write-block-requires : tie.Need-write-block-requires
 unfolding loadOf loadSay
 write-block-requires c κs = let a = c .before .before .before .before .before .before .before .before .before .before .before .before .args in (c .before .before .before .before .before .before .before .before .before .before .before .before .pre .0, bound-block (loadOf (a .sm .now)) (a .table .now) (a .titles .now) (a .names .now) (a .bodies .now) (a .k) (c .before .before .before .before .before .if1 .left) (c .before .before .before .before .before .before .before .before .before .before .before .before .pre .1) (c .before .if4 .taken))
 
--- src/lib.rt:135:9
 same-length-4 : tie.Need-same-length-4
 same-length-4 c = search needs
 
--- src/lib.rt:135:9
 returns-4 : tie.Need-returns-4
 unfolding loadOf loadSay
 returns-4 c = let a = c .before .before .before .before .before .before .before .before .before .before .before .before .before .before .before .args in puts-as (a .buf .now) (a .c) (piece-block (loadOf (a .sm .now)) (a .table .now) (a .titles .now) (a .names .now) (a .bodies .now) (a .k) (c .before .before .before .before .before .before .before .before .if1 .left) (c .before .before .before .before .before .before .before .before .before .before .before .before .before .before .before .pre .1) (c .before .before .before .before .if4 .taken)) (c .before .before .write-block .ensures)
 
--- src/lib.rt:137:16
 add-i : tie.Need-add-i
 add-i c = search needs
 
--- src/lib.rt:137:13
 shared-slice-read-i : tie.Need-shared-slice-read-i
 shared-slice-read-i c = search needs
 
--- src/lib.rt:138:5
 write-transfer-requires : tie.Need-write-transfer-requires
 write-transfer-requires c κs = search needs
 
--- src/lib.rt:111:1
 same-length-5 : tie.Need-same-length-5
 same-length-5 c = search needs
 
--- src/lib.rt:111:1
 returns-5 : tie.Need-returns-5
 unfolding loadOf loadSay
 returns-5 c = let a = c .before .before .before .before .before .before .before .before .before .before .before .before .before .before .before .before .args in puts-as (a .buf .now) (a .c) (sent-text (a .sm .now) (a .table .now) (a .titles .now) (a .names .now) (a .bodies .now) (a .k) (omega (arith, c .before .before .before .before .before .before .before .before .before .before .before .before .before .before .before .before .pre .0)) (c .before .before .before .before .before .before .before .before .before .if1 .left) (c .before .before .before .before .before .before .before .before .before .before .before .before .before .before .before .before .pre .1) (c .before .before .before .before .before .before .before .if2 .left) (c .before .before .before .before .before .before .if3 .left) (c .before .before .before .before .before .if4 .left)) (c .before .before .write-transfer .ensures)

@@ -5,66 +5,46 @@ use Rattle.places.specs.Places.{recordSizeAt}
 use borrow.Author.Needs.{needs}
 use Rattle.waiting_write.proofs.write_proposal.Statement.{statement}
 use Rattle.waiting_write.proofs.write_proposal.Tie as tie
-use Rattle.waiting_write.proofs.write_proposal.Reads as reads
-use Rattle.waiting_write.proofs.write_proposal.Lts as lts
-use Rattle.layout.proofs.byte_at.Reads as byte-at-reads
-use Rattle.layout.proofs.field.Reads as field-reads
-use Rattle.number_read.proofs.number4.Reads as number4-reads
-use Rattle.our_line.proofs.write_proposal.Reads as write-proposal-reads
 
--- src/lib.rt:34:27
 cast-number4 : tie.Need-cast-number4
 cast-number4 c = search needs
 
--- src/lib.rt:34:16
 number4-requires : tie.Need-number4-requires
 number4-requires c κs = search needs
 
--- src/lib.rt:34:16
 cast-size : tie.Need-cast-size
 cast-size c = omega (arith, c .number4 .ensures, le4-small (c .before .before .before .args .r .now) (λ i. (c .before .shared-slice-known .given i) .fits) recordSizeAt)
 
--- src/lib.rt:38:20
 cast-byte-at : tie.Need-cast-byte-at
 cast-byte-at c = search needs
 
--- src/lib.rt:38:9
 byte-at-requires : tie.Need-byte-at-requires
 byte-at-requires c κs = search needs
 
--- src/lib.rt:39:20
 cast-byte-at-2 : tie.Need-cast-byte-at-2
 cast-byte-at-2 c = search needs
 
--- src/lib.rt:39:9
 byte-at-requires-2 : tie.Need-byte-at-requires-2
 byte-at-requires-2 c κs = search needs
 
--- src/lib.rt:40:9
 field-requires : tie.Need-field-requires
 field-requires c κs = search needs
 
--- src/lib.rt:41:9
 field-requires-2 : tie.Need-field-requires-2
 field-requires-2 c κs = search needs
 
--- src/lib.rt:42:9
 field-requires-3 : tie.Need-field-requires-3
 field-requires-3 c κs = search needs
 
--- src/lib.rt:43:9
 field-requires-4 : tie.Need-field-requires-4
 field-requires-4 c κs = search needs
 
--- src/lib.rt:35:5
 write-proposal-requires : tie.Need-write-proposal-requires
 write-proposal-requires c κs = search needs
 
--- src/lib.rt:31:1
 same-length : tie.Need-same-length
 same-length c = search needs
 
--- src/lib.rt:31:1
 returns : tie.Need-returns
 returns c = rw (c .before .before .before .before .before .before .before .before .before .before .number4 .ensures, c .before .before .before .before .before .before .before .before .byte-at .ensures, c .before .before .before .before .before .before .before .byte-at2 .ensures, c .before .before .before .before .before .before .field .ensures, c .before .before .before .before .before .field2 .ensures, c .before .before .before .before .field3 .ensures, c .before .before .before .field4 .ensures) at (c .before .before .write-proposal .ensures)
 

@@ -5,91 +5,64 @@ use Rattle.waiting_write.proofs.Laws.{none-text, message-text, file-tex
 use borrow.Author.Needs.{needs}
 use Rattle.waiting_write.proofs.write_transfer.Statement.{statement}
 use Rattle.waiting_write.proofs.write_transfer.Tie as tie
-use Rattle.waiting_write.proofs.write_transfer.Reads as reads
-use Rattle.waiting_write.proofs.write_transfer.Lts as lts
-use Rattle.layout.proofs.entry.Reads as entry-reads
-use Rattle.record_text.proofs.body.Reads as body-reads
-use Rattle.record_text.proofs.heading.Reads as heading-reads
-use Rattle.transfer_write.proofs.write_framed.Reads as write-framed-reads
-use Rattle.transfer_write.proofs.write_plain.Reads as write-plain-reads
 
--- src/lib.rt:60:9
 entry-requires : tie.Need-entry-requires
 entry-requires c κs = search needs
 
--- src/lib.rt:61:18
 cast-if1 : tie.Need-cast-if1
 cast-if1 c = search needs
 
--- src/lib.rt:63:52
 slice-aggregate-write-plain : tie.Need-slice-aggregate-write-plain
 slice-aggregate-write-plain c = search needs
 
--- src/lib.rt:63:59
 slice-aggregate-write-plain-2 : tie.Need-slice-aggregate-write-plain-2
 slice-aggregate-write-plain-2 c = search needs
 
--- src/lib.rt:63:9
 write-plain-requires : tie.Need-write-plain-requires
 write-plain-requires c κs = search needs
 
--- src/lib.rt:63:9
 same-length : tie.Need-same-length
 same-length c = search needs
 
--- src/lib.rt:63:9
 returns : tie.Need-returns
 returns c = let a = c .before .before .before .before .before .before .before .before .before .before .before .before .before .args in puts-as (a .buf .now) (a .c) (none-text (a .table .now) (a .titles .now) (a .names .now) (a .bodies .now) (a .i) (c .before .before .before .before .before .before .before .entry .ensures) (c .before .before .before .before .before .before .if1 .taken)) (c .before .before .write-plain .ensures)
 
--- src/lib.rt:65:9
 heading-requires : tie.Need-heading-requires
 heading-requires c κs = entry-whole (c .before .before .before .before .before .before .before .args .table .now) (c .before .before .before .before .before .before .before .args .i) (c .before .entry .ensures) (c .if1 .left)
 
--- src/lib.rt:66:9
 body-requires : tie.Need-body-requires
 body-requires c κs = entry-whole (c .before .before .before .before .before .before .before .before .args .table .now) (c .before .before .before .before .before .before .before .before .args .i) (c .before .before .entry .ensures) (c .before .if1 .left)
 
--- src/lib.rt:67:18
 cast-form : tie.Need-cast-form
 cast-form c = search needs
 
--- src/lib.rt:67:16
 shared-slice-read-form : tie.Need-shared-slice-read-form
 shared-slice-read-form c = search needs
 
--- src/lib.rt:69:9
 write-framed-requires : tie.Need-write-framed-requires
 write-framed-requires c κs = search needs
 
--- src/lib.rt:69:9
 same-length-2 : tie.Need-same-length-2
 same-length-2 c = search needs
 
--- src/lib.rt:69:9
 returns-2 : tie.Need-returns-2
 returns-2 c = let a = c .before .before .before .before .before .before .before .before .before .before .before .before .before .before .before .args in puts-as (a .buf .now) (a .c) (message-text (a .table .now) (a .titles .now) (a .names .now) (a .bodies .now) (a .i) (c .before .before .before .before .before .before .before .before .before .entry .ensures) (c .before .before .before .before .before .before .before .heading .ensures .0) (c .before .before .before .before .before .before .body .ensures .0) (c .before .before .before .before .if2 .taken)) (c .before .before .write-framed .ensures)
 
--- src/lib.rt:72:9
 write-framed-requires-2 : tie.Need-write-framed-requires-2
 write-framed-requires-2 c κs = search needs
 
--- src/lib.rt:72:9
 same-length-3 : tie.Need-same-length-3
 same-length-3 c = search needs
 
--- src/lib.rt:72:9
 returns-3 : tie.Need-returns-3
 returns-3 c = let a = c .before .before .before .before .before .before .before .before .before .before .before .before .before .before .before .before .args in puts-as (a .buf .now) (a .c) (file-text (a .table .now) (a .titles .now) (a .names .now) (a .bodies .now) (a .i) (c .before .before .before .before .before .before .before .before .before .before .entry .ensures) (c .before .before .before .before .before .before .before .before .heading .ensures .0) (c .before .before .before .before .before .before .before .body .ensures .0) (c .before .before .before .before .if3 .taken)) (c .before .before .write-framed2 .ensures)
 
--- src/lib.rt:74:5
 write-plain-requires-2 : tie.Need-write-plain-requires-2
 write-plain-requires-2 c κs = search needs
 
--- src/lib.rt:49:1
 same-length-4 : tie.Need-same-length-4
 same-length-4 c = search needs
 
--- src/lib.rt:49:1
 returns-4 : tie.Need-returns-4
 returns-4 c = let a = c .before .before .before .before .before .before .before .before .before .before .before .before .before .before .before .before .args in puts-as (a .buf .now) (a .c) (plain-text (a .table .now) (a .titles .now) (a .names .now) (a .bodies .now) (a .i) (c .before .before .before .before .before .before .before .before .before .before .entry .ensures) (c .before .before .before .before .before .before .before .before .heading .ensures .0) (c .before .before .before .before .before .before .before .body .ensures .0) (c .before .before .before .before .before .if2 .left) (c .before .before .before .before .if3 .left)) (c .before .before .write-plain2 .ensures)
 

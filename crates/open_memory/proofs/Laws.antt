@@ -1,0 +1,56 @@
+-- A fresh session is its numbers and arrays of zeros.
+use mathlib.Core.Path.{_≡_, refl, sym, ap, _∙_}
+use mathlib.Core.Bool.{Bool, true, false}
+use Prim.Native.Nat.{ℕ, _+_, _≤_}
+use native.Mathlib.Omega.{arith}
+use lib.ListN.{length, replicate, take, drop, length-replicate}
+use lib.Seq.{drop-drop}
+use mathlib.Core.List.{_++_}
+use Rattle.grammar.specs.Bytes.{Bytes}
+use Rattle.layout.proofs.Places.{put-fits}
+use Rattle.places.specs.Places.{sessionLen, arraysAt, arraysLen}
+use Rattle.places.specs.Places as places
+use Rattle.buffer.specs.Put.{putBytes}
+use Rattle.region.specs.Region.{region, lent}
+use Rattle.transfer_step.specs.Step.{startOf}
+use Rattle.transfer_step.specs.declared.Reader.{Reader}
+use Rattle.session_memory.specs.State.{at, noFive, saveOf, freshOf}
+use Rattle.session_memory.specs.declared.Five.{Five}
+use Rattle.session_memory.specs.declared.Session.{Session}
+use Rattle.numbers.specs.declared.Numbers.{Numbers}
+use Rattle.numbers.specs.Whole.{wholeOf, numberBytes}
+use Rattle.numbers.proofs.Laws.{save-whole}
+use Rattle.open_memory.specs.Fresh.{freshNumbers}
+
+pub fresh-caller : {r : Numbers} → r ≡ freshNumbers 1 0 → {c : Bool} → c ≡ true → wholeOf r (replicate arraysLen 0) ≡ freshOf c
+unfolding wholeOf freshOf region
+fresh-caller e t = ap (λ (h : Numbers). wholeOf h (replicate arraysLen 0)) e ∙ ap freshOf (sym t)
+
+pub fresh-called : {r : Numbers} → r ≡ freshNumbers 0 1 → {c : Bool} → c ≡ false → wholeOf r (replicate arraysLen 0) ≡ freshOf c
+unfolding wholeOf freshOf region
+fresh-called e t = ap (λ (h : Numbers). wholeOf h (replicate arraysLen 0)) e ∙ ap freshOf (sym t)
+
+-- zeros in the place of the arrays, then the numbers
+pub fresh-saved : (sm : Bytes) → length sm ≡ sessionLen → (h : Numbers) {s : Session} {m x : Bytes} → m ≡ putBytes sm (at arraysAt) (replicate arraysLen 0)
+    → wholeOf h (replicate arraysLen 0) ≡ s → x ≡ putBytes m (at places.numbersStart) (numberBytes h) → x ≡ saveOf sm s
+unfolding lent
+fresh-saved sm n h e f g =
+    let z : Bytes = replicate arraysLen 0 in
+    let l : length z ≡ arraysLen = length-replicate {A = ℕ} arraysLen 0 in
+    let k : putBytes sm (at arraysAt) z ≡ lent arraysAt arraysLen sm z =
+    put-fits sm arraysAt z (omega (arith, l)) ∙ ap (λ (i : ℕ). take arraysAt sm ++ (z ++ drop (arraysAt + i) sm)) l
+    ∙ ap (λ (y : Bytes). take arraysAt sm ++ (z ++ y)) (sym (drop-drop arraysLen arraysAt sm)) in
+    g ∙ ap (λ (y : Bytes). putBytes y (at places.numbersStart) (numberBytes h)) (e ∙ k) ∙ save-whole sm h z n l ∙ ap (saveOf sm) f
+
+-- the parts of the numbers
+pub numbers-are : (awaited first : ℕ) {f : Five} {r : Reader} → f ≡ noFive → r ≡ startOf 0
+    → _≡_ {A = Numbers}
+    (record {
+      now = record { phase = awaited; ff = false; current = 0; proposals = 0; ours = f };
+      say = record { first = first; then = 0; pos = 0; signs = f };
+      keep = record { framed = false; kept = 0; used = 0; sending = f };
+      reader = r;
+      line = record { «after_cr» = false; len = 0 };
+    })
+    (freshNumbers awaited first)
+numbers-are awaited first e f = simp (e, f)

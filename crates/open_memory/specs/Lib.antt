@@ -1,0 +1,2 @@
+-- The numbers of a fresh session.
+pub mod Fresh
