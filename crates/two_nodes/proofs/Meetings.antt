@@ -1,6 +1,6 @@
 -- The meetings of specs/Meetings, by computation: what each end consumed is a beginning of what the other gave, as the literal bytes show. One theorem an
 -- end, since two sessions in one statement run into the checker's limit of steps.
-use mathlib.Core.Path.{_≡_, refl}
+use mathlib.Core.Path.{_≡_, refl, sym, ap, subst}
 use mathlib.Core.List.{List, [], _∷_, _++_}
 use Rattle.grammar.specs.Ascii.{text}
 use Rattle.grammar.specs.Fields.{isAt, isBid, isCall, isSize, readFrom, words, writeNum, sameBid}
@@ -12,9 +12,13 @@ use Rattle.grammar.specs.Transfers.{parse, readTransfer, writeTransfer}
 use Rattle.mail.specs.Mail.{turnText, transfersText}
 use Rattle.session.specs.Choices.{chosen, answersTo}
 use Rattle.session.specs.Calls.{receive, give}
-use Rattle.two_nodes.specs.Series.{here, there}
+use Rattle.two_nodes.specs.Link.{Begins}
+use Rattle.two_nodes.specs.Fates.{Sound}
+use Rattle.two_nodes.specs.Session.{ran}
+use Rattle.two_nodes.specs.Series.{Node, Meeting, here, there, shelfOf, afterward, AllLinked, TwoNodes}
+use Rattle.two_nodes.proofs.Series.{two-nodes}
 use Rattle.two_nodes.specs.Examples.{Seen, seen, see, greeted, accepts, proposes, proposesBack, packed}
-use Rattle.two_nodes.specs.Meetings.{reader, ourSidLine, sender, twoProposed, twoTransfers, packetsGo, packetsKept, waits, short, roomy, longer, longTransfer, overrun, overrunTook, twin, bothHave, holder, calledSends, yoKept, cutInAnswer, cutInBody, hiKept}
+use Rattle.two_nodes.specs.Meetings.{reader, ourSidLine, sender, twoProposed, twoTransfers, packetsGo, packetsKept, waits, short, roomy, longer, longTransfer, overrun, overrunTook, twin, bothHave, holder, calledSends, yoKept, cutInAnswer, cutInBody, threeMeetings, hiKept}
 
 -- both go, the file under its name and the empty body as no block
 pub packets-here : seen sender (here sender packetsGo) ≡ see (greeted ++ (text "FS ++\r" ++ text "FF\r")) (twoProposed ++ (twoTransfers ++ text "FQ\r")) (1 ∷ 1 ∷ []) sender []
@@ -87,3 +91,44 @@ body-here = refl
 pub body-there : seen reader (there reader cutInBody) ≡ see (greeted ++ (text "FA P A B C X1 2\rF>\r" ++ 1 ∷ 4 ∷ 84 ∷ 0 ∷ 48 ∷ 0 ∷ 2 ∷ 2 ∷ text "h")) (ourSidLine ++ (text "FF\r" ++ accepts)) [] reader []
 unfolding isAt isBid isCall isSize readFrom words writeNum sameBid trim isComment isPrompt readSid readProposal readTurnLine proposalLine readFs fsLine parse readTransfer writeTransfer turnText transfersText chosen answersTo receive give
 body-there = refl
+
+-- ---------------------------------------------------------------- the premises of the claim are met: two cuts in a row and a whole meeting
+
+pub waits-sound : Sound (shelfOf waits 0 0)
+unfolding isAt isBid isCall isSize sameBid
+waits-sound = record { table = record { few = refl; fields = refl; bids = refl }; texts = refl }
+
+pub reader-sound : Sound (shelfOf reader 0 0)
+reader-sound = record { table = record { few = refl; fields = refl; bids = refl }; texts = refl }
+
+-- The two ends' bytes link, and the meetings after it do.
+abbrev Goes : List Meeting → Node → Node → Seen → Seen → Type 0
+Goes ms a b x y = ((x .after ≡ a) × (y .after ≡ b)) × (Begins (y .took) (x .gave) × Begins (x .took) (y .gave)) × AllLinked a b ms
+
+-- A meeting by what was seen of its two ends, so that nothing is computed twice.
+met-as : (a b a₁ b₁ : Node) (m : Meeting) (ms : List Meeting) (x y : Seen) → seen a (here a m) ≡ x → seen b (there b m) ≡ y → Goes ms a₁ b₁ x y
+    → AllLinked a b (m ∷ ms)
+met-as a b a₁ b₁ m ms x y ex ey g =
+    let h = subst (λ (z : Seen). Goes ms a₁ b₁ z (seen b (there b m))) (sym ex) (subst (λ (z : Seen). Goes ms a₁ b₁ x z) (sym ey) g) in (
+      record { there = h .1 .0; back = h .1 .1 },
+      subst (λ (n : Node). AllLinked n (afterward b (ran (there b m))) ms) (sym (h .0 .0)) (subst (λ (n : Node). AllLinked a₁ n ms) (sym (h .0 .1)) (h .2)),
+    )
+
+last-linked : AllLinked waits reader (roomy ∷ [])
+last-linked =
+    met-as waits reader (seen waits (here waits roomy) .after) (seen reader (there reader roomy) .after) roomy [] _ _ roomy-here roomy-there
+    ((sym (ap (λ (z : Seen). z .after) roomy-here), sym (ap (λ (z : Seen). z .after) roomy-there)), (record { rest = []; whole = refl }, record { rest = []; whole = refl }), tt)
+
+two-linked : AllLinked waits reader (cutInBody ∷ roomy ∷ [])
+two-linked =
+    met-as waits reader waits reader cutInBody (roomy ∷ []) _ _ body-here body-there
+    ((refl, refl), (record { rest = text "i" ++ 4 ∷ 47 ∷ []; whole = refl }, record { rest = []; whole = refl }), last-linked)
+
+pub three-linked : AllLinked waits reader threeMeetings
+three-linked =
+    met-as waits reader waits reader cutInAnswer (cutInBody ∷ roomy ∷ []) _ _ answer-here answer-there
+    ((refl, refl), (record { rest = []; whole = refl }, record { rest = text " +\r"; whole = refl }), two-linked)
+
+-- what the claim then says of them
+pub three-settled : TwoNodes waits reader threeMeetings
+three-settled = two-nodes waits reader threeMeetings waits-sound reader-sound refl refl three-linked
