@@ -1,4 +1,5 @@
 -- Theorems about the session alone.
 pub mod Choices
 pub mod Sessions
+pub mod Again
 pub mod Ways
