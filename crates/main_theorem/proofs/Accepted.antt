@@ -185,3 +185,11 @@ module _ (table titles names bodies : Bytes) where
       (reads-back (recordOf titles names bodies c) (record-proposable c titles names bodies ok)
       (ap (λ (w : Bytes). sendable (recordOf titles names bodies c .form) w (recordOf titles names bodies c .body)) (sym (read-back.heading-is (recordOf titles names bodies c .form) (recordOf titles names bodies c)))
       ∙ record-sendable c titles names bodies ok))
+
+  -- and can be sent
+  pub table-sendable : tableFault table titles names bodies ≡ 255 → (i : ℕ) → i < recordCount table
+      → sendable (recordAt (recordsOf titles names bodies table) i .form) (headingFor (recordAt (recordsOf titles names bodies table) i .form) (recordAt (recordsOf titles names bodies table) i)) (recordAt (recordsOf titles names bodies table) i .body) ≡ true
+  unfolding recordsOf
+  table-sendable e i h =
+      rw (entries-at (recordOf titles names bodies) recordSize table (recordCount table) i noRecord h)
+      (record-sendable (entryAt recordSize table i) titles names bodies (record-ok (all-ok e) i h))

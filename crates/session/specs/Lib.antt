@@ -3,3 +3,4 @@ pub mod Choices
 pub mod Session
 pub mod Calls
 pub mod Sessions
+pub mod Again

@@ -1,0 +1,16 @@
+-- A BID that was kept in this session is offered again in it: declined. No node of ours does that, so no meeting of two of them shows it. Proved by
+-- computation (proofs/Again).
+use mathlib.Core.Bool.{false}
+use mathlib.Core.List.{[], _∷_, _++_}
+use Rattle.grammar.specs.Ascii.{text}
+use Rattle.grammar.specs.Fields.{plain}
+use Rattle.session.specs.Sessions.{Trial, hears, takes, called, block, kept}
+
+-- Y1 comes whole; we propose three, which are declined; then Y1 once more, and our fourth
+abbrev pub offeredAgain : Trial
+offeredAgain =
+    called
+    (hears (text "FB B D E F Y1 2\rF>\r") ∷ takes 99 ∷ hears (text "U\rv\u{1a}\r") ∷ takes 99 ∷ hears (text "FS ---\r")
+    ∷ hears (text "FB B D E F Y1 2\rF>\r") ∷ takes 99 ∷ [])
+    ((0, 19) ∷ (0, 5) ∷ (0, 7) ∷ (0, 19) ∷ []) (text "FS +\r" ++ (block ++ text "FS -\rFB P A B C X4 1\rF>\r")) (2 ∷ 2 ∷ 2 ∷ 0 ∷ 0 ∷ [])
+    (kept plain (text "Y1") (text "U") (text "v") ∷ []) false

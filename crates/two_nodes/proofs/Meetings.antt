@@ -1,0 +1,134 @@
+-- The meetings of specs/Meetings, by computation: what each end consumed is a beginning of what the other gave, as the literal bytes show. One theorem an
+-- end, since two sessions in one statement run into the checker's limit of steps.
+use mathlib.Core.Path.{_≡_, refl, sym, ap, subst}
+use mathlib.Core.List.{List, [], _∷_, _++_}
+use Rattle.grammar.specs.Ascii.{text}
+use Rattle.grammar.specs.Fields.{isAt, isBid, isCall, isSize, readFrom, words, writeNum, sameBid}
+use Rattle.grammar.specs.Lines.{trim, isComment, isPrompt}
+use Rattle.grammar.specs.Sid.{readSid}
+use Rattle.grammar.specs.Turns.{readProposal, readTurnLine, proposalLine}
+use Rattle.grammar.specs.Answers.{readFs, fsLine}
+use Rattle.grammar.specs.Transfers.{parse, readTransfer, writeTransfer}
+use Rattle.mail.specs.Mail.{turnText, transfersText}
+use Rattle.session.specs.Choices.{chosen, answersTo}
+use Rattle.session.specs.Calls.{receive, give}
+use Rattle.two_nodes.specs.Link.{Begins}
+use Rattle.two_nodes.specs.Fates.{Sound}
+use Rattle.two_nodes.specs.Session.{ran}
+use Rattle.two_nodes.specs.Series.{Node, Meeting, here, there, shelfOf, afterward, AllLinked, TwoNodes}
+use Rattle.two_nodes.proofs.Series.{two-nodes}
+use Rattle.two_nodes.specs.Examples.{Seen, seen, see, greeted, accepts, proposes, proposesBack, packed}
+use Rattle.two_nodes.specs.Meetings.{reader, ourSidLine, sender, twoProposed, twoTransfers, packetsGo, packetsKept, waits, short, roomy, longer, longTransfer, overrun, overrunTook, twin, bothHave, holder, calledSends, yoKept, cutInAnswer, cutInBody, threeMeetings, hiKept}
+
+-- both go, the file under its name and the empty body as no block
+pub packets-here : seen sender (here sender packetsGo) ≡ see (greeted ++ (text "FS ++\r" ++ text "FF\r")) (twoProposed ++ (twoTransfers ++ text "FQ\r")) (1 ∷ 1 ∷ []) sender []
+unfolding isAt isBid isCall isSize readFrom words writeNum sameBid trim isComment isPrompt readSid readProposal readTurnLine proposalLine readFs fsLine parse readTransfer writeTransfer turnText transfersText chosen answersTo receive give
+packets-here = refl
+
+pub packets-there : seen reader (there reader packetsGo) ≡ see (twoProposed ++ (twoTransfers ++ text "FQ\r")) (greeted ++ (text "FS ++\r" ++ text "FF\r")) [] reader packetsKept
+unfolding isAt isBid isCall isSize readFrom words writeNum sameBid trim isComment isPrompt readSid readProposal readTurnLine proposalLine readFs fsLine parse readTransfer writeTransfer turnText transfersText chosen answersTo receive give
+packets-there = refl
+
+-- deferred: it still waits, after FQ
+pub short-here : seen waits (here waits short) ≡ see (greeted ++ text "FS =\rFF\r") (proposes ++ text "FQ\r") (0 ∷ []) waits []
+unfolding isAt isBid isCall isSize readFrom words writeNum sameBid trim isComment isPrompt readSid readProposal readTurnLine proposalLine readFs fsLine parse readTransfer writeTransfer turnText transfersText chosen answersTo receive give
+short-here = refl
+
+pub short-there : seen reader (there reader short) ≡ see (proposes ++ text "FQ\r") (greeted ++ text "FS =\rFF\r") [] reader []
+unfolding isAt isBid isCall isSize readFrom words writeNum sameBid trim isComment isPrompt readSid readProposal readTurnLine proposalLine readFs fsLine parse readTransfer writeTransfer turnText transfersText chosen answersTo receive give
+short-there = refl
+
+-- the next meeting, with room: it goes
+pub roomy-here : seen waits (here waits roomy) ≡ see (greeted ++ (accepts ++ text "FF\r")) (proposes ++ (packed (text "hi") 47 ++ text "FQ\r")) (1 ∷ []) waits []
+unfolding isAt isBid isCall isSize readFrom words writeNum sameBid trim isComment isPrompt readSid readProposal readTurnLine proposalLine readFs fsLine parse readTransfer writeTransfer turnText transfersText chosen answersTo receive give
+roomy-here = refl
+
+pub roomy-there : seen reader (there reader roomy) ≡ see (proposes ++ (packed (text "hi") 47 ++ text "FQ\r")) (greeted ++ (accepts ++ text "FF\r")) [] reader hiKept
+unfolding isAt isBid isCall isSize readFrom words writeNum sameBid trim isComment isPrompt readSid readProposal readTurnLine proposalLine readFs fsLine parse readTransfer writeTransfer turnText transfersText chosen answersTo receive give
+roomy-there = refl
+
+-- refused at the byte without room: nothing is kept, nothing marked
+pub overrun-here : seen longer (here longer overrun) ≡ see (greeted ++ accepts) (proposes ++ longTransfer) (0 ∷ []) longer []
+unfolding isAt isBid isCall isSize readFrom words writeNum sameBid trim isComment isPrompt readSid readProposal readTurnLine proposalLine readFs fsLine parse readTransfer writeTransfer turnText transfersText chosen answersTo receive give
+overrun-here = refl
+
+pub overrun-there : seen reader (there reader overrun) ≡ see (proposes ++ overrunTook) (greeted ++ accepts) [] reader []
+unfolding isAt isBid isCall isSize readFrom words writeNum sameBid trim isComment isPrompt readSid readProposal readTurnLine proposalLine readFs fsLine parse readTransfer writeTransfer turnText transfersText chosen answersTo receive give
+overrun-there = refl
+
+-- both are declined
+pub both-here : seen waits (here waits bothHave) ≡ see (greeted ++ (text "FS -\r" ++ (text "FA P A B C X1 2\rF>\r" ++ text "FQ\r"))) (proposes ++ text "FS -\rFF\r") (2 ∷ []) waits []
+unfolding isAt isBid isCall isSize readFrom words writeNum sameBid trim isComment isPrompt readSid readProposal readTurnLine proposalLine readFs fsLine parse readTransfer writeTransfer turnText transfersText chosen answersTo receive give
+both-here = refl
+
+pub both-there : seen twin (there twin bothHave) ≡ see (proposes ++ text "FS -\rFF\r") (greeted ++ (text "FS -\r" ++ (text "FA P A B C X1 2\rF>\r" ++ text "FQ\r"))) (2 ∷ []) twin []
+unfolding isAt isBid isCall isSize readFrom words writeNum sameBid trim isComment isPrompt readSid readProposal readTurnLine proposalLine readFs fsLine parse readTransfer writeTransfer turnText transfersText chosen answersTo receive give
+both-there = refl
+
+-- the called end's mail goes
+pub called-here : seen reader (here reader calledSends) ≡ see (greeted ++ (proposesBack ++ (packed (text "yo") 24 ++ text "FQ\r"))) (ourSidLine ++ (text "FF\r" ++ (accepts ++ text "FF\r"))) [] reader yoKept
+unfolding isAt isBid isCall isSize readFrom words writeNum sameBid trim isComment isPrompt readSid readProposal readTurnLine proposalLine readFs fsLine parse readTransfer writeTransfer turnText transfersText chosen answersTo receive give
+called-here = refl
+
+pub called-there : seen holder (there holder calledSends) ≡ see (ourSidLine ++ (text "FF\r" ++ (accepts ++ text "FF\r"))) (greeted ++ (proposesBack ++ (packed (text "yo") 24 ++ text "FQ\r"))) (1 ∷ []) holder []
+unfolding isAt isBid isCall isSize readFrom words writeNum sameBid trim isComment isPrompt readSid readProposal readTurnLine proposalLine readFs fsLine parse readTransfer writeTransfer turnText transfersText chosen answersTo receive give
+called-there = refl
+
+-- cut in the FS line
+pub answer-here : seen waits (here waits cutInAnswer) ≡ see (greeted ++ text "FS") proposes (0 ∷ []) waits []
+unfolding isAt isBid isCall isSize readFrom words writeNum sameBid trim isComment isPrompt readSid readProposal readTurnLine proposalLine readFs fsLine parse readTransfer writeTransfer turnText transfersText chosen answersTo receive give
+answer-here = refl
+
+pub answer-there : seen reader (there reader cutInAnswer) ≡ see proposes (greeted ++ accepts) [] reader []
+unfolding isAt isBid isCall isSize readFrom words writeNum sameBid trim isComment isPrompt readSid readProposal readTurnLine proposalLine readFs fsLine parse readTransfer writeTransfer turnText transfersText chosen answersTo receive give
+answer-there = refl
+
+-- cut in the body, the roles exchanged
+pub body-here : seen waits (here waits cutInBody) ≡ see (ourSidLine ++ (text "FF\r" ++ accepts)) (greeted ++ (text "FA P A B C X1 2\rF>\r" ++ packed (text "hi") 47)) (0 ∷ []) waits []
+unfolding isAt isBid isCall isSize readFrom words writeNum sameBid trim isComment isPrompt readSid readProposal readTurnLine proposalLine readFs fsLine parse readTransfer writeTransfer turnText transfersText chosen answersTo receive give
+body-here = refl
+
+pub body-there : seen reader (there reader cutInBody) ≡ see (greeted ++ (text "FA P A B C X1 2\rF>\r" ++ 1 ∷ 4 ∷ 84 ∷ 0 ∷ 48 ∷ 0 ∷ 2 ∷ 2 ∷ text "h")) (ourSidLine ++ (text "FF\r" ++ accepts)) [] reader []
+unfolding isAt isBid isCall isSize readFrom words writeNum sameBid trim isComment isPrompt readSid readProposal readTurnLine proposalLine readFs fsLine parse readTransfer writeTransfer turnText transfersText chosen answersTo receive give
+body-there = refl
+
+-- ---------------------------------------------------------------- the premises of the claim are met: two cuts in a row and a whole meeting
+
+pub waits-sound : Sound (shelfOf waits 0 0)
+unfolding isAt isBid isCall isSize sameBid
+waits-sound = record { table = record { few = refl; fields = refl; bids = refl }; texts = refl }
+
+pub reader-sound : Sound (shelfOf reader 0 0)
+reader-sound = record { table = record { few = refl; fields = refl; bids = refl }; texts = refl }
+
+-- The two ends' bytes link, and the meetings after it do.
+abbrev Goes : List Meeting → Node → Node → Seen → Seen → Type 0
+Goes ms a b x y = ((x .after ≡ a) × (y .after ≡ b)) × (Begins (y .took) (x .gave) × Begins (x .took) (y .gave)) × AllLinked a b ms
+
+-- A meeting by what was seen of its two ends, so that nothing is computed twice.
+met-as : (a b a₁ b₁ : Node) (m : Meeting) (ms : List Meeting) (x y : Seen) → seen a (here a m) ≡ x → seen b (there b m) ≡ y → Goes ms a₁ b₁ x y
+    → AllLinked a b (m ∷ ms)
+met-as a b a₁ b₁ m ms x y ex ey g =
+    let h = subst (λ (z : Seen). Goes ms a₁ b₁ z (seen b (there b m))) (sym ex) (subst (λ (z : Seen). Goes ms a₁ b₁ x z) (sym ey) g) in (
+      record { there = h .1 .0; back = h .1 .1 },
+      subst (λ (n : Node). AllLinked n (afterward b (ran (there b m))) ms) (sym (h .0 .0)) (subst (λ (n : Node). AllLinked a₁ n ms) (sym (h .0 .1)) (h .2)),
+    )
+
+last-linked : AllLinked waits reader (roomy ∷ [])
+last-linked =
+    met-as waits reader (seen waits (here waits roomy) .after) (seen reader (there reader roomy) .after) roomy [] _ _ roomy-here roomy-there
+    ((sym (ap (λ (z : Seen). z .after) roomy-here), sym (ap (λ (z : Seen). z .after) roomy-there)), (record { rest = []; whole = refl }, record { rest = []; whole = refl }), tt)
+
+two-linked : AllLinked waits reader (cutInBody ∷ roomy ∷ [])
+two-linked =
+    met-as waits reader waits reader cutInBody (roomy ∷ []) _ _ body-here body-there
+    ((refl, refl), (record { rest = text "i" ++ 4 ∷ 47 ∷ []; whole = refl }, record { rest = []; whole = refl }), last-linked)
+
+pub three-linked : AllLinked waits reader threeMeetings
+three-linked =
+    met-as waits reader waits reader cutInAnswer (cutInBody ∷ roomy ∷ []) _ _ answer-here answer-there
+    ((refl, refl), (record { rest = []; whole = refl }, record { rest = text " +\r"; whole = refl }), two-linked)
+
+-- what the claim then says of them
+pub three-settled : TwoNodes waits reader threeMeetings
+three-settled = two-nodes waits reader threeMeetings waits-sound reader-sound refl refl three-linked

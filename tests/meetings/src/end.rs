@@ -1,0 +1,124 @@
+//! One end of one meeting: the library on a node's buffers.
+
+use crate::node::{Carrying, Node, Room};
+use fuzz::library::{self, Lent};
+use second::host::Buffers;
+use second::layout::{read_message, MESSAGE_BYTES, RECORD_BYTES, SESSION_KEPT};
+use second::log::Kept;
+use second::memory::State;
+use second::session::Reply;
+
+/// Roles of open.
+const CALLED: u8 = 0;
+const CALLER: u8 = 1;
+/// "receive on an ended session"
+const ENDED: u8 = 12;
+
+pub struct End {
+    host: Buffers,
+    /// The buffers as open found them.
+    before: Buffers,
+    /// All bytes given so far, and how many of the other end's were taken.
+    pub given: Vec<u8>,
+    pub taken: usize,
+    /// FQ came whole: the session was live, receive answered 0, and it is over.
+    pub fq_came: bool,
+    /// The refusal that ended it, or 0.
+    pub refusal: u8,
+    buffer: Vec<u8>,
+}
+
+impl End {
+    pub fn open(node: &Node, room: Room, caller: bool, carrying: Carrying) -> Result<End, String> {
+        let host = node.buffers(room, carrying);
+        let mut end = End {
+            before: host.clone(),
+            host,
+            given: Vec::new(),
+            taken: 0,
+            fq_came: false,
+            refusal: 0,
+            buffer: Vec::new(),
+        };
+        let reply = library::open(if caller { CALLER } else { CALLED }, end.lent());
+        match reply.answer {
+            0 => Ok(end),
+            answer => Err(format!("open answers {answer}, place {}", reply.place)),
+        }
+    }
+
+    fn lent(&mut self) -> Lent<'_> {
+        let Buffers { session, table, titles, names, bodies, known, inbox, store } = &mut self.host;
+        Lent { session, table, titles, names, bodies, known, inbox, store }
+    }
+
+    /// Gives into a buffer of so many bytes; how many it gave.
+    pub fn give(&mut self, room: usize) -> usize {
+        let mut buffer = std::mem::take(&mut self.buffer);
+        buffer.resize(room, 0);
+        let Reply { count, .. } = library::give(self.lent(), &mut buffer, 0);
+        self.given.extend_from_slice(&buffer[..count]);
+        self.buffer = buffer;
+        count
+    }
+
+    fn is_live(&mut self) -> bool {
+        library::receive(self.lent(), &[]).answer == 0
+    }
+
+    /// Bytes from the link; how many it consumed.
+    pub fn receive(&mut self, bytes: &[u8]) -> usize {
+        if !self.is_live() {
+            return 0;
+        }
+        let Reply { answer, count, .. } = library::receive(self.lent(), bytes);
+        self.taken += count;
+        if answer != 0 {
+            self.refusal = answer;
+        } else if library::receive(self.lent(), &[]).answer == ENDED {
+            self.fq_came = true;
+        }
+        count
+    }
+
+    /// The node after the meeting, or what was written that may not be.
+    pub fn leave(&self, node: &mut Node) -> Result<(), String> {
+        node.states = self.states()?;
+        node.kept.extend(self.kept()?);
+        Ok(())
+    }
+
+    /// "The tables and their stores carry over, and only the sessions write
+    /// them": states alone.
+    fn states(&self) -> Result<Vec<State>, String> {
+        let (now, before) = (&self.host, &self.before);
+        let same_stores = now.titles == before.titles
+            && now.names == before.names
+            && now.bodies == before.bodies
+            && now.known == before.known;
+        let mut states = Vec::new();
+        for (entry, old) in now.table.chunks(RECORD_BYTES).zip(before.table.chunks(RECORD_BYTES)) {
+            if entry[1..] != old[1..] || !same_stores {
+                return Err("a record or a store was written".into());
+            }
+            states.push(match entry[0] {
+                0 => State::Waiting,
+                1 => State::Forwarded,
+                2 => State::Declined,
+                other => return Err(format!("a state is {other}")),
+            });
+        }
+        Ok(states)
+    }
+
+    fn kept(&self) -> Result<Vec<Kept>, String> {
+        let count = usize::from(self.host.session[SESSION_KEPT]);
+        let entries = self.host.inbox.chunks(MESSAGE_BYTES).take(count);
+        let read = |entry: &[u8]| {
+            let message = read_message(entry)?;
+            let body = message.body.of(&self.host.store)?.to_vec();
+            Some(Kept { envelope: message.envelope, heading: message.heading, body })
+        };
+        entries.map(|entry| read(entry).ok_or_else(|| "no message in the inbox".into())).collect()
+    }
+}
