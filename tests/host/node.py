@@ -232,6 +232,12 @@ class Folder(unittest.TestCase):
             self.assertNotIn(word, said)
 
 
+def next_line(process):
+    """The next line on standard error, which must come in time."""
+    assert select.select([process.stderr], [], [], PATIENCE)[0], "the node says nothing"
+    return process.stderr.readline().decode()
+
+
 def free_port():
     """A port where nobody listens."""
     with socket.socket() as s:

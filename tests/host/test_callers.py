@@ -17,7 +17,7 @@ class Callers(Folder):
     def outside(self, node, *options):
         """Listens where other machines could call."""
         process = node.start("listen", "0.0.0.0:0", *options)
-        found = re.search(r"listening on 0\.0\.0\.0:(\d+)$", process.stderr.readline().decode().strip())
+        found = re.search(r"listening on 0\.0\.0\.0:(\d+)$", next_line(process).strip())
         self.assertTrue(found)
         return process, int(found.group(1))
 
@@ -172,8 +172,8 @@ class Login(Callers):
         for address in ("0.0.0.0:0", "[::]:0"):
             self.says_why(node.run("listen", address), BAD_USAGE, "no partner has a password", "--anyone")
         process = node.start("listen", "0.0.0.0:0", "--anyone")
-        port = int(process.stderr.readline().decode().rsplit(":", 1)[1])
-        self.assertIn(b"whoever calls here gets our mail", process.stderr.readline())
+        port = int(next_line(process).rsplit(":", 1)[1])
+        self.assertIn("whoever calls here gets our mail", process.stderr.readline().decode())
         self.takes(self.connect(process, port))
         self.stopped(process)
         self.assertEqual(node.states(), {b"1_US": FORWARDED})

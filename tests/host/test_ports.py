@@ -191,8 +191,7 @@ class Serial(Folder):
     def opened(self, node, line, bits="9600", *options, **more):
         """A process that has its line."""
         process = node.start("serial", os.ttyname(line), bits, *options, **more)
-        said = process.stderr.readline().decode()
-        self.assertIn("open at %s bit/s" % bits, said)
+        self.assertIn("open at %s bit/s" % bits, next_line(process))
         return process
 
     def session(self, bits, speed):
@@ -390,5 +389,15 @@ class Unsaid(Folder):
                 partner.says(b"Hello\r")
                 partner.hears_end()
                 self.assertEqual(process.wait(PATIENCE), REFUSED)
+        master, slave = os.openpty()
+        tty.setraw(slave)
+        process = subprocess.Popen(["sh", "-c", 'exec "$0" "$1" serial "$2" 9600 2>&-', node.program, node.path, os.ttyname(slave)])
+        node.started.append(process)
+        partner = Partner.of_terminal(process, master)
+        partner.hears(GREETING)
+        partner.says(b"Hello\r")
+        self.assertEqual(process.wait(PATIENCE), REFUSED)
+        os.close(slave)
+        partner.hears_end()
         self.assertEqual(node.ask("PRAGMA integrity_check"), [("ok",)])
         self.assertEqual(node.states(), {b"1_US": WAITING})

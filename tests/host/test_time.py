@@ -92,7 +92,7 @@ class Leaving(Timed):
         master, slave = os.openpty()
         self.addCleanup(os.close, slave)
         process = node.start("serial", os.ttyname(slave), "1200", "--timeout", "1", env=self.line(LINE_RATE="1500"))
-        self.assertIn(b"open at 1200 bit/s", process.stderr.readline())
+        self.assertIn("open at 1200 bit/s", next_line(process))
         partner = Partner.of_terminal(process, master)
 
         def drain():
