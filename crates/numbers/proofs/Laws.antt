@@ -8,7 +8,7 @@ use lib.ListN.{length, take, drop, getD, length-append, length-drop, take-append
 use lib.Dec.{eqb}
 use lib.Seq.{drop-append-le, drop-at, drop-drop, take-add, take-all, length-take-le, take-append-le, take-take, getD-take, getD-drop}
 use Rattle.grammar.specs.Bytes.{Bytes}
-use Rattle.buffer.specs.Put.{putBytes}
+use Rattle.buffer.specs.Put.{putBytes, Puts}
 use Rattle.places.specs.Places.{numbersStart, numbersEnd, numbersLen, arraysAt, freeLen, deferredLen, headingLen, lineLen, blockLen, deferredAt, headingAt, lineAt, blockAt, arraysLen, arraysEnd, sessionLen}
 use Rattle.layout.specs.Layout.{byteAt, le2, le4, le8}
 use Rattle.layout.proofs.Places.{put-fits}
@@ -22,7 +22,9 @@ use Rattle.numbers.specs.declared.AwaitNumbers.{AwaitNumbers}
 use Rattle.numbers.specs.declared.KeepNumbers.{KeepNumbers}
 use Rattle.numbers.specs.declared.LineNumbers.{LineNumbers}
 use Rattle.numbers.specs.declared.Numbers.{Numbers}
-use Rattle.numbers.specs.Whole.{deferredIn, headingIn, lineIn, blockIn, sessionOf, wholeOf, awaitNumbers, sayNumbers, keepNumbers, readerNumbers, lineNumbers, numbersAt, numberBytes}
+use Rattle.numbers.specs.Whole.{deferredIn, headingIn, lineIn, blockIn, sessionOf, wholeOf, awaitNumbers, sayNumbers, keepNumbers, readerNumbers, lineNumbers, numbersAt, smallBytes, largeBytes, numberBytes}
+use Rattle.buffer.specs.declared.Cursor.{Cursor}
+use Rattle.buffer.proofs.Laws.{puts-then}
 
 -- ---------------------------------------------------------------- read
 
@@ -140,23 +142,37 @@ save-whole sm h w n k =
 
 -- ---------------------------------------------------------------- the bytes of the numbers, from the bytes of each
 
-abbrev numbersFrom : Numbers → ℕ → ℕ → ℕ → Bytes → Bytes → Bytes → Bytes → Bytes → Bytes
-numbersFrom h x y z l f b p u =
+abbrev smallFrom : Numbers → ℕ → ℕ → ℕ → Bytes
+smallFrom h x y z =
     (h .now .phase ∷ x ∷ y ∷ z ∷ h .say .first ∷ h .say .then ∷ h .keep .kept ∷ h .now .current ∷ h .now .proposals ∷ [])
     ++ (fiveOut (h .now .ours) ++ (fiveOut (h .keep .sending) ++ (fiveOut (h .say .signs)
-    ++ (h .reader .place ∷ h .reader .len ∷ h .reader .head ∷ h .reader .off ∷ h .reader .sum ∷ getD l 0 0 ∷ getD l 1 0 ∷ getD f 0 0 ∷ getD f 1 0 ∷ getD b 0 0 ∷ getD b 1 0 ∷ getD b 2 0 ∷ getD b 3 0
-    ∷ getD p 0 0 ∷ getD p 1 0 ∷ getD p 2 0 ∷ getD p 3 0 ∷ getD p 4 0 ∷ getD p 5 0 ∷ getD p 6 0 ∷ getD p 7 0 ∷ getD u 0 0 ∷ getD u 1 0 ∷ getD u 2 0 ∷ getD u 3 0 ∷ getD u 4 0 ∷ getD u 5 0 ∷ getD u 6 0 ∷ getD u 7 0 ∷ []))))
+    ++ (h .reader .place ∷ h .reader .len ∷ h .reader .head ∷ h .reader .off ∷ h .reader .sum ∷ []))))
 
-pub numbers-are : (h : Numbers) {x y z : ℕ} {l f b p u : Bytes} → x ≡ flag (h .now .ff) → y ≡ flag (h .keep .framed) → z ≡ flag (h .line .«after_cr»)
-    → l ≡ le2 (h .line .len) → f ≡ le2 (h .reader .left) → b ≡ le4 (h .reader .body) → p ≡ le8 (h .say .pos) → u ≡ le8 (h .keep .used)
-    → numbersFrom h x y z l f b p u ≡ numberBytes h
-unfolding numberBytes smallOut numbersOut
-numbers-are h {x} {y} {z} {l} {f} {b} {p} {u} e₁ e₂ e₃ e₄ e₅ e₆ e₇ e₈ =
-    ap (λ (i : ℕ). numbersFrom h i y z l f b p u) e₁
-    ∙ ap (λ (i : ℕ). numbersFrom h (flag (h .now .ff)) i z l f b p u) e₂
-    ∙ ap (λ (i : ℕ). numbersFrom h (flag (h .now .ff)) (flag (h .keep .framed)) i l f b p u) e₃
-    ∙ ap (λ (i : Bytes). numbersFrom h (flag (h .now .ff)) (flag (h .keep .framed)) (flag (h .line .«after_cr»)) i f b p u) e₄
-    ∙ ap (λ (i : Bytes). numbersFrom h (flag (h .now .ff)) (flag (h .keep .framed)) (flag (h .line .«after_cr»)) (le2 (h .line .len)) i b p u) e₅
-    ∙ ap (λ (i : Bytes). numbersFrom h (flag (h .now .ff)) (flag (h .keep .framed)) (flag (h .line .«after_cr»)) (le2 (h .line .len)) (le2 (h .reader .left)) i p u) e₆
-    ∙ ap (λ (i : Bytes). numbersFrom h (flag (h .now .ff)) (flag (h .keep .framed)) (flag (h .line .«after_cr»)) (le2 (h .line .len)) (le2 (h .reader .left)) (le4 (h .reader .body)) i u) e₇
-    ∙ ap (λ (i : Bytes). numbersFrom h (flag (h .now .ff)) (flag (h .keep .framed)) (flag (h .line .«after_cr»)) (le2 (h .line .len)) (le2 (h .reader .left)) (le4 (h .reader .body)) (le8 (h .say .pos)) i) e₈
+pub small-are : (h : Numbers) {x y z : ℕ} → x ≡ flag (h .now .ff) → y ≡ flag (h .keep .framed) → z ≡ flag (h .line .«after_cr») → smallFrom h x y z ≡ smallBytes h
+unfolding smallOut
+small-are h {x} {y} {z} e₁ e₂ e₃ =
+    ap (λ (i : ℕ). smallFrom h i y z) e₁ ∙ ap (λ (i : ℕ). smallFrom h (flag (h .now .ff)) i z) e₂
+    ∙ ap (λ (i : ℕ). smallFrom h (flag (h .now .ff)) (flag (h .keep .framed)) i) e₃
+
+abbrev largeFrom : Bytes → Bytes → Bytes → Bytes → Bytes → Bytes
+largeFrom l f b p u =
+    getD l 0 0 ∷ getD l 1 0 ∷ getD f 0 0 ∷ getD f 1 0 ∷ getD b 0 0 ∷ getD b 1 0 ∷ getD b 2 0 ∷ getD b 3 0
+    ∷ getD p 0 0 ∷ getD p 1 0 ∷ getD p 2 0 ∷ getD p 3 0 ∷ getD p 4 0 ∷ getD p 5 0 ∷ getD p 6 0 ∷ getD p 7 0
+    ∷ getD u 0 0 ∷ getD u 1 0 ∷ getD u 2 0 ∷ getD u 3 0 ∷ getD u 4 0 ∷ getD u 5 0 ∷ getD u 6 0 ∷ getD u 7 0 ∷ []
+
+pub large-are : (h : Numbers) {l f b p u : Bytes} → l ≡ le2 (h .line .len) → f ≡ le2 (h .reader .left) → b ≡ le4 (h .reader .body) → p ≡ le8 (h .say .pos) → u ≡ le8 (h .keep .used)
+    → largeFrom l f b p u ≡ largeBytes h
+unfolding numbersOut
+large-are h {l} {f} {b} {p} {u} e₁ e₂ e₃ e₄ e₅ =
+    ap (λ (i : Bytes). largeFrom i f b p u) e₁ ∙ ap (λ (i : Bytes). largeFrom (le2 (h .line .len)) i b p u) e₂
+    ∙ ap (λ (i : Bytes). largeFrom (le2 (h .line .len)) (le2 (h .reader .left)) i p u) e₃
+    ∙ ap (λ (i : Bytes). largeFrom (le2 (h .line .len)) (le2 (h .reader .left)) (le4 (h .reader .body)) i u) e₄
+    ∙ ap (λ (i : Bytes). largeFrom (le2 (h .line .len)) (le2 (h .reader .left)) (le4 (h .reader .body)) (le8 (h .say .pos)) i) e₅
+
+-- both parts, put one behind the other
+pub parts-saved : (sm : Bytes) (h : Numbers) {x y : Bytes} {r t : Cursor} {e f : Bytes} → x ≡ smallBytes h → y ≡ largeBytes h
+    → Puts sm (at numbersStart) x r e → Puts e r y t f → f ≡ putBytes sm (at numbersStart) (numberBytes h)
+unfolding numberBytes
+parts-saved sm h {x} {y} e₁ e₂ a b =
+    puts-then sm (at numbersStart) x y a b .1
+    ∙ ap (λ (l : Bytes). putBytes sm (at numbersStart) (l ++ y)) e₁ ∙ ap (λ (l : Bytes). putBytes sm (at numbersStart) (smallBytes h ++ l)) e₂

@@ -6,7 +6,7 @@ use Rattle.grammar.specs.Bytes.{Bytes}
 use Rattle.places.specs.Places.{phaseAt, ffAt, framedAt, afterCrAt, firstAt, thenAt, keptAt, currentAt, proposalsAt, oursAt, sendingAt, signsAt, placeAt, lengthAt, headAt, offsetAt, sumAt, lineLengthAt, leftAt, bodyAt, posAt, usedAt, deferredAt, deferredLen, headingAt, headingLen, lineAt, lineLen, blockAt, blockLen}
 use Rattle.layout.specs.Layout.{byteAt, le2At, le4At, le8At}
 use Rattle.transfer_step.specs.declared.Reader.{Reader}
-use Rattle.session_memory.specs.State.{fiveAt, numberPart}
+use Rattle.session_memory.specs.State.{fiveAt, smallOut, numbersOut, numberPart}
 use Rattle.session_memory.specs.Session.{Await}
 use Rattle.session_memory.specs.declared.Say.{Say}
 use Rattle.session_memory.specs.Session.{Keep}
@@ -82,6 +82,13 @@ numbersAt sm = record { now = awaitNumbers sm; say = sayNumbers sm; keep = keepN
 
 -- ---------------------------------------------------------------- written
 
--- what a save writes for the numbers; it doesn't look at the arrays
+-- the numbers of one byte, and the longer ones after them; they don't look at the arrays
+abbrev pub smallBytes : Numbers → Bytes
+smallBytes h = smallOut (sessionOf h [] [] [] [])
+
+abbrev pub largeBytes : Numbers → Bytes
+largeBytes h = numbersOut (sessionOf h [] [] [] [])
+
+-- what a save writes for the numbers
 unfoldable pub numberBytes : Numbers → Bytes
 numberBytes h = numberPart (sessionOf h [] [] [] [])

@@ -13,7 +13,7 @@ ghost use Rattle.buffer.specs.Put.{putBytes};
 ghost use Rattle.places.specs.Places.{numbersStart, sessionLen};
 ghost use Rattle.layout.specs.Layout.{byteAt, le2At, le4At, le8At};
 ghost use Rattle.session_memory.specs.State.{at, flag, fiveAt};
-ghost use Rattle.numbers.specs.Whole.{awaitNumbers, sayNumbers, keepNumbers, readerNumbers, lineNumbers, numbersAt, numberBytes};
+ghost use Rattle.numbers.specs.Whole.{awaitNumbers, sayNumbers, keepNumbers, readerNumbers, lineNumbers, numbersAt, smallBytes, largeBytes, numberBytes};
 
 pub struct AwaitNumbers {
     pub phase: u8,
@@ -190,19 +190,14 @@ fn flag(b: bool) -> u8
     if b { 1 } else { 0 }
 }
 
-// The numbers as they stand in session memory.
-fn as_bytes(h: Numbers) -> [u8; 56]
-    ensures { λ r. ⌜ r ≡ numberBytes h ⌝ }
+// The numbers of one byte, as they stand in session memory.
+fn small_bytes(h: Numbers) -> [u8; 32]
+    ensures { λ r. ⌜ r ≡ smallBytes h ⌝ }
 {
     let o = h.now.ours;
     let d = h.keep.sending;
     let g = h.say.signs;
     let r = h.reader;
-    let l = bytes2(h.line.len as usize);
-    let f = bytes2(r.left as usize);
-    let b = bytes4(r.body as usize);
-    let p = bytes8(h.say.pos);
-    let u = bytes8(h.keep.used);
     [
         h.now.phase,
         flag(h.now.ff),
@@ -236,6 +231,20 @@ fn as_bytes(h: Numbers) -> [u8; 56]
         r.head,
         r.off,
         r.sum,
+    ]
+}
+
+// The longer ones after them.
+fn large_bytes(h: Numbers) -> [u8; 24]
+    ensures { λ r. ⌜ r ≡ largeBytes h ⌝ }
+{
+    let r = h.reader;
+    let l = bytes2(h.line.len as usize);
+    let f = bytes2(r.left as usize);
+    let b = bytes4(r.body as usize);
+    let p = bytes8(h.say.pos);
+    let u = bytes8(h.keep.used);
+    [
         l[0],
         l[1],
         f[0],
@@ -267,13 +276,15 @@ fn as_bytes(h: Numbers) -> [u8; 56]
 pub fn save(sm: &mut [u8], h: Numbers)
     ensures { λ _. ⌜ now (sm .exit) ≡ putBytes (now (sm .entry)) (at numbersStart) (numberBytes h) ⌝ }
 {
-    let a = as_bytes(h);
-    let _c = buffer::put(
+    let small = small_bytes(h);
+    let large = large_bytes(h);
+    let c = buffer::put(
         sm,
         Cursor {
             at: places::NUMBERS,
             skip: 0,
         },
-        &a,
+        &small,
     );
+    let _d = buffer::put(sm, c, &large);
 }

@@ -1,9 +1,15 @@
+use Rattle.numbers.proofs.Laws.{parts-saved}
 use borrow.Author.Needs.{needs}
 use Rattle.numbers.proofs.save.Statement.{statement}
 use Rattle.numbers.proofs.save.Tie as tie
+use Rattle.numbers.proofs.large_bytes.Reads as large-bytes-reads
+use Rattle.numbers.proofs.small_bytes.Reads as small-bytes-reads
 
-as-bytes-requires : tie.Need-as-bytes-requires
-as-bytes-requires c κs = search needs
+small-bytes-requires : tie.Need-small-bytes-requires
+small-bytes-requires c κs = search needs
+
+large-bytes-requires : tie.Need-large-bytes-requires
+large-bytes-requires c κs = search needs
 
 slice-aggregate-put : tie.Need-slice-aggregate-put
 slice-aggregate-put c = search needs
@@ -11,12 +17,27 @@ slice-aggregate-put c = search needs
 put-requires : tie.Need-put-requires
 put-requires c κs = search needs
 
+slice-aggregate-put-2 : tie.Need-slice-aggregate-put-2
+slice-aggregate-put-2 c = search needs
+
+put-requires-2 : tie.Need-put-requires-2
+put-requires-2 c κs = search needs
+
 same-length : tie.Need-same-length
 same-length c = search needs
 
 returns : tie.Need-returns
-returns c = rw (← c .before .before .before .before .before .as-bytes .ensures) (c .before .before .put .ensures .1)
+returns c = parts-saved (c .before .before .before .before .before .before .before .before .before .before .before .before .before .args .sm .now) (c .before .before .before .before .before .before .before .before .before .before .before .before .before .args .h) (c .before .before .before .before .before .before .before .before .before .before .before .small-bytes .ensures) (c .before .before .before .before .before .before .before .before .before .before .large-bytes .ensures) (c .before .before .before .before .before .before .before .put .ensures) (c .before .before .put2 .ensures)
 
 pub save-spec : {M : Type 1} → statement M
 save-spec =
-    tie.close (tie.spec as-bytes-requires slice-aggregate-put put-requires same-length returns)
+    tie.close
+    (tie.spec
+    small-bytes-requires
+    large-bytes-requires
+    slice-aggregate-put
+    put-requires
+    slice-aggregate-put-2
+    put-requires-2
+    same-length
+    returns)
