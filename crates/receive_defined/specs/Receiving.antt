@@ -10,6 +10,7 @@ use Rattle.grammar.specs.Refusals.{badMemory, lineTooLong, badTransfer, badChec
 use Rattle.grammar.specs.Lines.{LineByte, dropped, ends, grows, overruns, lineByte, trim}
 use Rattle.buffer.specs.Put.{putBytes}
 use Rattle.layout.specs.Layout.{byteAt, entryAt, entrySize, proposalSize, entryOut}
+use Rattle.phase.specs.Phase.{phaseTransfer, phaseOver, pieceNone, notOurTurn, ourTurn, ourTurnAfterFF, noProposal}
 use Rattle.transfer_step.specs.declared.Reader.{Reader}
 use Rattle.transfer_step.specs.declared.Stepped.{Stepped}
 use Rattle.transfer_step.specs.declared.Outcome.{Outcome}
@@ -53,7 +54,7 @@ moved n c = record { answer = n; cs = c }
 -- "After a refusal nothing more is sent": the session is over, nothing waits, and what is kept stands
 unfoldable pub refusedOf : Session → Session
 refusedOf s =
-    withNow (inPhase 7 (s .now)) (withSay (withFirst 0 (withThen 0 (withPos 0 (s .say)))) (withLine (withAfterCr false (withBytes 0 (s .line .bytes) (s .line))) s))
+    withNow (inPhase phaseOver (s .now)) (withSay (withFirst pieceNone (withThen pieceNone (withPos 0 (s .say)))) (withLine (withAfterCr false (withBytes 0 (s .line .bytes) (s .line))) s))
 
 -- After a refusal with this number: the number leaves nothing behind.
 abbrev pub refusedFor : ℕ → Session → Session
@@ -70,8 +71,8 @@ settledOf s j afterCr w y =
 -- our turn, if it is
 abbrev pub spokenOf : Session → Judged → Bool → Bytes → Session
 spokenOf s j afterCr table =
-    cond (eqb (j .speaks) 0) (settledOf s j afterCr (j .now) (j .say))
-    (settledOf s j afterCr (speakOf (j .now) (j .say) (j .keep) table (eqb (j .speaks) 2) .now) (speakOf (j .now) (j .say) (j .keep) table (eqb (j .speaks) 2) .say))
+    cond (eqb (j .speaks) notOurTurn) (settledOf s j afterCr (j .now) (j .say))
+    (settledOf s j afterCr (speakOf (j .now) (j .say) (j .keep) table (eqb (j .speaks) ourTurnAfterFF) .now) (speakOf (j .now) (j .say) (j .keep) table (eqb (j .speaks) ourTurnAfterFF) .say))
 
 pub record Settled : Type 0 where
   pub answer : ℕ
@@ -111,9 +112,9 @@ keptKeep s = withKept (s .keep .kept + 1) (s .keep .used + s .reading .reader .b
 -- the next accepted proposal's transfer, or our turn
 abbrev pub nextJudged : Session → ℕ → Judged
 nextJudged s i =
-    cond (eqb i 5)
-    (judged 0 1 noMarks (s .now) (s .say) (keptKeep s) (s .reading .reader))
-    (judged 0 0 noMarks (toTransfer i (s .now)) (s .say) (keptKeep s) (readerFor (s .now) i))
+    cond (eqb i noProposal)
+    (judged 0 ourTurn noMarks (s .now) (s .say) (keptKeep s) (s .reading .reader))
+    (judged 0 notOurTurn noMarks (toTransfer i (s .now)) (s .say) (keptKeep s) (readerFor (s .now) i))
 
 -- "A message is kept at its last byte.": its entry in the inbox
 unfoldable pub keptInbox : Session → Bytes → Bytes
@@ -167,7 +168,7 @@ unfoldable pub byteOf : Bytes → Cs → ℕ → Moved
 byteOf known c b =
     cond (c .session .line .«after_cr» && eqb b LF) (moved 0 (cs (lfDropped (c .session)) (c .table) (c .inbox) (c .store)))
     (cond (waits (c .session .say)) (moved bytesWait (cs (refusedFor bytesWait (c .session)) (c .table) (c .inbox) (c .store)))
-    (cond (eqb (c .session .now .phase) 5) (transferStepOf c b) (lineByteOf known c b)))
+    (cond (eqb (c .session .now .phase) phaseTransfer) (transferStepOf c b) (lineByteOf known c b)))
 
 -- ---------------------------------------------------------------- the call
 
