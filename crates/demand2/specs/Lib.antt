@@ -26,6 +26,7 @@
 --                                     settles receive
 -- All this holds of every session that open, receive and give lead to, by the bytes of the transfer under way that came since it began:
 -- Reached.reached-sound, exact-reached, complete-reached; reached-portion (whatever the portions).
+pub mod Limits
 pub mod Room
 pub mod Refusals
 pub mod Marks
@@ -37,3 +38,4 @@ pub mod Units
 pub mod Opening
 pub mod Reached
 pub mod ReadBack
+pub mod NextByte
