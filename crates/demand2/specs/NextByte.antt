@@ -32,7 +32,6 @@ pub record EventExact (E : Shelf) (q : Bytes) (s : Session) (b : ℕ) : Type 0 w
 pub record NextByte (E : Shelf) (q : Bytes) (s : Session) : Type 0 where
   -- q is what the reading of the transfer has come from; our block is asked for; after the end nothing waits
   pub sound : Sound E s q
-
   -- ---------------------------------------------------------------- THE NEXT BYTE
   -- 12: "receive on an ended session", and which sessions have ended
   pub over : LiveExact s
@@ -44,7 +43,6 @@ pub record NextByte (E : Shelf) (q : Bytes) (s : Session) : Type 0 where
   pub apart : Live s → (b : ℕ) (n m : Refusal) → Situation E q s b n → Situation E q s b m → n ≡ m
   -- every other byte is one of the events
   pub events : Live s → (b : ℕ) → EventExact E q s b
-
   -- ---------------------------------------------------------------- MARKS
   -- the partner's valid FS line, at its CR
   pub answered : Live s → (b : ℕ) (line : Bytes) (is : List ℕ) (ss : List Sign) → WholeLine s b line → s .phase ≡ aLine (awaitsAnswer is)
@@ -52,7 +50,6 @@ pub record NextByte (E : Shelf) (q : Bytes) (s : Session) : Type 0 where
   -- what an event says of the memory after an FS line or a whole turn leaves nothing open
   pub oneAfterFs : (is : List ℕ) (ss : List Sign) (m n : Memory) → AnswerLeaves is ss (s .memory) m → AnswerLeaves is ss (s .memory) n → m ≡ n
   pub oneAfterTurn : (m n : Memory) → TurnLeaves (s .memory) m → TurnLeaves (s .memory) n → m ≡ n
-
   -- ---------------------------------------------------------------- WHAT WE SAY
   -- our turn, in whatever memory the event leaves: "We propose waiting records in table order", and no other block is so
   pub turn : (ff : Bool) (m : Memory) → TurnExact E ff m
@@ -60,7 +57,6 @@ pub record NextByte (E : Shelf) (q : Bytes) (s : Session) : Type 0 where
   -- "Our answer, per proposal in order", and it reads back; what we propose and transfer reads back by the record's fields (ReadBack)
   pub answers : (ps : List Proposal) → AnswersExact E (s .memory .inbox) ps
   pub readsBack : (p : Proposal) (ps : List Proposal) → length (p ∷ ps) ≤ blockLimit → AnswerReadsBack (answersTo E (s .memory .inbox) (p ∷ ps))
-
   -- ---------------------------------------------------------------- WHOLE LINES, WHOLE TRANSFERS, ANY PORTION
   pub lines : awaitsLine (s .phase) ≡ true → LineWhole E (s .phase) (s .memory)
   pub transfers : (p : Proposal) (ps : List Proposal) → TransferKept E p ps (s .memory)
@@ -68,7 +64,6 @@ pub record NextByte (E : Shelf) (q : Bytes) (s : Session) : Type 0 where
   pub counted : Live s → (bs : Bytes) → Counted E s bs (receive E s bs)
   -- "Receiving no bytes on a live session answers 0 and changes nothing."
   pub noBytes : Live s → receive E s [] ≡ record { answer = 0; count = 0; session = s }
-
   -- ---------------------------------------------------------------- GIVE
   -- "It writes as many waiting bytes as fit", in whatever rooms
   pub gives : (room : ℕ) → GivenOut s room

@@ -10,17 +10,20 @@ use Rattle.session.specs.Session as on-lists
 use Rattle.session.specs.Calls.{receive, give}
 use Rattle.demand2.specs.Reached.{Reached, atOpen}
 use Rattle.demand2.specs.Reached as reached
+use Rattle.demand2.proofs.Ended.{over-ended}
+use Rattle.demand2.proofs.Opening.{open-exact}
 use Rattle.demand2.proofs.Reached.{reached-portion}
+use Rattle.demand2.proofs.NextByte.{next-byte}
 use Rattle.demand3.specs.Demand as on-lists-run
 use Rattle.marking.specs.States.{statesOf}
-use Rattle.main_theorem.specs.Calls.{Lent, Buffer, Memory, fixedIn, lentIn, sizesOf, received, given}
+use Rattle.main_theorem.specs.Calls.{Lent, Buffer, Memory, fixedIn, lentIn, sizesOf, received, given, isCaller}
 use Rattle.main_theorem.specs.Demand3.{CallsOn, openedBy, finally}
 use Rattle.main_theorem.specs.Demand2.{callOf, shelfIn, Claim2}
 use Rattle.main_theorem.proofs.Accepted.{table-reads-back}
 use Rattle.main_theorem.proofs.Opening.{freshCs, accepted}
 use Rattle.main_theorem.proofs.Held.{Held}
 use Rattle.main_theorem.proofs.Giving.{GaveAs, give-law}
-use Rattle.main_theorem.proofs.Run.{TookAs, receive-law}
+use Rattle.main_theorem.proofs.Run.{TookAs, receive-law, received-over, given-over, received-none}
 use Rattle.main_theorem.proofs.Demand3.{ran}
 
 -- every list of calls leads to a session that is reached
@@ -61,11 +64,15 @@ demand-2-lent role M e cs =
       transfer = (led role M e cs) .0;
       same = refl;
       reached = (led role M e cs) .1;
-      answers = λ b. took role M e cs b .answer;
-      consumes = λ b. took role M e cs b .count;
+      began = open-exact (isCaller role) (statesOf (M .table .bytes));
+      next = next-byte (shelfIn M) (after role M e cs) ((led role M e cs) .0) ((led role M e cs) .1);
+      receives = λ b. took role M e cs b .replies;
       states = held role M e cs .represents .holds .states;
       keeps = held role M e cs .represents .holds .boxed .messages;
-      gives = λ b place. gave role M e cs b place .count;
+      gives = λ b place. gave role M e cs b place .replies;
       writes = λ b place. gave role M e cs b place .buffer;
+      endedReceive = λ o b. received-over (fixedIn M) (shelfIn M) (freshCs role (lentIn M)) (sizesOf (fixedIn M) (lentIn M)) (end role M e cs) (after role M e cs) (held role M e cs) (over-ended (after role M e cs) o) (b .bytes);
+      endedGive = λ o b place. given-over (fixedIn M) (shelfIn M) (freshCs role (lentIn M)) (sizesOf (fixedIn M) (lentIn M)) (end role M e cs) (after role M e cs) (held role M e cs) (over-ended (after role M e cs) o) (b .bytes) place;
+      noBytes = λ l. received-none (fixedIn M) (shelfIn M) (freshCs role (lentIn M)) (sizesOf (fixedIn M) (lentIn M)) (end role M e cs) (after role M e cs) (held role M e cs) l;
       readsBack = table-reads-back (M .table .bytes) (M .titles .bytes) (M .names .bytes) (M .bodies .bytes) (accepted role (fixedIn M) (lentIn M) e .fault);
     }
