@@ -6,7 +6,7 @@ use Prim.Native.Nat.{ℕ, suc, _+_, _-_, _≤_}
 use native.Mathlib.Omega.{arith}
 use lib.Dec.{eqb, ltb}
 use lib.ListN.{length, drop, length-take}
-use borrow.Author.Tests.{eq-eqb}
+use borrow.Author.Tests.{eq-eqb, le-ltb}
 use Rattle.grammar.specs.Bytes.{Bytes}
 use Rattle.grammar.specs.Refusals.{badMemory, noPlace, sessionEnded}
 use Rattle.grammar.proofs.Basics.{no-both, by-cond}
@@ -21,7 +21,7 @@ use Rattle.form_closed.specs.Fixed.{Fixed}
 use Rattle.form_closed.proofs.Closed.{receive-one, give-one}
 use Rattle.form_closed.proofs.Answers.{receive-exactly}
 use Rattle.main_theorem.specs.Calls.{Lent, passes, received, given, unchangedBy}
-use Rattle.main_theorem.specs.Replies.{ReceiveReplies, GiveReplies, RepliesClaim}
+use Rattle.main_theorem.specs.Replies.{hasEnded, ReceiveReplies, GiveReplies, RepliesClaim}
 
 -- ---------------------------------------------------------------- receive
 
@@ -61,6 +61,14 @@ module _ (F : Fixed) (m : Lent) where
         go true false false = omega (arith, count-most (F .known) bs (cs (loadOf (m .sm)) (m .table) (m .inbox) (m .store)) 0)
         go false b n = omega arith
 
+    received-ended : passes F m ≡ true → hasEnded m ≡ true → received F m bs ≡ unchangedBy (reply sessionEnded 0 0) m
+    unfolding receiveOf
+    received-ended e o = rw (e, o)
+
+    received-none : passes F m ≡ true → hasEnded m ≡ false → length bs ≡ 0 → received F m bs ≡ unchangedBy (reply 0 0 0) m
+    unfolding receiveOf
+    received-none e o l = rw (e, o, eq-eqb (length bs) 0 l)
+
     receives : ReceiveReplies F m bs
     receives =
         record {
@@ -70,6 +78,8 @@ module _ (F : Fixed) (m : Lent) where
               (receive-exactly F (m .sm) (m .table) (m .inbox) (m .store) bs ∙ ap not e);
           place = place-zero;
           count = count-within;
+          ended = received-ended;
+          noBytes = received-none;
         }
 
   -- ---------------------------------------------------------------- give
@@ -110,6 +120,18 @@ module _ (F : Fixed) (m : Lent) where
     room-by true false = omega arith
     room-by false b = omega arith
 
+    given-ended : passes F m ≡ true → hasEnded m ≡ true → given F m buf place ≡ record { reply = reply 0 0 0; sm = m .sm; buf = buf }
+    unfolding giveOf hasToGive
+    given-ended e o = rw (e, o)
+
+    given-beyond : passes F m ≡ true → length buf ≤ place → given F m buf place ≡ record { reply = reply 0 0 0; sm = m .sm; buf = buf }
+    unfolding given-by still
+    given-beyond e l = given-is e ∙ ap (given-by (hasToGive (loadOf (m .sm)))) (le-ltb place (length buf) l) ∙ go (hasToGive (loadOf (m .sm)))
+      where
+        go : (a : Bool) → given-by a false ≡ still
+        go true = refl
+        go false = refl
+
     gives : GiveReplies F m buf place
     gives =
         let a = hasToGive (loadOf (m .sm)) in
@@ -120,6 +142,8 @@ module _ (F : Fixed) (m : Lent) where
           replies = λ e. ap (λ (g : Given). g .reply) (given-is e) ∙ reply-by a b;
           room = room-by a b;
           buffer = λ e. ap (λ (g : Given). g .buf) (given-is e) ∙ buffer-by a b;
+          ended = given-ended;
+          beyond = given-beyond;
         }
 
 -- THE THEOREM

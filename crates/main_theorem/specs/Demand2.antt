@@ -3,6 +3,7 @@
 -- The whole reply of the next call on lent memory, and what it leaves, is what that session does. The proof is proofs/Demand2; what holds of a reply on
 -- whatever memory, whoever wrote it, stands in Replies.
 use mathlib.Core.Path.{_≡_}
+use mathlib.Core.Bool.{true}
 use mathlib.Core.List.{[], map}
 use Prim.Native.Nat.{ℕ, _-_, _<_}
 use lib.ListN.{length}
@@ -23,7 +24,7 @@ use Rattle.give.specs.Giving.{reply}
 use Rattle.entries.specs.Decoded.{recordCount, recordsOf, knownBids, placeCount}
 use Rattle.marking.specs.States.{statesOf}
 use Rattle.represents.specs.Represents.{messagesOf}
-use Rattle.main_theorem.specs.Calls.{Buffer, Memory, fixedIn, messageCount, received, given, unchangedBy, Call, receives, gives, receivesOther, givesOther, isCaller}
+use Rattle.main_theorem.specs.Calls.{Buffer, Memory, fixedIn, messageCount, passes, received, given, unchangedBy, Call, receives, gives, receivesOther, givesOther, isCaller}
 use Rattle.main_theorem.specs.Demand3.{openedBy, CallsOn, finally}
 use Rattle.session_memory.specs.declared.Sizes.{Sizes}
 
@@ -53,6 +54,8 @@ pub record Demand2 (role : ℕ) (M : Memory) (cs : CallsOn M) : Type 0 where
   -- how it began, and THE PAGE: its next byte, every portion, every give
   pub began : OpenExact (isCaller role) (statesOf (M .table .bytes)) (opened (isCaller role) (statesOf (M .table .bytes)))
   pub next : NextByte (shelfIn M) transfer session
+  -- "whatever an accepted open leaves passes it, and so does what a receive or give leaves": no call that is lent this memory answers 1 (Replies)
+  pub form : passes (fixedIn M) (finally role M cs) ≡ true
   -- "What is read, answered": the whole reply of a receive, which is the number given back, "Place is 0 in every answer but 1.", and how many bytes are
   -- consumed
   pub receives : (b : Buffer)
@@ -60,7 +63,7 @@ pub record Demand2 (role : ℕ) (M : Memory) (cs : CallsOn M) : Type 0 where
   -- "kept": the states and the messages are the session's
   pub states : statesOf (finally role M cs .table) ≡ session .memory .states
   pub keeps : messagesOf (finally role M cs .inbox) (finally role M cs .store) (messageCount (finally role M cs)) ≡ session .memory .inbox
-  -- "and sent": the whole reply of a give, which is never refused here, and how many bytes are given; which, and "no other byte of the buffer changes"
+  -- "and sent": the whole reply of a give, answer 0, place 0 and how many bytes are given; which, and "no other byte of the buffer changes"
   pub gives : (b : Buffer) (place : ℕ)
       → given (fixedIn M) (finally role M cs) (b .bytes) place .reply ≡ reply 0 0 (length (handedOut session (length (b .bytes) - place)))
   pub writes : (b : Buffer) (place : ℕ)
