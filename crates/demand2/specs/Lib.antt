@@ -25,7 +25,9 @@
 -- a byte                              session after it is the event's. Portions.receive-byte: receive on one byte is its step; with two-portions this
 --                                     settles receive
 -- All this holds of every session that open, receive and give lead to, by the bytes of the transfer under way that came since it began:
--- Reached.reached-sound, exact-reached, complete-reached; reached-portion (whatever the portions).
+-- Reached.reached-sound, exact-reached, complete-reached; reached-portion (whatever the portions). ALL OF IT ON ONE PAGE: NextByte, proved for every such
+-- session by NextByte.next-byte. The numbers of 01 that it goes by stand in Limits; Limits.limits-are: the model has the same.
+pub mod Limits
 pub mod Room
 pub mod Refusals
 pub mod Marks
@@ -37,3 +39,4 @@ pub mod Units
 pub mod Opening
 pub mod Reached
 pub mod ReadBack
+pub mod NextByte

@@ -20,15 +20,16 @@ use Rattle.grammar.specs.Bytes.{Bytes, CR, LF, null, isSome}
 use Rattle.grammar.specs.Ascii.{text}
 use Rattle.grammar.specs.Refusals as number
 use Rattle.grammar.specs.Fields.{after}
-use Rattle.grammar.specs.Lines.{lineLimit, trim, isComment}
-use Rattle.grammar.specs.Sid.{readSid, hasFeature, letterF}
-use Rattle.grammar.specs.Turns.{Proposal, TurnLine, saysFF, saysFQ, endsBlock, notAllowed, proposes, readTurnLine, blockLimit}
+use Rattle.grammar.specs.Lines.{trim, isComment}
+use Rattle.grammar.specs.Sid.{readSid, hasFeature}
+use Rattle.grammar.specs.Turns.{Proposal, TurnLine, saysFF, saysFQ, endsBlock, notAllowed, proposes, readTurnLine}
 use Rattle.grammar.specs.Answers.{readFs}
 use Rattle.grammar.specs.Transfers.{Parsed, parse}
 use Rattle.grammar.specs.Scan.{Scan, goes, scan, bodyOf, isBodyByte}
 use Rattle.session.specs.Choices.{Shelf}
-use Rattle.session.specs.Session.{awaitsSid, awaitsTurn, awaitsAnswer, Phase, aLine, awaitsTransfer, leaving, over, Memory, Session, between, step, ended, levelInForce}
+use Rattle.session.specs.Session.{awaitsSid, awaitsTurn, awaitsAnswer, Phase, aLine, awaitsTransfer, leaving, over, Memory, Session, between, step, ended}
 use Rattle.session.specs.Calls.{receive}
+use Rattle.demand2.specs.Limits.{lineLimit, blockLimit, letterF, levelInForce}
 use Rattle.demand2.specs.Room.{Full, room}
 
 -- ---------------------------------------------------------------- the order: "then 12, 11, 2, then the rule of the line or transfer"
