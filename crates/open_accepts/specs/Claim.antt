@@ -27,14 +27,14 @@ sizesKept L =
     text "FM01" ++ (le8 (length (L .table)) ++ (le8 (length (L .titles)) ++ (le8 (length (L .names)) ++ (le8 (length (L .bodies))
     ++ (le8 (length (L .known)) ++ (le8 (length (L .inbox)) ++ le8 (length (L .store))))))))
 
--- The numbers of a session that begins, all 0 but two. Called: "we send it, CR, `>`, CR, and await the caller's SID"; caller: "we await the SID".
+-- The numbers of a session that begins, all 0 but one. Called: "we send it, CR, `>`, CR, and await the caller's SID"; caller: "we await the SID".
 abbrev pub numbersAtFirst : ℕ → Bytes
 numbersAtFirst role =
     cond (eqb role called)
     (set (replicate numbersLen 0) (firstAt - numbersStart) pieceSidAndPrompt)
     (set (replicate numbersLen 0) (phaseAt - numbersStart) phaseCallerSid)
 
--- Session memory, from its first byte to its last; free bytes stay as they are.
+-- Session memory, from its first byte to its last: docs/MEMORY.md has the places. Free bytes stay as they are.
 abbrev pub sessionAtFirst : Lending → Bytes
 sessionAtFirst L =
     sizesKept L

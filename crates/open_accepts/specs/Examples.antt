@@ -1,17 +1,21 @@
 -- Opens that are accepted, and one of each kind that is refused, with their replies. That open gives these is computed (proofs/Examples), so that the
 -- claim can be seen not to be empty.
+use mathlib.Core.Bool.{Bool, cond}
 use mathlib.Core.List.{List, [], _∷_, _++_, map}
 use Prim.Native.Nat.{ℕ, _+_, _*_}
-use lib.ListN.{replicate, set}
-use Rattle.grammar.specs.Bytes.{Bytes, SP, CTRLZ}
+use lib.Dec.{eqb}
+use lib.ListN.{length, replicate, set}
+use Rattle.grammar.specs.Bytes.{Bytes, SP, CTRLZ, all}
 use Rattle.grammar.specs.Ascii.{text}
 use Rattle.grammar.specs.Fields.{formNumber, plain, file}
 use Rattle.grammar.specs.Refusals.{badMemory, noPlace}
 use Rattle.phase.specs.Phase.{stateWaiting, stateForwarded, stateDeclined}
 use Rattle.places.specs.Places.{recordForm, recordType, recordFrom, recordAt, recordTo, recordBid, recordSizeAt, recordTitle, recordTitleLength, recordName, recordNameLength, recordBodyLength, recordLen, knownLen, entryLen, sessionLen, bidMax}
 use Rattle.layout.specs.Layout.{le2, le4, proposalOut, fieldOut}
+use Rattle.marking.specs.States.{statesOf}
 use Rattle.give.specs.Giving.{reply}
 use Rattle.give.specs.declared.Reply.{Reply}
+use Rattle.open.specs.Opening.{Opened}
 use Rattle.open_accepts.specs.Words.{point, atSign}
 use Rattle.open_accepts.specs.Lending.{Lending, openOn}
 use Rattle.open_accepts.specs.Good.{called, caller, letterP}
@@ -116,3 +120,22 @@ answered e = openOn (e .lending) .reply
 
 abbrev pub expected : Example → Reply
 expected e = e .expected
+
+-- ---------------------------------------------------------------- wrong opens
+
+-- Three that nothing said after an accepted open can refuse: one that refuses every table with a record, one that refuses every table with a record
+-- in state 1 or 2, one that reports place 0 for every bad record. The claim holds of none of them (proofs/Examples).
+abbrev pub refusing : Lending → Opened
+refusing L = record { reply = badAt 0; sm = L .session }
+
+abbrev pub withoutRecords : Lending → Opened
+withoutRecords L = cond (eqb (length (L .table)) 0) (openOn L) (refusing L)
+
+abbrev pub isWaiting : ℕ → Bool
+isWaiting s = eqb s stateWaiting
+
+abbrev pub ofWaitingOnly : Lending → Opened
+ofWaitingOnly L = cond (all isWaiting (statesOf (L .table))) (openOn L) (refusing L)
+
+abbrev pub atPlace0 : Lending → Opened
+atPlace0 L = record { reply = reply (openOn L .reply .answer) 0 0; sm = openOn L .sm }
