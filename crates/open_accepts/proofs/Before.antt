@@ -2,7 +2,7 @@
 use mathlib.Core.Path.{_≡_, refl, sym, ap, _∙_, subst}
 use mathlib.Core.Bool.{Bool, true, false, _&&_}
 use mathlib.Core.List.{[]}
-use mathlib.Core.Logic.{_⊎_, inl, inr}
+use mathlib.Core.Logic.{inl, inr}
 use Prim.Native.Nat.{ℕ, zero, suc, _+_, _*_, _/_, _%_, _≤_, _<_}
 use native.Mathlib.Omega.{arith}
 use native.Mathlib.Nat.{div-add-mod', mul-mod-left, mul-div-cancel}
@@ -14,7 +14,7 @@ use Rattle.grammar.specs.Fields.{isBid}
 use Rattle.grammar.proofs.Basics.{and2, both}
 use Rattle.places.specs.Places.{bidMax, recordLen, knownLen, entryLen, sessionLen}
 use Rattle.layout.specs.Layout.{byteAt, fieldIn, entryAt, knownSize, knownOf}
-use Rattle.entries.specs.Decoded.{entries, knownCount, knownBids}
+use Rattle.entries.specs.Decoded.{knownCount, knownBids}
 use Rattle.entries.proofs.Laws.{entries-at, entries-length}
 use Rattle.open.specs.Opening.{lengthOk, bidsOk, knownOk, entriesOk, sizesOk}
 use Rattle.open_accepts.specs.Words.{Bid, Field}

@@ -2,8 +2,8 @@
 -- follows. And nothing else is an open: two outcomes of which the claim holds are one. Assumes nothing.
 use mathlib.Core.Path.{_≡_, refl, sym, ap, _∙_, subst}
 use mathlib.Core.Bool.{Bool, true, false, cond, _&&_}
-use mathlib.Core.List.{[], _++_}
-use mathlib.Core.Logic.{_⊎_, inl, inr, _↔_, _≢_}
+use mathlib.Core.List.{_++_}
+use mathlib.Core.Logic.{_⊎_, inl, inr, _≢_}
 use Prim.Native.Nat.{ℕ, zero, suc, _+_, _-_, _≤_, _<_}
 use native.Mathlib.Omega.{arith}
 use lib.Dec.{eqb, leb}
@@ -12,7 +12,6 @@ use lib.Seq.{drop-drop}
 use borrow.Author.Tests.{eqb-true, eqb-false, eq-eqb, ne-eqb, leb-true, leb-false}
 use Rattle.grammar.specs.Bytes.{Bytes}
 use Rattle.grammar.specs.Refusals.{badMemory, noPlace}
-use Rattle.grammar.proofs.Basics.{and2, no-both, not-so}
 use Rattle.places.specs.Places.{numbersStart, numbersEnd, freeLen, arraysLen, arraysEnd, sessionLen}
 use Rattle.session_memory.specs.State.{saveOf, saveSizes, sizesOut, freshOf, numberPart, smallOut, numbersOut, arraysOut}
 use Rattle.session_memory.specs.declared.Sizes.{Sizes}
@@ -22,8 +21,8 @@ use Rattle.form_test.specs.Form.{lentSizes}
 use Rattle.give.specs.Giving.{reply}
 use Rattle.give.specs.declared.Reply.{Reply}
 use Rattle.open.specs.Opening.{placeOk, faultFrom, tableFault, knownOk, sizesOk, Opened, opened, openOf}
-use Rattle.open_accepts.specs.Lending.{Lending, openOn, recordsIn}
-use Rattle.open_accepts.specs.Good.{IsRole, Sound, GoodAt, Acceptable, FirstBad}
+use Rattle.open_accepts.specs.Lending.{Lending, openOn}
+use Rattle.open_accepts.specs.Good.{IsRole, Sound, Acceptable, FirstBad}
 use Rattle.open_accepts.specs.Claim.{numbersAtFirst, sizesKept, sessionAtFirst, Refusal, Opens, OpenClaim}
 use Rattle.open_accepts.proofs.Words.{denied}
 use Rattle.open_accepts.proofs.Records.{records-count, place-decides}

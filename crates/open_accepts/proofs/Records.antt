@@ -3,14 +3,14 @@
 use mathlib.Core.Path.{_≡_, refl, sym, ap, _∙_, subst}
 use mathlib.Core.Bool.{Bool, true, false, cond, not, _&&_, _||_}
 use mathlib.Core.List.{[]}
-use mathlib.Core.Logic.{_⊎_, inl, inr}
+use mathlib.Core.Logic.{inl, inr}
 use Prim.Native.Nat.{ℕ, zero, suc, _+_, _-_, _≤_, _<_, min}
 use native.Mathlib.Omega.{arith}
 use native.Mathlib.Nat.{min-eq-right}
 use lib.Dec.{eqb, leb}
 use lib.ListN.{length, getD, take, drop, length-drop}
 use lib.Seq.{length-take-le}
-use borrow.Author.Tests.{leb-true, leb-false, le-leb, eqb-true, eqb-false, eq-eqb, ne-eqb, not-true}
+use borrow.Author.Tests.{leb-true, le-leb, eqb-true, eqb-false, eq-eqb, ne-eqb, not-true}
 use Rattle.grammar.specs.Bytes.{Bytes, CTRLZ}
 use Rattle.grammar.specs.Fields.{Form, plain, message, file, formIs, formNumber, isCall, isAt, isBid, isHeading, isBody, bodyFair, notCtrlZ, sameBid}
 use Rattle.grammar.specs.Turns.{isType}
@@ -19,12 +19,12 @@ use Rattle.grammar.proofs.Basics.{and2, both, no-both, not-so, or2, or-left, or
 use Rattle.session.specs.Choices.{among}
 use Rattle.mail.specs.Mail.{Record, noRecord}
 use Rattle.places.specs.Places.{atMax, bidMax, callMax, recordAt, recordBid, recordBody, recordBodyLength, recordForm, recordFrom, recordName, recordNameLength, recordSizeAt, recordTitle, recordTitleLength, recordTo, recordType}
-use Rattle.layout.specs.Layout.{byteAt, le2At, le4At, fieldIn, entryAt, recordSize, recordOf}
+use Rattle.layout.specs.Layout.{byteAt, le2At, le4At, fieldIn, recordSize, recordOf}
 use Rattle.entries.specs.Decoded.{entriesFrom, entries, recordCount, recordsOf}
 use Rattle.entries.proofs.Laws.{entries-at, entries-length}
 use Rattle.marking.specs.States.{statesOf}
 use Rattle.open.specs.Opening.{lengthOk, numbersOk, fieldsOk, within, headingOk, textsOk, recordOk, placeOk}
-use Rattle.open_accepts.specs.Words.{Callsign, At, Bid, Heading, Field, Lies, Headed, Bodied, NeedsTitle, NeedsName, SameBid}
+use Rattle.open_accepts.specs.Words.{Callsign, At, Bid, Field, Lies, Headed, Bodied, NeedsTitle, NeedsName, SameBid}
 use Rattle.open_accepts.specs.Lending.{Lending, recordsIn, recordIn, stateIn, bytesIn}
 use Rattle.open_accepts.specs.Good.{IsType, IsState, GoodRecord, GoodAt}
 use Rattle.open_accepts.proofs.Words.{Decides, both-decide, as-well, leb-decides, denied, all-decides, callsign-decides, bid-decides, heading-decides, at-decides, at-some, same-decides}

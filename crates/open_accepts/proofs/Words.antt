@@ -1,7 +1,7 @@
 -- THE TESTS DECIDE 01's WORDS: each test of the grammar on a field answers true exactly if the fact holds. One law for all texts, over the kind of
 -- byte and the length. Assumes nothing.
 use mathlib.Core.Path.{_≡_, refl, sym, ap, _∙_, subst}
-use mathlib.Core.Bool.{Bool, true, false, cond, not, _&&_, _||_}
+use mathlib.Core.Bool.{Bool, true, false, cond, _&&_, _||_}
 use mathlib.Core.List.{List, [], _∷_, _++_}
 use mathlib.Core.Logic.{_↔_}
 use Prim.Native.Nat.{ℕ, zero, suc, _+_, _-_, _≤_, _<_}
@@ -10,8 +10,8 @@ use lib.Dec.{eqb, ltb, leb}
 use lib.ListN.{length, getD}
 use borrow.Author.Tests.{leb-true, le-leb, ltb-true, ltb-false, lt-ltb, le-ltb, eqb-true, eqb-false, eq-eqb, ne-eqb}
 use Rattle.grammar.specs.Bytes.{Bytes, all, same}
-use Rattle.grammar.specs.Fields.{field, callByte, bidByte, headingByte, isCall, isBid, isAt, isHeading, parts, toFirst, allCalls, afterDot, sameBid}
-use Rattle.grammar.proofs.Basics.{and2, both, no-both, Field, field-is, field-of, Lacks, all-lacks}
+use Rattle.grammar.specs.Fields.{field, callByte, bidByte, headingByte, isCall, isBid, isAt, isHeading, parts, allCalls, afterDot, sameBid}
+use Rattle.grammar.proofs.Basics.{and2, both, no-both, field-is, field-of, Lacks, all-lacks}
 use Rattle.grammar.proofs.Fields.{call-field}
 use Rattle.byte.proofs.Laws.{all-get}
 use Rattle.open_accepts.specs.Words.{Between, CallByte, BidByte, HeadingByte, Text, Callsign, Bid, Heading, joined, afterPoint, AllParts, At, SameBid}

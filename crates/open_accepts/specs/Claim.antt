@@ -2,7 +2,7 @@
 -- definition in the contract of `fringemole_open`, and of none of its tests.
 use mathlib.Core.Path.{_≡_}
 use mathlib.Core.Bool.{cond}
-use mathlib.Core.List.{[], _∷_, _++_}
+use mathlib.Core.List.{_++_}
 use mathlib.Core.Logic.{_⊎_, _↔_, _≢_}
 use Prim.Native.Nat.{ℕ, _-_}
 use lib.Dec.{eqb}
