@@ -27,6 +27,7 @@ use Rattle.log.specs.Log
 use Rattle.log.specs.Fed.{Fed, unitByte, outOfOrder, fedByte}
 use Rattle.log.proofs.Said.{said-after}
 use Rattle.log.proofs.Spoken.{spoken, spoken-nil, spoken-append, spoken-alone, spoken-ours, withSpoken, at, AllFit, map-snoc, ff-spoken, fq-spoken, sid-spoken, turn-spoken, fs-spoken, transfers-spoken}
+use Rattle.log.specs.Effects.{forwardedSent}
 use Rattle.demand3.proofs.Effects.{marked-alike, declined-alike, accepted-alike, message-alike}
 use Rattle.demand3.proofs.Choice.{Sound, ourChoice, proposalsAt}
 use Rattle.demand3.proofs.Inv.{lineOf, Few, nextOf, courseOf, bookOf, no-line, Pending, Live, Inv, live, gone}
@@ -148,16 +149,17 @@ module _ (E : Shelf) (S : Sound E) (part : Bytes) (a : Bool) (m : Memory) where
   text-line false = quiet awaitsPrompt (aLine awaitsPrompt) m (no-line, tt)
 
   -- FF, and a whole block
-  after-ff : (p : Awaited) → AfterLine p (speakNow E [] true (turnMarks m)) (effect (bookOf (turnMarks m)) [] (ourNewTurn true))
+  after-ff : (p : Awaited) → AfterLine p (speakNow E [] true (turnMarks m)) (effect (Log.withStates (bookOf m) (forwardedSent (m .sending) (m .states))) [] (ourNewTurn true))
   unfolding AfterLine
   after-ff p =
-      our-turn E S [] true (turnMarks m) (idle (aLine p) part a m) true (record { next = ourNewTurn true; sent = [] })
-      (spoken-nil (E .table) (m .framed) (at (ourNewTurn true) []))
+      rw (← marked-alike (m .sending) (m .states))
+      (our-turn E S [] true (turnMarks m) (idle (aLine p) part a m) true (record { next = ourNewTurn true; sent = [] })
+      (spoken-nil (E .table) (m .framed) (at (ourNewTurn true) [])))
 
   after-block : (p : Awaited) (q : Proposal) (qs : List Proposal) → length (q ∷ qs) ≤ 5
-      → AfterLine p (answered E (q ∷ qs) (turnMarks m)) (effect (bookOf (turnMarks m)) [] (weSay (ourAnswer (q ∷ qs))))
+      → AfterLine p (answered E (q ∷ qs) (turnMarks m)) (effect (Log.withStates (bookOf m) (forwardedSent (m .sending) (m .states))) [] (weSay (ourAnswer (q ∷ qs))))
   unfolding AfterLine
-  after-block p q qs h = answer E S (q ∷ qs) (turnMarks m) (idle (aLine p) part a m) (omega arith) h
+  after-block p q qs h = rw (← marked-alike (m .sending) (m .states)) (answer E S (q ∷ qs) (turnMarks m) (idle (aLine p) part a m) (omega arith) h)
 
   -- the lines of the partner's turn so far say ps; the next is l
   turn-line : (ff : Bool) (ps : List Proposal) (l : TurnLine) → length ps ≤ 5
@@ -175,13 +177,13 @@ module _ (E : Shelf) (S : Sound E) (part : Bytes) (a : Bool) (m : Memory) where
       go : (ff : Bool) (ps : List Proposal) (l : TurnLine) → length ps ≤ 5
           → AfterLine (awaitsTurn ff ps) (turnJudged E l ff ps m) (theirSaid ff (map proposes ps ++ (l ∷ [])) (bookOf m) (m .sending) (inOrder ff (saidOn ps (l ∷ []))))
       go true [] saysFF h = wrong-line _ _ _ refl
-      go false [] saysFF h = rw (← marked-alike (m .sending) (m .states)) (after-ff _)
+      go false [] saysFF h = after-ff _
       go ff (p ∷ ps) saysFF h = wrong-line _ _ _ refl
       go true [] saysFQ h = quiet _ Phase.over m tt
       go false [] saysFQ h = wrong-line _ _ _ refl
       go ff (p ∷ ps) saysFQ h = wrong-line _ _ _ refl
       go ff [] endsBlock h = wrong-line _ _ _ refl
-      go ff (p ∷ ps) endsBlock h = rw (← marked-alike (m .sending) (m .states)) (after-block _ p ps h)
+      go ff (p ∷ ps) endsBlock h = after-block _ p ps h
       go ff [] notAllowed h = wrong-line _ _ _ refl
       go ff (p ∷ ps) notAllowed h = wrong-line _ _ _ refl
       go ff ps (proposes q) h = five ff ps q (ltb (length ps) 5) refl
