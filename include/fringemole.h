@@ -120,7 +120,8 @@ enum {
 /* The place with FRINGEMOLE_BAD_MEMORY where it is no record's: role, sizes or known BIDs; from receive and give, always. */
 #define FRINGEMOLE_NO_RECORD 255
 
-/* answer: one of the numbers; place: 0, but with answer 1; count: bytes consumed by receive (a refused one included), or given. */
+/* answer: one of the numbers; place: 0, but with answer 1; count: bytes consumed by receive (a refused one included), or given by give;
+ * from open always 0. */
 struct fringemole_reply {
     uint8_t answer;
     uint8_t place;

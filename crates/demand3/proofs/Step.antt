@@ -27,6 +27,8 @@ use Rattle.log.specs.Log
 use Rattle.log.specs.Fed.{Fed, unitByte, outOfOrder, fedByte}
 use Rattle.log.proofs.Said.{said-after}
 use Rattle.log.proofs.Spoken.{spoken, spoken-nil, spoken-append, spoken-alone, spoken-ours, withSpoken, at, AllFit, map-snoc, ff-spoken, fq-spoken, sid-spoken, turn-spoken, fs-spoken, transfers-spoken}
+use Rattle.log.specs.Effects.{forwardedSent}
+use Rattle.demand3.proofs.Effects.{marked-alike, declined-alike, accepted-alike, message-alike}
 use Rattle.demand3.proofs.Choice.{Sound, ourChoice, proposalsAt}
 use Rattle.demand3.proofs.Inv.{lineOf, Few, nextOf, courseOf, bookOf, no-line, Pending, Live, Inv, live, gone}
 
@@ -71,7 +73,7 @@ our-turn E S o ff m s a c e = go ff (ourChoice E m) (S .few m) (S .own m) (S .fi
 
 answer : (E : Shelf) → Sound E → (ps : List Proposal) (m : Memory) (s : Session) → 1 ≤ length ps → length ps ≤ 5
     → Inv E (settled s true (answered E ps m) .session) (after true m (record { next = weSay (ourAnswer ps); sent = m .sending }))
-answer E S ps m s k l = go (accepted ss ps) (fs-spoken (E .table) (m .framed) ps ss (m .sending) (S .full (m .inbox) ps) k l)
+answer E S ps m s k l = go (accepted ss ps) (rw (accepted-alike ss ps) (fs-spoken (E .table) (m .framed) ps ss (m .sending) (S .full (m .inbox) ps) k l))
   where
     ss : List Sign
     ss = answersTo E (m .inbox) ps
@@ -147,16 +149,17 @@ module _ (E : Shelf) (S : Sound E) (part : Bytes) (a : Bool) (m : Memory) where
   text-line false = quiet awaitsPrompt (aLine awaitsPrompt) m (no-line, tt)
 
   -- FF, and a whole block
-  after-ff : (p : Awaited) → AfterLine p (speakNow E [] true (turnMarks m)) (effect (bookOf (turnMarks m)) [] (ourNewTurn true))
+  after-ff : (p : Awaited) → AfterLine p (speakNow E [] true (turnMarks m)) (effect (Log.withStates (bookOf m) (forwardedSent (m .sending) (m .states))) [] (ourNewTurn true))
   unfolding AfterLine
   after-ff p =
-      our-turn E S [] true (turnMarks m) (idle (aLine p) part a m) true (record { next = ourNewTurn true; sent = [] })
-      (spoken-nil (E .table) (m .framed) (at (ourNewTurn true) []))
+      rw (← marked-alike (m .sending) (m .states))
+      (our-turn E S [] true (turnMarks m) (idle (aLine p) part a m) true (record { next = ourNewTurn true; sent = [] })
+      (spoken-nil (E .table) (m .framed) (at (ourNewTurn true) [])))
 
   after-block : (p : Awaited) (q : Proposal) (qs : List Proposal) → length (q ∷ qs) ≤ 5
-      → AfterLine p (answered E (q ∷ qs) (turnMarks m)) (effect (bookOf (turnMarks m)) [] (weSay (ourAnswer (q ∷ qs))))
+      → AfterLine p (answered E (q ∷ qs) (turnMarks m)) (effect (Log.withStates (bookOf m) (forwardedSent (m .sending) (m .states))) [] (weSay (ourAnswer (q ∷ qs))))
   unfolding AfterLine
-  after-block p q qs h = answer E S (q ∷ qs) (turnMarks m) (idle (aLine p) part a m) (omega arith) h
+  after-block p q qs h = rw (← marked-alike (m .sending) (m .states)) (answer E S (q ∷ qs) (turnMarks m) (idle (aLine p) part a m) (omega arith) h)
 
   -- the lines of the partner's turn so far say ps; the next is l
   turn-line : (ff : Bool) (ps : List Proposal) (l : TurnLine) → length ps ≤ 5
@@ -189,10 +192,11 @@ module _ (E : Shelf) (S : Sound E) (part : Bytes) (a : Bool) (m : Memory) where
   unfolding AfterLine
   answer-line is n none = wrong-line (awaitsAnswer is) n _ refl
   answer-line is n (some ss) =
-      says E (idle (aLine (awaitsAnswer is)) part a m) true (newTurn false) (answerMarks is ss m) (transfersText (E .table) (accepted ss is))
+      rw (← declined-alike is ss (m .states)) (rw (← accepted-alike ss is)
+      (says E (idle (aLine (awaitsAnswer is)) part a m) true (newTurn false) (answerMarks is ss m) (transfersText (E .table) (accepted ss is))
       (record { next = Log.oursOwed (accepted ss is); sent = m .sending })
       (transfers-spoken (E .table) (m .framed) (accepted ss is) (m .sending))
-      (no-line, omega arith)
+      (no-line, omega arith)))
 
   -- the line that is awaited
   read-line : (p : Awaited) → Few p → AfterLine p (awaitedJudged E p m part) (theirRead (lineOf p) (bookOf m) (m .sending) part)
@@ -267,7 +271,8 @@ module _ (E : Shelf) (S : Sound E) (part : Bytes) (a : Bool) (m : Memory) where
       go (got t x) e k =
           rw e
           (rw (plain-alike (p .form))
-          (next-transfer (awaitsTransfer p ps sc) (Log.isPlain (p .form)) ps (keptIn m (messageOf p (record { heading = t; body = x })))))
+          (rw (← message-alike p (record { heading = t; body = x }))
+          (next-transfer (awaitsTransfer p ps sc) (Log.isPlain (p .form)) ps (keptIn m (messageOf p (record { heading = t; body = x }))))))
       go malformed e k = rw e (refusal E (idle here part a m) (twin here false m (u ++ (b ∷ []))) refl)
       go wrongSum e k = rw e (refusal E (idle here part a m) (twin here false m (u ++ (b ∷ []))) refl)
       go noRoom e k = rw e (refusal E (idle here part a m) (twin here false m (u ++ (b ∷ []))) refl)

@@ -1,4 +1,4 @@
--- Theorems about the grammar. What a reader of the rules wants to know first stands in Examples, OurLines, TransferBack, Refusal,
+-- Theorems about the grammar. What a reader of the rules wants to know first stands in Examples, Edges, OurLines, AsWritten, TransferBack, Refusal,
 -- Portions and Spelling; the others carry them.
 pub mod Basics
 pub mod Fields
@@ -15,3 +15,5 @@ pub mod Refusal
 pub mod Portions
 pub mod Spelling
 pub mod Examples
+pub mod Edges
+pub mod AsWritten

@@ -1,5 +1,5 @@
 -- 01, "Examples at the edges": the marked (●) ones as one list of questions with their answers, and a second list of edges that the
--- other sentences of 01 draw. Both are proved by computation, each as one statement, in proofs/Examples.
+-- other sentences of 01 draw; those of bytes stand in Edges. Both are proved by computation, each as one statement, in proofs/Examples.
 use mathlib.Core.Bool.{Bool, true, false}
 use mathlib.Core.Option.{Option, none, some}
 use mathlib.Core.List.{List, [], _∷_, _++_}
@@ -8,7 +8,7 @@ use lib.ListN.{length, replicate}
 use Rattle.grammar.specs.Bytes.{Bytes}
 use Rattle.grammar.specs.Ascii.{text}
 use Rattle.grammar.specs.Fields.{Form, file, message, plain}
-use Rattle.grammar.specs.Lines.{trim, lineByte, lineByteNumber, LineRead, line, refused, unfinished, lineSteps}
+use Rattle.grammar.specs.Lines.{trim, isComment, isPrompt, lineByte, lineByteNumber, LineRead, line, refused, unfinished, lineSteps}
 use Rattle.grammar.specs.Sid.{framed, readSid, sidNumber}
 use Rattle.grammar.specs.Turns.{Proposal, TurnLine, endsBlock, notAllowed, ourBlock, proposes, readTurnLine, saysFF, saysFQ, turnLineNumber}
 use Rattle.grammar.specs.Answers.{Sign, accept, decline, defer, fsNumber, readFs, level0}
@@ -24,6 +24,7 @@ pub data Question : Type 0 where
   lineFrom : Bool → Bytes → Question  -- bytes where a line is awaited, after a CR (true) or not
   sent : Form → Bytes → Bytes → Question  -- a transfer as we write it: heading and data
   received : ℕ → Form → Bytes → Question  -- bytes of a transfer, read whole, and byte by byte with so much room
+  textLine : Bytes → Question  -- a line where the prompt is awaited
 
 pub data Answer : Type 0 where
   sidIs : ℕ → Bool → List ℕ → Answer  -- the number, the mode, the 27 levels
@@ -33,6 +34,7 @@ pub data Answer : Type 0 where
   lineRead : LineRead → Answer
   bytes : Bytes → Answer
   heard : Option Content → Scanned → Answer
+  textIs : Bool → Bool → Answer  -- whether the line is ignored, and whether it is a prompt
 
 abbrev pub sidAnswer : Option (List ℕ) → Answer
 sidAnswer none = number (sidNumber none)
@@ -57,6 +59,7 @@ answer (lineByteAt afterCr n b) = number (lineByteNumber (lineByte afterCr n b))
 answer (lineFrom afterCr bs) = lineRead (lineSteps afterCr [] bs)
 answer (sent f h x) = bytes (writeTransfer f h x)
 answer (received room f p) = heard (readTransfer f p) (scan room f p)
+answer (textLine ln) = textIs (isComment (trim ln)) (isPrompt (trim ln))
 
 pub record Example : Type 0 where
   pub asked : Question

@@ -11,7 +11,7 @@ use Rattle.grammar.specs.Refusals.{notSid, noForwarding, lineNotAllowed, propos
 use Rattle.grammar.specs.Fields.{formNumber}
 use Rattle.grammar.specs.Lines.{isComment, isPrompt}
 use Rattle.grammar.specs.Sid.{readSid, hasFeature, framed}
-use Rattle.grammar.specs.Turns.{Proposal, TurnLine, saysFF, saysFQ, endsBlock, notAllowed, proposes, readTurnLine}
+use Rattle.grammar.specs.Turns.{Proposal, TurnLine, saysFF, saysFQ, endsBlock, notAllowed, proposes, readTurnLine, turnLineNumber}
 use Rattle.grammar.specs.Answers.{accept, decline, defer, writeSign}
 use Rattle.fs_line.specs.Answers.{answerNumber, answerSigns}
 use Rattle.buffer.specs.Put.{putBytes}
@@ -144,7 +144,7 @@ abbrev pub turnRead : TurnLine → Await → Say → Keep → Reader → Bytes �
 turnRead saysFF w y k r table known inbox store = ffLine w y k r
 turnRead saysFQ w y k r table known inbox store = fqLine w y k r
 turnRead endsBlock w y k r table known inbox store = endLine w y k r table known inbox store
-turnRead notAllowed w y k r table known inbox store = refusal lineNotAllowed w y k r
+turnRead notAllowed w y k r table known inbox store = refusal (turnLineNumber notAllowed) w y k r
 turnRead (proposes q) w y k r table known inbox store = proposalLine q w y k r
 
 unfoldable pub turnLine : Bytes → Await → Say → Keep → Reader → Bytes → Bytes → Bytes → ℕ → Judged

@@ -13,7 +13,8 @@ use Rattle.grammar.specs.Bytes.{Bytes, CR, LF}
 use Rattle.grammar.specs.Lines.{trim, isComment, lineLimit}
 use Rattle.grammar.specs.Turns.{Proposal, TurnLine, readTurnLine, withCr}
 use Rattle.grammar.proofs.Basics.{Lacks}
-use Rattle.mail.specs.Mail.{Record, turnText, marked}
+use Rattle.mail.specs.Mail.{Record, turnText}
+use Rattle.log.specs.Effects.{forwardedSent}
 use Rattle.log.specs.Log.{theirNewTurn, ourNewTurn, effect, theySay, Event, took, gave, theirTurn, Book, unfinished, turn, said, placesOf, ourProposed, Effect, withStates, afterTheirTurn, theirSaid, theirLine, log}
 use Rattle.log.specs.Fed.{Fed, fedByte, fedAll}
 use Rattle.log.proofs.Said.{said-before}
@@ -217,7 +218,7 @@ module _ (T : List Record) (a ff : Bool) (sent : List ℕ) (k : Book) (cs : List
   -- AT ITS LAST CR: "its proposals replace the last .. The partner's makes every sent record 1."
   pub their-turn-fed :
       fedAll T (record { log = owing a (theirNewTurn ff) sent k; raw = [] }) (map took (bytesCame cs ++ withCr ln))
-      ≡ record { log = owing true (afterTheirTurn ps) [] (withStates k (marked sent (k .states))); raw = [] }
+      ≡ record { log = owing true (afterTheirTurn ps) [] (withStates k (forwardedSent sent (k .states))); raw = [] }
   their-turn-fed =
       ap (fedAll T (amid T ff sent k a [] [])) (map-append took (bytesCame cs) (withCr ln))
       ∙ fed-append T (map took (bytesCame cs)) (map took (withCr ln)) (amid T ff sent k a [] [])
@@ -244,7 +245,7 @@ module _ (T : List Record) (a ff : Bool) (sent : List ℕ) (k : Book) (cs : List
   -- So of the log over whole units, after a trace es that left the partner's turn next
   pub their-turn-logged : (caller : Bool) (states : List ℕ) (es : List Event)
       → fedAll T (fedOpened caller states) es ≡ record { log = owing a (theirNewTurn ff) sent k; raw = [] }
-      → Agrees (log T caller states (es ++ map took (bytesCame cs ++ withCr ln))) (owing true (afterTheirTurn ps) [] (withStates k (marked sent (k .states))))
+      → Agrees (log T caller states (es ++ map took (bytesCame cs ++ withCr ln))) (owing true (afterTheirTurn ps) [] (withStates k (forwardedSent sent (k .states))))
   their-turn-logged caller states es e =
       subst (λ (f : Fed). Agrees (log T caller states (es ++ map took (bytesCame cs ++ withCr ln))) (f .log))
       (fed-append T es (map took (bytesCame cs ++ withCr ln)) (fedOpened caller states)

@@ -17,7 +17,8 @@ use Rattle.grammar.specs.Sid.{readSid, hasFeature, framed, letterF}
 use Rattle.grammar.specs.Turns.{Proposal, TurnLine, saysFF, saysFQ, endsBlock, notAllowed, proposes, readTurnLine, fixedText, ourSid, ourPrompt, blockLimit}
 use Rattle.grammar.specs.Answers.{Sign, consO, readFs, Level, level0}
 use Rattle.grammar.specs.Transfers.{Content, readTransfer}
-use Rattle.mail.specs.Mail.{Record, Message, messageOf, recordAt, transferOf, placeOf, accepted, marked, declined}
+use Rattle.mail.specs.Mail.{Record, Message, recordAt, transferOf, placeOf}
+use Rattle.log.specs.Effects.{forwardedSent, acceptedBy, declinedBy, keptAs}
 
 -- ---------------------------------------------------------------- what the log is fed and what it keeps
 
@@ -150,7 +151,7 @@ ourSaid T ff ls (turn (p ∷ ps)) = ourProposed (placesOf T (p ∷ ps))
 -- "FS line, at its CR: the other side owes the accepted transfers in order."
 abbrev pub ourAnswered : List Proposal → Option (List Sign) → Next
 ourAnswered ps none = over
-ourAnswered ps (some ss) = theirsOwed (accepted ss ps)
+ourAnswered ps (some ss) = theirsOwed (acceptedBy ss ps)
 
 -- A line of ours. "Lines under SID and opening only choose the mode."; "Called: we send it, CR, `>`, CR"
 abbrev pub ourLine : List Record → Bool → Ours → Bytes → Next
@@ -200,7 +201,7 @@ abbrev pub theirSaid : Bool → List TurnLine → Book → List ℕ → Said →
 theirSaid ff ls k sent unfinished = effect k sent (theySay (theirTurn ff ls))
 theirSaid ff ls k sent farewell = effect k sent over
 theirSaid ff ls k sent wrong = effect k sent over
-theirSaid ff ls k sent (turn ps) = effect (withStates k (marked sent (k .states))) [] (afterTheirTurn ps)
+theirSaid ff ls k sent (turn ps) = effect (withStates k (forwardedSent sent (k .states))) [] (afterTheirTurn ps)
 
 -- The level at which the partner's FS line is read; ours has the signs of level 0.
 abbrev pub levelInForce : Book → Level
@@ -209,7 +210,7 @@ levelInForce k = level0
 -- "The partner's makes declined records 2."
 abbrev pub theirAnswered : List ℕ → Book → List ℕ → Option (List Sign) → Effect
 theirAnswered is k sent none = effect k sent over
-theirAnswered is k sent (some ss) = effect (withStates k (declined is ss (k .states))) sent (oursOwed (accepted ss is))
+theirAnswered is k sent (some ss) = effect (withStates k (declinedBy ss is (k .states))) sent (oursOwed (acceptedBy ss is))
 
 -- "Caller: we await the SID, skip text lines until the prompt"; called, "then its first turn"
 abbrev pub afterTheirSid : Bool → Theirs
@@ -241,7 +242,7 @@ judgedLine n k sent ln = cond (leb (length ln) lineLimit) (theirLine n k sent ln
 -- "Partner's owed transfer, at its last byte: kept, with its proposal's form and fields as read, and its own heading and body."
 abbrev pub theirTransferred : Proposal → List Proposal → Book → List ℕ → Option Content → Effect
 theirTransferred p ps k sent none = effect k sent over
-theirTransferred p ps k sent (some c) = effect (withKept k (k .kept ++ (messageOf p c ∷ []))) sent (theirsOwed ps)
+theirTransferred p ps k sent (some c) = effect (withKept k (k .kept ++ (keptAs p c ∷ []))) sent (theirsOwed ps)
 
 -- ---------------------------------------------------------------- units
 

@@ -6,8 +6,8 @@ use Prim.Native.Nat.{ℕ, suc, _+_, _*_}
 use lib.Dec.{eqb}
 use lib.ListN.{length, set, take, drop}
 use Rattle.grammar.specs.Bytes.{Bytes, LF}
-use Rattle.grammar.specs.Refusals.{badMemory, lineTooLong, badTransfer, badChecksum, storeFull, bytesWait, sessionEnded}
-use Rattle.grammar.specs.Lines.{LineByte, dropped, ends, grows, overruns, lineByte, trim}
+use Rattle.grammar.specs.Refusals.{badMemory, bytesWait, sessionEnded}
+use Rattle.grammar.specs.Lines.{LineByte, dropped, ends, grows, overruns, lineByte, lineByteNumber, trim}
 use Rattle.buffer.specs.Put.{putBytes}
 use Rattle.layout.specs.Layout.{byteAt, entryAt, entrySize, proposalSize, entryOut}
 use Rattle.phase.specs.Phase.{phaseTransfer, phaseOver, pieceNone, notOurTurn, ourTurn, ourTurnAfterFF, noProposal}
@@ -15,7 +15,7 @@ use Rattle.transfer_step.specs.declared.Reader.{Reader}
 use Rattle.transfer_step.specs.declared.Stepped.{Stepped}
 use Rattle.transfer_step.specs.declared.Outcome.{Outcome}
 use Rattle.transfer_step.specs.declared.Outcome.the-variants.{More, Whole, Malformed, WrongSum, NoRoom}
-use Rattle.transfer_step.specs.Step.{stepOf}
+use Rattle.transfer_step.specs.Step.{outcomeNumber, stepOf}
 use Rattle.transfer_read.specs.Feed.{headingPut, storePut, roomOf}
 use Rattle.session_memory.specs.State.{at, held, loadOf, saveOf}
 use Rattle.session_memory.specs.Setters.{withFirst, withThen, withPos, withKept, withReader, withBytes, withAfterCr, withNow, withSay, withKeep, withReading, withLine}
@@ -99,7 +99,7 @@ lineMoved dropped s b table known inbox store = settled 0 s table
 lineMoved ends s b table known inbox store =
     settleOf s (judgeOf (trim (take (s .line .len) (s .line .bytes))) (s .now) (s .say) (s .keep) (s .reading .reader) table known inbox store) true table
 lineMoved grows s b table known inbox store = settled 0 (longer s b) table
-lineMoved overruns s b table known inbox store = settled lineTooLong (refusedFor lineTooLong s) table
+lineMoved overruns s b table known inbox store = settled (lineByteNumber overruns) (refusedFor (lineByteNumber overruns) s) table
 
 unfoldable pub lineStepOf : Session → ℕ → Bytes → Bytes → Bytes → ℕ → Settled
 lineStepOf s b table known inbox store = lineMoved (lineByte false (s .line .len) b) s b table known inbox store
@@ -138,9 +138,9 @@ reading s r heading = withReading (record { reader = r; heading = heading }) (wi
 abbrev pub transferMoved : Outcome → Session → Bytes → Bytes → Bytes → Moved
 transferMoved More s table inbox store = moved 0 (cs s table inbox store)
 transferMoved Whole s table inbox store = moved (keepOf s table .answer) (cs (keepOf s table .session) (keepOf s table .table) (keptInbox s inbox) store)
-transferMoved Malformed s table inbox store = moved badTransfer (cs (refusedFor badTransfer s) table inbox store)
-transferMoved WrongSum s table inbox store = moved badChecksum (cs (refusedFor badChecksum s) table inbox store)
-transferMoved NoRoom s table inbox store = moved storeFull (cs (refusedFor storeFull s) table inbox store)
+transferMoved Malformed s table inbox store = moved (outcomeNumber Malformed) (cs (refusedFor (outcomeNumber Malformed) s) table inbox store)
+transferMoved WrongSum s table inbox store = moved (outcomeNumber WrongSum) (cs (refusedFor (outcomeNumber WrongSum) s) table inbox store)
+transferMoved NoRoom s table inbox store = moved (outcomeNumber NoRoom) (cs (refusedFor (outcomeNumber NoRoom) s) table inbox store)
 
 -- The message under way lies in the store after the bytes that kept messages use.
 abbrev pub transferStep : Cs → ℕ → Stepped → Moved

@@ -8,13 +8,13 @@ use Prim.Native.Nat.{ℕ, _-_, min}
 use lib.Dec.{eqb, ltb}
 use lib.ListN.{length, set, replicate}
 use Rattle.grammar.specs.Bytes.{Bytes, LF, null}
-use Rattle.grammar.specs.Refusals.{lineTooLong, notSid, noForwarding, lineNotAllowed, proposalCount, badTransfer, badChecksum, storeFull, bytesWait, sessionEnded}
+use Rattle.grammar.specs.Refusals.{notSid, noForwarding, lineNotAllowed, proposalCount, bytesWait, sessionEnded}
 use Rattle.grammar.specs.Fields.{Form, plain, message, file, bodyLimit}
-use Rattle.grammar.specs.Lines.{LineByte, dropped, ends, grows, overruns, lineByte, trim, isComment, isPrompt}
+use Rattle.grammar.specs.Lines.{LineByte, dropped, ends, grows, overruns, lineByte, lineByteNumber, trim, isComment, isPrompt}
 use Rattle.grammar.specs.Sid.{readSid, hasFeature, framed, letterF}
-use Rattle.grammar.specs.Turns.{Proposal, TurnLine, saysFF, saysFQ, endsBlock, notAllowed, proposes, readTurnLine, fixedText, ourSid, ourPrompt, ourFF, ourFQ, withCr, blockLimit}
+use Rattle.grammar.specs.Turns.{Proposal, TurnLine, saysFF, saysFQ, endsBlock, notAllowed, proposes, readTurnLine, turnLineNumber, fixedText, ourSid, ourPrompt, ourFF, ourFQ, withCr, blockLimit}
 use Rattle.grammar.specs.Answers.{Sign, accept, decline, defer, readFs, fsNumber, fsLine, Level, level0}
-use Rattle.grammar.specs.Scan.{Scan, Scanned, goes, got, malformed, wrongSum, noRoom, scanFrom, scanByte}
+use Rattle.grammar.specs.Scan.{Scan, Scanned, goes, got, malformed, wrongSum, noRoom, scanFrom, scanByte, scannedNumber}
 use Rattle.mail.specs.Mail.{Message, messageOf, proposalOf, recordAt, turnText, transfersText, accepted, marked, declined, recordLimit}
 use Rattle.session.specs.Choices.{Shelf, chosen, answersTo, bodyBytes}
 
@@ -131,7 +131,7 @@ turnJudged E saysFQ ff [] m = cond ff (goesOn over m []) (refuses lineNotAllowed
 turnJudged E saysFQ ff (p ∷ ps) m = refuses lineNotAllowed
 turnJudged E endsBlock ff [] m = refuses proposalCount
 turnJudged E endsBlock ff (p ∷ ps) m = answered E (p ∷ ps) (turnMarks m)
-turnJudged E notAllowed ff ps m = refuses lineNotAllowed
+turnJudged E notAllowed ff ps m = refuses (turnLineNumber notAllowed)
 turnJudged E (proposes q) ff ps m = cond (ltb (length ps) blockLimit) (goesOn (aLine (awaitsTurn ff (ps ++ (q ∷ [])))) m []) (refuses proposalCount)
 
 -- ---------------------------------------------------------------- the partner's FS line
@@ -207,7 +207,7 @@ abbrev pub lineMoved : Shelf → Awaited → Session → ℕ → LineByte → St
 lineMoved E a s b dropped = moved s
 lineMoved E a s b ends = settled s true (lineJudged E a (s .memory) (s .part))
 lineMoved E a s b grows = moved (withPart (s .part ++ (b ∷ [])) (withAfterCr false s))
-lineMoved E a s b overruns = refused s lineTooLong
+lineMoved E a s b overruns = refused s (lineByteNumber overruns)
 
 abbrev pub isPlain : Form → Bool
 isPlain plain = true
@@ -227,9 +227,9 @@ abbrev pub transferMoved : Shelf → Proposal → List Proposal → Session → 
 transferMoved E p ps s (goes sc) = moved (withPhase (awaitsTransfer p ps sc) (withAfterCr false s))
 transferMoved E p ps s (got h x) =
     settled s (isPlain (p .form)) (nextTransfer E ps (keptIn (s .memory) (messageOf p (record { heading = h; body = x }))))
-transferMoved E p ps s malformed = refused s badTransfer
-transferMoved E p ps s wrongSum = refused s badChecksum
-transferMoved E p ps s noRoom = refused s storeFull
+transferMoved E p ps s malformed = refused s (scannedNumber malformed)
+transferMoved E p ps s wrongSum = refused s (scannedNumber wrongSum)
+transferMoved E p ps s noRoom = refused s (scannedNumber noRoom)
 
 -- "body byte without room, the 65,536th included": what the store has left for the message under way
 abbrev pub roomFor : Shelf → Memory → ℕ
