@@ -55,18 +55,18 @@ next-transfer E (p ∷ ps) m = toTransfer [] p ps
 pub data Wrong (m : Memory) (ln : Bytes) : Awaited → ℕ → Type 0 where
   noSid : (c : Bool) → readSid (trim ln) ≡ none → Wrong m ln (awaitsSid c) notSid
   noF : (c : Bool) (fs : List ℕ) → readSid (trim ln) ≡ some fs → hasFeature 5 fs ≡ false → Wrong m ln (awaitsSid c) noForwarding
-  noTurnLine : (ff : Bool) (ps : List Proposal) (raw : Bytes) → readTurnLine (m .framed) (trim ln) ≡ notAllowed → Wrong m ln (awaitsTurn ff ps raw) lineNotAllowed
-  ffAfterFf : (raw : Bytes) → readTurnLine (m .framed) (trim ln) ≡ saysFF → Wrong m ln (awaitsTurn true [] raw) lineNotAllowed
-  ffInBlock : (ff : Bool) (p : Proposal) (ps : List Proposal) (raw : Bytes) → readTurnLine (m .framed) (trim ln) ≡ saysFF
+  noTurnLine : (ff : Bool) (ps : List Proposal) {raw : Bytes} → readTurnLine (m .framed) (trim ln) ≡ notAllowed → Wrong m ln (awaitsTurn ff ps raw) lineNotAllowed
+  ffAfterFf : {raw : Bytes} → readTurnLine (m .framed) (trim ln) ≡ saysFF → Wrong m ln (awaitsTurn true [] raw) lineNotAllowed
+  ffInBlock : (ff : Bool) (p : Proposal) (ps : List Proposal) {raw : Bytes} → readTurnLine (m .framed) (trim ln) ≡ saysFF
       → Wrong m ln (awaitsTurn ff (p ∷ ps) raw) lineNotAllowed
-  fqFirst : (raw : Bytes) → readTurnLine (m .framed) (trim ln) ≡ saysFQ → Wrong m ln (awaitsTurn false [] raw) lineNotAllowed
-  fqInBlock : (ff : Bool) (p : Proposal) (ps : List Proposal) (raw : Bytes) → readTurnLine (m .framed) (trim ln) ≡ saysFQ
+  fqFirst : {raw : Bytes} → readTurnLine (m .framed) (trim ln) ≡ saysFQ → Wrong m ln (awaitsTurn false [] raw) lineNotAllowed
+  fqInBlock : (ff : Bool) (p : Proposal) (ps : List Proposal) {raw : Bytes} → readTurnLine (m .framed) (trim ln) ≡ saysFQ
       → Wrong m ln (awaitsTurn ff (p ∷ ps) raw) lineNotAllowed
-  emptyBlock : (ff : Bool) (raw : Bytes) → readTurnLine (m .framed) (trim ln) ≡ endsBlock → Wrong m ln (awaitsTurn ff [] raw) proposalCount
-  emptySummed : (ff : Bool) (raw : Bytes) (h : ℕ) → readTurnLine (m .framed) (trim ln) ≡ endsSummed h → Wrong m ln (awaitsTurn ff [] raw) proposalCount
-  tooMany : (ff : Bool) (ps : List Proposal) (raw : Bytes) (q : Proposal) → readTurnLine (m .framed) (trim ln) ≡ proposes q → ltb (length ps) 5 ≡ false
+  emptyBlock : (ff : Bool) {raw : Bytes} → readTurnLine (m .framed) (trim ln) ≡ endsBlock → Wrong m ln (awaitsTurn ff [] raw) proposalCount
+  emptySummed : (ff : Bool) {raw : Bytes} (h : ℕ) → readTurnLine (m .framed) (trim ln) ≡ endsSummed h → Wrong m ln (awaitsTurn ff [] raw) proposalCount
+  tooMany : (ff : Bool) (ps : List Proposal) {raw : Bytes} (q : Proposal) → readTurnLine (m .framed) (trim ln) ≡ proposes q → ltb (length ps) 5 ≡ false
       → Wrong m ln (awaitsTurn ff ps raw) proposalCount
-  wrongHex : (ff : Bool) (p : Proposal) (ps : List Proposal) (raw : Bytes) (h : ℕ) → readTurnLine (m .framed) (trim ln) ≡ endsSummed h
+  wrongHex : (ff : Bool) (p : Proposal) (ps : List Proposal) {raw : Bytes} (h : ℕ) → readTurnLine (m .framed) (trim ln) ≡ endsSummed h
       → sumRight raw h ≡ false → Wrong m ln (awaitsTurn ff (p ∷ ps) raw) wrongBlockSum
   noAnswer : (is : List ℕ) → readFs (levelInForce m) (length is) (trim ln) ≡ none → Wrong m ln (awaitsAnswer is) (fsNumber (levelInForce m) (length is) (trim ln))
 
@@ -82,11 +82,11 @@ pub data Judged (E : Shelf) (m : Memory) (ln : Bytes) : Awaited → Outcome → 
       → Judged E m ln (awaitsSid c) (goesOn (afterSid c) (withFramed (framed fs) m) [])
   hearsText : isPrompt (trim ln) ≡ false → Judged E m ln awaitsPrompt (goesOn (aLine awaitsPrompt) m [])
   hearsPrompt : isPrompt (trim ln) ≡ true → Judged E m ln awaitsPrompt (ourTurn E (withCr (fixedText ourSid)) false m)
-  hearsProposal : (ff : Bool) (ps : List Proposal) (raw : Bytes) (q : Proposal) → readTurnLine (m .framed) (trim ln) ≡ proposes q
+  hearsProposal : (ff : Bool) (ps : List Proposal) {raw : Bytes} (q : Proposal) → readTurnLine (m .framed) (trim ln) ≡ proposes q
       → ltb (length ps) 5 ≡ true → Judged E m ln (awaitsTurn ff ps raw) (goesOn (aLine (awaitsTurn ff (ps ++ (q ∷ [])) (raw ++ withCr ln))) m [])
-  hearsFF : (raw : Bytes) → readTurnLine (m .framed) (trim ln) ≡ saysFF → Judged E m ln (awaitsTurn false [] raw) (ourTurn E [] true (turnMarks m))
-  hearsFQ : (raw : Bytes) → readTurnLine (m .framed) (trim ln) ≡ saysFQ → Judged E m ln (awaitsTurn true [] raw) (goesOn over m [])
-  hearsEnd : (ff : Bool) (p : Proposal) (ps : List Proposal) (raw : Bytes) → EndsBlock raw (readTurnLine (m .framed) (trim ln))
+  hearsFF : {raw : Bytes} → readTurnLine (m .framed) (trim ln) ≡ saysFF → Judged E m ln (awaitsTurn false [] raw) (ourTurn E [] true (turnMarks m))
+  hearsFQ : {raw : Bytes} → readTurnLine (m .framed) (trim ln) ≡ saysFQ → Judged E m ln (awaitsTurn true [] raw) (goesOn over m [])
+  hearsEnd : (ff : Bool) (p : Proposal) (ps : List Proposal) {raw : Bytes} → EndsBlock raw (readTurnLine (m .framed) (trim ln))
       → Judged E m ln (awaitsTurn ff (p ∷ ps) raw) (answered E (p ∷ ps) (turnMarks m))
   hearsFs : (is : List ℕ) (ss : List Sign) → readFs (levelInForce m) (length is) (trim ln) ≡ some ss
       → Judged E m ln (awaitsAnswer is) (goesOn (newTurn false) (answerMarks is ss m) (transfersText (E .table) (accepted ss is)))
@@ -106,27 +106,27 @@ module _ (E : Shelf) (m : Memory) (ln : Bytes) where
 
   turn-way : (t : TurnLine) (ff : Bool) (ps : List Proposal) (raw : Bytes) → readTurnLine (m .framed) (trim ln) ≡ t
       → Judged E m ln (awaitsTurn ff ps raw) (turnJudged E t ff ps raw ln m)
-  turn-way saysFF true [] raw e = isWrong lineNotAllowed (ffAfterFf raw e)
-  turn-way saysFF false [] raw e = hearsFF raw e
-  turn-way saysFF ff (p ∷ ps) raw e = isWrong lineNotAllowed (ffInBlock ff p ps raw e)
-  turn-way saysFQ true [] raw e = hearsFQ raw e
-  turn-way saysFQ false [] raw e = isWrong lineNotAllowed (fqFirst raw e)
-  turn-way saysFQ ff (p ∷ ps) raw e = isWrong lineNotAllowed (fqInBlock ff p ps raw e)
-  turn-way endsBlock ff [] raw e = isWrong proposalCount (emptyBlock ff raw e)
-  turn-way endsBlock ff (p ∷ ps) raw e = hearsEnd ff p ps raw (bare e)
-  turn-way (endsSummed h) ff [] raw e = isWrong proposalCount (emptySummed ff raw h e)
+  turn-way saysFF true [] raw e = isWrong lineNotAllowed (ffAfterFf e)
+  turn-way saysFF false [] raw e = hearsFF e
+  turn-way saysFF ff (p ∷ ps) raw e = isWrong lineNotAllowed (ffInBlock ff p ps e)
+  turn-way saysFQ true [] raw e = hearsFQ e
+  turn-way saysFQ false [] raw e = isWrong lineNotAllowed (fqFirst e)
+  turn-way saysFQ ff (p ∷ ps) raw e = isWrong lineNotAllowed (fqInBlock ff p ps e)
+  turn-way endsBlock ff [] raw e = isWrong proposalCount (emptyBlock ff e)
+  turn-way endsBlock ff (p ∷ ps) raw e = hearsEnd ff p ps (bare e)
+  turn-way (endsSummed h) ff [] raw e = isWrong proposalCount (emptySummed ff h e)
   turn-way (endsSummed h) ff (p ∷ ps) raw e = go (sumRight raw h) refl
     where
       go : (c : Bool) → sumRight raw h ≡ c → Judged E m ln (awaitsTurn ff (p ∷ ps) raw) (cond c (answered E (p ∷ ps) (turnMarks m)) (refuses wrongBlockSum))
-      go true f = hearsEnd ff p ps raw (summed h e f)
-      go false f = isWrong wrongBlockSum (wrongHex ff p ps raw h e f)
-  turn-way notAllowed ff ps raw e = isWrong lineNotAllowed (noTurnLine ff ps raw e)
+      go true f = hearsEnd ff p ps (summed h e f)
+      go false f = isWrong wrongBlockSum (wrongHex ff p ps h e f)
+  turn-way notAllowed ff ps raw e = isWrong lineNotAllowed (noTurnLine ff ps e)
   turn-way (proposes q) ff ps raw e = go (ltb (length ps) 5) refl
     where
       go : (c : Bool) → ltb (length ps) 5 ≡ c
           → Judged E m ln (awaitsTurn ff ps raw) (cond c (goesOn (aLine (awaitsTurn ff (ps ++ (q ∷ [])) (raw ++ withCr ln))) m []) (refuses proposalCount))
-      go true f = hearsProposal ff ps raw q e f
-      go false f = isWrong proposalCount (tooMany ff ps raw q e f)
+      go true f = hearsProposal ff ps q e f
+      go false f = isWrong proposalCount (tooMany ff ps q e f)
 
   answer-way : (is : List ℕ) (o : Option (List Sign)) → readFs (levelInForce m) (length is) (trim ln) ≡ o
       → Judged E m ln (awaitsAnswer is) (answerJudged E is m (fsNumber (levelInForce m) (length is) (trim ln)) o)
