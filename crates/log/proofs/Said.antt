@@ -3,7 +3,7 @@
 use mathlib.Core.Path.{_≡_, refl, sym, ap, _∙_}
 use mathlib.Core.Bool.{Bool, true, false, cond}
 use mathlib.Core.List.{List, [], _∷_, _++_, map, append-assoc, append-nil}
-use Prim.Native.Nat.{_+_, _≤_}
+use Prim.Native.Nat.{ℕ, _+_, _≤_}
 use native.Mathlib.Omega.{arith}
 use lib.Dec.{ltb}
 use lib.ListN.{length, length-append}
@@ -76,30 +76,44 @@ pub said-part : (ff : Bool) (xs ys : List TurnLine) → said ff (xs ++ ys) ≡ u
 said-part ff xs [] h = ap (said ff) (sym (append-nil xs)) ∙ h
 said-part ff xs (y ∷ ys) h = said-before ff xs y ys (ap goesWell h)
 
--- ---------------------------------------------------------------- a line that is not allowed
+-- ---------------------------------------------------------------- a line that no turn has
 
-not-allowed-on : (ps : List Proposal) (xs : List TurnLine) → saidOn ps (xs ++ (notAllowed ∷ [])) ≡ wrong
-not-allowed-on [] [] = refl
-not-allowed-on (p ∷ ps) [] = refl
-not-allowed-on [] (saysFF ∷ []) = refl
-not-allowed-on [] (saysFF ∷ x ∷ xs) = refl
-not-allowed-on (p ∷ ps) (saysFF ∷ xs) = refl
-not-allowed-on [] (saysFQ ∷ []) = refl
-not-allowed-on [] (saysFQ ∷ x ∷ xs) = refl
-not-allowed-on (p ∷ ps) (saysFQ ∷ xs) = refl
-not-allowed-on [] (endsBlock ∷ xs) = refl
-not-allowed-on (p ∷ ps) (endsBlock ∷ []) = refl
-not-allowed-on (p ∷ ps) (endsBlock ∷ x ∷ xs) = refl
-not-allowed-on [] (notAllowed ∷ xs) = refl
-not-allowed-on (p ∷ ps) (notAllowed ∷ xs) = refl
-not-allowed-on [] (endsSummed n ∷ xs) = refl
-not-allowed-on (p ∷ ps) (endsSummed n ∷ xs) = refl
-not-allowed-on ps (proposes q ∷ xs) = go (ltb (length ps) 5) (not-allowed-on (ps ++ (q ∷ [])) xs)
-  where
-    go : (c : Bool) → saidOn (ps ++ (q ∷ [])) (xs ++ (notAllowed ∷ [])) ≡ wrong → cond c (saidOn (ps ++ (q ∷ [])) (xs ++ (notAllowed ∷ []))) wrong ≡ wrong
-    go true more = more
-    go false more = refl
+module _ (t : TurnLine) (never-last : (ps : List Proposal) → saidOn ps (t ∷ []) ≡ wrong) where
+  with-line : (ps : List Proposal) (xs : List TurnLine) → saidOn ps (xs ++ (t ∷ [])) ≡ wrong
+  with-line ps [] = never-last ps
+  with-line [] (saysFF ∷ []) = refl
+  with-line [] (saysFF ∷ x ∷ xs) = refl
+  with-line (p ∷ ps) (saysFF ∷ xs) = refl
+  with-line [] (saysFQ ∷ []) = refl
+  with-line [] (saysFQ ∷ x ∷ xs) = refl
+  with-line (p ∷ ps) (saysFQ ∷ xs) = refl
+  with-line [] (endsBlock ∷ xs) = refl
+  with-line (p ∷ ps) (endsBlock ∷ []) = refl
+  with-line (p ∷ ps) (endsBlock ∷ x ∷ xs) = refl
+  with-line [] (notAllowed ∷ xs) = refl
+  with-line (p ∷ ps) (notAllowed ∷ xs) = refl
+  with-line [] (endsSummed n ∷ xs) = refl
+  with-line (p ∷ ps) (endsSummed n ∷ xs) = refl
+  with-line ps (proposes q ∷ xs) = go (ltb (length ps) 5) (with-line (ps ++ (q ∷ [])) xs)
+    where
+      go : (c : Bool) → saidOn (ps ++ (q ∷ [])) (xs ++ (t ∷ [])) ≡ wrong → cond c (saidOn (ps ++ (q ∷ [])) (xs ++ (t ∷ []))) wrong ≡ wrong
+      go true more = more
+      go false more = refl
 
-pub said-wrong : (ff : Bool) (xs : List TurnLine) → said ff (xs ++ (notAllowed ∷ [])) ≡ wrong
+-- what is not allowed, a wrong checksum of the partner's among it
+pub not-allowed-wrong : (ff : Bool) (xs : List TurnLine) → said ff (xs ++ (notAllowed ∷ [])) ≡ wrong
 unfolding said
-said-wrong ff xs = ap (inOrder ff) (not-allowed-on [] xs)
+not-allowed-wrong ff xs = ap (inOrder ff) (with-line notAllowed last [] xs)
+  where
+    last : (ps : List Proposal) → saidOn ps (notAllowed ∷ []) ≡ wrong
+    last [] = refl
+    last (p ∷ ps) = refl
+
+-- F> with a checksum, where it isn't the partner's and right
+pub summed-wrong : (ff : Bool) (xs : List TurnLine) (h : ℕ) → said ff (xs ++ (endsSummed h ∷ [])) ≡ wrong
+unfolding said
+summed-wrong ff xs h = ap (inOrder ff) (with-line (endsSummed h) last [] xs)
+  where
+    last : (ps : List Proposal) → saidOn ps (endsSummed h ∷ []) ≡ wrong
+    last [] = refl
+    last (p ∷ ps) = refl

@@ -12,13 +12,13 @@ use lib.ListN.{length}
 use borrow.Author.Tests.{le-leb, ne-eqb}
 use Rattle.grammar.specs.Bytes.{Bytes, byteValues, CR, LF}
 use Rattle.grammar.specs.Lines.{trim, isComment, lineLimit}
-use Rattle.grammar.specs.Turns.{Proposal, TurnLine, endsSummed, readTurnLine, withCr}
-use Rattle.grammar.specs.Transfers.{sum}
+use Rattle.grammar.specs.Turns.{Proposal, TurnLine, saysFF, saysFQ, endsBlock, notAllowed, proposes, endsSummed, readTurnLine, withCr}
+use Rattle.grammar.specs.Transfers.{sum, sumRight}
 use Rattle.grammar.proofs.Basics.{Lacks}
 use Rattle.mail.specs.Mail.{Record, turnText, marked}
 use Rattle.log.specs.Log.{theirNewTurn, ourNewTurn, effect, theySay, Event, took, gave, theirTurn, Book, unfinished, turn, said, placesOf, ourProposed, Effect, withStates, afterTheirTurn, checked, rawWith, theirTurnLine, theirLine, over, log}
 use Rattle.log.specs.Fed.{Fed, fedByte, fedAll}
-use Rattle.log.proofs.Said.{goesWell, said-before, said-part, said-wrong}
+use Rattle.log.proofs.Said.{goesWell, said-before, said-part, not-allowed-wrong}
 use Rattle.log.proofs.Spoken.{AllFit, turn-spoken, gave-spoken}
 use Rattle.log.proofs.Units.{Agrees, fedOpened, logs-agree, ended-stays, fed-append, line-fed, owing}
 use Rattle.log.proofs.Ends.{Stays}
@@ -61,27 +61,49 @@ abbrev pub lfAwaited : Bool → List Came → Bool
 lfAwaited a [] = a
 lfAwaited a (c ∷ cs) = lfAwaited (not (c .lf)) cs
 
--- what a line says in a turn after the proposal lines raw, in plain (false) or framed (true) mode: "A line that begins with `;` is ignored
--- wherever a line is awaited"
+-- "the block's proposal lines as received, their CR included, `;` lines and dropped LFs excluded" (02, Q-5): the line, if it says a proposal, in plain
+-- (false) or framed (true) mode
+abbrev pub ifProposal : TurnLine → Bytes → Bytes
+ifProposal (proposes p) ln = withCr ln
+ifProposal saysFF ln = []
+ifProposal saysFQ ln = []
+ifProposal endsBlock ln = []
+ifProposal notAllowed ln = []
+ifProposal (endsSummed h) ln = []
+
+abbrev pub proposalBytes : Bool → Bytes → Bytes
+proposalBytes md ln = cond (isComment (trim ln)) [] (ifProposal (readTurnLine md (trim ln)) ln)
+
+-- and of all of them
+abbrev pub proposalsCame : Bool → List Came → Bytes
+proposalsCame md [] = []
+proposalsCame md (c ∷ cs) = proposalBytes md (c .text) ++ proposalsCame md cs
+
+-- what a line says in a turn after the proposal lines raw: "A line that begins with `;` is ignored wherever a line is awaited"
 abbrev pub lineSays : Bool → Bytes → Bytes → List TurnLine
 lineSays md raw ln = cond (isComment (trim ln)) [] (checked raw (readTurnLine md (trim ln)) ∷ [])
-
--- the proposal lines with it: "as received, their CR included, `;` lines and dropped LFs excluded" (02, Q-5)
-abbrev pub rawAfter : Bool → Bytes → Bytes → Bytes
-rawAfter md raw ln = cond (isComment (trim ln)) raw (rawWith raw ln (checked raw (readTurnLine md (trim ln))))
 
 -- and all of them
 abbrev pub linesSay : Bool → Bytes → List Came → List TurnLine
 linesSay md raw [] = []
-linesSay md raw (c ∷ cs) = lineSays md raw (c .text) ++ linesSay md (rawAfter md raw (c .text)) cs
-
-abbrev pub rawCame : Bool → Bytes → List Came → Bytes
-rawCame md raw [] = raw
-rawCame md raw (c ∷ cs) = rawCame md (rawAfter md raw (c .text)) cs
+linesSay md raw (c ∷ cs) = lineSays md raw (c .text) ++ linesSay md (raw ++ proposalBytes md (c .text)) cs
 
 -- and the line ln after them
 abbrev pub lastSays : Bool → List Came → Bytes → TurnLine
-lastSays md cs ln = checked (rawCame md [] cs) (readTurnLine md (trim ln))
+lastSays md cs ln = checked (proposalsCame md cs) (readTurnLine md (trim ln))
+
+-- what the log holds of the lines is that
+raw-is : (raw ln : Bytes) (t : TurnLine) → rawWith raw ln (checked raw t) ≡ raw ++ ifProposal t ln
+raw-is raw ln saysFF = sym (append-nil raw)
+raw-is raw ln saysFQ = sym (append-nil raw)
+raw-is raw ln endsBlock = sym (append-nil raw)
+raw-is raw ln notAllowed = sym (append-nil raw)
+raw-is raw ln (proposes p) = refl
+raw-is raw ln (endsSummed h) = go (sumRight raw h)
+  where
+    go : (c : Bool) → rawWith raw ln (cond c endsBlock notAllowed) ≡ raw ++ []
+    go true = sym (append-nil raw)
+    go false = sym (append-nil raw)
 
 -- ---------------------------------------------------------------- line by line
 
@@ -164,7 +186,7 @@ module _ (T : List Record) (ff : Bool) (sent : List ℕ) (k : Book) where
   line-leads : (c : Came) (a : Bool) (ls : List TurnLine) (raw : Bytes) → Proper (c .text)
       → (isComment (trim (c .text)) ≡ false → said ff (ls ++ (checked raw (readTurnLine (k .framed) (trim (c .text))) ∷ [])) ≡ unfinished)
       → Leads (amid a ls raw []) (map took (withCr (c .text) ++ lfBytes (c .lf)))
-      (amid (not (c .lf)) (ls ++ lineSays (k .framed) raw (c .text)) (rawAfter (k .framed) raw (c .text)) [])
+      (amid (not (c .lf)) (ls ++ lineSays (k .framed) raw (c .text)) (raw ++ proposalBytes (k .framed) (c .text)) [])
   line-leads c a ls raw h i =
       rw (map-append took (withCr (c .text)) (lfBytes (c .lf)))
       (then-leads (map took (withCr (c .text))) (map took (lfBytes (c .lf))) (amid a ls raw []) (amid true ls′ raw′ []) (amid (not (c .lf)) ls′ raw′ [])
@@ -174,19 +196,19 @@ module _ (T : List Record) (ff : Bool) (sent : List ℕ) (k : Book) where
       ls′ = ls ++ lineSays (k .framed) raw (c .text)
 
       raw′ : Bytes
-      raw′ = rawAfter (k .framed) raw (c .text)
+      raw′ = raw ++ proposalBytes (k .framed) (c .text)
 
       whole-line : fedAll T (amid a ls raw []) (map took (withCr (c .text))) ≡ amid true ls′ raw′ []
       whole-line = line-judged a ls raw (c .text) h ∙ go (isComment (trim (c .text))) i
         where
           read : TurnLine
-          read = checked raw (readTurnLine (k .framed) (trim (c .text)))
+          read = readTurnLine (k .framed) (trim (c .text))
 
-          go : (b : Bool) → (b ≡ false → said ff (ls ++ (read ∷ [])) ≡ unfinished)
-              → effected (cond b (effect k sent (theySay (theirTurn ff ls raw))) (theirTurnLine ff ls raw k sent (c .text) read))
-              ≡ amid true (ls ++ cond b [] (read ∷ [])) (cond b raw (rawWith raw (c .text) read)) []
-          go true i = rw (append-nil ls)
-          go false i = rw (i refl)
+          go : (b : Bool) → (b ≡ false → said ff (ls ++ (checked raw read ∷ [])) ≡ unfinished)
+              → effected (cond b (effect k sent (theySay (theirTurn ff ls raw))) (theirTurnLine ff ls raw k sent (c .text) (checked raw read)))
+              ≡ amid true (ls ++ cond b [] (checked raw read ∷ [])) (raw ++ cond b [] (ifProposal read (c .text))) []
+          go true i = rw (append-nil ls) (rw (append-nil raw))
+          go false i = rw (i refl) (rw (raw-is raw (c .text) read))
 
       end : Same (fedByte T (fedAll T (amid a ls raw []) (map took (c .text))) (took CR))
       end =
@@ -201,16 +223,18 @@ module _ (T : List Record) (ff : Bool) (sent : List ℕ) (k : Book) where
 
   -- all lines before the last
   lines-lead : (cs : List Came) (a : Bool) (ls : List TurnLine) (raw : Bytes) → AllProper cs → said ff (ls ++ linesSay (k .framed) raw cs) ≡ unfinished
-      → Leads (amid a ls raw []) (map took (bytesCame cs)) (amid (lfAwaited a cs) (ls ++ linesSay (k .framed) raw cs) (rawCame (k .framed) raw cs) [])
-  lines-lead [] a ls raw h e = rw (append-nil ls) (record { fed = refl; untouched = same a ls raw [] })
+      → Leads (amid a ls raw []) (map took (bytesCame cs)) (amid (lfAwaited a cs) (ls ++ linesSay (k .framed) raw cs) (raw ++ proposalsCame (k .framed) cs) [])
+  lines-lead [] a ls raw h e = rw (append-nil ls) (rw (append-nil raw) (record { fed = refl; untouched = same a ls raw [] }))
   lines-lead (c ∷ cs) a ls raw h e =
-      subst (λ (es : List Event). Leads (amid a ls raw []) es (amid (lfAwaited a (c ∷ cs)) (ls ++ linesSay (k .framed) raw (c ∷ cs)) (rawCame (k .framed) raw (c ∷ cs)) []))
+      subst (λ (es : List Event). Leads (amid a ls raw []) es (amid (lfAwaited a (c ∷ cs)) (ls ++ linesSay (k .framed) raw (c ∷ cs)) (raw ++ proposalsCame (k .framed) (c ∷ cs)) []))
       (sym (map-append took line (bytesCame cs)))
-      (subst (λ (x : List TurnLine). Leads (amid a ls raw []) (map took line ++ map took (bytesCame cs)) (amid (lfAwaited a (c ∷ cs)) x (rawCame (k .framed) raw (c ∷ cs)) []))
+      (subst (λ (x : List TurnLine). Leads (amid a ls raw []) (map took line ++ map took (bytesCame cs)) (amid (lfAwaited a (c ∷ cs)) x (raw ++ proposalsCame (k .framed) (c ∷ cs)) []))
       (append-assoc ls now (linesSay (k .framed) raw′ cs))
+      (subst (λ (x : Bytes). Leads (amid a ls raw []) (map took line ++ map took (bytesCame cs)) (amid (lfAwaited a (c ∷ cs)) ((ls ++ now) ++ linesSay (k .framed) raw′ cs) x []))
+      (append-assoc raw (proposalBytes (k .framed) (c .text)) (proposalsCame (k .framed) cs))
       (then-leads (map took line) (map took (bytesCame cs)) (amid a ls raw []) (amid (not (c .lf)) (ls ++ now) raw′ []) _
       (line-leads c a ls raw (h .0) (λ q. ap (λ (b : Bool). said ff (ls ++ cond b [] (read ∷ []))) (sym q) ∙ said-part ff (ls ++ now) (linesSay (k .framed) raw′ cs) moved))
-      (lines-lead cs (not (c .lf)) (ls ++ now) raw′ (h .1) moved)))
+      (lines-lead cs (not (c .lf)) (ls ++ now) raw′ (h .1) moved))))
     where
       line : Bytes
       line = withCr (c .text) ++ lfBytes (c .lf)
@@ -222,7 +246,7 @@ module _ (T : List Record) (ff : Bool) (sent : List ℕ) (k : Book) where
       now = lineSays (k .framed) raw (c .text)
 
       raw′ : Bytes
-      raw′ = rawAfter (k .framed) raw (c .text)
+      raw′ = raw ++ proposalBytes (k .framed) (c .text)
 
       moved : said ff ((ls ++ now) ++ linesSay (k .framed) raw′ cs) ≡ unfinished
       moved = ap (said ff) (append-assoc ls now (linesSay (k .framed) raw′ cs)) ∙ e
@@ -234,28 +258,28 @@ module _ (T : List Record) (a ff : Bool) (sent : List ℕ) (k : Book) (cs : List
     (no-comment : isComment (trim ln) ≡ false) (not-whole : said ff (linesSay (k .framed) [] cs) ≡ unfinished) where
   -- up to the last line
   before-last : Leads T ff sent k (amid T ff sent k a [] [] []) (map took (bytesCame cs))
-      (amid T ff sent k (lfAwaited a cs) (linesSay (k .framed) [] cs) (rawCame (k .framed) [] cs) [])
+      (amid T ff sent k (lfAwaited a cs) (linesSay (k .framed) [] cs) (proposalsCame (k .framed) cs) [])
   before-last = lines-lead T ff sent k cs a [] [] proper not-whole
 
   -- and with it
   with-last : fedAll T (amid T ff sent k a [] [] []) (map took (bytesCame cs ++ withCr ln))
-      ≡ effected T ff sent k (theirTurnLine ff (linesSay (k .framed) [] cs) (rawCame (k .framed) [] cs) k sent ln (lastSays (k .framed) cs ln))
+      ≡ effected T ff sent k (theirTurnLine ff (linesSay (k .framed) [] cs) (proposalsCame (k .framed) cs) k sent ln (lastSays (k .framed) cs ln))
   with-last =
       ap (fedAll T (amid T ff sent k a [] [] [])) (map-append took (bytesCame cs) (withCr ln))
       ∙ fed-append T (map took (bytesCame cs)) (map took (withCr ln)) (amid T ff sent k a [] [] [])
       ∙ ap (λ (f : Fed). fedAll T f (map took (withCr ln))) (before-last .fed)
-      ∙ line-judged T ff sent k (lfAwaited a cs) (linesSay (k .framed) [] cs) (rawCame (k .framed) [] cs) ln proper-last
+      ∙ line-judged T ff sent k (lfAwaited a cs) (linesSay (k .framed) [] cs) (proposalsCame (k .framed) cs) ln proper-last
       ∙ rw no-comment
 
   -- A WRONG CHECKSUM: "A turn with a wrong checksum is no valid turn." (02, Q-5). At its last CR the log is over; records sent, states and messages
   -- kept are as before the turn
-  pub wrong-sum-fed : (h : ℕ) → readTurnLine (k .framed) (trim ln) ≡ endsSummed h → ((sum (rawCame (k .framed) [] cs) + h) % byteValues ≡ 0 → ⊥)
+  pub wrong-sum-fed : (h : ℕ) → readTurnLine (k .framed) (trim ln) ≡ endsSummed h → ((sum (proposalsCame (k .framed) cs) + h) % byteValues ≡ 0 → ⊥)
       → fedAll T (record { log = owing a (theirNewTurn ff) sent k; raw = [] }) (map took (bytesCame cs ++ withCr ln))
       ≡ record { log = owing true over sent k; raw = [] }
-  wrong-sum-fed h e n = with-last ∙ rw e (rw (ne-eqb _ _ n) (rw (said-wrong ff (linesSay (k .framed) [] cs))))
+  wrong-sum-fed h e n = with-last ∙ rw e (rw (ne-eqb _ _ n) (rw (not-allowed-wrong ff (linesSay (k .framed) [] cs))))
 
   -- and they stay so, whatever bytes fs come after them: of the log over whole units, after a trace es that left the partner's turn next
-  pub wrong-sum-ends : (h : ℕ) → readTurnLine (k .framed) (trim ln) ≡ endsSummed h → ((sum (rawCame (k .framed) [] cs) + h) % byteValues ≡ 0 → ⊥)
+  pub wrong-sum-ends : (h : ℕ) → readTurnLine (k .framed) (trim ln) ≡ endsSummed h → ((sum (proposalsCame (k .framed) cs) + h) % byteValues ≡ 0 → ⊥)
       → (caller : Bool) (states : List ℕ) (es fs : List Event) → fedAll T (fedOpened caller states) es ≡ record { log = owing a (theirNewTurn ff) sent k; raw = [] }
       → Agrees (log T caller states (es ++ (map took (bytesCame cs ++ withCr ln) ++ fs))) (owing true over sent k)
   wrong-sum-ends h e n caller states es fs o =
@@ -291,7 +315,7 @@ module _ (T : List Record) (a ff : Bool) (sent : List ℕ) (k : Book) (cs : List
       begun = amid T ff sent k a [] [] []
 
       before : Leads T ff sent k begun (map took (bytesCame cs))
-          (amid T ff sent k (lfAwaited a cs) (linesSay (k .framed) [] cs) (rawCame (k .framed) [] cs) [])
+          (amid T ff sent k (lfAwaited a cs) (linesSay (k .framed) [] cs) (proposalsCame (k .framed) cs) [])
       before = before-last T a ff sent k cs ln proper proper-last no-comment not-yet
 
       so : Stays (fedAll T begun (map took u) .log) (owing false (theirNewTurn ff) sent k)
@@ -300,7 +324,7 @@ module _ (T : List Record) (a ff : Bool) (sent : List ℕ) (k : Book) (cs : List
           (subst (Untouched T ff sent k begun) (sym (map-append took (bytesCame cs) ln) ∙ ap (map took) e ∙ map-append took u r)
           (untouched-append T ff sent k (map took (bytesCame cs)) (map took ln) begun (before .untouched)
           (subst (λ (f : Fed). Untouched T ff sent k f (map took ln)) (sym (before .fed))
-          (part-untouched T ff sent k ln (lfAwaited a cs) (linesSay (k .framed) [] cs) (rawCame (k .framed) [] cs) [] (proper-last .whole)))))
+          (part-untouched T ff sent k ln (lfAwaited a cs) (linesSay (k .framed) [] cs) (proposalsCame (k .framed) cs) [] (proper-last .whole)))))
 
   -- So of the log over whole units, after a trace es that left the partner's turn next
   pub their-turn-logged : (caller : Bool) (states : List ℕ) (es : List Event)
