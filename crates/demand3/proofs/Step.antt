@@ -22,7 +22,7 @@ use Rattle.mail.specs.Mail.{Record, messageOf, turnText, transfersText, accepte
 use Rattle.session.specs.Choices.{Shelf, answersTo}
 use Rattle.session.specs.Session.{Awaited, awaitsSid, awaitsPrompt, awaitsTurn, awaitsAnswer, Phase, aLine, newTurn, awaitsTransfer, leaving, Memory, Session, withFramed, withPart, withAfterCr, between, Outcome, refuses, goesOn, speaking, ourTurn as speakNow, turnMarks, answering, answered, turnJudged, answerMarks, answerJudged, afterSid, sidJudged, textJudged, awaitedJudged, lineJudged, refused, settled, lineMoved, keptIn, nextTransfer, transferMoved, roomFor, lineStep, phaseStep, freeStep, step, ended}
 use Rattle.session.specs.Session
-use Rattle.log.specs.Log.{ourNewTurn, took, ourSidLine, ourAnswer, theirText, Next, weSay, theySay, theirTransfer, Course, Book, Log, isOurs, saidOn, inOrder, said, theirsOwed, placesOf, ourProposed, Effect, effect, checked, rawWith, theirSaid, theirTurnLine, theirAnswered, theirSidRead, theirRead, theirLine, judgedLine}
+use Rattle.log.specs.Log.{ourNewTurn, took, ourSidLine, ourAnswer, theirText, Next, weSay, theySay, theirTransfer, Course, Book, Log, isOurs, saidOn, inOrder, said, theirsOwed, placesOf, ourProposed, Effect, effect, summedEnd, checked, rawWith, theirSaid, theirTurnLine, theirAnswered, theirSidRead, theirRead, theirLine, judgedLine}
 use Rattle.log.specs.Log
 use Rattle.log.specs.Fed.{Fed, unitByte, outOfOrder, fedByte}
 use Rattle.log.proofs.Said.{said-after}
@@ -176,11 +176,11 @@ module _ (E : Shelf) (S : Sound E) (part : Bytes) (a : Bool) (m : Memory) where
 
       -- the checksum is right or wrong
       summed-end : (ff : Bool) (p : Proposal) (ps : List Proposal) → length (p ∷ ps) ≤ 5 → (c : Bool)
-          → AfterLine (awaitsTurn ff (p ∷ ps) raw) (cond c (answered E (p ∷ ps) (turnMarks m)) (refuses wrongBlockSum)) (says-now ff (p ∷ ps) (cond c endsBlock notAllowed))
+          → AfterLine (awaitsTurn ff (p ∷ ps) raw) (cond c (answered E (p ∷ ps) (turnMarks m)) (refuses wrongBlockSum)) (says-now ff (p ∷ ps) (summedEnd c))
       summed-end ff p ps h true = after-block _ p ps h
       summed-end ff p ps h false = wrong-line _ _ _ refl
 
-      summed-alone : (ff c : Bool) (n : ℕ) → AfterLine (awaitsTurn ff [] raw) (refuses n) (says-now ff [] (cond c endsBlock notAllowed))
+      summed-alone : (ff c : Bool) (n : ℕ) → AfterLine (awaitsTurn ff [] raw) (refuses n) (says-now ff [] (summedEnd c))
       summed-alone ff true n = wrong-line _ _ _ refl
       summed-alone ff false n = wrong-line _ _ _ refl
 

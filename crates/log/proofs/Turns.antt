@@ -16,7 +16,7 @@ use Rattle.grammar.specs.Turns.{Proposal, TurnLine, saysFF, saysFQ, endsBlock, 
 use Rattle.grammar.specs.Transfers.{sum, sumRight}
 use Rattle.grammar.proofs.Basics.{Lacks}
 use Rattle.mail.specs.Mail.{Record, turnText, marked}
-use Rattle.log.specs.Log.{theirNewTurn, ourNewTurn, effect, theySay, Event, took, gave, theirTurn, Book, unfinished, turn, said, placesOf, ourProposed, Effect, withStates, afterTheirTurn, checked, rawWith, theirTurnLine, theirLine, over, log}
+use Rattle.log.specs.Log.{theirNewTurn, ourNewTurn, effect, theySay, Event, took, gave, theirTurn, Book, unfinished, turn, said, placesOf, ourProposed, Effect, withStates, afterTheirTurn, summedEnd, checked, rawWith, theirTurnLine, theirLine, over, log}
 use Rattle.log.specs.Fed.{Fed, fedByte, fedAll}
 use Rattle.log.proofs.Said.{goesWell, said-before, said-part, not-allowed-wrong}
 use Rattle.log.proofs.Spoken.{AllFit, turn-spoken, gave-spoken}
@@ -101,7 +101,7 @@ raw-is raw ln notAllowed = sym (append-nil raw)
 raw-is raw ln (proposes p) = refl
 raw-is raw ln (endsSummed h) = go (sumRight raw h)
   where
-    go : (c : Bool) → rawWith raw ln (cond c endsBlock notAllowed) ≡ raw ++ []
+    go : (c : Bool) → rawWith raw ln (summedEnd c) ≡ raw ++ []
     go true = sym (append-nil raw)
     go false = sym (append-nil raw)
 

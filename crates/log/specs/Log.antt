@@ -205,10 +205,15 @@ theirSaid ff ls raw k sent farewell = effect k sent over
 theirSaid ff ls raw k sent wrong = effect k sent over
 theirSaid ff ls raw k sent (turn ps) = effect (withStates k (marked sent (k .states))) [] (afterTheirTurn ps)
 
+-- What F> with a checksum says that is right (true) or wrong.
+abbrev pub summedEnd : Bool → TurnLine
+summedEnd true = endsBlock
+summedEnd false = notAllowed
+
 -- "The sum of all bytes of the block's proposal lines as received, their CR included, .. plus HH must be 0 modulo 256. .. A turn with a wrong
 -- checksum is no valid turn." (02, Q-5): what a line of the partner's says after the proposal lines raw
 abbrev pub checked : Bytes → TurnLine → TurnLine
-checked raw (endsSummed h) = cond (sumRight raw h) endsBlock notAllowed
+checked raw (endsSummed h) = summedEnd (sumRight raw h)
 checked raw saysFF = saysFF
 checked raw saysFQ = saysFQ
 checked raw endsBlock = endsBlock
