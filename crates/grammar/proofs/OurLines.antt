@@ -3,17 +3,16 @@ use mathlib.Core.Path.{_≡_, refl, ap, _∙_}
 use mathlib.Core.Bool.{Bool, true, false, cond, not, _&&_}
 use mathlib.Core.Option.{none, some}
 use mathlib.Core.List.{List, [], _∷_, _++_, map}
-use Prim.Native.Nat.{ℕ, _+_, _*_, _≤_}
+use Prim.Native.Nat.{ℕ, _+_, _≤_}
 use native.Mathlib.Omega.{arith}
 use lib.Dec.{eqb, ltb}
 use lib.ListN.{length, length-append, length-map}
 use borrow.Author.Tests.{ne-eqb, eqb-true, ltb-true}
 use Rattle.grammar.specs.Bytes.{Bytes, CR, SP, all, same}
-use Rattle.grammar.specs.Ascii.{text}
-use Rattle.grammar.specs.Fields.{Form, bidByte, callByte, digit, file, hexDigit, message, plain, twoHex, upper, writeNum}
+use Rattle.grammar.specs.Fields.{Form, bidByte, callByte, digit, file, message, plain, upper, writeNum}
 use Rattle.grammar.specs.Lines.{isComment, isPrompt, trim}
 use Rattle.grammar.specs.Sid.{readSid, sidNumber}
-use Rattle.grammar.specs.Turns.{Proposal, endsBlock, endsSummed, fixedText, formLetter, inMode, isType, notAllowed, ourBlock, ourEnd, ourFF, ourFQ, ourPrompt, ourSid, proposable, proposalLine, proposes, readProposal, readSummedEnd, readTurnLine, saysFF, saysFQ, sp}
+use Rattle.grammar.specs.Turns.{Proposal, endsBlock, fixedText, formLetter, inMode, isType, notAllowed, ourBlock, ourEnd, ourFF, ourFQ, ourPrompt, ourSid, proposable, proposalLine, proposes, readProposal, readSummedEnd, readTurnLine, saysFF, saysFQ, sp}
 use Rattle.grammar.specs.Answers.{OurLine, Sign, accept, decline, defer, fixedLine, fsLine, ourAnswer, ourProposal, readFs, readSigns, writeSign, written, Level, level0}
 use Rattle.grammar.proofs.Basics.{Field, Lacks, lacks-append, all-lacks, or-second}
 use Rattle.grammar.proofs.Fields.{num-field, atByte, at-field, call-field, bid-field, Ours, ours, proposal-back}
@@ -86,12 +85,6 @@ fq-read md = refl
 pub end-read : (md : Bool) → readTurnLine md (fixedText ourEnd) ≡ endsBlock
 unfolding readTurnLine
 end-read md = refl
-
--- `F> HH` with any two hexadecimal digits, in either mode
-pub summed-read : (md : Bool) (a b x y : ℕ) → hexDigit a ≡ some x → hexDigit b ≡ some y
-    → readTurnLine md (text "F> " ++ (a ∷ b ∷ [])) ≡ endsSummed (x * 16 + y)
-unfolding readTurnLine readSummedEnd twoHex
-summed-read md a b x y h k = rw h (rw k)
 
 pub sid-read : sidNumber (readSid (fixedText ourSid)) ≡ 0
 unfolding readSid
