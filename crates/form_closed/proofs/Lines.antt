@@ -130,6 +130,7 @@ module _ (table known inbox store : Bytes) (w : Await) (y : Say) (k : Keep) (r :
             current = W .current;
             proposals = omega arith;
             ours = W .ours;
+            sum = W .sum;
             block = put-length (w .block) (at (w .proposals * proposalLen)) c ∙ W .block;
             octets = octets-put (w .block) (at (w .proposals * proposalLen)) c (W .octets) (proposal-octets md q h);
           }

@@ -77,7 +77,7 @@ module _ (w : Await) (y : Say) (k : Keep) (rd : Reader) where
   -- a proposal of the partner's
   pub proposed : (ln : Bytes) (p : Proposal) (block : Bytes) (j : Judged) → p .form ≤ 2 → w .proposals < blockLimit
       → block ≡ putBytes (w .block) (at (w .proposals * proposalLen)) (proposalOut (p .form) (p .kind) (part ln (p .from)) (part ln (p .at)) (part ln (p .to)) (part ln (p .bid)) (p .size))
-      → j ≡ wentOn (record { phase = w .phase; ff = w .ff; current = w .current; proposals = w .proposals + 1; ours = w .ours; block = block }) y k rd
+      → j ≡ wentOn (record { phase = w .phase; ff = w .ff; current = w .current; proposals = w .proposals + 1; ours = w .ours; sum = w .sum; block = block }) y k rd
       → j ≡ proposalLine (proposalIs ln p) w y k rd
   unfolding proposalLine
   proposed ln p block j h b e f = rw (lt-ltb _ _ b, form-number (p .form) h, ← e) f
