@@ -55,7 +55,7 @@ pub in-phase : (p : ℕ) (w : Await) → p < 256 → AwaitOk w → AwaitOk (inPh
 in-phase p w h g = record { phase = h; current = g .current; proposals = g .proposals; ours = g .ours; sum = g .sum; block = g .block; octets = g .octets }
 
 pub to-turn : (ff : Bool) (w : Await) → AwaitOk w → AwaitOk (toTurn ff w)
-to-turn ff w g = record { phase = omega arith; current = g .current; proposals = omega arith; ours = g .ours; sum = g .sum; block = g .block; octets = g .octets }
+to-turn ff w g = record { phase = omega arith; current = g .current; proposals = omega arith; ours = g .ours; sum = omega arith; block = g .block; octets = g .octets }
 
 pub to-answer : (f : Five) (w : Await) → FiveOk f → AwaitOk w → AwaitOk (toAnswer f w)
 to-answer f w h g = record { phase = omega arith; current = g .current; proposals = g .proposals; ours = h; sum = g .sum; block = g .block; octets = g .octets }
