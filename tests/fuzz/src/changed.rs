@@ -11,6 +11,7 @@ use crate::tally::Tally;
 use inputs::random::Random;
 use inputs::{byte, damaged, fs_line, line, proposal_fields, short_turn_line, sid, spaced};
 use second::layout::{RECORD_BYTES, SESSION_FREE};
+use second::refusal::ANSWERS;
 use second::session::Reply;
 use std::fmt::{self, Display};
 
@@ -265,7 +266,7 @@ impl Alone<'_> {
     fn check_reply(&self, reply: Reply, failed: Option<usize>, most: usize) -> Checked {
         let one = reply.answer == 1;
         let (place, most) = if one { (255, 0) } else { (0, most) };
-        if reply.answer > 12 || reply.place != place || reply.count > most {
+        if usize::from(reply.answer) >= ANSWERS || reply.place != place || reply.count > most {
             return self.differs("no such reply");
         }
         if one && self.intact {

@@ -7,6 +7,7 @@ use second::field::BODY_LIMIT;
 use second::fs::Sign;
 use second::log::Side;
 use second::memory::{State, MESSAGE_LIMIT};
+use second::refusal::ANSWERS;
 use second::session::{Inside, Lent, Phase, Reply, Role};
 use second::sid::Mode;
 use std::fmt::{self, Display};
@@ -24,7 +25,7 @@ pub struct Tally {
     pub sessions: u64,
     /// Answers of open, receive and give, by number.
     opens: [u64; 2],
-    receives: [u64; 13],
+    receives: [u64; ANSWERS],
     gives: [u64; 2],
     /// Opens refused for a record, and for role, sizes or known BIDs.
     places: [u64; 2],
