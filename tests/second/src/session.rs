@@ -126,8 +126,10 @@ pub struct Session {
     /// Messages kept, and the store bytes that they use.
     kept: usize,
     used: usize,
-    /// Whole turns of either side, and our signs: nothing turns on them.
+    /// Whole turns of either side, blocks of the partner's that ended bare and with their
+    /// checksum, and our signs: nothing turns on them.
     turns: usize,
+    blocks: [usize; 2],
     signs: Vec<Sign>,
 }
 
@@ -172,6 +174,11 @@ impl Session {
     /// Whole turns of either side so far; FQ is none.
     pub fn turns(&self) -> usize {
         self.turns
+    }
+
+    /// Blocks of the partner's that ended with a bare `F>`, and with their checksum.
+    pub fn blocks(&self) -> [usize; 2] {
+        self.blocks
     }
 
     /// All signs that we gave.

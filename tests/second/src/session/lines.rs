@@ -86,7 +86,8 @@ impl Session {
             TurnLine::SummedEnd(checksum) if !is_checksum_of(lines, checksum) => {
                 return Err(Refusal::WrongBlockSum)
             }
-            TurnLine::BlockEnd | TurnLine::SummedEnd(_) => {
+            end @ (TurnLine::BlockEnd | TurnLine::SummedEnd(_)) => {
+                self.blocks[usize::from(end != TurnLine::BlockEnd)] += 1;
                 let block = std::mem::take(block);
                 self.mark_sent(memory);
                 self.answer(memory, block);

@@ -69,7 +69,8 @@ fn the_bare_form_is_taken_and_spaces_at_the_end_are_removed() {
         End::called(&empty()).hears(&[ONE, end].concat());
     }
     let hh = right(ONE);
-    for end in [format!("F> {hh:02X}   \r"), format!("f> {hh:02x}\r\n"), format!("F> {hh:02x} \r\n")]
+    for end in
+        [format!("F> {hh:02X}   \r"), format!("f> {hh:02x}\r\n"), format!("F> {hh:02x} \r\n")]
     {
         let mut called = End::called(&empty());
         called.hears(&[ONE, end.as_bytes()].concat());
