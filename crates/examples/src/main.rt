@@ -44,7 +44,7 @@ fn say_turn_line(told: TurnLine) {
     match told {
         TurnLine::FF => say(b"FF"),
         TurnLine::FQ => say(b"FQ"),
-        TurnLine::End => say(b"F>"),
+        TurnLine::End(_check) => say(b"F>"),
         TurnLine::NotAllowed => say(b"not allowed, refusal 5"),
         TurnLine::Proposed(_p) => say(b"a proposal"),
     }

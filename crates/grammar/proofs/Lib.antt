@@ -1,5 +1,5 @@
 -- Theorems about the grammar. What a reader of the rules wants to know first stands in Examples, OurLines, TransferBack, Refusal,
--- Portions and Spelling; the others carry them.
+-- Portions, Spelling and SummedEnd; the others carry them.
 pub mod Basics
 pub mod Fields
 pub mod OurLines
@@ -14,4 +14,5 @@ pub mod Exact
 pub mod Refusal
 pub mod Portions
 pub mod Spelling
+pub mod SummedEnd
 pub mod Examples
