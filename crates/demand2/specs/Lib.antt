@@ -2,7 +2,7 @@
 -- events, whatever the portions; and our turns, our answers, our marks, our counts and what we write are 01's.
 --
 -- What 01 wants shut out              the theorem that shuts it out (in proofs/)
--- a forwarder that refuses everything Refusals.exact (`else`: 0 wherever none of the ten situations holds), Ended.twelve (12 only on a session that is
+-- a forwarder that refuses everything Refusals.exact (`else`: 0 wherever none of the eleven situations holds), Ended.twelve (12 only on a session that is
 --                                     over), live-exact (which sessions are); whole units, also directly after a CR: Units.line-whole (no byte of a line is
 --                                     refused before its CR), Units.transfer-kept (a valid transfer that fits is kept)
 -- one that finds less room than there Room.full-at, at-full, fits-within, within-fits, room-is: 10 (NoRoom) and a kept message (transferWhole) go by

@@ -9,20 +9,20 @@ use lib.Dec.{eqb, ltb}
 use lib.ListN.{length, length-append, length-map}
 use borrow.Author.Tests.{ltb-true, le-leb}
 use Rattle.grammar.specs.Bytes.{Bytes, CR, LF}
-use Rattle.grammar.specs.Refusals.{noForwarding, proposalCount}
+use Rattle.grammar.specs.Refusals.{noForwarding, proposalCount, wrongBlockSum}
 use Rattle.grammar.specs.Fields.{Form, plain, message, file}
 use Rattle.grammar.specs.Lines.{ends, grows, overruns, trim, isComment, isPrompt}
 use Rattle.grammar.specs.Sid.{readSid, hasFeature, framed}
-use Rattle.grammar.specs.Turns.{Proposal, TurnLine, saysFF, saysFQ, endsBlock, notAllowed, proposes, readTurnLine, fixedText, ourSid, ourFF, ourFQ, withCr}
+use Rattle.grammar.specs.Turns.{Proposal, TurnLine, saysFF, saysFQ, endsBlock, notAllowed, proposes, endsSummed, readTurnLine, fixedText, ourSid, ourFF, ourFQ, withCr}
 use Rattle.grammar.specs.Answers.{Sign, readFs, fsNumber, fsLine, level0}
-use Rattle.grammar.specs.Transfers.{readTransfer}
+use Rattle.grammar.specs.Transfers.{readTransfer, sumRight}
 use Rattle.grammar.specs.Scan.{Scan, Scanned, goes, got, malformed, wrongSum, noRoom, scanByte, scanFrom}
 use Rattle.grammar.proofs.Refusal.{Reach, reach-step, from, contentOf, read-as}
 use Rattle.mail.specs.Mail.{Record, messageOf, turnText, transfersText, accepted}
 use Rattle.session.specs.Choices.{Shelf, answersTo}
 use Rattle.session.specs.Session.{Awaited, awaitsSid, awaitsPrompt, awaitsTurn, awaitsAnswer, Phase, aLine, newTurn, awaitsTransfer, leaving, Memory, Session, withFramed, withPart, withAfterCr, between, Outcome, refuses, goesOn, speaking, ourTurn as speakNow, turnMarks, answering, answered, turnJudged, answerMarks, answerJudged, afterSid, sidJudged, textJudged, awaitedJudged, lineJudged, refused, settled, lineMoved, keptIn, nextTransfer, transferMoved, roomFor, lineStep, phaseStep, freeStep, step, ended}
 use Rattle.session.specs.Session
-use Rattle.log.specs.Log.{ourNewTurn, took, ourSidLine, ourAnswer, theirText, Next, weSay, theySay, theirTransfer, Course, Book, Log, isOurs, saidOn, inOrder, said, theirsOwed, placesOf, ourProposed, Effect, effect, theirSaid, theirAnswered, theirSidRead, theirRead, theirLine, judgedLine}
+use Rattle.log.specs.Log.{ourNewTurn, took, ourSidLine, ourAnswer, theirText, Next, weSay, theySay, theirTransfer, Course, Book, Log, isOurs, saidOn, inOrder, said, theirsOwed, placesOf, ourProposed, Effect, effect, summedEnd, checked, rawWith, theirSaid, theirTurnLine, theirAnswered, theirSidRead, theirRead, theirLine, judgedLine}
 use Rattle.log.specs.Log
 use Rattle.log.specs.Fed.{Fed, unitByte, outOfOrder, fedByte}
 use Rattle.log.proofs.Said.{said-after}
@@ -161,21 +161,34 @@ module _ (E : Shelf) (S : Sound E) (part : Bytes) (a : Bool) (m : Memory) where
   unfolding AfterLine
   after-block p q qs h = rw (← marked-alike (m .sending) (m .states)) (answer E S (q ∷ qs) (turnMarks m) (idle (aLine p) part a m) (omega arith) h)
 
-  -- the lines of the partner's turn so far say ps; the next is l
-  turn-line : (ff : Bool) (ps : List Proposal) (l : TurnLine) → length ps ≤ 5
-      → AfterLine (awaitsTurn ff ps) (turnJudged E l ff ps m) (theirSaid ff (map proposes ps ++ (l ∷ [])) (bookOf m) (m .sending) (said ff (map proposes ps ++ (l ∷ []))))
-  turn-line ff ps l h = rw (said-after ff ps (l ∷ []) h) (go ff ps l h)
+  -- the lines of the partner's turn so far say ps, and are raw as received; the next is l
+  turn-line : (ff : Bool) (ps : List Proposal) (raw : Bytes) (l : TurnLine) → length ps ≤ 5
+      → AfterLine (awaitsTurn ff ps raw) (turnJudged E l ff ps raw part m) (theirTurnLine ff (map proposes ps) raw (bookOf m) (m .sending) part (checked raw l))
+  turn-line ff ps raw l h = rw (said-after ff ps (checked raw l ∷ []) h) (go ff ps l h)
     where
+      says-now : Bool → List Proposal → TurnLine → Effect
+      says-now ff ps l = theirSaid ff (map proposes ps ++ (l ∷ [])) (rawWith raw part l) (bookOf m) (m .sending) (inOrder ff (saidOn ps (l ∷ [])))
+
       five : (ff : Bool) (ps : List Proposal) (q : Proposal) (c : Bool) → ltb (length ps) 5 ≡ c
-          → AfterLine (awaitsTurn ff ps) (cond c (goesOn (aLine (awaitsTurn ff (ps ++ (q ∷ [])))) m []) (refuses proposalCount))
-          (theirSaid ff (map proposes ps ++ (proposes q ∷ [])) (bookOf m) (m .sending) (inOrder ff (cond c Log.unfinished Log.wrong)))
+          → AfterLine (awaitsTurn ff ps raw) (cond c (goesOn (aLine (awaitsTurn ff (ps ++ (q ∷ [])) (raw ++ withCr part))) m []) (refuses proposalCount))
+          (theirSaid ff (map proposes ps ++ (proposes q ∷ [])) (raw ++ withCr part) (bookOf m) (m .sending) (inOrder ff (cond c Log.unfinished Log.wrong)))
       five ff ps q true e =
           rw (map-snoc ps q)
-          (quiet _ (aLine (awaitsTurn ff (ps ++ (q ∷ [])))) m (no-line, simp length-append (omega (arith, ltb-true (length ps) 5 e))))
+          (quiet _ (aLine (awaitsTurn ff (ps ++ (q ∷ [])) (raw ++ withCr part))) m (no-line, simp length-append (omega (arith, ltb-true (length ps) 5 e))))
       five ff ps q false e = wrong-line _ _ _ refl
 
+      -- the checksum is right or wrong
+      summed-end : (ff : Bool) (p : Proposal) (ps : List Proposal) → length (p ∷ ps) ≤ 5 → (c : Bool)
+          → AfterLine (awaitsTurn ff (p ∷ ps) raw) (cond c (answered E (p ∷ ps) (turnMarks m)) (refuses wrongBlockSum)) (says-now ff (p ∷ ps) (summedEnd c))
+      summed-end ff p ps h true = after-block _ p ps h
+      summed-end ff p ps h false = wrong-line _ _ _ refl
+
+      summed-alone : (ff c : Bool) (n : ℕ) → AfterLine (awaitsTurn ff [] raw) (refuses n) (says-now ff [] (summedEnd c))
+      summed-alone ff true n = wrong-line _ _ _ refl
+      summed-alone ff false n = wrong-line _ _ _ refl
+
       go : (ff : Bool) (ps : List Proposal) (l : TurnLine) → length ps ≤ 5
-          → AfterLine (awaitsTurn ff ps) (turnJudged E l ff ps m) (theirSaid ff (map proposes ps ++ (l ∷ [])) (bookOf m) (m .sending) (inOrder ff (saidOn ps (l ∷ []))))
+          → AfterLine (awaitsTurn ff ps raw) (turnJudged E l ff ps raw part m) (says-now ff ps (checked raw l))
       go true [] saysFF h = wrong-line _ _ _ refl
       go false [] saysFF h = after-ff _
       go ff (p ∷ ps) saysFF h = wrong-line _ _ _ refl
@@ -187,6 +200,8 @@ module _ (E : Shelf) (S : Sound E) (part : Bytes) (a : Bool) (m : Memory) where
       go ff [] notAllowed h = wrong-line _ _ _ refl
       go ff (p ∷ ps) notAllowed h = wrong-line _ _ _ refl
       go ff ps (proposes q) h = five ff ps q (ltb (length ps) 5) refl
+      go ff [] (endsSummed n) h = summed-alone ff (sumRight raw n) _
+      go ff (p ∷ ps) (endsSummed n) h = summed-end ff p ps h (sumRight raw n)
 
   answer-line : (is : List ℕ) (n : ℕ) (r : Option (List Sign)) → AfterLine (awaitsAnswer is) (answerJudged E is m n r) (theirAnswered is (bookOf m) (m .sending) r)
   unfolding AfterLine
@@ -202,7 +217,7 @@ module _ (E : Shelf) (S : Sound E) (part : Bytes) (a : Bool) (m : Memory) where
   read-line : (p : Awaited) → Few p → AfterLine p (awaitedJudged E p m part) (theirRead (lineOf p) (bookOf m) (m .sending) part)
   read-line (awaitsSid c) f = sid-line c (readSid (trim part))
   read-line awaitsPrompt f = text-line (isPrompt (trim part))
-  read-line (awaitsTurn ff ps) f = turn-line ff ps (readTurnLine (m .framed) (trim part)) f
+  read-line (awaitsTurn ff ps raw) f = turn-line ff ps raw (readTurnLine (m .framed) (trim part)) f
   read-line (awaitsAnswer is) f = answer-line is (fsNumber level0 (length is) (trim part)) (readFs level0 (length is) (trim part))
 
   -- a comment, or the line

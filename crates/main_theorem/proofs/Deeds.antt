@@ -16,7 +16,7 @@ use Rattle.grammar.specs.Transfers.{Content, readTransfer}
 use Rattle.grammar.proofs.Basics.{no-both, by-cond, by-test}
 use Rattle.mail.specs.Mail.{Record}
 use Rattle.log.specs.Effects.{forwardedSent, acceptedBy, declinedBy}
-use Rattle.log.specs.Log.{ourNewTurn, Event, took, gave, Ours, ourGreeting, ourFirstPrompt, ourSidLine, ourTurn, ourAnswer, Theirs, theirText, theirSid, theirTurn, theirAnswer, Next, over, weSay, theySay, theirTransfer, ourTransfer, Course, Book, Log, isOurs, Said, unfinished, farewell, wrong, turn, said, placesOf, ourProposed, ourSaid, ourAnswered, oursOwed, theirsOwed, ourLine, Effect, effect, theirSaid, theirAnswered, theirSidRead, theirRead, theirTransferred, afterTheirTurn, whole, applied, Cut, notWhole, outOfTurn, unit, cutUnit, withAfterCr, logOpened, levelInForce}
+use Rattle.log.specs.Log.{ourNewTurn, Event, took, gave, Ours, ourGreeting, ourFirstPrompt, ourSidLine, ourTurn, ourAnswer, Theirs, theirText, theirSid, theirTurn, theirAnswer, Next, over, weSay, theySay, theirTransfer, ourTransfer, Course, Book, Log, isOurs, Said, unfinished, farewell, wrong, turn, said, checked, rawWith, placesOf, ourProposed, ourSaid, ourAnswered, oursOwed, theirsOwed, ourLine, Effect, effect, theirSaid, theirAnswered, theirSidRead, theirRead, theirTransferred, afterTheirTurn, whole, applied, Cut, notWhole, outOfTurn, unit, cutUnit, withAfterCr, logOpened, levelInForce}
 use Rattle.main_theorem.specs.Deeds.{Deed, answered, sent, turned, weAnswered, nothing, brought, turnDeed, answerDeed, ourAnswerDeed, transferDeed, theirDeed, ourDeed, deedOf, deedsCut, deedsFrom, deeds, messagesBrought, transfersBrought, gotPlus, acceptedFrom, BroughtFor, AsAccepted}
 
 -- the records whose transfers we owe
@@ -65,11 +65,11 @@ module _ (T : List Record) (a : Bool) (st : List ℕ) (k : Book) where
   quiet : (n m : Next) → owes m ≡ [] → Comes nothing n (record { next = m; sent = st }) k
   quiet n m e = (refl, refl, e, refl)
 
-  said-does : (ff : Bool) (ls : List TurnLine) (n : Next) (z : Said) → ComesTo (turnDeed z) n (theirSaid ff ls k st z)
-  said-does ff ls n unfinished = quiet n (theySay (theirTurn ff ls)) refl
-  said-does ff ls n farewell = quiet n over refl
-  said-does ff ls n wrong = quiet n over refl
-  said-does ff ls n (turn ps) = (refl, refl, owed-answer ps, refl)
+  said-does : (ff : Bool) (ls : List TurnLine) (raw : Bytes) (n : Next) (z : Said) → ComesTo (turnDeed z) n (theirSaid ff ls raw k st z)
+  said-does ff ls raw n unfinished = quiet n (theySay (theirTurn ff ls raw)) refl
+  said-does ff ls raw n farewell = quiet n over refl
+  said-does ff ls raw n wrong = quiet n over refl
+  said-does ff ls raw n (turn ps) = (refl, refl, owed-answer ps, refl)
 
   answered-does : (is : List ℕ) (n : Next) (z : Option (List Sign)) → ComesTo (answerDeed is z) n (theirAnswered is k st z)
   answered-does is n none = quiet n over refl
@@ -92,9 +92,10 @@ module _ (T : List Record) (a : Bool) (st : List ℕ) (k : Book) where
   read-does : (n : Theirs) (u : Bytes) → ComesTo (theirDeed n k u) (theySay n) (theirRead n k st u)
   read-does theirText u = text-does (theySay theirText) (isPrompt (trim u))
   read-does (theirSid c) u = sid-does c (theySay (theirSid c)) (readSid (trim u))
-  read-does (theirTurn ff ls) u =
-      let ls′ = ls ++ (readTurnLine (k .framed) (trim u) ∷ []) in
-      said-does ff ls′ (theySay (theirTurn ff ls)) (said ff ls′)
+  read-does (theirTurn ff ls raw) u =
+      let t = checked raw (readTurnLine (k .framed) (trim u)) in
+      let ls′ = ls ++ (t ∷ []) in
+      said-does ff ls′ (rawWith raw u t) (theySay (theirTurn ff ls raw)) (said ff ls′)
   read-does (theirAnswer is) u = answered-does is (theySay (theirAnswer is)) (readFs (levelInForce k) (length is) (trim u))
 
   -- x, y: the line's tests
@@ -250,12 +251,12 @@ module _ (T : List Record) (a : Bool) (st : List ℕ) (k : Book) (ds : List Deed
   idle h = λ last. (refl, h last)
 
   -- a line of the partner's turn, of its answer, our answer, and a transfer: z is what it says
-  turn-brings : (ff : Bool) (ls : List TurnLine) (z : Said) → Brings (stand (theirSaid ff ls k st z .course .next)) ds → Brings (bringing []) (turnDeed z ∷ ds)
-  turn-brings ff ls unfinished h = idle h
-  turn-brings ff ls farewell h = idle (ends h)
-  turn-brings ff ls wrong h = idle (ends h)
-  turn-brings ff ls (turn []) h = λ last. (refl, h [])
-  turn-brings ff ls (turn (p ∷ ps)) h = λ last. (refl, h)
+  turn-brings : (ff : Bool) (ls : List TurnLine) (raw : Bytes) (z : Said) → Brings (stand (theirSaid ff ls raw k st z .course .next)) ds → Brings (bringing []) (turnDeed z ∷ ds)
+  turn-brings ff ls raw unfinished h = idle h
+  turn-brings ff ls raw farewell h = idle (ends h)
+  turn-brings ff ls raw wrong h = idle (ends h)
+  turn-brings ff ls raw (turn []) h = λ last. (refl, h [])
+  turn-brings ff ls raw (turn (p ∷ ps)) h = λ last. (refl, h)
 
   answer-brings : (is : List ℕ) (z : Option (List Sign)) → Brings (stand (theirAnswered is k st z .course .next)) ds → Brings (bringing []) (answerDeed is z ∷ ds)
   answer-brings is none h = idle (ends h)
@@ -264,9 +265,10 @@ module _ (T : List Record) (a : Bool) (st : List ℕ) (k : Book) (ds : List Deed
   read-brings : (n : Theirs) (u : Bytes) → Brings (stand (theirRead n k st u .course .next)) ds → Brings (bringing []) (theirDeed n k u ∷ ds)
   read-brings theirText u h = idle (by-cond FreeTo (isPrompt (trim u)) stays stays h)
   read-brings (theirSid c) u h = idle (sid-free c (readSid (trim u)) h)
-  read-brings (theirTurn ff ls) u h =
-      let ls′ = ls ++ (readTurnLine (k .framed) (trim u) ∷ []) in
-      turn-brings ff ls′ (said ff ls′) h
+  read-brings (theirTurn ff ls raw) u h =
+      let t = checked raw (readTurnLine (k .framed) (trim u)) in
+      let ls′ = ls ++ (t ∷ []) in
+      turn-brings ff ls′ (rawWith raw u t) (said ff ls′) h
   read-brings (theirAnswer is) u h = answer-brings is (readFs (levelInForce k) (length is) (trim u)) h
 
   -- x, y: the line's tests

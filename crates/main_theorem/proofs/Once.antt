@@ -149,7 +149,7 @@ chosen-fit T md st fl = block-fit (sizeAt T) st 0 0 (candidates md st fl 0 T) (c
 abbrev pub SendsLine : Awaited → Memory → Type 0
 SendsLine (awaitsSid c) m = m .sending ≡ []
 SendsLine awaitsPrompt m = m .sending ≡ []
-SendsLine (awaitsTurn ff ps) m = Waiting (m .sending) (m .states)
+SendsLine (awaitsTurn ff ps raw) m = Waiting (m .sending) (m .states)
 SendsLine (awaitsAnswer is) m = (m .sending ≡ []) × Fit (m .states) is
 
 abbrev pub Sends : Phase → Memory → Type 0

@@ -14,7 +14,7 @@ use Rattle.grammar.specs.Answers.{Sign, accept, decline, defer, readFs, level0}
 use Rattle.grammar.specs.Transfers.{Content, readTransfer}
 use Rattle.mail.specs.Mail.{Record, Message}
 use Rattle.log.specs.Effects.{keptAs}
-use Rattle.log.specs.Log.{Event, Ours, ourGreeting, ourFirstPrompt, ourSidLine, ourTurn, ourAnswer, Theirs, theirText, theirSid, theirTurn, theirAnswer, Next, over, weSay, theySay, theirTransfer, ourTransfer, Log, Said, unfinished, farewell, wrong, turn, said, applied, Cut, notWhole, outOfTurn, unit, cutUnit, withAfterCr, logOpened, Book, levelInForce}
+use Rattle.log.specs.Log.{Event, Ours, ourGreeting, ourFirstPrompt, ourSidLine, ourTurn, ourAnswer, Theirs, theirText, theirSid, theirTurn, theirAnswer, Next, over, weSay, theySay, theirTransfer, ourTransfer, Log, Said, unfinished, farewell, wrong, turn, said, checked, applied, Cut, notWhole, outOfTurn, unit, cutUnit, withAfterCr, logOpened, Book, levelInForce}
 use Rattle.phase.specs.Phase.{stateWaiting, stateForwarded, stateDeclined}
 
 -- ---------------------------------------------------------------- what a whole unit does
@@ -60,7 +60,7 @@ ifLine u d = cond (leb (length u) lineLimit) (cond (isComment (trim u)) nothing 
 abbrev pub theirDeed : Theirs → Book → Bytes → Deed
 theirDeed theirText k u = nothing
 theirDeed (theirSid c) k u = nothing
-theirDeed (theirTurn ff ls) k u = turnDeed (said ff (ls ++ (readTurnLine (k .framed) (trim u) ∷ [])))
+theirDeed (theirTurn ff ls raw) k u = turnDeed (said ff (ls ++ (checked raw (readTurnLine (k .framed) (trim u)) ∷ [])))
 theirDeed (theirAnswer is) k u = answerDeed is (readFs (levelInForce k) (length is) (trim u))
 
 abbrev pub ourDeed : Ours → Bytes → Deed

@@ -24,7 +24,7 @@ use Rattle.session_memory.specs.declared.Say.{Say}
 use Rattle.session_memory.specs.Session.{Keep}
 use Rattle.session_memory.specs.Session.{Session}
 use Rattle.marking.specs.States.{markAll}
-use Rattle.line_effect.specs.Judge.{noMarks, judged, inPhase, toTransfer, nextAccepted, readerFor, judgeOf}
+use Rattle.line_effect.specs.Judge.{noMarks, judged, inPhase, toTransfer, nextAccepted, readerFor, lineSum, judgeOf}
 use Rattle.our_turn.specs.Turn.{speakOf}
 use Rattle.line_effect.specs.Judged.{Judged}
 use Rattle.pending.specs.Pending.{waits, overOf}
@@ -97,7 +97,7 @@ longer s b = withLine (withAfterCr false (withBytes (s .line .len + 1) (set (s .
 abbrev pub lineMoved : LineByte → Session → ℕ → Bytes → Bytes → Bytes → ℕ → Settled
 lineMoved dropped s b table known inbox store = settled 0 s table
 lineMoved ends s b table known inbox store =
-    settleOf s (judgeOf (trim (take (s .line .len) (s .line .bytes))) (s .now) (s .say) (s .keep) (s .reading .reader) table known inbox store) true table
+    settleOf s (judgeOf (trim (take (s .line .len) (s .line .bytes))) (lineSum (take (s .line .len) (s .line .bytes))) (s .now) (s .say) (s .keep) (s .reading .reader) table known inbox store) true table
 lineMoved grows s b table known inbox store = settled 0 (longer s b) table
 lineMoved overruns s b table known inbox store = settled (lineByteNumber overruns) (refusedFor (lineByteNumber overruns) s) table
 
