@@ -18,6 +18,7 @@ use Rattle.grammar.specs.Scan.{Scanned, goes, got, inBody, inData, inHea
 
 pub data Question : Type 0 where
   sid : Bytes → Question  -- a partner's first line
+  textLine : Bytes → Question  -- a line where the prompt is awaited
   turnLine : Bool → Bytes → Question  -- a line of a turn, in plain (false) or framed (true) mode
   proposed : List ℕ → Question  -- how many of the records with these announced sizes
   awaited : ℕ → Bytes → Question  -- a line where FS is awaited, to so many proposals
@@ -25,17 +26,16 @@ pub data Question : Type 0 where
   lineFrom : Bool → Bytes → Question  -- bytes where a line is awaited, after a CR (true) or not
   sent : Form → Bytes → Bytes → Question  -- a transfer as we write it: heading and data
   received : ℕ → Form → Bytes → Question  -- bytes of a transfer, read whole, and byte by byte with so much room
-  textLine : Bytes → Question  -- a line where the prompt is awaited
 
 pub data Answer : Type 0 where
   sidIs : ℕ → Bool → List ℕ → Answer  -- the number, the mode, the 27 levels
+  textIs : Bool → Bool → Answer  -- whether the line is ignored, and whether it is a prompt
   number : ℕ → Answer
   says : ℕ → TurnLine → Answer  -- the number, and what a line of a turn says
   signs : List Sign → Answer
   lineRead : LineRead → Answer
   bytes : Bytes → Answer
   heard : Option Content → Scanned → Answer
-  textIs : Bool → Bool → Answer  -- whether the line is ignored, and whether it is a prompt
 
 abbrev pub sidAnswer : Option (List ℕ) → Answer
 sidAnswer none = number (sidNumber none)
@@ -53,6 +53,7 @@ itself n = n
 
 abbrev pub answer : Question → Answer
 answer (sid ln) = sidAnswer (readSid (trim ln))
+answer (textLine ln) = textIs (isComment (trim ln)) (isPrompt (trim ln))
 answer (turnLine md ln) = lineAnswer (readTurnLine md (trim ln))
 answer (proposed sizes) = number (length (ourBlock itself 0 0 sizes))
 answer (awaited n ln) = fsAnswer (fsNumber level0 n (trim ln)) (readFs level0 n (trim ln))
@@ -60,7 +61,6 @@ answer (lineByteAt afterCr n b) = number (lineByteNumber (lineByte afterCr n b))
 answer (lineFrom afterCr bs) = lineRead (lineSteps afterCr [] bs)
 answer (sent f h x) = bytes (writeTransfer f h x)
 answer (received room f p) = heard (readTransfer f p) (scan room f p)
-answer (textLine ln) = textIs (isComment (trim ln)) (isPrompt (trim ln))
 
 pub record Example : Type 0 where
   pub asked : Question
