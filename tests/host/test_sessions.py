@@ -241,7 +241,7 @@ class Refusals(Sessions):
         return node
 
     def test_each(self):
-        "each number from 2 to 11 is said, nothing more is sent, and the node hangs up"
+        "each number from 2 to 11, and 13, is said, nothing more is sent, and the node hangs up"
         ours = Message(b"1_US", form="plain")
         self.refused(2, [b"x" * 257])
         self.refused(3, [], sid=b"Hello\r")
@@ -253,6 +253,7 @@ class Refusals(Sessions):
         self.refused(9, [b"FA P A B C 1_T 1\rF>\r", b"\x01\x04A\x000\x00\x02\x01A\x04\x00"], [b"FS +\r", b""], sid=FRAMED_SID)
         self.refused(10, [b"FB P A B C 1_T 1\rF>\r", b"A\rAB"], [b"FS +\r", b""], options=("--room", "1"))
         self.refused(11, [b"FF\rX"])
+        self.refused(13, [b"FF\r", b"FS +\r", b"FB P A B C 1_T 1\rF> 00\r"], [ours.proposal() + b"F>\r", ours.transfer(), b""], messages=[ours])
 
     def test_stands(self):
         "what was kept and marked before the refused byte stands, in the base too"
@@ -263,6 +264,23 @@ class Refusals(Sessions):
         node = self.refused(8, said, heard, messages=ours)
         self.assertEqual(node.states(), {b"0_US": FORWARDED, b"1_US": DECLINED})
         self.assertEqual((node.inbox(), b"2_T" in node.known()), ([good.row()], False))
+
+    def test_checksum(self):
+        "a block with its checksum marks what was sent; with one letter of a BID changed it marks nothing, and nothing of it is answered"
+        ours, theirs = Message(b"1_US", form="plain"), Message(b"1_T", b"theirs", form="plain")
+        end = b"F> %02x\r" % (-sum(theirs.proposal()) % 256)
+        changed = Message(b"1_U", b"theirs", form="plain").proposal()
+        node = self.refused(13, [b"FF\r", b"FS +\r", changed + end], [ours.proposal() + b"F>\r", ours.transfer(), b""], messages=[ours])
+        self.assertEqual((node.states(), node.inbox(), node.known()), ({b"1_US": WAITING}, [], {b"1_US"}))
+        self.assertIn("F> ", node.right("sessions").decode())
+        partner = self.called(node)
+        partner.says(theirs.proposal() + end)
+        partner.hears(b"FS +\r")
+        partner.says(theirs.transfer())
+        partner.hears(ours.proposal() + b"F>\r")
+        partner.says(b"FS -\r")
+        self.quits(partner)
+        self.assertEqual((node.states(), node.inbox()), ({b"1_US": DECLINED}, [theirs.row()]))
 
     def test_turn_too_early(self):
         "bytes that come while a long transfer of ours goes out are refused before the rest goes"
