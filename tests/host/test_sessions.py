@@ -331,7 +331,7 @@ class Drops(Sessions):
         began = time.monotonic()
         partner = self.called(self.node(), b"", "--timeout", "1")
         self.says_why(partner.ends_itself(), LINK_DROPPED, "silent")
-        self.assertTrue(0.9 < time.monotonic() - began < 5)
+        self.assertTrue(0.9 < time.monotonic() - began < LATE)
 
     def test_drop_after(self):
         "--drop-after counts the bytes of both directions"
@@ -373,7 +373,7 @@ class Shown(Sessions):
     def test_progress(self):
         "a long transfer shows progress, a short one doesn't"
         theirs = Message(b"1_T", b"x" * 3500)
-        partner = self.called(self.node(), FRAMED_SID, "--progress")
+        partner, began = self.called(self.node(), FRAMED_SID, "--progress"), time.monotonic()
         partner.says(theirs.proposal() + b"F>\r")
         partner.hears(b"FS +\r")
         for i in range(0, len(theirs.transfer()), 100):
@@ -383,9 +383,9 @@ class Shown(Sessions):
         partner.says(b"FQ\r")
         code, err = partner.ends()
         self.says_why((code, err), DONE)
-        self.assertRegex(err, r"receiving: \d+ bytes, \d{3,4} bytes/s\n")
+        self.assertRegex(err, r"receiving: \d+ bytes, \d{2,4} bytes/s\n")
         self.assertNotIn("sending:", err)
-        self.assertLess(err.count("receiving:"), 5)
+        self.assertLessEqual(err.count("receiving:"), time.monotonic() - began + 1)
 
     def test_list(self):
         "list shows both boxes, with every byte of a title told"
