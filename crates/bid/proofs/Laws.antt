@@ -1,24 +1,47 @@
--- BIDs compared byte by byte from a place on, a BID where it stands in an entry, and a BID among entries.
+-- Two bytes as one, BIDs compared from a place on, a BID where it stands in an entry, and a BID among entries.
 use mathlib.Core.Path.{_≡_, refl, sym, ap, _∙_}
-use mathlib.Core.Bool.{Bool, true, false, _&&_, _||_}
+use mathlib.Core.Bool.{Bool, true, false, not, _&&_, _||_}
 use mathlib.Core.List.{List, [], _∷_, _++_, append-nil}
 use Prim.Native.Nat.{ℕ, zero, suc, _+_, _-_, _*_, _/_, _<_, _≤_, min}
 use native.Mathlib.Omega.{arith}
 use native.Mathlib.Nat.{le-div-iff-mul-le, suc-mul, mul-le-mul-right}
 use native.Mathlib.Numerals.{add-one}
+use lib.Bits.{bitXor, xor-block, xor-comm, xor-self}
 use lib.Dec.{eqb, leb}
 use lib.ListN.{length, getD, take, drop, length-drop, take-append-drop, drop-of-length-le}
 use lib.Seq.{drop-cons, take-all, getD-take, getD-drop, length-take-le}
-use borrow.Author.Tests.{eq-eqb, ne-eqb, le-leb, lt-leb, leb-true, leb-false}
+use borrow.Author.Tests.{eq-eqb, ne-eqb, eqb-true, eqb-false, lt-leb, leb-true, leb-false, not-true, not-false}
 use Rattle.grammar.specs.Bytes.{Bytes}
-use Rattle.grammar.specs.Fields.{sameBid}
+use Rattle.grammar.specs.Fields.{upper, sameBid}
+use Rattle.grammar.specs.Bids.{AsOne, sameByte, capitalFirst, smallFirst}
+use Rattle.grammar.proofs.Bids.{as-one, bid-itself, bid-more, bid-length, bid-none}
 use Rattle.session.specs.Choices.{among}
-use Rattle.session.proofs.Bids.{bid-itself, bid-more, bid-length, bid-none}
 use Rattle.places.specs.Places.{bidMax}
 use Rattle.layout.specs.Layout.{byteAt, fieldIn, entryAt}
 use Rattle.layout.proofs.Places.{part-in, field-kept, field-skip}
 use Rattle.entries.specs.Decoded.{entriesFrom, entries}
 use Rattle.entries.proofs.Laws.{entries-more, entries-all, entries-end}
+
+-- ---------------------------------------------------------------- two bytes
+
+-- a capital and its small letter differ in one bit
+one-bit : (x : ℕ) → 65 ≤ x → x ≤ 90 → bitXor x (x + 32) ≡ 32
+one-bit x h k =
+    let r : ℕ = x - 64 in
+    let e : x ≡ 64 + r = omega arith in
+    ap (λ (y : ℕ). bitXor y (y + 32)) e
+    ∙ ap (bitXor (64 + r)) (let f : 64 + r + 32 ≡ 96 + r = omega arith in f)
+    ∙ xor-block 5 2 3 r r (omega arith) (omega arith)
+    ∙ ap (λ (y : ℕ). 32 + y) (xor-self r)
+
+-- bytes that differ, and not in that bit alone, are not one
+pub bytes-apart : (a b : ℕ) → (a ≡ b → ⊥) → (bitXor a b ≡ 32 → ⊥) → false ≡ eqb (upper a) (upper b)
+bytes-apart a b n m = sym (ne-eqb (upper a) (upper b) (λ e. go (as-one a b e)))
+  where
+    go : AsOne a b → ⊥
+    go (sameByte e) = n e
+    go (capitalFirst h k e) = m (ap (bitXor a) e ∙ one-bit a h k)
+    go (smallFirst h k e) = m (ap (λ (x : ℕ). bitXor x b) e ∙ xor-comm (b + 32) b ∙ one-bit b h k)
 
 -- ---------------------------------------------------------------- two BIDs
 
@@ -38,14 +61,15 @@ module _ (s b : Bytes) (from : ℕ) (h : from + length b ≤ length s) where
   sameOn i = sameBid (drop i there) (drop i b)
 
   module _ (i : ℕ) (k : i < length b) where
-    next : sameOn i ≡ (eqb (getD s (from + i) 0) (getD b i 0) && sameOn (i + 1))
+    next : sameOn i ≡ (eqb (upper (getD s (from + i) 0)) (upper (getD b i 0)) && sameOn (i + 1))
     next = rw (drop-cons there i 0 (rw there-length k), drop-cons b i 0 k, there-at i k, add-one i) (bid-more (getD s (from + i) 0) (getD b i 0) (drop (suc i) there) (drop (suc i) b))
 
-    pub same-more : getD s (from + i) 0 ≡ getD b i 0 → sameOn i ≡ sameOn (i + 1)
-    same-more e = next ∙ rw (eq-eqb _ _ e)
+    -- r: the bytes there are one
+    pub same-more : {r : Bool} → r ≡ eqb (upper (getD s (from + i) 0)) (upper (getD b i 0)) → not r ≡ false → sameOn i ≡ sameOn (i + 1)
+    same-more {r} e f = next ∙ rw (← e, not-false r f)
 
-    pub same-stop : (getD s (from + i) 0 ≡ getD b i 0 → ⊥) → false ≡ sameOn i
-    same-stop e = sym (next ∙ rw (ne-eqb _ _ e))
+    pub same-stop : {r : Bool} → r ≡ eqb (upper (getD s (from + i) 0)) (upper (getD b i 0)) → not r ≡ true → false ≡ sameOn i
+    same-stop {r} e f = sym (next ∙ rw (← e, not-true r f))
 
   pub same-end : (i : ℕ) → length b ≤ i → true ≡ sameOn i
   same-end i k = rw (drop-of-length-le there {i = i} (rw there-length k), drop-of-length-le b {i = i} k) (sym (bid-itself []))
@@ -54,19 +78,46 @@ module _ (s b : Bytes) (from : ℕ) (h : from + length b ≤ length s) where
 pub same-whole : (a b : Bytes) → length a ≡ length b → sameBid (take (length b) (drop 0 a)) b ≡ sameBid a b
 same-whole a b e = ap (λ (l : Bytes). sameBid l b) (take-all (length b) a (omega arith))
 
+-- ---------------------------------------------------------------- the length that a field says
+
+module _ (n l : ℕ) where
+  pub said-below : l < bidMax → eqb n l ≡ eqb (min bidMax n) l
+  said-below h = go (eqb n l) refl
+    where
+      go : (c : Bool) → eqb n l ≡ c → c ≡ eqb (min bidMax n) l
+      go true e = let z = eqb-true n l e in sym (eq-eqb (min bidMax n) l (omega arith))
+      go false e = let z = eqb-false n l e in sym (ne-eqb (min bidMax n) l (λ k. z (omega arith)))
+
+  pub said-longest : l ≡ bidMax → leb bidMax n ≡ eqb (min bidMax n) l
+  said-longest h = go (leb bidMax n) refl
+    where
+      go : (c : Bool) → leb bidMax n ≡ c → c ≡ eqb (min bidMax n) l
+      go true e = let z = leb-true bidMax n e in sym (eq-eqb (min bidMax n) l (omega arith))
+      go false e = let z = leb-false bidMax n e in sym (ne-eqb (min bidMax n) l (λ k. omega arith))
+
+  pub said-over : bidMax ≤ l → (l ≡ bidMax → ⊥) → false ≡ eqb (min bidMax n) l
+  said-over h k = sym (ne-eqb (min bidMax n) l (λ e. k (omega arith)))
+
 -- ---------------------------------------------------------------- a BID where it stands
 
-module _ (s : Bytes) (at : ℕ) (h : at + 1 + bidMax ≤ length s) (b : Bytes) {n : ℕ} (e : n ≡ min bidMax (byteAt s at)) where
-  there-is : fieldIn bidMax at s ≡ take n (drop (at + 1) s)
-  there-is = part-in s (at + 1) (min bidMax (byteAt s at)) (omega arith) ∙ ap (λ (k : ℕ). take k (drop (at + 1) s)) (sym e)
+-- n: the length that the field says; c: whether it is that of the BID
+module _ (s : Bytes) (at : ℕ) (h : at + 1 + bidMax ≤ length s) (b : Bytes) {n : ℕ} {c : Bool} (e : n ≡ byteAt s at) (f : c ≡ eqb (min bidMax n) (length b)) where
+  there-is : fieldIn bidMax at s ≡ take (min bidMax n) (drop (at + 1) s)
+  there-is = part-in s (at + 1) (min bidMax (byteAt s at)) (omega arith) ∙ ap (λ (k : ℕ). take (min bidMax k) (drop (at + 1) s)) (sym e)
 
-  pub at-other-length : (n ≡ length b → ⊥) → false ≡ sameBid (fieldIn bidMax at s) b
+  pub at-other-length : not c ≡ true → false ≡ sameBid (fieldIn bidMax at s) b
   at-other-length k =
       bid-length (fieldIn bidMax at s) b
-      (λ z. k (sym (length-take-le n (drop (at + 1) s) (rw (length-drop (at + 1) s) (omega arith))) ∙ sym (ap length there-is) ∙ z))
+      (λ z. eqb-false (min bidMax n) (length b) (sym f ∙ not-true c k) (sym (length-take-le (min bidMax n) (drop (at + 1) s) (rw (length-drop (at + 1) s) (omega arith))) ∙ sym (ap length there-is) ∙ z))
 
-  pub at-length : {r : Bool} → n ≡ length b → r ≡ sameBid (take (length b) (drop (at + 1) s)) b → r ≡ sameBid (fieldIn bidMax at s) b
-  at-length k f = f ∙ ap (λ (i : ℕ). sameBid (take i (drop (at + 1) s)) b) (sym k) ∙ ap (λ (l : Bytes). sameBid l b) (sym there-is)
+  is-length : not c ≡ false → min bidMax n ≡ length b
+  is-length k = eqb-true (min bidMax n) (length b) (sym f ∙ not-false c k)
+
+  pub room-there : not c ≡ false → at + 1 + length b ≤ length s
+  room-there k = let z = is-length k in omega arith
+
+  pub at-length : {r : Bool} → not c ≡ false → r ≡ sameBid (take (length b) (drop (at + 1) s)) b → r ≡ sameBid (fieldIn bidMax at s) b
+  at-length k g = g ∙ ap (λ (i : ℕ). sameBid (take i (drop (at + 1) s)) b) (sym (is-length k)) ∙ ap (λ (l : Bytes). sameBid l b) (sym there-is)
 
 -- ---------------------------------------------------------------- a BID among entries
 

@@ -2,6 +2,7 @@
 -- Portions and Spelling; the others carry them.
 pub mod Basics
 pub mod Fields
+pub mod Bids
 pub mod OurLines
 pub mod TransferBack
 pub mod AsRead
