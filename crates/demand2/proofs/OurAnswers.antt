@@ -24,7 +24,7 @@ use Rattle.demand2.proofs.Marks.{accepted-is}
 
 -- ---------------------------------------------------------------- the tests say what 01 says
 
-among-in : (b : Bytes) (xs : List Bytes) → among b xs ≡ true → Among b xs
+pub among-in : (b : Bytes) (xs : List Bytes) → among b xs ≡ true → Among b xs
 among-in b [] e = absurd (no-both false e refl)
 among-in b (x ∷ xs) e = go (sameBid x b) refl e (λ k. among-in b xs k)
   where
