@@ -1,26 +1,27 @@
 -- Two bytes as one, BIDs compared from a place on, a BID where it stands in an entry, and a BID among entries.
 use mathlib.Core.Path.{_≡_, refl, sym, ap, _∙_}
-use mathlib.Core.Bool.{Bool, true, false, not, _&&_, _||_}
-use mathlib.Core.List.{List, [], _∷_, _++_, append-nil}
-use Prim.Native.Nat.{ℕ, zero, suc, _+_, _-_, _*_, _/_, _<_, _≤_, min}
+use mathlib.Core.Bool.{Bool, true, false, cond, not, _&&_, _||_}
+use mathlib.Core.List.{[], append-nil}
+use Prim.Native.Nat.{ℕ, zero, suc, _+_, _-_, _*_, _/_, _%_, _<_, _≤_, min}
 use native.Mathlib.Omega.{arith}
-use native.Mathlib.Nat.{le-div-iff-mul-le, suc-mul, mul-le-mul-right}
+use native.Mathlib.Nat.{le-div-iff-mul-le, suc-mul}
 use native.Mathlib.Numerals.{add-one}
-use lib.Bits.{bitXor, xor-block, xor-comm, xor-self}
-use lib.Dec.{eqb, leb}
+use lib.Bits.{bitXor, xor-block, xor-comm, xor-self, xor-mod, xor-shr, xor-add-and, and-le-l, and-le-r}
+use lib.Dec.{eqb, leb, ltb}
 use lib.ListN.{length, getD, take, drop, length-drop, take-append-drop, drop-of-length-le}
 use lib.Seq.{drop-cons, take-all, getD-take, getD-drop, length-take-le}
-use borrow.Author.Tests.{eq-eqb, ne-eqb, eqb-true, eqb-false, lt-leb, leb-true, leb-false, not-true, not-false}
+use borrow.Author.Tests.{eq-eqb, ne-eqb, eqb-true, eqb-false, lt-leb, leb-true, leb-false, ltb-true, ltb-false, not-true, not-false}
 use Rattle.grammar.specs.Bytes.{Bytes}
 use Rattle.grammar.specs.Fields.{upper, sameBid}
 use Rattle.grammar.specs.Bids.{AsOne, sameByte, capitalFirst, smallFirst}
-use Rattle.grammar.proofs.Bids.{as-one, bid-itself, bid-more, bid-length, bid-none}
+use Rattle.grammar.proofs.Bids.{as-one, one-upper, bid-itself, bid-more, bid-length, bid-none}
 use Rattle.session.specs.Choices.{among}
 use Rattle.places.specs.Places.{bidMax}
 use Rattle.layout.specs.Layout.{byteAt, fieldIn, entryAt}
 use Rattle.layout.proofs.Places.{part-in, field-kept, field-skip}
 use Rattle.entries.specs.Decoded.{entriesFrom, entries}
 use Rattle.entries.proofs.Laws.{entries-more, entries-all, entries-end}
+use Rattle.bid.specs.Letter.{isLetter}
 
 -- ---------------------------------------------------------------- two bytes
 
@@ -42,6 +43,67 @@ bytes-apart a b n m = sym (ne-eqb (upper a) (upper b) (λ e. go (as-one a b e)))
     go (sameByte e) = n e
     go (capitalFirst h k e) = m (ap (bitXor a) e ∙ one-bit a h k)
     go (smallFirst h k e) = m (ap (λ (x : ℕ). bitXor x b) e ∙ xor-comm (b + 32) b ∙ one-bit b h k)
+
+-- bytes that differ in that bit alone
+module _ (a b : ℕ) (e : bitXor a b ≡ 32) where
+  same-low : a % 32 ≡ b % 32
+  same-low =
+      let x : bitXor (a % 32) (b % 32) ≡ 0 = sym (xor-mod a b 5) ∙ ap (λ (n : ℕ). n % 32) e in
+      omega (arith, x, xor-add-and (a % 32) (b % 32), and-le-l (a % 32) (b % 32), and-le-r (a % 32) (b % 32))
+
+  high : (p : ℕ) → a / 32 ≡ p → bitXor p (b / 32) ≡ 1
+  high p k = ap (λ (n : ℕ). bitXor n (b / 32)) (sym k) ∙ sym (xor-shr a b 5) ∙ ap (λ (n : ℕ). n / 32) e
+
+  -- the other of two neighbours
+  beside : (p : ℕ) → bitXor p (b / 32) ≡ 1 → (b / 32 + 1 ≡ p → ⊥) → b / 32 ≡ p + 1
+  beside p x n = go (eqb (b / 32 + 1) p) refl
+    where
+      go : (c : Bool) → eqb (b / 32 + 1) p ≡ c → b / 32 ≡ p + 1
+      go true k = absurd (n (eqb-true (b / 32 + 1) p k))
+      go false k = let z = eqb-false (b / 32 + 1) p k in omega (arith, x, xor-add-and p (b / 32), and-le-l p (b / 32), and-le-r p (b / 32))
+
+  below : (p : ℕ) → bitXor p (b / 32) ≡ 1 → (b / 32 ≡ p + 1 → ⊥) → b / 32 + 1 ≡ p
+  below p x n = go (eqb (b / 32) (p + 1)) refl
+    where
+      go : (c : Bool) → eqb (b / 32) (p + 1) ≡ c → b / 32 + 1 ≡ p
+      go true k = absurd (n (eqb-true (b / 32) (p + 1) k))
+      go false k = let z = eqb-false (b / 32) (p + 1) k in omega (arith, x, xor-add-and p (b / 32), and-le-l p (b / 32), and-le-r p (b / 32))
+
+  of-capital : 65 ≤ a → a ≤ 90 → AsOne a b
+  of-capital h k =
+      let x : bitXor 2 (b / 32) ≡ 1 = high 2 (omega arith) in
+      let q : b / 32 ≡ 3 = beside 2 x (λ z. let o : b / 32 ≡ 1 = omega arith in let w : 3 ≡ 1 = sym (ap (bitXor 2) o) ∙ x in omega arith) in
+      capitalFirst h k (omega (arith, q, same-low))
+
+  of-small : 97 ≤ a → a < 123 → AsOne a b
+  of-small h k =
+      let x : bitXor 3 (b / 32) ≡ 1 = high 3 (omega arith) in
+      let q : b / 32 + 1 ≡ 3 = below 3 x (λ z. let o : b / 32 ≡ 4 = omega arith in let w : 7 ≡ 1 = sym (ap (bitXor 3) o) ∙ x in omega arith) in
+      let f : a ≡ b + 32 = omega (arith, q, same-low) in
+      smallFirst (omega arith) (omega arith) f
+
+-- bytes that differ in that bit alone are one exactly if they are letters
+pub letter-decides : (a b : ℕ) → (a ≡ b → ⊥) → bitXor a b ≡ 32 → {r : Bool} → r ≡ isLetter a → r ≡ eqb (upper a) (upper b)
+letter-decides a b n e f = f ∙ go (ltb a 65) (ltb a 91) (ltb a 97) (ltb a 123) refl refl refl refl
+  where
+    one : AsOne a b → true ≡ eqb (upper a) (upper b)
+    one o = sym (eq-eqb (upper a) (upper b) (one-upper a b o))
+
+    two : ((65 ≤ a) → a ≤ 90 → ⊥) → ((97 ≤ a) → a ≤ 122 → ⊥) → false ≡ eqb (upper a) (upper b)
+    two h k = sym (ne-eqb (upper a) (upper b) (λ z. at (as-one a b z)))
+      where
+        at : AsOne a b → ⊥
+        at (sameByte z) = n z
+        at (capitalFirst l m z) = h l m
+        at (smallFirst l m z) = k (omega arith) (omega arith)
+
+    go : (c d x y : Bool) → ltb a 65 ≡ c → ltb a 91 ≡ d → ltb a 97 ≡ x → ltb a 123 ≡ y
+        → cond c false (cond d true (cond x false y)) ≡ eqb (upper a) (upper b)
+    go true d x y i j k l = let z = ltb-true a 65 i in two (λ o p. omega arith) (λ o p. omega arith)
+    go false true x y i j k l = one (of-capital a b e (ltb-false a 65 i) (let z = ltb-true a 91 j in omega arith))
+    go false false true y i j k l = let z = ltb-false a 91 j in let w = ltb-true a 97 k in two (λ o p. omega arith) (λ o p. omega arith)
+    go false false false true i j k l = one (of-small a b e (ltb-false a 97 k) (ltb-true a 123 l))
+    go false false false false i j k l = let z = ltb-false a 123 l in two (λ o p. omega arith) (λ o p. omega arith)
 
 -- ---------------------------------------------------------------- two BIDs
 
@@ -143,8 +205,16 @@ module _ (size at : ℕ) (f : at + 1 + bidMax ≤ size) (s : Bytes) where
           let z : ⊥ = omega arith in absurd z
       go false e = leb-false (i * size + size) (length s) e
 
-  pub entry-place : (i : ℕ) → i < length s / size → i * size + at + 1 + bidMax ≤ length s
-  entry-place i h = omega (arith, lies i h)
+  -- p: the place of the BID of entry i
+  pub entry-place : {p : ℕ} (i : ℕ) → p ≡ i * size + at → i < length s / size → p + 1 + bidMax ≤ length s
+  entry-place i q h = omega (arith, lies i h)
+
+  -- that of the next, which may lie past the end
+  pub next-place : {p : ℕ} (i : ℕ) → p ≡ i * size + at → p + size ≡ (i + 1) * size + at
+  next-place {p} i q = let k : (i + 1) * size ≡ i * size + size = ap (λ (n : ℕ). n * size) (add-one i) ∙ suc-mul i size in omega arith
+
+  pub place-bound : {p : ℕ} (i : ℕ) → p ≡ i * size + at → i < length s / size → p + size ≤ length s + size
+  place-bound i q h = omega (arith, lies i h)
 
   entry-bid : (i : ℕ) → i < length s / size → fieldIn bidMax at (entryAt size s i) ≡ fieldIn bidMax (i * size + at) s
   entry-bid i h =
@@ -179,11 +249,12 @@ module _ (size at : ℕ) (f : at + 1 + bidMax ≤ size) (s : Bytes) where
       step : amongFrom i ≡ (sameBid (fieldIn bidMax at (entryAt size s i)) bid || amongFrom (i + 1))
       step = ap (among bid) (entries-more (fieldIn bidMax at) size s i n k)
 
-      pub among-more : i < length s / size → false ≡ sameBid (fieldIn bidMax (i * size + at) s) bid → amongFrom i ≡ amongFrom (i + 1)
-      among-more h e = step ∙ rw (entry-bid i h, ← e)
+      -- p: the place of the entry's BID
+      pub among-more : {p : ℕ} → p ≡ i * size + at → i < length s / size → false ≡ sameBid (fieldIn bidMax p s) bid → amongFrom i ≡ amongFrom (i + 1)
+      among-more q h e = step ∙ rw (entry-bid i h, ← q, ← e)
 
-      pub among-found : i < length s / size → true ≡ sameBid (fieldIn bidMax (i * size + at) s) bid → true ≡ amongFrom i
-      among-found h e = sym (step ∙ rw (entry-bid i h, ← e))
+      pub among-found : {p : ℕ} → p ≡ i * size + at → i < length s / size → true ≡ sameBid (fieldIn bidMax p s) bid → true ≡ amongFrom i
+      among-found q h e = sym (step ∙ rw (entry-bid i h, ← q, ← e))
 
     -- entries past the end of the buffer
     none-from : (i m : ℕ) → length s / size ≤ i → among bid (entriesFrom (fieldIn bidMax at) size s i (suc m)) ≡ sameBid [] bid

@@ -9,11 +9,23 @@ ghost use Rattle.session.specs.Choices.{among};
 ghost use Rattle.places.specs.Places.{bidMax};
 ghost use Rattle.layout.specs.Layout.{fieldIn};
 ghost use Rattle.entries.specs.Decoded.{entries};
+ghost use Rattle.bid.specs.Letter.{isLetter};
 
 // The capital and the small form of a letter differ in this bit alone.
 const CASE: u8 = 0x20;
 
-// The two bytes are one: the same, or the capital and the small form of a letter.
+// A letter, in either case.
+fn is_letter(a: u8) -> bool
+    ensures { λ r. ⌜ r ≡ isLetter a ⌝ }
+{
+    match a {
+        b'A'..=b'Z' => true,
+        b'a'..=b'z' => true,
+        _ => false,
+    }
+}
+
+// The two bytes are one: the same, or the capital and the small form of a letter. Most bytes that differ are told apart by their bits.
 fn as_one(a: u8, b: u8) -> bool
     ensures { λ r. ⌜ r ≡ eqb (upper a) (upper b) ⌝ }
 {
@@ -23,7 +35,7 @@ fn as_one(a: u8, b: u8) -> bool
     if (a ^ b) != CASE {
         return false;
     }
-    byte::upper_of(a) == byte::upper_of(b)
+    is_letter(a)
 }
 
 // The bytes of s from a place on, as many as the BID has, are this BID.
@@ -91,10 +103,12 @@ pub fn has_bid(size: u8, s: &[u8], n: u16, at: u8, bid: &[u8]) -> bool
     let step = size as usize;
     let whole = at_most(n as usize, s.len() / step);
     let mut i = 0usize;
+    let mut place = at as usize;
     while i < whole {
-        if is_bid_at(s, i * step + (at as usize), bid) {
+        if is_bid_at(s, place, bid) {
             return true;
         }
+        place += step;
         i += 1;
     }
     // An entry past the end of the buffer is empty, and so is its BID.

@@ -125,7 +125,7 @@ letter a b h k e =
     let z : b - 32 ≡ a = omega arith in
     upper-low a (omega arith) ∙ sym z ∙ sym (upper-small b (omega arith) (omega arith))
 
-one-upper : (a b : ℕ) → AsOne a b → upper a ≡ upper b
+pub one-upper : (a b : ℕ) → AsOne a b → upper a ≡ upper b
 one-upper a b (sameByte e) = ap upper e
 one-upper a b (capitalFirst h k e) = letter a b h k e
 one-upper a b (smallFirst h k e) = sym (letter b a h k e)
