@@ -159,9 +159,7 @@ class Partner:
 
     @staticmethod
     def read_of(process, descriptor, read):
-        if not select.select([descriptor], [], [], PATIENCE)[0]:
-            ended = process.poll()
-            raise AssertionError("the node is silent" if ended is None else "the node has ended with %d and said %r" % (ended, process.stderr and process.stderr.read()))
+        assert select.select([descriptor], [], [], PATIENCE)[0], "the node is silent" + last_words(process)
         return read(descriptor, 65536)
 
     def says(self, data):
@@ -172,7 +170,7 @@ class Partner:
         """Exactly these bytes come next."""
         while len(self.early) < len(data) and data.startswith(self.early):
             more = self.read()
-            assert more, "the node hung up after %r, %r was due" % (self.early, data)
+            assert more, "the node hung up after %r, %r was due" % (self.early, data) + last_words(self.process)
             self.early += more
         assert self.early.startswith(data), "heard %r, %r was due" % (self.early[:200], data[:200])
         self.early = self.early[len(data):]
@@ -247,6 +245,14 @@ class Folder(unittest.TestCase):
             self.assertIn(word, said)
         for word in ("AddressSanitizer", "runtime error", "LeakSanitizer"):
             self.assertNotIn(word, said)
+
+
+def last_words(process):
+    """Of a node that has ended, or is about to."""
+    try:
+        return "; it ended with %d and said %r" % (process.wait(1), process.stderr and process.stderr.read())
+    except subprocess.TimeoutExpired:
+        return ""
 
 
 def next_line(process):

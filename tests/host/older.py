@@ -1,4 +1,4 @@
-"""An older host under these tests (FRINGEMOLE_HOST names its checkout): what it has never heard of is left out of its commands, so that a
+"""An older host under these tests (FRINGEMOLE_CHECKOUT names its checkout): what it has never heard of is left out of its commands, so that a
 test fails there by what the host does, not by a word that it doesn't know."""
 import os
 import pathlib
@@ -6,7 +6,7 @@ import re
 import sys
 
 ROOT = pathlib.Path(sys.argv[1])
-HOST = pathlib.Path(os.environ.get("FRINGEMOLE_HOST", ROOT))
+HOST = pathlib.Path(os.environ.get("FRINGEMOLE_CHECKOUT", ROOT))
 OLDER = HOST != ROOT
 
 
