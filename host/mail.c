@@ -206,10 +206,13 @@ bool base_each(struct base *base, enum box box, message_function *function, void
     return base_rows(base, base_prepare(base, sql), take_row, &taker);
 }
 
+#define EARLIER_WAITS \
+    "EXISTS (SELECT 1 FROM outbox AS first WHERE " SAME_BID("first.bid", "outbox.bid") " AND first.number < outbox.number AND first.state = 0)"
+
 bool base_waiting(struct base *base, message_function *function, void *context)
 {
     sqlite3_stmt *statement = base_prepare(base,
-        "SELECT number, state, size, 0, " FIELDS ", NULL FROM outbox WHERE number IN " CHOSEN " ORDER BY deferred, number");
+        "SELECT number, state, size, " EARLIER_WAITS ", " FIELDS ", NULL FROM outbox WHERE number IN " CHOSEN " ORDER BY deferred, number");
     struct taker taker = { function, context };
 
     if (statement)
