@@ -215,6 +215,10 @@ module _ (sm table titles names bodies known inbox store bs : Bytes) {b : Bool} 
       pub still-live : {h : Numbers} → Live h sm bs → Live h x bs
       still-live {h} l = subst (λ (y : Bytes). Live h y bs) (sym (kept .0)) l
 
+      -- the numbers loaded again
+      pub again-live : {h g : Numbers} → Live h sm bs → g ≡ numbersAt x → Live g x bs
+      again-live l e = let m = still-live l in record { size = m .size; numbers = e; going = m .going; some = m .some }
+
       pub still-sound : Sound (cs (loadOf sm) table inbox store) → Sound (cs (loadOf x) table inbox st)
       still-sound s = subst (λ (y : Bytes). Sound (cs (loadOf x) table inbox y)) (sym (kept .1)) (subst (λ (y : Bytes). Sound (cs (loadOf y) table inbox store)) (sym (kept .0)) s)
 

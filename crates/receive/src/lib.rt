@@ -119,5 +119,7 @@ pub fn receive<'a>(
     if byte_run::take(s, bytes, sm, store) {
         return reply(refusal::NONE, 0, bytes.len());
     }
-    take_all(s, bytes, sm, table, known, inbox, store)
+    // loaded again, so that bytes that are taken there don't pay for all of them
+    let all = numbers::load(sm);
+    take_all(all, bytes, sm, table, known, inbox, store)
 }

@@ -1,6 +1,6 @@
 -- The form test, the session's end, no bytes, bytes taken where the state stands, bytes taken by the whole state: each is a law.
 use borrow.Author.Tests.{not-true, not-false}
-use Rattle.receive.proofs.Laws.{octets-of, used-within, form-size, receive-bad, receive-sound, receive-over, receive-none, receive-live, receive-saved, receive-run, still-live, still-sound, still-saved}
+use Rattle.receive.proofs.Laws.{octets-of, used-within, form-size, receive-bad, receive-sound, receive-over, receive-none, receive-live, receive-saved, receive-run, still-live, again-live, still-sound, still-saved}
 use borrow.Author.Needs.{needs}
 use Rattle.receive.proofs.receive.Statement.{statement}
 use Rattle.receive.proofs.receive.Tie as tie
@@ -112,13 +112,21 @@ returns-4 c =
     let q = not-false _ (c .before .before .before .before .before .before .before .before .before .before .before .before .before .before .if1 .left) in
     receive-run (a .sm .now) (a .table .now) (a .titles .now) (a .names .now) (a .bodies .now) (a .known .now) (a .inbox .now) (a .store .now) (a .bytes .now) f q (c .before .before .before .before .before .before .before .before .before .before .before .before .load .ensures) (c .before .before .before .before .before .before .before .before .before .before .before .is-over .ensures) (c .before .before .before .before .before .before .before .before .before .before .if2 .left) (c .before .before .before .before .before .before .before .before .before .if3 .left) (c .before .before .before .before .before .before .take .result) (c .before .before .before .before .before .before .take .last .1 .1 .0) (c .before .before .before .before .before .before .take .last .1 .1 .1 .0) (c .before .before .before .before .before .before .take .ensures) (c .before .if4 .taken) (c .reply4 .ensures)
 
+load-requires-2 : tie.Need-load-requires-2
+load-requires-2 c κs =
+    let a = c .before .before .before .before .before .before .before .before .before .before .before .before .before .before .before .before .before .before .before .before .before .before .before .before .before .before .before .before .before .args in
+    let f = c .before .before .before .before .before .before .before .before .before .before .before .before .before .before .before .form .ensures in
+    let q = not-false _ (c .before .before .before .before .before .before .before .before .before .before .before .before .before .before .if1 .left) in
+    let v = receive-live (a .sm .now) (a .table .now) (a .titles .now) (a .names .now) (a .bodies .now) (a .known .now) (a .inbox .now) (a .store .now) (a .bytes .now) f q (c .before .before .before .before .before .before .before .before .before .before .before .before .load .ensures) (c .before .before .before .before .before .before .before .before .before .before .before .is-over .ensures) (c .before .before .before .before .before .before .before .before .before .before .if2 .left) (c .before .before .before .before .before .before .before .before .before .if3 .left) in
+    (still-live (a .sm .now) (a .table .now) (a .titles .now) (a .names .now) (a .bodies .now) (a .known .now) (a .inbox .now) (a .store .now) (a .bytes .now) f q (c .before .before .before .before .before .before .take .result) (c .before .before .before .before .before .before .take .last .1 .1 .0) (c .before .before .before .before .before .before .take .last .1 .1 .1 .0) (c .before .before .before .before .before .before .take .ensures) (c .before .if4 .left) v) .size
+
 take-all-requires : tie.Need-take-all-requires
 take-all-requires c κs =
-    let a = c .before .before .before .before .before .before .before .before .before .before .before .before .before .before .before .before .before .before .before .before .before .before .before .before .before .before .before .before .before .before .before .before .args in
-    let f = c .before .before .before .before .before .before .before .before .before .before .before .before .before .before .before .before .before .before .form .ensures in
-    let q = not-false _ (c .before .before .before .before .before .before .before .before .before .before .before .before .before .before .before .before .before .if1 .left) in
-    let v = receive-live (a .sm .now) (a .table .now) (a .titles .now) (a .names .now) (a .bodies .now) (a .known .now) (a .inbox .now) (a .store .now) (a .bytes .now) f q (c .before .before .before .before .before .before .before .before .before .before .before .before .before .before .before .load .ensures) (c .before .before .before .before .before .before .before .before .before .before .before .before .before .before .is-over .ensures) (c .before .before .before .before .before .before .before .before .before .before .before .before .before .if2 .left) (c .before .before .before .before .before .before .before .before .before .before .before .before .if3 .left) in
-    (still-live (a .sm .now) (a .table .now) (a .titles .now) (a .names .now) (a .bodies .now) (a .known .now) (a .inbox .now) (a .store .now) (a .bytes .now) f q (c .before .before .before .before .before .before .before .before .before .take .result) (c .before .before .before .before .before .before .before .before .before .take .last .1 .1 .0) (c .before .before .before .before .before .before .before .before .before .take .last .1 .1 .1 .0) (c .before .before .before .before .before .before .before .before .before .take .ensures) (c .before .before .before .before .if4 .left) v, still-sound (a .sm .now) (a .table .now) (a .titles .now) (a .names .now) (a .bodies .now) (a .known .now) (a .inbox .now) (a .store .now) (a .bytes .now) f q (c .before .before .before .before .before .before .before .before .before .take .result) (c .before .before .before .before .before .before .before .before .before .take .last .1 .1 .0) (c .before .before .before .before .before .before .before .before .before .take .last .1 .1 .1 .0) (c .before .before .before .before .before .before .before .before .before .take .ensures) (c .before .before .before .before .if4 .left) (receive-sound (a .sm .now) (a .table .now) (a .titles .now) (a .names .now) (a .bodies .now) (a .known .now) (a .inbox .now) (a .store .now) (a .bytes .now) f q (octets-of (a .sm .now) (λ i. (c .before .before .before .before .before .before .before .before .before .before .before .before .before .before .before .before .before .before .before .before .before .before .before .before .before .before .before .before .before .before .before .slice-known .given i) .fits)) (octets-of (a .table .now) (λ i. (c .before .before .before .before .before .before .before .before .before .before .before .before .before .before .before .before .before .before .before .before .before .before .before .before .before .before .before .before .before .before .slice-known2 .given i) .fits)) (octets-of (a .inbox .now) (λ i. (c .before .before .before .before .before .before .before .before .before .before .before .before .before .before .before .before .before .before .before .before .before .before .before .before .before .slice-known3 .given i) .fits)) (octets-of (a .store .now) (λ i. (c .before .before .before .before .before .before .before .before .before .before .before .before .before .before .before .before .before .before .before .before .before .before .before .before .slice-known4 .given i) .fits))))
+    let a = c .before .before .before .before .before .before .before .before .before .before .before .before .before .before .before .before .before .before .before .before .before .before .before .before .before .before .before .before .before .before .before .before .before .before .args in
+    let f = c .before .before .before .before .before .before .before .before .before .before .before .before .before .before .before .before .before .before .before .before .form .ensures in
+    let q = not-false _ (c .before .before .before .before .before .before .before .before .before .before .before .before .before .before .before .before .before .before .before .if1 .left) in
+    let v = receive-live (a .sm .now) (a .table .now) (a .titles .now) (a .names .now) (a .bodies .now) (a .known .now) (a .inbox .now) (a .store .now) (a .bytes .now) f q (c .before .before .before .before .before .before .before .before .before .before .before .before .before .before .before .before .before .load .ensures) (c .before .before .before .before .before .before .before .before .before .before .before .before .before .before .before .before .is-over .ensures) (c .before .before .before .before .before .before .before .before .before .before .before .before .before .before .before .if2 .left) (c .before .before .before .before .before .before .before .before .before .before .before .before .before .before .if3 .left) in
+    (again-live (a .sm .now) (a .table .now) (a .titles .now) (a .names .now) (a .bodies .now) (a .known .now) (a .inbox .now) (a .store .now) (a .bytes .now) f q (c .before .before .before .before .before .before .before .before .before .before .before .take .result) (c .before .before .before .before .before .before .before .before .before .before .before .take .last .1 .1 .0) (c .before .before .before .before .before .before .before .before .before .before .before .take .last .1 .1 .1 .0) (c .before .before .before .before .before .before .before .before .before .before .before .take .ensures) (c .before .before .before .before .before .before .if4 .left) v (c .before .before .before .before .load2 .ensures), still-sound (a .sm .now) (a .table .now) (a .titles .now) (a .names .now) (a .bodies .now) (a .known .now) (a .inbox .now) (a .store .now) (a .bytes .now) f q (c .before .before .before .before .before .before .before .before .before .before .before .take .result) (c .before .before .before .before .before .before .before .before .before .before .before .take .last .1 .1 .0) (c .before .before .before .before .before .before .before .before .before .before .before .take .last .1 .1 .1 .0) (c .before .before .before .before .before .before .before .before .before .before .before .take .ensures) (c .before .before .before .before .before .before .if4 .left) (receive-sound (a .sm .now) (a .table .now) (a .titles .now) (a .names .now) (a .bodies .now) (a .known .now) (a .inbox .now) (a .store .now) (a .bytes .now) f q (octets-of (a .sm .now) (λ i. (c .before .before .before .before .before .before .before .before .before .before .before .before .before .before .before .before .before .before .before .before .before .before .before .before .before .before .before .before .before .before .before .before .before .slice-known .given i) .fits)) (octets-of (a .table .now) (λ i. (c .before .before .before .before .before .before .before .before .before .before .before .before .before .before .before .before .before .before .before .before .before .before .before .before .before .before .before .before .before .before .before .before .slice-known2 .given i) .fits)) (octets-of (a .inbox .now) (λ i. (c .before .before .before .before .before .before .before .before .before .before .before .before .before .before .before .before .before .before .before .before .before .before .before .before .before .before .before .slice-known3 .given i) .fits)) (octets-of (a .store .now) (λ i. (c .before .before .before .before .before .before .before .before .before .before .before .before .before .before .before .before .before .before .before .before .before .before .before .before .before .before .slice-known4 .given i) .fits))))
 
 same-length-17 : tie.Need-same-length-17
 same-length-17 c = search needs
@@ -134,10 +142,10 @@ same-length-20 c = search needs
 
 returns-5 : tie.Need-returns-5
 returns-5 c =
-    let a = c .before .before .before .before .before .before .before .before .before .before .before .before .before .before .before .before .before .before .before .before .before .before .before .before .before .before .before .before .before .before .before .before .before .before .before .before .before .before .before .before .before .args in
-    let f = c .before .before .before .before .before .before .before .before .before .before .before .before .before .before .before .before .before .before .before .before .before .before .before .before .before .before .before .form .ensures in
-    let q = not-false _ (c .before .before .before .before .before .before .before .before .before .before .before .before .before .before .before .before .before .before .before .before .before .before .before .before .before .before .if1 .left) in
-    receive-saved (a .sm .now) (a .table .now) (a .titles .now) (a .names .now) (a .bodies .now) (a .known .now) (a .inbox .now) (a .store .now) (a .bytes .now) f q (c .before .before .before .before .before .before .before .before .before .before .before .before .before .before .before .before .before .before .before .before .before .before .before .before .load .ensures) (c .before .before .before .before .before .before .before .before .before .before .before .before .before .before .before .before .before .before .before .before .before .before .before .is-over .ensures) (c .before .before .before .before .before .before .before .before .before .before .before .before .before .before .before .before .before .before .before .before .before .before .if2 .left) (c .before .before .before .before .before .before .before .before .before .before .before .before .before .before .before .before .before .before .before .before .before .if3 .left) (still-saved (a .sm .now) (a .table .now) (a .titles .now) (a .names .now) (a .bodies .now) (a .known .now) (a .inbox .now) (a .store .now) (a .bytes .now) f q (c .before .before .before .before .before .before .before .before .before .before .before .before .before .before .before .before .before .before .take .result) (c .before .before .before .before .before .before .before .before .before .before .before .before .before .before .before .before .before .before .take .last .1 .1 .0) (c .before .before .before .before .before .before .before .before .before .before .before .before .before .before .before .before .before .before .take .last .1 .1 .1 .0) (c .before .before .before .before .before .before .before .before .before .before .before .before .before .before .before .before .before .before .take .ensures) (c .before .before .before .before .before .before .before .before .before .before .before .before .before .if4 .left) (c .before .before .before .before .before .before .before .before .take-all .ensures))
+    let a = c .before .before .before .before .before .before .before .before .before .before .before .before .before .before .before .before .before .before .before .before .before .before .before .before .before .before .before .before .before .before .before .before .before .before .before .before .before .before .before .before .before .before .before .args in
+    let f = c .before .before .before .before .before .before .before .before .before .before .before .before .before .before .before .before .before .before .before .before .before .before .before .before .before .before .before .before .before .form .ensures in
+    let q = not-false _ (c .before .before .before .before .before .before .before .before .before .before .before .before .before .before .before .before .before .before .before .before .before .before .before .before .before .before .before .before .if1 .left) in
+    receive-saved (a .sm .now) (a .table .now) (a .titles .now) (a .names .now) (a .bodies .now) (a .known .now) (a .inbox .now) (a .store .now) (a .bytes .now) f q (c .before .before .before .before .before .before .before .before .before .before .before .before .before .before .before .before .before .before .before .before .before .before .before .before .before .before .load .ensures) (c .before .before .before .before .before .before .before .before .before .before .before .before .before .before .before .before .before .before .before .before .before .before .before .before .before .is-over .ensures) (c .before .before .before .before .before .before .before .before .before .before .before .before .before .before .before .before .before .before .before .before .before .before .before .before .if2 .left) (c .before .before .before .before .before .before .before .before .before .before .before .before .before .before .before .before .before .before .before .before .before .before .before .if3 .left) (still-saved (a .sm .now) (a .table .now) (a .titles .now) (a .names .now) (a .bodies .now) (a .known .now) (a .inbox .now) (a .store .now) (a .bytes .now) f q (c .before .before .before .before .before .before .before .before .before .before .before .before .before .before .before .before .before .before .before .before .take .result) (c .before .before .before .before .before .before .before .before .before .before .before .before .before .before .before .before .before .before .before .before .take .last .1 .1 .0) (c .before .before .before .before .before .before .before .before .before .before .before .before .before .before .before .before .before .before .before .before .take .last .1 .1 .1 .0) (c .before .before .before .before .before .before .before .before .before .before .before .before .before .before .before .before .before .before .before .before .take .ensures) (c .before .before .before .before .before .before .before .before .before .before .before .before .before .before .before .if4 .left) (c .before .before .before .before .before .before .before .before .take-all .ensures))
 
 pub receive-spec : {M : Type 1} → statement M
 receive-spec =
@@ -171,6 +179,7 @@ receive-spec =
     same-length-15
     same-length-16
     returns-4
+    load-requires-2
     take-all-requires
     same-length-17
     same-length-18
