@@ -1,0 +1,56 @@
+-- The examples, proved as one statement over one list; and what the claim then says of some of them.
+use mathlib.Core.Path.{_≡_, refl, ap}
+use mathlib.Core.List.{[], map, _++_}
+use Prim.Native.Nat.{ℕ}
+use native.Mathlib.Omega.{arith}
+use Rattle.grammar.specs.Fields.{isCall, isAt, isBid, sameBid}
+use Rattle.places.specs.Places.{sessionLen}
+use Rattle.marking.specs.States.{statesOf}
+use Rattle.give.specs.declared.Reply.{Reply}
+use Rattle.open.specs.Opening.{openOf, sizesOk, knownOk, tableFault, placeOk, recordOk, numbersOk, fieldsOk, textsOk, headingOk, within}
+use Rattle.open_accepts.specs.Lending.{Lending}
+use Rattle.open_accepts.specs.Claim.{Opens}
+use Rattle.open_accepts.specs.Good.{Acceptable, FirstBad, Sound, called}
+use Rattle.open_accepts.specs.Examples.{examples, answered, expected, lent, holding, first, second, withoutRecords, ofWaitingOnly, atPlace0}
+use Rattle.open_accepts.proofs.Claim.{accepts-exactly}
+
+pub seen : map answered examples ≡ map expected examples
+unfolding openOf sizesOk knownOk tableFault placeOk recordOk numbersOk fieldsOk textsOk headingOk within isCall isAt isBid sameBid
+seen = refl
+
+-- an empty table and one record are good
+pub empty-good : Acceptable (lent called sessionLen [] [] 0)
+unfolding openOf sizesOk knownOk tableFault
+empty-good = accepts-exactly (lent called sessionLen [] [] 0) .accepts .0 refl
+
+pub one-good : Acceptable (holding first)
+unfolding openOf sizesOk knownOk tableFault placeOk recordOk numbersOk fieldsOk textsOk headingOk within isCall isAt isBid sameBid
+one-good = accepts-exactly (holding first) .accepts .0 refl
+
+-- and so is one that was forwarded
+pub settled-good : Acceptable (holding second)
+unfolding openOf sizesOk knownOk tableFault placeOk recordOk numbersOk fieldsOk textsOk headingOk within isCall isAt isBid sameBid
+settled-good = accepts-exactly (holding second) .accepts .0 refl
+
+-- of two records with one BID the later is the first bad one
+pub twin-bad : FirstBad (holding (first ++ (second ++ first))) 2
+unfolding openOf sizesOk knownOk tableFault placeOk recordOk numbersOk fieldsOk textsOk headingOk within isCall isAt isBid sameBid
+twin-bad = accepts-exactly (holding (first ++ (second ++ first))) .badRecord 2 (λ e. omega arith) .0 refl
+
+-- nothing is sound with role 2
+pub role-bad : Sound (lent 2 sessionLen [] [] 0) → ⊥
+unfolding openOf
+role-bad = accepts-exactly (lent 2 sessionLen [] [] 0) .badBefore .0 refl
+
+-- THE WRONG OPENS ARE REFUSED, each by one example
+pub not-without-records : ((L : Lending) → Opens L (withoutRecords L)) → ⊥
+not-without-records f = let z : _≡_ {A = ℕ} 1 0 = f (holding first) .accepts .1 one-good in omega arith
+
+pub not-of-waiting-only : ((L : Lending) → Opens L (ofWaitingOnly L)) → ⊥
+unfolding statesOf
+not-of-waiting-only f = let z : _≡_ {A = ℕ} 1 0 = f (holding second) .accepts .1 settled-good in omega arith
+
+pub not-at-place-0 : ((L : Lending) → Opens L (atPlace0 L)) → ⊥
+not-at-place-0 f =
+    let z : _≡_ {A = ℕ} 0 2 = ap (λ (r : Reply). r .place) (f (holding (first ++ (second ++ first))) .badRecord 2 (λ e. omega arith) .1 twin-bad) in
+    omega arith

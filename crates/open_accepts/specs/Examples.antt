@@ -1,0 +1,141 @@
+-- Opens that are accepted, and one of each kind that is refused, with their replies. That open gives these is computed (proofs/Examples), so that the
+-- claim can be seen not to be empty.
+use mathlib.Core.Bool.{Bool, cond}
+use mathlib.Core.List.{List, [], _∷_, _++_, map}
+use Prim.Native.Nat.{ℕ, _+_, _*_}
+use lib.Dec.{eqb}
+use lib.ListN.{length, replicate, set}
+use Rattle.grammar.specs.Bytes.{Bytes, SP, CTRLZ, all}
+use Rattle.grammar.specs.Ascii.{text}
+use Rattle.grammar.specs.Fields.{formNumber, plain, file}
+use Rattle.grammar.specs.Refusals.{badMemory, noPlace}
+use Rattle.phase.specs.Phase.{stateWaiting, stateForwarded, stateDeclined}
+use Rattle.places.specs.Places.{recordForm, recordType, recordFrom, recordAt, recordTo, recordBid, recordSizeAt, recordTitle, recordTitleLength, recordName, recordBodyLength, recordLen, entryLen, sessionLen, bidMax}
+use Rattle.layout.specs.Layout.{le2, le4, proposalOut, fieldOut}
+use Rattle.marking.specs.States.{statesOf}
+use Rattle.give.specs.Giving.{reply}
+use Rattle.give.specs.declared.Reply.{Reply}
+use Rattle.open.specs.Opening.{Opened}
+use Rattle.open_accepts.specs.Words.{point, atSign}
+use Rattle.open_accepts.specs.Lending.{Lending, openOn}
+use Rattle.open_accepts.specs.Good.{called, caller, letterP}
+
+-- ---------------------------------------------------------------- what is lent
+
+-- A record in these states, with this BID: a plain text with the first title and the first eight bytes of the body store.
+abbrev pub letter : ℕ → Bytes → Bytes
+letter state bid =
+    (state ∷ proposalOut (formNumber plain) letterP (text "F0ABC") (text "N0SUD.TST.FRA.EU") (text "F0XYZ") bid 160)
+    ++ (le4 0 ++ (5 ∷ (le4 0 ++ (0 ∷ (le4 0 ++ le2 8)))))
+
+abbrev pub first : Bytes
+first = letter stateWaiting (text "101_N0NOR")
+
+abbrev pub second : Bytes
+second = letter stateForwarded (text "102_N0NOR")
+
+abbrev pub third : Bytes
+third = letter stateDeclined (text "103_N0NOR")
+
+-- the first one's BID in small letters
+abbrev pub small : Bytes
+small = letter stateWaiting (text "101_n0nor")
+
+abbrev pub known : Bytes → Bytes
+known bid = fieldOut bidMax bid
+
+-- A title, a name, and a body store in which a 0x1A follows the first eight bytes.
+abbrev pub lent : ℕ → ℕ → Bytes → Bytes → ℕ → Lending
+lent role session table bids inbox =
+    record {
+      role = role;
+      session = replicate session 0;
+      table = table;
+      titles = text "Hello";
+      names = text "A.BIN";
+      bodies = text "Hi there" ++ (CTRLZ ∷ []);
+      known = bids;
+      inbox = replicate inbox 0;
+      store = [];
+    }
+
+-- All good, and only the table differs.
+abbrev pub holding : Bytes → Lending
+holding table = lent caller sessionLen table (known (text "7_F6FBB")) entryLen
+
+-- ---------------------------------------------------------------- the examples
+
+pub record Example : Type 0 where
+  pub lending : Lending
+  pub expected : Reply
+
+abbrev pub gets : Lending → Reply → Example
+gets L r = record { lending = L; expected = r }
+
+abbrev pub accepted : Reply
+accepted = reply 0 0 0
+
+abbrev pub badBefore : Reply
+badBefore = reply badMemory noPlace 0
+
+abbrev pub badAt : ℕ → Reply
+badAt place = reply badMemory place 0
+
+-- an empty table; one record; records in all three states; "BIDs are compared byte by byte"
+abbrev pub goodOnes : List Example
+goodOnes =
+    gets (lent called sessionLen [] [] 0) accepted ∷ gets (lent caller sessionLen [] [] 0) accepted ∷ gets (holding first) accepted
+    ∷ gets (holding (first ++ (second ++ third))) accepted ∷ gets (holding (first ++ small)) accepted ∷ []
+
+-- role; session memory too short; half a record; 65 records; half a known BID; a known BID with a space, one that is longer than its room; 65 inbox places
+abbrev pub badBeforeRecords : List Example
+badBeforeRecords =
+    gets (lent 2 sessionLen [] [] 0) badBefore ∷ gets (lent called 1023 [] [] 0) badBefore ∷ gets (lent called sessionLen (0 ∷ first) [] 0) badBefore
+    ∷ gets (lent called sessionLen (replicate (65 * recordLen) 0) [] 0) badBefore ∷ gets (lent called sessionLen [] (1 ∷ 65 ∷ []) 0) badBefore
+    ∷ gets (lent called sessionLen [] (known (text "A B")) 0) badBefore ∷ gets (lent called sessionLen [] (known (text "1234567890123")) 0) badBefore
+    ∷ gets (lent called sessionLen [] [] (65 * entryLen)) badBefore ∷ []
+
+-- One byte of a good record changed: state, form, type, from, at, to, BID, size, title, name and body, each out of its rule or out of its store.
+abbrev pub slips : List Bytes
+slips =
+    set first 0 3 ∷ set first recordForm 3 ∷ set first recordType SP ∷ set first recordFrom 0 ∷ set first recordFrom 7 ∷ set first (recordAt + 1) point
+    ∷ set first recordAt 39 ∷ set first (recordTo + 1) atSign ∷ set first (recordBid + 1) SP ∷ set first recordBid 13 ∷ set first (recordSizeAt + 2) 16
+    ∷ set first recordTitle 1 ∷ set first recordTitleLength 0 ∷ set first recordName 6 ∷ set first recordForm (formNumber file)
+    ∷ set first recordBodyLength 9 ∷ set first recordBodyLength 10 ∷ []
+
+abbrev pub badAlone : Bytes → Example
+badAlone table = gets (holding table) (badAt 0)
+
+-- behind a good one; two of one BID; the first of two bad ones
+abbrev pub badLater : List Example
+badLater =
+    gets (holding (second ++ set first recordForm 3)) (badAt 1) ∷ gets (holding (first ++ (second ++ first))) (badAt 2)
+    ∷ gets (holding (first ++ (set second 0 3 ++ set third 0 3))) (badAt 1) ∷ []
+
+abbrev pub examples : List Example
+examples = goodOnes ++ (badBeforeRecords ++ (map badAlone slips ++ badLater))
+
+abbrev pub answered : Example → Reply
+answered e = openOn (e .lending) .reply
+
+abbrev pub expected : Example → Reply
+expected e = e .expected
+
+-- ---------------------------------------------------------------- wrong opens
+
+-- Three that nothing said after an accepted open can refuse: one that refuses every table with a record, one that refuses every table with a record
+-- in state 1 or 2, one that reports place 0 for every bad record. The claim holds of none of them (proofs/Examples).
+abbrev pub refusing : Lending → Opened
+refusing L = record { reply = badAt 0; sm = L .session }
+
+abbrev pub withoutRecords : Lending → Opened
+withoutRecords L = cond (eqb (length (L .table)) 0) (openOn L) (refusing L)
+
+abbrev pub isWaiting : ℕ → Bool
+isWaiting s = eqb s stateWaiting
+
+abbrev pub ofWaitingOnly : Lending → Opened
+ofWaitingOnly L = cond (all isWaiting (statesOf (L .table))) (openOn L) (refusing L)
+
+abbrev pub atPlace0 : Lending → Opened
+atPlace0 L = record { reply = reply (openOn L .reply .answer) 0 0; sm = openOn L .sm }

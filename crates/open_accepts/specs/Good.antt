@@ -1,0 +1,98 @@
+-- When what open is called with is good: 01, "Open checks role (0 called, 1 caller), sizes and known BIDs first, then records in order; of two records
+-- with one BID the later is bad."
+use mathlib.Core.Path.{_≡_}
+use mathlib.Core.Logic.{_⊎_}
+use Prim.Native.Nat.{ℕ, _*_, _≤_, _<_}
+use lib.ListN.{length}
+use Rattle.grammar.specs.Bytes.{Bytes}
+use Rattle.grammar.specs.Fields.{formNumber}
+use Rattle.mail.specs.Mail.{Record}
+use Rattle.phase.specs.Phase.{stateWaiting, stateForwarded, stateDeclined}
+use Rattle.places.specs.Places.{recordForm, recordFrom, recordAt, recordTo, recordBid, recordTitle, recordTitleLength, recordName, recordNameLength, recordBody, recordBodyLength, recordLen, knownLen, entryLen, sessionLen}
+use Rattle.layout.specs.Layout.{byteAt, le2At, le4At}
+use Rattle.open_accepts.specs.Words.{Callsign, At, Bid, Field, Headed, Bodied, NeedsTitle, NeedsName, SameBid}
+use Rattle.open_accepts.specs.Lending.{Lending, recordsIn, recordIn, stateIn, bytesIn, knownIn, bidIn, knownBytesIn}
+
+-- ---------------------------------------------------------------- before the records
+
+-- "role (0 called, 1 caller)"
+abbrev pub called : ℕ
+called = 0
+
+abbrev pub caller : ℕ
+caller = 1
+
+abbrev pub IsRole : ℕ → Type 0
+IsRole r = (r ≡ called) ⊎ (r ≡ caller)
+
+-- A buffer of entries: "a limit above" is not passed, and it holds a whole number of them.
+pub record Entries (size most : ℕ) (s : Bytes) : Type 0 where
+  pub count : ℕ
+  pub whole : length s ≡ count * size
+  pub limit : count ≤ most
+
+-- All that open checks before the records.
+pub record Sound (L : Lending) : Type 0 where
+  pub role : IsRole (L .role)
+  -- "session memory hasn't its fixed size"
+  pub session : length (L .session) ≡ sessionLen
+  -- "0 to 64 records"
+  pub table : Entries recordLen 64 (L .table)
+  -- "Known BIDs: up to 1,024 .. one outside the BID rule below is a bad buffer"
+  pub known : Entries knownLen 1024 (L .known)
+  pub bids : (j : ℕ) → j < length (knownIn L) → Field Bid (byteAt (knownBytesIn L j) 0) (bidIn L j)
+  -- "Inbox: up to 64 messages"
+  pub inbox : Entries entryLen 64 (L .inbox)
+
+-- ---------------------------------------------------------------- a record
+
+-- the letters P and B
+abbrev pub letterP : ℕ
+letterP = 0x50
+
+abbrev pub letterB : ℕ
+letterB = 0x42
+
+-- "a type (P or B)"
+abbrev pub IsType : ℕ → Type 0
+IsType t = (t ≡ letterP) ⊎ (t ≡ letterB)
+
+-- "a state (0 waiting, 1 forwarded, 2 declined)"
+abbrev pub IsState : ℕ → Type 0
+IsState s = (s ≡ stateWaiting) ⊎ ((s ≡ stateForwarded) ⊎ (s ≡ stateDeclined))
+
+-- r, as read from the bytes c; s, its state.
+pub record GoodRecord (L : Lending) (s : ℕ) (c : Bytes) (r : Record) : Type 0 where
+  -- "a form (0 plain text, 1 packed message, 2 packed file)": the number there is that of the form read
+  pub form : byteAt c recordForm ≡ formNumber (r .form)
+  pub type : IsType (r .type)
+  pub state : IsState s
+  pub from : Field Callsign (byteAt c recordFrom) (r .from)
+  pub at : Field At (byteAt c recordAt) (r .at)
+  pub to : Field Callsign (byteAt c recordTo) (r .to)
+  pub bid : Field Bid (byteAt c recordBid) (r .bid)
+  -- "announced size 0 to 999,999"
+  pub size : r .size ≤ 999999
+  pub title : Headed (NeedsTitle (r .form)) (L .titles) (le4At c recordTitle) (byteAt c recordTitleLength) (r .title)
+  pub name : Headed (NeedsName (r .form)) (L .names) (le4At c recordName) (byteAt c recordNameLength) (r .name)
+  pub body : Bodied (r .form) (L .bodies) (le4At c recordBody) (le2At c recordBodyLength) (r .body)
+
+-- The record at place i, counted from 0.
+pub record GoodAt (L : Lending) (i : ℕ) : Type 0 where
+  pub good : GoodRecord L (stateIn L i) (bytesIn L i) (recordIn L i)
+  -- "of two records with one BID the later is bad"
+  pub new : (j : ℕ) → j < i → SameBid (recordIn L j .bid) (recordIn L i .bid) → ⊥
+
+-- ---------------------------------------------------------------- all of it
+
+-- Nothing is bad.
+pub record Acceptable (L : Lending) : Type 0 where
+  pub sound : Sound L
+  pub records : (i : ℕ) → i < length (recordsIn L) → GoodAt L i
+
+-- "place = first bad record, from 0"
+pub record FirstBad (L : Lending) (i : ℕ) : Type 0 where
+  pub sound : Sound L
+  pub there : i < length (recordsIn L)
+  pub bad : GoodAt L i → ⊥
+  pub before : (j : ℕ) → j < i → GoodAt L j

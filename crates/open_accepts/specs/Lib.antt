@@ -1,0 +1,7 @@
+-- WHEN OPEN ACCEPTS. Read Claim, then what it speaks of: Lending, what open is called with; Good, when that is good; Words, the fields of a
+-- record in 01's words. Examples: opens with their replies, computed, and wrong opens.
+pub mod Words
+pub mod Lending
+pub mod Good
+pub mod Claim
+pub mod Examples
