@@ -36,6 +36,7 @@ static const char help[] =
     "  --question TEXT      the question (\"Callsign : \")\n"
     "  --password FILE      and \"Password : \" with FILE's first line\n"
     "  --telnet             FF bytes are doubled on the wire\n"
+    "  --blank-offset       take blanks for zeros in a framed header's offset, as LinFBB sends it\n"
     "  --transcript[=FILE]  show both directions as they look on the air (FILE is added to)\n"
     "  --log FILE           add what is said to FILE instead of standard error\n"
     "  --progress           progress lines also where standard error is no terminal\n"
@@ -108,6 +109,7 @@ static const struct option table[] = {
     OPTION("--caller", FLAG, caller),
     OPTION("--called", FLAG, called),
     OPTION("--telnet", FLAG, telnet),
+    OPTION("--blank-offset", FLAG, blank_offset),
     OPTION("--once", FLAG, once),
     OPTION("--progress", FLAG, progress),
     OPTION("--login", TEXT, login),

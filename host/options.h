@@ -13,7 +13,7 @@ struct options {
     /* import, export */
     bool text, as_is, outbox;
     /* sessions */
-    bool caller, called, telnet, once, progress, flow, anyone;
+    bool caller, called, telnet, blank_offset, once, progress, flow, anyone;
     bool asks; /* no option: callers from outside must log in */
     const char *login, *question, *password, *transcript, *log, *from;
     long timeout, sid_limit, progress_limit, session_limit, linger, delay; /* seconds; 0: no limit */

@@ -3,7 +3,7 @@
 
 const char *refusal_words(unsigned number)
 {
-    static const char *const words[] = {
+    static const char *const words[FRINGEMOLE_LAST + 1] = {
         [FRINGEMOLE_OK] = "no refusal",
         [FRINGEMOLE_BAD_MEMORY] = "lent memory is not as the library left it",
         [FRINGEMOLE_LINE_TOO_LONG] = "the partner's line is over 256 bytes",
@@ -17,7 +17,8 @@ const char *refusal_words(unsigned number)
         [FRINGEMOLE_STORE_FULL] = "no room for the partner's message",
         [FRINGEMOLE_BYTES_WAIT] = "the partner sent while it was our turn",
         [FRINGEMOLE_ENDED] = "the session has ended",
+        [FRINGEMOLE_WRONG_BLOCK_SUM] = "the checksum of the partner's proposals is wrong",
     };
 
-    return number < sizeof words / sizeof words[0] ? words[number] : "a number that this host doesn't know";
+    return number <= FRINGEMOLE_LAST ? words[number] : "a number that this host doesn't know";
 }

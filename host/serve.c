@@ -49,7 +49,7 @@ static enum exit_code run_on(struct link *link, const struct options *options, u
     if (base && options->login && !login(link, options)) {
         code = LINK_DROPPED;
     } else if (base && find_partner(base, caller, &partner)) {
-        struct session_terms terms = { role, (size_t)options->room, part_all(&partner) };
+        struct session_terms terms = { role, (size_t)options->room, part_all(&partner), options->blank_offset };
         code = session_run(base, link, &terms);
     }
     bytes_free(&partner);

@@ -2,6 +2,7 @@
 #include "heard.h"
 #include "history.h"
 #include "lend.h"
+#include "offset.h"
 #include "refusal.h"
 
 #include <string.h>
@@ -23,6 +24,7 @@ struct session {
     struct passage passage;
     struct heard heard;     /* the partner's line under way */
     struct history history; /* the row that tells of it */
+    bool blank_offset;
 };
 
 /* How it ended, for the operator and for its row. */
@@ -60,10 +62,33 @@ static enum exit_code not_saved(struct session *session)
     return ended(session, "the base took no change", BAD_BASE);
 }
 
+/* Receives bytes of the partner, with zeros for the blanks of an offset. Outside transfers they go at once, else one by one. */
+static struct fringemole_reply receive_padded(const struct shelf *shelf, struct part bytes)
+{
+    struct fringemole_reply reply = { FRINGEMOLE_OK, 0, 0 };
+    size_t n = 0, count = 0;
+
+    /* Bytes are left over where a refusal or FQ ended the session. */
+    while (reply.count == n && reply.answer == FRINGEMOLE_OK && count < bytes.n) {
+        bool one = offset_may_begin(shelf->session);
+        uint8_t byte = offset_digit(shelf->session, bytes.at[count]);
+        n = one ? 1 : bytes.n - count;
+        reply = fringemole_receive_in(&shelf->lent, one ? &byte : bytes.at + count, n);
+        count += reply.count;
+    }
+    reply.count = count;
+    return reply;
+}
+
+static struct fringemole_reply receive(const struct session *session, struct part bytes)
+{
+    return session->blank_offset ? receive_padded(&session->shelf, bytes) : fringemole_receive_in(&session->shelf.lent, bytes.at, bytes.n);
+}
+
 /* Takes bytes of the partner. What changed is on the disk when it answers. */
 static enum exit_code take(struct session *session, struct part bytes, bool *over)
 {
-    struct fringemole_reply reply = fringemole_receive_in(&session->shelf.lent, bytes.at, bytes.n);
+    struct fringemole_reply reply = receive(session, bytes);
 
     *over = true;
     bytes.n = reply.count;
@@ -161,6 +186,7 @@ static enum exit_code run(struct session *session, const struct session_terms *t
         return BAD_BASE;
     session->passage.session = session->history.number;
     session->passage.partner = terms->partner;
+    session->blank_offset = terms->blank_offset;
     code = converse(session);
     if (!sum_up(session) || !close_row(session))
         return BAD_BASE;

@@ -10,6 +10,7 @@ struct session_terms {
     uint8_t role;        /* FRINGEMOLE_CALLED or _CALLER */
     size_t room;         /* for bodies that come in */
     struct part partner; /* its callsign; empty if nobody told */
+    bool blank_offset;   /* blanks in the offset of a framed header count as zeros */
 };
 
 /* Runs it to its end, on a base that is locked for a session. Gives DONE if it ended by FQ. */

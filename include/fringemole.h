@@ -93,11 +93,15 @@ enum { /* our role */
 
 /* ---- in session memory a host may read: */
 #define FRINGEMOLE_SESSION_PHASE 60      /* what is awaited, 1 byte: up to FRINGEMOLE_LAST_SID_PHASE the partner's SID */
+#define FRINGEMOLE_SESSION_PLACE 87      /* where FRINGEMOLE_TRANSFER_PHASE is awaited: what its next byte is, 1 byte; a digit of a framed offset, or
+                                          * the 00 after the last of them, at FRINGEMOLE_OFFSET_PLACE and nowhere else */
 #define FRINGEMOLE_SESSION_KEPT 66       /* how many messages of the inbox are kept, 1 byte; 0 after an accepted open */
 #define FRINGEMOLE_SESSION_BODY 96       /* body bytes so far of the message that is coming in, 4 bytes */
 #define FRINGEMOLE_SESSION_DEFERRED 160  /* a flag a record, 64 bytes: 1 if the partner has deferred it in this session */
-/* Bytes 116 to 159 and 920 to 1,023 of it are free: no call reads or writes them, but later versions will. */
+/* Bytes 117 to 159 and 920 to 1,023 of it are free: no call reads or writes them, but later versions will. */
 #define FRINGEMOLE_LAST_SID_PHASE 1
+#define FRINGEMOLE_TRANSFER_PHASE 5
+#define FRINGEMOLE_OFFSET_PLACE 6
 
 /* ---- the numbers given back */
 enum {
@@ -114,13 +118,16 @@ enum {
     FRINGEMOLE_BAD_CHECKSUM = 9,
     FRINGEMOLE_STORE_FULL = 10,     /* a body byte without room */
     FRINGEMOLE_BYTES_WAIT = 11,     /* a byte arrived while bytes wait for give */
-    FRINGEMOLE_ENDED = 12           /* receive on an ended session; nothing changed */
+    FRINGEMOLE_ENDED = 12,          /* receive on an ended session; nothing changed */
+    FRINGEMOLE_WRONG_BLOCK_SUM = 13, /* F> HH, and the sum of the block's proposal lines plus HH isn't 0 modulo 256 */
+    FRINGEMOLE_LAST = FRINGEMOLE_WRONG_BLOCK_SUM /* the greatest of these numbers, for arrays; later versions have greater ones */
 };
 
 /* The place with FRINGEMOLE_BAD_MEMORY where it is no record's: role, sizes or known BIDs; from receive and give, always. */
 #define FRINGEMOLE_NO_RECORD 255
 
-/* answer: one of the numbers; place: 0, but with answer 1; count: bytes consumed by receive (a refused one included), or given. */
+/* answer: one of the numbers; place: 0, but with answer 1; count: bytes consumed by receive (a refused one included), or given by give;
+ * from open always 0. */
 struct fringemole_reply {
     uint8_t answer;
     uint8_t place;

@@ -15,7 +15,7 @@
 
 static uint64_t seed = 0x46524E474D4F4C45u;
 static unsigned long session_number, call_number;
-static unsigned long calls, answers[FRINGEMOLE_ENDED + 1];
+static unsigned long calls, answers[FRINGEMOLE_LAST + 1];
 /* Calls of receive without bytes. */
 static unsigned long empties;
 
@@ -170,7 +170,7 @@ static void check_reply(struct fringemole_reply reply, size_t most)
 {
     calls++;
     call_number++;
-    must(reply.answer <= FRINGEMOLE_ENDED, "no such answer");
+    must(reply.answer <= FRINGEMOLE_LAST, "no such answer");
     answers[reply.answer]++;
     must(reply.place == (reply.answer == FRINGEMOLE_BAD_MEMORY ? FRINGEMOLE_NO_RECORD : 0), "a wrong place");
     must(reply.count <= most, "more bytes than there are");
@@ -240,7 +240,7 @@ static void scribble_number(uint8_t *session)
     if (once_in(3)) {
         put_number(session, at, at < BODY_BYTES ? 2 : 4, value);
     } else {
-        session[other] = small[below(sizeof small)];
+        session[once_in(16) ? BLOCK_SUM : other] = small[below(sizeof small)];
     }
 }
 
@@ -327,10 +327,10 @@ int main(int argc, char **argv)
     }
     printf("c: changed memory: seed 0x%llx, %lu sessions, %lu calls, %lu of them receive without bytes; answers",
         (unsigned long long)seed, sessions, calls, empties);
-    for (i = 0; i <= FRINGEMOLE_ENDED; i++) {
-        printf(" %lu: %lu%s", i, answers[i], i < FRINGEMOLE_ENDED ? "," : "\n");
+    for (i = 0; i <= FRINGEMOLE_LAST; i++) {
+        printf(" %lu: %lu%s", i, answers[i], i < FRINGEMOLE_LAST ? "," : "\n");
     }
-    for (i = 0; sessions >= 1000 && i <= FRINGEMOLE_ENDED; i++) {
+    for (i = 0; sessions >= 1000 && i <= FRINGEMOLE_LAST; i++) {
         if (answers[i] == 0) {
             puts("c: changed memory: a number never came");
             return 1;

@@ -16,7 +16,8 @@
 #define BODY_BYTES 96
 #define GIVEN 100
 #define USED 108
-#define FREE 116
+#define BLOCK_SUM 116
+#define FREE 117
 #define DEFERRED_FLAGS 160
 #define LAST_FREE 920
 
@@ -70,9 +71,23 @@ static void say_text(const char *line)
     say(line, strlen(line));
 }
 
+/* The end of the block whose lines stand from a place on: bare, with its checksum, or with a wrong one. */
+static void say_block_end(size_t from)
+{
+    uint8_t sum = 0;
+    char line[8];
+
+    for (; from < said_len; from++) {
+        sum = (uint8_t)(sum + said[from]);
+    }
+    sum = (uint8_t)((once_in(8) ? 1 : 0) - sum);
+    snprintf(line, sizeof line, once_in(2) ? "F> %02X\r" : "F> %02x\r", sum);
+    say_text(once_in(2) ? "F>\r" : line);
+}
+
 static void say_block(int framed)
 {
-    size_t i, count = once_in(20) ? 6 * below(2) : 1 + below(5);
+    size_t i, from = said_len, count = once_in(20) ? 6 * below(2) : 1 + below(5);
 
     for (i = 0; i < count; i++) {
         char line[80];
@@ -82,7 +97,7 @@ static void say_block(int framed)
         snprintf(line, sizeof line, "F%c P F6FBB FC1GHV.FRA ALL %u_%s %u\r", letter, bid, who, size);
         say_text(line);
     }
-    say_text("F>\r");
+    say_block_end(from);
 }
 
 static void say_transfer(int framed)

@@ -211,6 +211,34 @@ static void framed_exchange(void)
     take_back(&m);
 }
 
+/* A block with its checksum, and one with another letter in a BID: the record that was sent is forwarded by the one and not by the other. */
+static void block_sums(void)
+{
+    struct fringemole_memory m;
+    int right;
+
+    for (right = 0; right < 2; right++) {
+        m = memory_with(PLACES, ROOM);
+        puts(right ? "# a right checksum of a block" : "# a wrong checksum of a block");
+        one_record(&m, FRINGEMOLE_PLAIN_TEXT);
+        opens(&m, FRINGEMOLE_CALLER, FRINGEMOLE_OK, 0);
+        HEARS(&m, "[TST-1-F$]\r>\r");
+        SAYS(&m, "[NOD-1-BFH$]\rFB P F6FBB FC1GHV FC1MVP 1_F6FBB 2\rF>\r");
+        HEARS(&m, "FS +\r");
+        SAYS(&m, "HI\rAB\x1A\r");
+        /* The bytes of `FB P A B C 1_A 2` and its CR sum to 878; with 0x92 that is 1,024. */
+        if (right) {
+            HEARS(&m, "FB P A B C 1_A 2\r\nF> 92\r");
+            SAYS(&m, "FS +\r");
+        } else {
+            hears(&m, BYTES("FB P A B C 1_B 2\r\nF> 92\rmore"), FRINGEMOLE_WRONG_BLOCK_SUM, 24);
+            SAYS(&m, "");
+        }
+        stands("forwarded by a valid turn alone", m.table[FRINGEMOLE_RECORD_STATE] == right);
+        take_back(&m);
+    }
+}
+
 /* Refusals of each call. */
 static void refusals(void)
 {
@@ -240,6 +268,7 @@ int main(void)
     whole_session();
     plain_exchange();
     framed_exchange();
+    block_sums();
     refusals();
     printf("c: %u steps, 0 wrong\n", steps);
     return 0;

@@ -1,5 +1,5 @@
-/* Loaded before the C library (LD_PRELOAD): kills the process (SIGKILL) before its KILL_AT-th call that changes a file, so that a test can
- * try every such moment. */
+/* Loaded before the C library (LD_PRELOAD): kills the process (SIGKILL, or the signal KILL_BY) before its KILL_AT-th call that changes a file,
+ * so that a test can try every such moment. */
 #define _GNU_SOURCE
 #include <dlfcn.h>
 #include <signal.h>
@@ -10,10 +10,10 @@
 static void count(void)
 {
     static int calls;
-    const char *at = getenv("KILL_AT");
+    const char *at = getenv("KILL_AT"), *by = getenv("KILL_BY");
 
     if (at && ++calls == atoi(at))
-        kill(getpid(), SIGKILL);
+        kill(getpid(), by ? atoi(by) : SIGKILL);
 }
 
 #define COUNTED(answer, name, parameters, values) \

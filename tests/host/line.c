@@ -2,7 +2,8 @@
  *
  *   LINE_RATE=N        what was written leaves at N bytes a second (TIOCOUTQ), though the other end has it at once
  *   LINE_AX25=N        standard output is an AX.25 socket: packets of at most N bytes, and TIOCOUTQ tells the room that is left
- *   LINE_CARRIER=FILE  the line has carrier while FILE is there (TIOCMGET) */
+ *   LINE_CARRIER=FILE  the line has carrier while FILE is there (TIOCMGET)
+ *   LINE_UPTIME=N      the machine has been up for N seconds when the process starts, by its steady clock */
 #define _GNU_SOURCE
 #include <dlfcn.h>
 #include <errno.h>
@@ -17,9 +18,29 @@
 
 static double held, when;
 
+static double number(const char *name)
+{
+    const char *text = getenv(name);
+
+    return text ? atof(text) : 0;
+}
+
 static void *next(const char *name)
 {
     return dlsym(RTLD_NEXT, name);
+}
+
+int clock_gettime(clockid_t which, struct timespec *time)
+{
+    static time_t first;
+    int (*real)(clockid_t, struct timespec *) = (int (*)(clockid_t, struct timespec *))next("clock_gettime");
+    int done = real(which, time);
+
+    if (done == 0 && which == CLOCK_MONOTONIC && number("LINE_UPTIME") > 0) {
+        first = first ? first : time->tv_sec;
+        time->tv_sec += (time_t)number("LINE_UPTIME") - first;
+    }
+    return done;
 }
 
 static double now(void)
@@ -28,13 +49,6 @@ static double now(void)
 
     clock_gettime(CLOCK_MONOTONIC, &time);
     return (double)time.tv_sec + (double)time.tv_nsec / 1e9;
-}
-
-static double number(const char *name)
-{
-    const char *text = getenv(name);
-
-    return text ? atof(text) : 0;
 }
 
 /* What hasn't left, once `more` is added. */

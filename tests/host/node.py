@@ -13,10 +13,12 @@ import tempfile
 import time
 import unittest
 
-ROOT = pathlib.Path(sys.argv[1])
-PLAIN = ROOT / "target" / "host" / "fringemole"
-SANITIZED = ROOT / "target" / "host-sanitized" / "fringemole"
-PATIENCE = 20  # seconds until a test gives up waiting
+from older import HOST, OLDER, ROOT, UNKNOWN, without_unknown
+
+PLAIN = HOST / "target" / "host" / "fringemole"
+SANITIZED = HOST / "target" / "host-sanitized" / "fringemole"
+PATIENCE = int(os.environ.get("FRINGEMOLE_PATIENCE", "60"))  # seconds until a test gives up waiting
+LATE = PATIENCE / 2  # on a busy machine what a limit of a few seconds ends has ended by then
 
 DONE, FAILED, BAD_USAGE, BAD_BASE, BAD_PORT, LINK_DROPPED, REFUSED, BAD_FILE, NOT_ADMITTED = range(9)
 WAITING, FORWARDED, DECLINED, HELD = range(4)
@@ -75,7 +77,7 @@ class Node:
     def start(self, *words, **more):
         more.setdefault("stdin", subprocess.DEVNULL)
         more.setdefault("stdout", subprocess.PIPE)
-        self.started.append(subprocess.Popen([self.program, self.path] + list(words), stderr=subprocess.PIPE, **more))
+        self.started.append(subprocess.Popen([self.program, self.path] + without_unknown(words), stderr=subprocess.PIPE, **more))
         return self.started[-1]
 
     def run(self, *words, input=b""):
@@ -85,6 +87,8 @@ class Node:
         return process.returncode, out, err.decode(errors="replace")
 
     def right(self, *words, input=b""):
+        if words[0] in UNKNOWN:  # to an older host, where nothing can be done about it
+            return b""
         code, out, err = self.run(*words, input=input)
         assert code == DONE, (words, code, err)
         return out
@@ -138,11 +142,11 @@ class Partner:
         def write(data):
             into.write(data)
             into.flush()
-        return cls(process, lambda: cls.read_of(out, os.read), write, into.close)
+        return cls(process, lambda: cls.read_of(process, out, os.read), write, into.close)
 
     @classmethod
     def of_socket(cls, process, link):
-        return cls(process, lambda: cls.read_of(link.fileno(), lambda _, n: link.recv(n)), link.sendall, link.close)
+        return cls(process, lambda: cls.read_of(process, link.fileno(), lambda _, n: link.recv(n)), link.sendall, link.close)
 
     @classmethod
     def of_terminal(cls, process, master):
@@ -151,11 +155,11 @@ class Partner:
                 return os.read(descriptor, n)
             except OSError:  # the other side is closed
                 return b""
-        return cls(process, lambda: cls.read_of(master, read), lambda data: os.write(master, data), lambda: os.close(master))
+        return cls(process, lambda: cls.read_of(process, master, read), lambda data: os.write(master, data), lambda: os.close(master))
 
     @staticmethod
-    def read_of(descriptor, read):
-        assert select.select([descriptor], [], [], PATIENCE)[0], "the node is silent"
+    def read_of(process, descriptor, read):
+        assert select.select([descriptor], [], [], PATIENCE)[0], "the node is silent" + last_words(process)
         return read(descriptor, 65536)
 
     def says(self, data):
@@ -166,7 +170,7 @@ class Partner:
         """Exactly these bytes come next."""
         while len(self.early) < len(data) and data.startswith(self.early):
             more = self.read()
-            assert more, "the node hung up after %r, %r was due" % (self.early, data)
+            assert more, "the node hung up after %r, %r was due" % (self.early, data) + last_words(self.process)
             self.early += more
         assert self.early.startswith(data), "heard %r, %r was due" % (self.early[:200], data[:200])
         self.early = self.early[len(data):]
@@ -222,6 +226,17 @@ class Folder(unittest.TestCase):
         subprocess.run(["cc", "-shared", "-fPIC", "-o", made, ROOT / "tests" / "host" / (name + ".c"), "-ldl"], check=True)
         return str(made)
 
+    def traced(self, start):
+        """What `synced.c` noted of a process that `start` starts, with its settings and the descriptor to pass: a function, to call when it has ended."""
+        read, write = os.pipe()
+        start(env=dict(os.environ, LD_PRELOAD=self.shim("synced"), SYNCED_TO=str(write)), pass_fds=[write])
+        os.close(write)
+
+        def events():
+            with open(read, "rb") as noted:
+                return noted.read().decode()
+        return events
+
     def says_why(self, answer, code, *words):
         """A command ended with this code and said these words."""
         self.assertEqual(answer[0], code, answer)
@@ -230,6 +245,14 @@ class Folder(unittest.TestCase):
             self.assertIn(word, said)
         for word in ("AddressSanitizer", "runtime error", "LeakSanitizer"):
             self.assertNotIn(word, said)
+
+
+def last_words(process):
+    """Of a node that has ended, or is about to."""
+    try:
+        return "; it ended with %d and said %r" % (process.wait(1), process.stderr and process.stderr.read())
+    except subprocess.TimeoutExpired:
+        return ""
 
 
 def next_line(process):

@@ -1,14 +1,13 @@
-/* Loaded before the C library (LD_PRELOAD): writes to descriptor 9 a letter for each call that matters to what stands after a power cut, so
+/* Loaded before the C library (LD_PRELOAD): writes to descriptor SYNCED_TO a letter for each call that matters to what stands after a power cut, so
  * that a test can tell their order: P bytes written to a file of the base, S such a file synced, D a folder synced, W bytes on standard
  * output; E bytes written to a file that is exported, F that file synced, N its name given. The memory that SQLite shares between processes (BASE-shm) is made again after a cut and doesn't count. */
 #define _GNU_SOURCE
 #include <dlfcn.h>
 #include <stdio.h>
+#include <stdlib.h>
 #include <string.h>
 #include <sys/stat.h>
 #include <unistd.h>
-
-#define EVENTS 9
 
 typedef ssize_t write_function(int, const void *, size_t);
 typedef ssize_t place_function(int, const void *, size_t, off_t);
@@ -18,7 +17,8 @@ static void note(char letter)
 {
     write_function *real = (write_function *)dlsym(RTLD_NEXT, "write");
 
-    real(EVENTS, &letter, 1);
+    if (real(atoi(getenv("SYNCED_TO")), &letter, 1) != 1)
+        abort();
 }
 
 static int is_folder(int file)

@@ -1,5 +1,8 @@
 """The base, wrong ways to use it, and usage."""
+import fcntl
 import signal
+import struct
+import termios
 
 from node import *
 
@@ -174,7 +177,7 @@ class Usage(Folder):
         self.assertEqual((code, err), (DONE, ""))
         text = out.decode()
         for word in ("init", "import", "export", "list", "sessions", "release", "call", "listen", "stdio", "serial", "--caller", "--called", "--login", "--question",
-                     "--telnet", "--transcript", "--progress", "--timeout", "--room", "--once", "--drop-after", "--rtscts", "--log", "--sid-limit", "--progress-limit",
+                     "--telnet", "--blank-offset", "--transcript", "--progress", "--timeout", "--room", "--once", "--drop-after", "--rtscts", "--log", "--sid-limit", "--progress-limit",
                      "--least-rate", "--session-limit", "--login-limit", "--linger", "--delay", "--callers", "--from", "--anyone", "--password", "admit", "dismiss", "partners", "--call", "--partner", "--text", "--as-is", "--outbox"):
             self.assertIn("\n  " + word, text.replace(", --called", "\n  --called"))
         for number in range(9):
@@ -201,16 +204,23 @@ class Stopped(Folder):
 
     def test_export(self):
         "an export that is stopped leaves whole files, and no other"
-        node, out = self.node().add(*[Message(b"%04d" % i, b"x" * 3000) for i in range(400)]), self.folder / "out"
-        process = node.start("export", out, "--outbox")
-        while not out.exists() or len(list(out.glob("*.msg"))) < 3:
-            time.sleep(0.001)
-        process.send_signal(signal.SIGTERM)
-        said = process.communicate(timeout=PATIENCE)[1].decode()
-        self.says_why((process.returncode, said), -signal.SIGTERM, "ended by SIGTERM", " exported, 0 were there already")
-        names = [path.name for path in out.iterdir()]
-        self.assertTrue(3 <= len(names) < 400 and all(name.endswith(".msg") for name in names), names)
-        self.says_why(node.run("export", out, "--outbox"), DONE, "%d exported, %d were there already" % (400 - len(names), len(names)))
+        node, loaded = self.node(program=PLAIN).add(*[Message(b"%04d" % i, b"x" * 3000) for i in range(40)]), self.shim("killed")
+        for moment in (1, 30, 31, 32, 33, 34):
+            out = self.folder / ("out%d" % moment)
+            process = node.start("export", out, "--outbox", env=dict(os.environ, LD_PRELOAD=loaded, KILL_AT=str(moment), KILL_BY=str(int(signal.SIGTERM))))
+            said = process.communicate(timeout=PATIENCE)[1].decode()
+            self.says_why((process.returncode, said), -signal.SIGTERM, "ended by SIGTERM")
+            names = [path.name for path in out.iterdir()] if out.exists() else []
+            self.assertTrue(len(names) < 40 and all(name.endswith(".msg") for name in names), names)
+            self.assertTrue(moment == 1 or "%d exported, 0 were there already" % len(names) in said and names, said)
+            self.says_why(node.run("export", out, "--outbox"), DONE, "%d exported, %d were there already" % (40 - len(names), len(names)))
+
+    def taken(self, pipe):
+        """Somebody has read what was written into it."""
+        end = time.monotonic() + PATIENCE
+        while struct.unpack("i", fcntl.ioctl(pipe, termios.FIONREAD, bytes(4)))[0]:
+            self.assertLess(time.monotonic(), end)
+            time.sleep(0.01)
 
     def test_signals(self):
         "SIGINT and SIGTERM end every command that waits with a sentence, by the signal itself; a session's row tells of it"
@@ -225,7 +235,7 @@ class Stopped(Folder):
                 else:
                     process.stdin.write(Message(b"1_A").file())
                     process.stdin.flush()
-                    time.sleep(0.5)
+                    self.taken(process.stdin)
                 process.send_signal(getattr(signal, name))
                 process.wait(PATIENCE)
                 said = process.communicate()[1].decode()

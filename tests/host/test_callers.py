@@ -22,7 +22,8 @@ class Callers(Folder):
         return process, int(found.group(1))
 
     def connect(self, process, port):
-        link = socket.create_connection(("127.0.0.1", port))
+        link = socket.create_connection(("127.0.0.1", port), timeout=PATIENCE)
+        link.settimeout(None)
         self.addCleanup(link.close)
         partner = Partner.of_socket(process, link)
         partner.link = link
@@ -74,7 +75,7 @@ class Login(Callers):
         "whoever is no partner, or has a wrong password or none, gets the questions and after a delay the closing"
         node = self.guarded()
         node.right("admit", "F0NOP")
-        process, port = self.outside(node, "--delay", "1")
+        process, port = self.outside(node, "--delay", "5")
         tries = [(b".F0ABC\r", b"wrong\r"), (b".F0XXX\r", SECRET + b"\r"), (b"F0NOP\r", b"\r"), (b"\r", b"\r"), (b".F0ABC\r", SECRET + b" \r"), (b"'; --\r", b"x\r"),
                  (b".F0ABC\r", SECRET[:-1] + b"\r"), (SECRET + b"\r", b"F0ABC\r"), (b"F0ABC\r", b"\xff\xff\r")]
         began, partners = time.monotonic(), []
@@ -84,11 +85,10 @@ class Login(Callers):
             partners[-1].says(call)
             partners[-1].hears(b"Password : ")
             partners[-1].says(password + PLAIN_SID + b"FF\r")
-        self.assertLess(time.monotonic() - began, 1)
         for partner in partners:
             with self.subTest(partner.said):
                 self.closed(partner)
-        self.assertGreater(time.monotonic() - began, 0.9)
+        self.assertTrue(4.9 < time.monotonic() - began < 5 * len(tries))  # none waits for another
         said = self.stopped(process)
         self.assertEqual(said.count("turned away"), len(tries))
         self.assertNotIn("s3cret", said)
@@ -103,18 +103,18 @@ class Login(Callers):
 
     def test_too_long(self):
         "a line of login that doesn't end, and a login that takes too long"
-        process, port = self.outside(self.guarded(), "--delay", "0", "--sid-limit", "2")
+        process, port = self.outside(self.guarded(), "--delay", "0", "--sid-limit", "8")
         endless, idle = self.connect(process, port), self.connect(process, port)
         began = time.monotonic()
         endless.hears(b"Callsign : ")
         endless.says(b"x" * 5000)
         self.closed(endless)
-        self.assertLess(time.monotonic() - began, 1.5)
+        self.assertLess(time.monotonic() - began, 8)
         idle.hears(b"Callsign : ")
         idle.says(b".F0ABC\r")
         idle.hears(b"Password : ")
         self.closed(idle)
-        self.assertTrue(1.5 < time.monotonic() - began < 5)
+        self.assertTrue(7.5 < time.monotonic() - began < LATE)
 
     def test_doubled(self):
         "the dot before the callsign makes the port transparent, without it FF bytes are doubled, as on LinFBB's port"
@@ -200,12 +200,12 @@ class From(Callers):
     def test_stranger(self):
         "stdio --from with anybody else gives nothing but the end, after a delay"
         node = self.guarded()
-        began = time.monotonic()
-        partners = [node.stdio("--from", call, "--delay", "1") for call in ("F0XXX", "F0ABCD", "", "F0ABC-16", "' OR 1 --", "F0 ABC")]
-        for partner in partners:
-            partner.hears_end()
-            self.assertGreater(time.monotonic() - began, 0.9)
-            self.says_why(partner.ends(), NOT_ADMITTED, "turned away")
+        for calls in (("F0XXX",), ("F0ABCD", "", "F0ABC-16", "' OR 1 --", "F0 ABC")):
+            began = time.monotonic()
+            for partner in [node.stdio("--from", call, "--delay", "1") for call in calls]:
+                partner.hears_end()
+                self.assertGreater(time.monotonic() - began, 0.9)
+                self.says_why(partner.ends(), NOT_ADMITTED, "turned away")
         self.assertEqual(node.states(), {b"1_US": WAITING})
 
     def test_inetd(self):
@@ -227,11 +227,10 @@ class From(Callers):
 
     def test_radio(self):
         "an AX.25 socket without --from is not served"
-        shim = self.folder / "line.so"
-        subprocess.run(["cc", "-shared", "-fPIC", "-o", shim, ROOT / "tests" / "host" / "line.c", "-ldl"], check=True)
+        shim = self.shim("line")
         node = self.node(program=PLAIN)
         near, far = socket.socketpair(socket.AF_UNIX, socket.SOCK_SEQPACKET)
-        process = node.start("stdio", stdin=near, stdout=near, env=dict(os.environ, LD_PRELOAD=str(shim), LINE_AX25="256"))
+        process = node.start("stdio", stdin=near, stdout=near, env=dict(os.environ, LD_PRELOAD=shim, LINE_AX25="256"))
         near.close()
         Partner.of_socket(process, far).hears_end()
         self.assertEqual(process.wait(PATIENCE), BAD_USAGE)
@@ -269,7 +268,7 @@ class Base(Callers):
 class Kept(Callers):
     """A good caller gets in, whoever else is there."""
 
-    def good(self, process, port, within=15):
+    def good(self, process, port, within):
         began = time.monotonic()
         partner = self.connect(process, port)
         partner.hears(GREETING)
@@ -293,26 +292,26 @@ class Kept(Callers):
         "200 callers who say nothing keep nobody out"
         process, port = self.node(program=PLAIN).listen()
         idle = [self.connect(process, port) for _ in range(200)]
-        self.good(process, port, 10)
+        self.good(process, port, LATE)  # --sid-limit would take longer
         self.assertIn("make room", self.stopped(process))
         self.assertEqual(len(idle), 200)
 
     def test_comments(self):
         "one who sends `;` lines for ever, before a SID or after it, and one who sends single bytes"
-        process, port = self.node().listen("--progress-limit", "2", "--sid-limit", "4")
+        process, port = self.node().listen("--progress-limit", "2", "--sid-limit", "60")
         before, after, slow = [self.connect(process, port) for _ in range(3)]
         self.talks(before, b"; still here\r", 0.05)
-        self.good(process, port, 4)
+        self.good(process, port, LATE)
         for partner, data in ((after, b"; still here\r"), (slow, b"F")):
             partner.hears(GREETING)
             partner.says(PLAIN_SID)
             self.talks(partner, data, 0.2)
-        self.good(process, port, 10)
+        self.good(process, port, PATIENCE)
         self.assertIn("no progress", self.stopped(process))
 
     def test_talker(self):
         "one who talks on after a refusal, or at the end, has made room already"
-        process, port = self.node().listen("--linger", "15")
+        process, port = self.node().listen("--linger", "60")
         for last in (b"nonsense\r", b"FF\r"):
             partner = self.connect(process, port)
             partner.hears(GREETING)
@@ -320,7 +319,7 @@ class Kept(Callers):
             if last == b"FF\r":
                 partner.hears(b"FQ\r")
             self.talks(partner, b"and another thing\r", 0.05)
-        self.good(process, port, 5)
+        self.good(process, port, LATE)
         self.stopped(process)
 
     def test_in_turn(self):

@@ -5,9 +5,9 @@ from node import *
 class Embed(Folder):
     def test_example(self):
         "the example is under 60 lines, sends its message and keeps the partner's"
-        self.assertLess(len((ROOT / "host" / "embed.c").read_text().splitlines()), 60)
+        self.assertLess(len((HOST / "host" / "embed.c").read_text().splitlines()), 60)
         for folder in ("host", "host-sanitized"):
-            process = subprocess.Popen([ROOT / "target" / folder / "embed"], stdin=subprocess.PIPE, stdout=subprocess.PIPE, stderr=subprocess.PIPE)
+            process = subprocess.Popen([HOST / "target" / folder / "embed"], stdin=subprocess.PIPE, stdout=subprocess.PIPE, stderr=subprocess.PIPE)
             partner = Partner.of_process(process)
             theirs = Message(b"1_T", b"theirs\r", form="plain", title=b"From them")
             partner.hears(GREETING)
@@ -23,7 +23,7 @@ class Embed(Folder):
 
     def test_refusal(self):
         "the example ends with the library's number"
-        process = subprocess.Popen([ROOT / "target" / "host" / "embed"], stdin=subprocess.PIPE, stdout=subprocess.PIPE, stderr=subprocess.PIPE)
+        process = subprocess.Popen([HOST / "target" / "host" / "embed"], stdin=subprocess.PIPE, stdout=subprocess.PIPE, stderr=subprocess.PIPE)
         partner = Partner.of_process(process)
         partner.hears(GREETING)
         partner.says(b"Hello\r")

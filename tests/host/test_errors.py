@@ -64,13 +64,8 @@ class Exported(Folder):
     def test_synced(self):
         "a file is synced before it gets its name, and the folder before the command ends"
         node = self.node(program=PLAIN).add(*[Message(b"%d_A" % i) for i in range(3)])
-        read, write = os.pipe()
-        os.dup2(write, 9)
-        self.exports(node, DONE, "3 exported", pass_fds=[9], env=dict(os.environ, LD_PRELOAD=self.shim("synced")))
-        os.close(write)
-        os.close(9)
-        with open(read, "rb") as events:
-            self.assertRegex(events.read().decode(), r"^[PSD]*(E+FN){3}D[PSD]*$")
+        events = self.traced(lambda **more: self.exports(node, DONE, "3 exported", **more))
+        self.assertRegex(events(), r"^[PSD]*(E+FN){3}D[PSD]*$")
 
     def test_killed(self):
         "an export that is killed at any moment leaves no file half written under its name; the next makes it whole"
@@ -175,14 +170,14 @@ class Helpful(Folder):
 
     def test_no_library(self):
         "make without the library gets a sentence that helps"
-        done = subprocess.run(["make", "-s", "-C", ROOT / "host", "LIB=/nowhere", "BUILD=" + str(self.folder / "build"), "CFLAGS=-O0"], capture_output=True)
+        done = subprocess.run(["make", "-s", "-C", HOST / "host", "LIB=/nowhere", "BUILD=" + str(self.folder / "build"), "CFLAGS=-O0"], capture_output=True)
         self.assertNotEqual(done.returncode, 0)
         self.assertIn(b"There is no /nowhere/libfringemole.a: prove and build the library first (rt staticlib fringemole)", done.stderr)
 
     def test_depends(self):
         "a header that changed makes the objects that include it again, however the folder is spelled"
-        host, library = ROOT / "host", os.environ.get("FRINGEMOLE_LIB_DIR", str(ROOT / "target" / "staticlib"))
-        for build in (ROOT / "target" / "host", host / ".." / "target" / "host"):
+        host, library = HOST / "host", os.environ.get("FRINGEMOLE_LIB_DIR", str(ROOT / "target" / "staticlib"))
+        for build in (HOST / "target" / "host", host / ".." / "target" / "host"):
             told = subprocess.run(["make", "-n", "-C", host, "LIB=" + library, "BUILD=" + str(build), "-W", host / "heard.h"], capture_output=True, text=True)
             self.assertIn("session.c", told.stdout, told.stderr)
 

@@ -9,7 +9,7 @@ def options_of(text):
 class Installed(Folder):
     def install(self, *words):
         lib = os.environ.get("FRINGEMOLE_LIB_DIR") or ROOT / "target" / "staticlib"
-        subprocess.run(["make", "-s", "-C", ROOT / "host", "LIB=%s" % lib, "BUILD=%s" % PLAIN.parent, "DESTDIR=%s" % self.folder, *words, "install"], check=True)
+        subprocess.run(["make", "-s", "-C", HOST / "host", "LIB=%s" % lib, "BUILD=%s" % PLAIN.parent, "DESTDIR=%s" % self.folder, *words, "install"], check=True)
         return {str(path.relative_to(self.folder)): path for path in self.folder.rglob("*") if path.is_file()}
 
     def test_install(self):
@@ -23,7 +23,7 @@ class Installed(Folder):
 
     def test_page(self):
         "the manual page has each command, option and exit code of --help and no other, and groff takes it as it is"
-        page = (ROOT / "host" / "fringemole.1").read_text()
+        page = (HOST / "host" / "fringemole.1").read_text()
         plain = page.replace("\\-", "-")
         help_text = self.node().run("--help")[1].decode()
         self.assertEqual(options_of(plain), options_of(help_text))
@@ -32,7 +32,7 @@ class Installed(Folder):
         self.assertEqual(re.findall(r"^\.B (\d)$", page, re.M), re.findall(r"^  (\d)  ", help_text.split("Exit codes")[1], re.M))
         if not shutil.which("groff"):
             self.skipTest("groff is not installed")
-        done = subprocess.run(["groff", "-man", "-Tutf8", "-ww", "-z", ROOT / "host" / "fringemole.1"], stderr=subprocess.PIPE)
+        done = subprocess.run(["groff", "-man", "-Tutf8", "-ww", "-z", HOST / "host" / "fringemole.1"], stderr=subprocess.PIPE)
         self.assertEqual((done.returncode, done.stderr), (0, b""))
 
     def test_samples(self):

@@ -201,14 +201,9 @@ class Killed(Folder):
 
     def test_synced(self):
         "what a receive changed is synced to the disk before the next byte is given, and nothing is synced where nothing changed"
-        shim = self.shim("synced")
         node, theirs = self.node(program=PLAIN).add(Message(b"1_US"), Message(b"2_US")), Message(b"1_T", b"x")
-        read, write = os.pipe()
-        os.dup2(write, 9)
-        process = node.start("stdio", stdin=subprocess.PIPE, pass_fds=[9], env=dict(os.environ, LD_PRELOAD=shim))
-        os.close(write)
-        os.close(9)
-        partner = Partner.of_process(process)
+        events = self.traced(lambda **more: node.start("stdio", stdin=subprocess.PIPE, **more))
+        partner = Partner.of_process(node.started[-1])
         partner.hears(GREETING)
         partner.says(b"[TST-1-BF$]\r" + theirs.proposal() + b"F>\r")
         partner.hears(b"FS +\r")
@@ -219,8 +214,7 @@ class Killed(Folder):
         partner.says(b"FF\r")
         partner.hears(b"FQ\r")
         self.assertEqual(partner.ends()[0], DONE)
-        with open(read, "rb") as events:
-            order = events.read().decode()
+        order = events()
         # The session's row; greeting, FS; the message is kept, our block; the decline, our transfer; the mark, FQ; the row's end.
         self.assertRegex(order, r"^[PSD]*P+S[SD]*WWP+S+WP+S+WP+S+WP+S")
         # Before bytes go onto the link, all that was written is synced; the log of the base is a new file, so its folder was synced too.

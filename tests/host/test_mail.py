@@ -27,6 +27,10 @@ class Kept(Folder):
         node.ask("WITH n(i) AS (SELECT 1 UNION ALL SELECT i + 1 FROM n WHERE i < ?) INSERT INTO known (bid, type, seen)"
                  " SELECT CAST(printf('%s%d', ?, i) AS BLOB), ?, ? FROM n", count, name, kind, seen)
 
+    def import_others(self, node, name=b"other"):
+        """The same by an operator: more bulletins than a session is lent BIDs."""
+        node.add(*[Message(b"%s%d" % (name, i), kind=b"B") for i in range(1100)])
+
     def signs(self, node, *bids):
         partner = node.stdio()
         partner.hears(GREETING)
@@ -49,17 +53,17 @@ class Copies(Kept):
         texts = [self.plain(b"1_T", b"first"), self.plain(b"1_T", b"second"), self.plain(b"1_T", b"third"), self.plain(b"1_US", b"ours came back")]
         self.sends(node, texts[0])
         node.ask("UPDATE outbox SET state = 1")
-        for text in texts[1:]:
-            self.sends(node, self.plain(b"X%d" % texts.index(text), b"another"))
-            self.know_others(node, name="%d-" % texts.index(text))
+        for number, text in enumerate(texts[1:]):
+            self.sends(node, self.plain(b"X%d" % number, b"another"))
+            self.import_others(node, b"%d-" % number)
             self.sends(node, text)
+        listed = node.right("list").decode()
+        for state, count in (("kept", 1), ("copy 1", 1), ("copy 2", 1)):
+            self.assertEqual(len(re.findall(r"(?m)^ +\d+  %s +plain .* 1_T " % state, listed)), count, state)
         rows = node.ask("SELECT bid, copy, body FROM inbox WHERE bid IN (?, ?) ORDER BY number", b"1_T", b"1_US")
         self.assertEqual(rows, [(b"1_T", 0, b"first\r"), (b"1_T", 1, b"second\r"), (b"1_T", 2, b"third\r"), (b"1_US", 1, b"ours came back\r")])
         self.assertEqual(node.ask("SELECT count(*) FROM known WHERE bid IN (?, ?)", b"1_T", b"1_US"), [(2,)])
-        self.assertEqual(node.ask("SELECT body FROM outbox"), [(b"ours\r",)])
-        listed = node.right("list").decode()
-        for state, count in (("kept", 1), ("copy 1", 1), ("copy 2", 1)):
-            self.assertEqual(len(re.findall(r"(?m)^ +\d+  %s +plain .* 1_T " % state, listed)), count, listed)
+        self.assertEqual(node.ask("SELECT body FROM outbox WHERE bid = ?", b"1_US"), [(b"ours\r",)])
         node.right("export", self.folder / "out")
         for name, text in (("1_T", b"first"), ("1_T.copy-1", b"second"), ("1_T.copy-2", b"third"), ("1_US.copy-1", b"ours came back")):
             self.assertIn(b"\r\n\r\n" + text + b"\r\r\n/EX\r\n", (self.folder / "out" / (name + ".msg")).read_bytes())
@@ -92,6 +96,13 @@ class Copies(Kept):
 
 
 class Likeliest(Kept):
+    def test_sent_again(self):
+        "what a partner sent just before the link dropped is known when it sends it again, though 1,100 others were imported since"
+        node = self.node()
+        self.sends(node, Message(b"1_T", form="plain"))
+        self.import_others(node)
+        self.assertEqual(self.signs(node, b"1_T", b"NEW"), "-+")
+
     def test_just_came(self):
         "what came in the last session is known whatever else is; so is what came in the last session of another partner"
         node = self.node()

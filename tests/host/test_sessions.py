@@ -241,7 +241,7 @@ class Refusals(Sessions):
         return node
 
     def test_each(self):
-        "each number from 2 to 11 is said, nothing more is sent, and the node hangs up"
+        "each number from 2 to 11, and 13, is said, nothing more is sent, and the node hangs up"
         ours = Message(b"1_US", form="plain")
         self.refused(2, [b"x" * 257])
         self.refused(3, [], sid=b"Hello\r")
@@ -253,6 +253,7 @@ class Refusals(Sessions):
         self.refused(9, [b"FA P A B C 1_T 1\rF>\r", b"\x01\x04A\x000\x00\x02\x01A\x04\x00"], [b"FS +\r", b""], sid=FRAMED_SID)
         self.refused(10, [b"FB P A B C 1_T 1\rF>\r", b"A\rAB"], [b"FS +\r", b""], options=("--room", "1"))
         self.refused(11, [b"FF\rX"])
+        self.refused(13, [b"FF\r", b"FS +\r", b"FB P A B C 1_T 1\rF> 00\r"], [ours.proposal() + b"F>\r", ours.transfer(), b""], messages=[ours])
 
     def test_stands(self):
         "what was kept and marked before the refused byte stands, in the base too"
@@ -263,6 +264,23 @@ class Refusals(Sessions):
         node = self.refused(8, said, heard, messages=ours)
         self.assertEqual(node.states(), {b"0_US": FORWARDED, b"1_US": DECLINED})
         self.assertEqual((node.inbox(), b"2_T" in node.known()), ([good.row()], False))
+
+    def test_checksum(self):
+        "a block with its checksum marks what was sent; with one letter of a BID changed it marks nothing, and nothing of it is answered"
+        ours, theirs = Message(b"1_US", form="plain"), Message(b"1_T", b"theirs", form="plain")
+        end = b"F> %02x\r" % (-sum(theirs.proposal()) % 256)
+        changed = Message(b"1_U", b"theirs", form="plain").proposal()
+        node = self.refused(13, [b"FF\r", b"FS +\r", changed + end], [ours.proposal() + b"F>\r", ours.transfer(), b""], messages=[ours])
+        self.assertEqual((node.states(), node.inbox(), node.known()), ({b"1_US": WAITING}, [], {b"1_US"}))
+        self.assertIn("F> ", node.right("sessions").decode())
+        partner = self.called(node)
+        partner.says(theirs.proposal() + end)
+        partner.hears(b"FS +\r")
+        partner.says(theirs.transfer())
+        partner.hears(ours.proposal() + b"F>\r")
+        partner.says(b"FS -\r")
+        self.quits(partner)
+        self.assertEqual((node.states(), node.inbox()), ({b"1_US": DECLINED}, [theirs.row()]))
 
     def test_turn_too_early(self):
         "bytes that come while a long transfer of ours goes out are refused before the rest goes"
@@ -313,7 +331,7 @@ class Drops(Sessions):
         began = time.monotonic()
         partner = self.called(self.node(), b"", "--timeout", "1")
         self.says_why(partner.ends_itself(), LINK_DROPPED, "silent")
-        self.assertTrue(0.9 < time.monotonic() - began < 5)
+        self.assertTrue(0.9 < time.monotonic() - began < LATE)
 
     def test_drop_after(self):
         "--drop-after counts the bytes of both directions"
@@ -355,7 +373,7 @@ class Shown(Sessions):
     def test_progress(self):
         "a long transfer shows progress, a short one doesn't"
         theirs = Message(b"1_T", b"x" * 3500)
-        partner = self.called(self.node(), FRAMED_SID, "--progress")
+        partner, began = self.called(self.node(), FRAMED_SID, "--progress"), time.monotonic()
         partner.says(theirs.proposal() + b"F>\r")
         partner.hears(b"FS +\r")
         for i in range(0, len(theirs.transfer()), 100):
@@ -365,9 +383,9 @@ class Shown(Sessions):
         partner.says(b"FQ\r")
         code, err = partner.ends()
         self.says_why((code, err), DONE)
-        self.assertRegex(err, r"receiving: \d+ bytes, \d{3,4} bytes/s\n")
+        self.assertRegex(err, r"receiving: \d+ bytes, \d{2,4} bytes/s\n")
         self.assertNotIn("sending:", err)
-        self.assertLess(err.count("receiving:"), 5)
+        self.assertLessEqual(err.count("receiving:"), time.monotonic() - began + 1)
 
     def test_list(self):
         "list shows both boxes, with every byte of a title told"

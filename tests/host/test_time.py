@@ -30,13 +30,13 @@ class Timed(Folder):
         """After about two seconds, whatever they say."""
         time.sleep(1)
         for partner in partners:
-            self.ends_within(partner, 0, 4, why)
+            self.ends_within(partner, 0, why)
 
-    def ends_within(self, partner, least, most, *why):
+    def ends_within(self, partner, least, *why):
         began = time.monotonic()
         partner.process.wait(PATIENCE)
         took = time.monotonic() - began
-        self.assertTrue(least <= took <= most, "took %.1f s" % took)
+        self.assertTrue(least <= took <= LATE, "took %.1f s" % took)
         self.says_why((partner.process.returncode, partner.process.stderr.read().decode()), LINK_DROPPED, *why)
 
 
@@ -50,6 +50,7 @@ class Leaving(Timed):
         partner.hears(ours.proposal() + b"F>\r")
         partner.says(b"FS +\r")
         drain()
+        self.assertIsNone(partner.process.poll(), "the node has hung up")
         partner.says(b"FF\r")
         partner.hears(b"FQ\r")
 
@@ -57,7 +58,7 @@ class Leaving(Timed):
         "a message that leaves slowly over TCP, in more than --timeout, and a partner who answers then"
         ours = Message(b"1_US", bytes(range(256)) * 150)
         node = self.node().add(ours)
-        listener, port = node.listen("--once", "--timeout", "1")
+        listener, port = node.listen("--once", "--timeout", "3")
         link = socket.socket()
         link.setsockopt(socket.SOL_SOCKET, socket.SO_RCVBUF, 2048)
         link.connect(("127.0.0.1", port))
@@ -68,22 +69,19 @@ class Leaving(Timed):
             heard = partner.early
             partner.early = b""
             while len(heard) < len(whole):
-                heard += link.recv(1000)
-                time.sleep(0.08)
+                more = link.recv(1000)
+                self.assertTrue(more, "the node hung up after %d of %d bytes" % (len(heard), len(whole)))
+                heard += more
+                time.sleep(0.2)
             self.assertEqual(heard, whole)
-            self.assertGreater(time.monotonic() - began, 3)
+            self.assertGreater(time.monotonic() - began, 6)
         self.sent(node, partner, ours, drain)
         self.assertEqual(listener.wait(PATIENCE), DONE)
         listener.communicate()
         self.assertEqual(node.states(), {b"1_US": FORWARDED})
 
-    def shim(self):
-        path = self.folder / "line.so"
-        subprocess.run(["cc", "-shared", "-fPIC", "-o", path, ROOT / "tests" / "host" / "line.c", "-ldl"], check=True)
-        return path
-
     def line(self, **settings):
-        return dict(os.environ, LD_PRELOAD=str(self.shim()), **settings)
+        return dict(os.environ, LD_PRELOAD=self.shim("line"), **settings)
 
     def test_serial(self):
         "the same on a serial line whose driver still holds the bytes"
@@ -91,39 +89,52 @@ class Leaving(Timed):
         node = self.node(program=PLAIN).add(ours)
         master, slave = os.openpty()
         self.addCleanup(os.close, slave)
-        process = node.start("serial", os.ttyname(slave), "1200", "--timeout", "1", env=self.line(LINE_RATE="1500"))
-        self.assertIn("open at 1200 bit/s", next_line(process))
+        process = node.start("serial", os.ttyname(slave), "1200", "--timeout", "3", env=self.line(LINE_RATE="500"))
         partner = Partner.of_terminal(process, master)
 
         def drain():
             partner.hears(ours.transfer())
-            time.sleep(2.5)
+            time.sleep(6)
         self.sent(node, partner, ours, drain)
         self.assertEqual(partner.ends()[0], DONE)
         partner.hang_up()
 
+    def radio(self, node, packet, *options):
+        """A session on an AX.25 socket whose packets have so many bytes at most."""
+        near, far = socket.socketpair(socket.AF_UNIX, socket.SOCK_SEQPACKET)
+        process = node.start("stdio", *options, "--anyone", stdin=near, stdout=near, env=self.line(LINE_RATE="500", LINE_AX25=str(packet)))
+        near.close()
+        return Partner.of_socket(process, far)
+
     def test_ax25(self):
-        "the same on an AX.25 socket, which tells its room, takes 256 bytes at a time and loses what isn't read of a packet"
+        "the same on an AX.25 socket, which tells its room"
         ours = Message(b"1_US", bytes(3000))
         node = self.node(program=PLAIN).add(ours)
-        near, far = socket.socketpair(socket.AF_UNIX, socket.SOCK_SEQPACKET)
-        process = node.start("stdio", "--timeout", "1", "--login=N0DE", "--question=?", "--anyone", stdin=near, stdout=near,
-                             env=self.line(LINE_RATE="1500", LINE_AX25="256"))
-        near.close()
-        partner = Partner.of_socket(process, far)
+        partner = self.radio(node, 65536, "--timeout", "3")
+
+        def drain():
+            partner.hears(ours.transfer())
+            time.sleep(6)
+        self.sent(node, partner, ours, drain)
+        partner.hears_end()
+        partner.hang_up()
+        partner.process.wait(PATIENCE)
+        self.says_why((partner.process.returncode, partner.process.stderr.read().decode()), DONE, "ended by FQ")
+
+    def test_packets(self):
+        "an AX.25 socket takes 256 bytes at a time and loses what isn't read of a packet: each is read whole, and none is longer"
+        ours = Message(b"1_US", bytes(3000))
+        node = self.node(program=PLAIN).add(ours)
+        partner = self.radio(node, 256, "--login=N0DE", "--question=?")
         partner.says(b"who?" + FRAMED_SID)  # one packet
         partner.hears(b"N0DE\r" + GREETING)
         partner.says(b"FF\r")
         partner.hears(ours.proposal() + b"F>\r")
         partner.says(b"FS +\r")
         partner.hears(ours.transfer())
-        time.sleep(2.5)
         partner.says(b"FF\r")
         partner.hears(b"FQ\r")
         partner.hears_end()
-        partner.hang_up()
-        process.wait(PATIENCE)
-        self.says_why((process.returncode, process.stderr.read().decode()), DONE, "ended by FQ")
 
     def test_takes_nothing(self):
         "a partner who takes nothing of what we send is silent"
@@ -131,7 +142,46 @@ class Leaving(Timed):
         partner = self.called(node, FRAMED_SID + b"FF\r", "--timeout", "1")
         partner.hears(b"".join(Message(b"%d_US" % i, size=1).proposal() for i in range(5)) + b"F>\r")
         partner.says(b"FS +++++\r")
-        self.ends_within(partner, 0.5, 5, "the port takes no more bytes")
+        self.ends_within(partner, 0.5, "the port takes no more bytes")
+
+
+class Narrow(Timed):
+    """A machine whose `long` has 32 bits."""
+
+    def built(self):
+        """The host as such a machine would have it: each `long` of its own sources is an int."""
+        def narrow(line):
+            return re.sub(r"\blong long\b|\blong\b", lambda word: "int" if word[0] == "long" else word[0], line)
+        made = []
+        for source in (HOST / "host").glob("*.c"):
+            if source.stem == "embed":
+                continue
+            text = subprocess.run(["cc", "-E", "-std=c99", "-D_POSIX_C_SOURCE=200809L", "-I", ROOT / "include", source], check=True, stdout=subprocess.PIPE).stdout.decode()
+            ours, lines = False, []
+            for line in text.splitlines():
+                place = re.match(r'# \d+ "(.*)"', line)
+                ours = place[1].startswith(str(HOST)) if place else ours
+                lines.append(narrow(line) if ours and not place else line)
+            made.append(self.folder / (source.stem + ".i"))
+            made[-1].write_text("\n".join(lines) + "\n")
+        library = pathlib.Path(os.environ.get("FRINGEMOLE_LIB_DIR", ROOT / "target" / "staticlib")) / "libfringemole.a"
+        subprocess.run(["cc", "-std=gnu99", "-w", "-O0", "-fsanitize=signed-integer-overflow", "-fno-sanitize-recover=all", "-o", self.folder / "narrow", *made, library, "-lsqlite3"], check=True)
+        return self.folder / "narrow"
+
+    def test_uptime(self):
+        "with a `long` of 32 bits, on a machine that is up for 25 days, nobody is silent who isn't, and who is silent is hung up on"
+        node = self.node(program=self.built())
+        shim = dict(os.environ, LD_PRELOAD=self.shim("line"), LINE_UPTIME=str((1 << 31) // 1000 - 1))
+        for options, code, why in (((), DONE, "ended by FQ"), (("--timeout", "2"), LINK_DROPPED, "silent")):
+            partner = Partner.of_process(node.start("stdio", *options, stdin=subprocess.PIPE, env=shim))
+            partner.hears(GREETING)
+            partner.says(PLAIN_SID)
+            time.sleep(1.5)  # in which 2^31 milliseconds are over
+            if code == DONE:
+                partner.says(b"FF\r")
+                partner.hears(b"FQ\r")
+            partner.process.wait(PATIENCE)
+            self.says_why(partner.ends(), code, why)
 
 
 class Held(Timed):
@@ -149,11 +199,11 @@ class Held(Timed):
         "a called station that greets for ever, and one that never gets to its prompt"
         partner = self.node("sid").stdio("--caller", "--sid-limit", "1")
         self.talks(partner, b"; moment\r", 0.1)
-        self.ends_within(partner, 0.5, 4, "no SID")
+        self.ends_within(partner, 0.5, "no SID")
         partner = self.node("prompt").stdio("--caller", "--progress-limit", "1")
         partner.says(PLAIN_SID)
         self.talks(partner, b"a fine mailbox\r", 0.1)
-        self.ends_within(partner, 0.5, 4, "no progress")
+        self.ends_within(partner, 0.5, "no progress")
 
     def test_no_progress(self):
         "`;` lines and single bytes where a turn, an FS line or a transfer is due are no progress"
@@ -173,11 +223,11 @@ class Held(Timed):
         "a transfer at the least rate is progress, either way, though it takes longer than the limit"
         ours, theirs = Message(b"1_US", b"y" * 1500), Message(b"1_T", b"x" * 1500)
         node = self.node().add(ours)
-        partner = self.called(node, FRAMED_SID + theirs.proposal() + b"F>\r", "--progress-limit", "1", "--least-rate", "200")
+        partner = self.called(node, FRAMED_SID + theirs.proposal() + b"F>\r", "--progress-limit", "3", "--least-rate", "20")
         partner.hears(b"FS +\r")
         for at in range(0, len(theirs.transfer()), 50):
             partner.says(theirs.transfer()[at:at + 50])
-            time.sleep(0.1)
+            time.sleep(0.2)
         partner.hears(ours.proposal() + b"F>\r")
         partner.says(b"FS +\r")
         partner.hears(ours.transfer())
@@ -197,7 +247,7 @@ class Held(Timed):
             os.read(partner.process.stdout.fileno(), 4096)
             time.sleep(0.1)
         self.says_why((partner.process.wait(PATIENCE), partner.process.stderr.read().decode()), LINK_DROPPED, "no progress")
-        self.assertLess(time.monotonic() - end + PATIENCE, 6)
+        self.assertLess(time.monotonic() - end + PATIENCE, LATE)
 
     def test_session(self):
         "a partner whose every turn is valid and who never stops is stopped by --session-limit"
@@ -212,7 +262,8 @@ class Held(Timed):
                 time.sleep(0.05)
         except (OSError, AssertionError):
             pass
-        self.assertTrue(1.5 < time.monotonic() - began < 5 and copies > 5)
+        took = time.monotonic() - began
+        self.assertTrue(1.5 < took < LATE and copies > 2, "%d turns in %.1f s" % (copies, took))
         self.says_why((partner.process.wait(PATIENCE), partner.process.stderr.read().decode()), LINK_DROPPED, "takes too long")
 
     def test_after_the_end(self):
@@ -228,12 +279,13 @@ class Held(Timed):
                     self.talks(partner, b"and another thing\r", 0.05)
                     began = time.monotonic()
                     self.assertEqual(listener.wait(PATIENCE), code)
-                    self.assertLess(time.monotonic() - began, 4)
+                    self.assertLess(time.monotonic() - began, LATE)
                 listener.communicate()
 
     def test_login(self):
         "login keeps no more than --login-limit bytes and waits no longer than --sid-limit"
         with socket.create_server(("127.0.0.1", 0)) as server:
+            server.settimeout(PATIENCE)
             port = str(server.getsockname()[1])
             process = self.node("bytes").start("call", port, "--login=N0DE", "--login-limit", "1000")
             partner = Partner.of_socket(process, server.accept()[0])
@@ -243,4 +295,4 @@ class Held(Timed):
             process = self.node("time").start("call", port, "--login=N0DE", "--sid-limit", "1")
             partner = Partner.of_socket(process, server.accept()[0])
             self.talks(partner, b"banner ", 0.1)
-            self.ends_within(partner, 0.5, 4, "never asked", "--sid-limit")
+            self.ends_within(partner, 0.5, "never asked", "--sid-limit")

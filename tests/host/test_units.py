@@ -4,8 +4,8 @@ from node import *
 
 class Units(Folder):
     def test_units(self):
-        "callsigns, partners of a base and their passwords, the line under way"
-        host, objects, made = ROOT / "host", ROOT / "target" / "host-sanitized", self.folder / "units"
+        "callsigns, partners of a base and their passwords, the line under way, blanks of an offset"
+        host, objects, made = HOST / "host", HOST / "target" / "host-sanitized", self.folder / "units"
         library = pathlib.Path(os.environ.get("FRINGEMOLE_LIB_DIR", ROOT / "target" / "staticlib")) / "libfringemole.a"
         with_no_main = [path for path in objects.glob("*.o") if path.stem not in ("main", "embed")]
         subprocess.run(["cc", "-std=c99", "-g", "-fsanitize=address,undefined", "-fno-sanitize-recover=all", "-I", host, "-I", ROOT / "include",

@@ -1,6 +1,9 @@
-/* Parts of the host that no command shows whole: callsigns, partners of a base, the line under way. Ends with 0, or says what is wrong. */
+/* Parts of the host that no command shows whole: callsigns, partners of a base, the line under way, blanks of an offset. Ends with 0, or
+ * says what is wrong. */
 #include "call.h"
+#include "fringemole.h"
 #include "heard.h"
+#include "offset.h"
 #include "partner.h"
 
 #include <stdio.h>
@@ -95,6 +98,26 @@ static void lines(void)
     }
 }
 
+/* Of every phase, place and byte, one is changed. */
+static void offsets(void)
+{
+    uint8_t session[FRINGEMOLE_SESSION_SIZE];
+    unsigned phase, place, byte;
+
+    memset(session, ' ', sizeof session);
+    for (phase = 0; phase < 256; phase++) {
+        for (place = 0; place < 256; place++) {
+            session[FRINGEMOLE_SESSION_PHASE] = (uint8_t)phase;
+            session[FRINGEMOLE_SESSION_PLACE] = (uint8_t)place;
+            MUST(offset_may_begin(session) == (phase == FRINGEMOLE_TRANSFER_PHASE));
+            for (byte = 0; byte < 256; byte++) {
+                bool digit = phase == FRINGEMOLE_TRANSFER_PHASE && place == FRINGEMOLE_OFFSET_PLACE && byte == ' ';
+                MUST(offset_digit(session, (uint8_t)byte) == (digit ? '0' : byte));
+            }
+        }
+    }
+}
+
 int main(int words, char **word)
 {
     struct base *base = words == 2 ? base_open(word[1], CHANGING) : NULL;
@@ -104,6 +127,7 @@ int main(int words, char **word)
     partners(base);
     removed(base);
     lines();
+    offsets();
     base_close(base);
     return 0;
 }

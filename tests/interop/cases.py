@@ -5,10 +5,10 @@ import time
 import lzhuf
 from linfbb import FRAMED, HEAD
 from node import DECLINED, DONE, FORWARDED, LINK_DROPPED, NOT_ADMITTED, REFUSED, WAITING
-from relay import BARE, ZEROS, Drop
+from relay import Drop, other_letter
 from world import PASSWORD, WAYS, Failed, expect, kept_in, wire
 
-BLOCK_END = re.compile(rb"[\r\n]F> [0-9A-F]{2}\r\n?$")
+BLOCK_END = re.compile(rb"[\r\n]F> [0-9A-F]{2}(?=\r)")
 
 SHORT, LONG = [], []  # (name, function, arguments); the first argument names the mailbox
 
@@ -41,13 +41,13 @@ def refused(ended, number):
     expect(f"refusal ({ended.said.strip()})", (ended.code, ended.refusal()), (REFUSED, number))
 
 
-def inbox_is(node, mode, role, messages):
+def inbox_is(node, mode, telnet, messages):
     """The messages that LinFBB passed on, each once, with its own lines in front."""
     found = []
     for bid, title, body in node.inbox():
         text = lzhuf.unpack(body, 0) if mode == "framed" else body
-        # Where LinFBB calls it adds LF after each CR, inside plain transfers too: 01 keeps them, the one after the title's CR first.
-        if mode == "plain" and role == "called":
+        # On its telnet port LinFBB adds LF after each CR, inside plain transfers too: 01 keeps them, the one after the title's CR first.
+        if mode == "plain" and telnet:
             expect(f"first byte of {bid}", text[:1], b"\n")
             text = text[1:]
         found.append((bid, title, HEAD.sub(b"", text, count=1).replace(b"\r\n", b"\r")))
@@ -223,57 +223,108 @@ for _mode, _role in WAYS:
         LONG.append((f"{_mode}, {_role}: link dropped at {_step}/{STEPS} of our bytes", dropped_at, (_mode, _role, _step)))
 
 
-# ---- where LinFBB leaves 01 (docs/INTEROP.md)
+# ---- its mail comes in
+
+BLANKS = "--blank-offset"
+
 
 def for_us(world, mode, **fields):
     """Mail for our node, as LinFBB's other partner brings it in."""
     return world.message(mode, at=b"N0DE.TST.FRA.EU", to=b"N0DE", **fields)
 
 
-@case("its block ends with F> HH: refusal 5, nothing kept, nothing lost")
-def checksum_of_the_block(world, mode, role):
-    outgoing = world.message(mode)
-    node = world.node(outgoing)
-    with world.box(mode).holding(for_us(world, mode)):
-        ended, link = world.session(mode, role, node)
-    refused(ended, 5)
-    expect("its last line", bool(BLOCK_END.search(link.heard["peer"])), True)
-    expect("inbox", node.inbox(), [])
-    # As caller we had sent our mail, but `F> HH` ends no valid turn.
-    states_of(node, [outgoing], WAITING)
-    world.fetch(mode)
-    done(world.session(mode, role, node))
-    states_of(node, [outgoing], DECLINED if role == "caller" else FORWARDED)
-    at_linfbb(world, mode, [outgoing])
-
-
 def incoming_mail(world, mode, count):
     return [for_us(world, mode, title=b"for us %d" % n, text=b"t\xe9xt %d\r" % n * (n + 1)) for n in range(count)]
 
 
-def edits_for(mode):
-    """What the link does so that all that LinFBB says is 01's."""
-    return [BARE] if mode == "plain" else [BARE, ZEROS]
+def options_for(mode):
+    """What the host needs to take LinFBB's mail in this mode."""
+    return [BLANKS] if mode == "framed" else []
 
 
-@case("with F> HH made bare by the link, the blank-padded offset gets 8", *FRAMED_WAYS)
-def blank_offset(world, mode, role):
-    node = world.node()
-    with world.box(mode).holding(for_us(world, mode)):
-        ended, link = world.session(mode, role, node, edits=[BARE])
-    refused(ended, 8)
-    expect("a header with blanks came", b"A title\0     0\0" in link.heard["peer"], True)
-    expect("inbox", node.inbox(), [])
+def kept_as_sent(node, mode, heard):
+    """Each message of the inbox stands on the link byte for byte; framed, as LinFBB writes it: six bytes of offset, blocks of 250."""
+    for bid, title, body in node.inbox():
+        sent = title + b"\r" + body + b"\x1a\r"
+        if mode == "framed":
+            blocks = [body[at:at + 250] for at in range(0, len(body), 250)]
+            sent = bytes([1, len(title) + 8]) + title + b"\0     0\0"
+            sent += b"".join(bytes([2, len(block)]) + block for block in blocks) + bytes([4, -sum(body) % 256])
+        expect(f"{bid} on the link", heard.count(sent), 1)
 
 
-@case("with F> HH (framed: and the offset) edited by the link, mail goes both ways")
-def both_ways(world, mode, role):
+def exchange(world, mode, role, login=".N0DE"):
+    """Six messages come, in blocks of five and one, and one goes."""
     incoming, outgoing = incoming_mail(world, mode, 6), world.message(mode)
+    node, telnet = world.node(outgoing), role == "called" or not login.startswith(".")
+    with world.box(mode).holding(*incoming):
+        _, link = done(world.session(mode, role, node, login=login, options=options_for(mode)))
+    heard = link.heard["peer"]
+    states_of(node, [outgoing], FORWARDED)
+    inbox_is(node, mode, telnet, incoming)
+    kept_as_sent(node, mode, heard.replace(b"\xff\xff", b"\xff") if telnet else heard)
+    expect("blocks that ended with F> HH", len(BLOCK_END.findall(heard)), 2)
+    at_linfbb(world, mode, [outgoing])
+
+
+@case("mail goes both ways, and each text is kept as it was sent")
+def both_ways(world, mode, role):
+    exchange(world, mode, role)
+
+
+@case("mail goes both ways on a port that adds LF after CR", *CALLER)
+def both_ways_with_lf(world, mode, role):
+    exchange(world, mode, role, login="N0DE")
+
+
+def dropped_at_its_end(world, mode, role, cr):
+    """The link drops before the CR of its F> HH, or right after it. As called station our turn comes after its first five."""
+    incoming, outgoing = incoming_mail(world, mode, 6), world.message(mode)
+    node, first = world.node(outgoing), 5 if role == "called" else 0
+    said = opening(role) + (b"FS +++++\r" if first else b"") + outgoing.proposal() + b"F>\r" + outgoing.transfer()
+    turn = b"".join(message.proposal() for message in incoming[first:][:5]) + b"F> HH"
+    # Where LinFBB calls, LF follows each CR, but not after framed transfers.
+    more = len(turn) + (turn.count(b"\r") if (mode, role) == ("plain", "called") else 0) + cr
+    with world.box(mode).holding(*incoming):
+        ended, link = world.session(mode, role, node, drop=Drop(len(said), more), options=options_for(mode))
+        expect("exit code of the dropped session", ended.code, LINK_DROPPED)
+        expect("its last line", re.sub(rb"F> [0-9A-F]{2}", b"F> HH", link.heard["peer"][-6:])[-5 - cr:], b"F> HH" + b"\r" * cr)
+        states_of(node, [outgoing], FORWARDED if cr else WAITING)
+        expect("messages kept", len(node.inbox()), first)
+        world.fetch(mode)
+        done(world.session(mode, role, node, options=options_for(mode)))
+    # Where the mark was not set, LinFBB declines the copy.
+    states_of(node, [outgoing], FORWARDED if cr else DECLINED)
+    inbox_is(node, mode, role == "called", incoming)
+    at_linfbb(world, mode, [outgoing])
+
+
+@case("ours that it took is forwarded at the CR of its F> HH")
+def forwarded_at_its_end(world, mode, role):
+    dropped_at_its_end(world, mode, role, 1)
+
+
+@case("and not a byte before")
+def waits_before_its_end(world, mode, role):
+    dropped_at_its_end(world, mode, role, 0)
+
+
+@case("one letter of a BID changed on the way: 13, and the message comes at the next call")
+def changed_letter(world, mode, role):
+    incoming, outgoing = incoming_mail(world, mode, 3), world.message(mode)
     node = world.node(outgoing)
     with world.box(mode).holding(*incoming):
-        done(world.session(mode, role, node, edits=edits_for(mode)))
-    states_of(node, [outgoing], FORWARDED)
-    inbox_is(node, mode, role, incoming)
+        ended, link = world.session(mode, role, node, edits=[other_letter(incoming[1].bid)], options=options_for(mode))
+        refused(ended, 13)
+        expect("its last line", bool(BLOCK_END.search(link.heard["peer"])), True)
+        expect("our last line", link.heard["us"].endswith(outgoing.transfer() if role == "caller" else b">\r"), True)
+        expect("inbox", node.inbox(), [])
+        # As caller we had sent our mail, but a turn with a wrong checksum is none.
+        states_of(node, [outgoing], WAITING)
+        world.fetch(mode)
+        done(world.session(mode, role, node, options=options_for(mode)))
+    states_of(node, [outgoing], DECLINED if role == "caller" else FORWARDED)
+    inbox_is(node, mode, role == "called", incoming)
     at_linfbb(world, mode, [outgoing])
 
 
@@ -281,18 +332,55 @@ def dropped_while_it_sends(world, mode, role, step):
     incoming, node = incoming_mail(world, mode, 4), world.node()
     # Our bytes up to our FS line, then a part of its transfers.
     said = opening(role) + (b"FF\rFS ++++\r" if role == "caller" else b"FS ++++\r")
-    more = step * 150 if mode == "framed" else step * 180
+    more = 1 + step * (75 if mode == "framed" else 90)
     with world.box(mode).holding(*incoming):
-        ended, _ = world.session(mode, role, node, drop=Drop(len(said), more), edits=edits_for(mode))
+        ended, _ = world.session(mode, role, node, drop=Drop(len(said), more), options=options_for(mode))
         expect("exit code of the dropped session", ended.code, LINK_DROPPED)
-        done(world.session(mode, role, node, edits=edits_for(mode)))
-    inbox_is(node, mode, role, incoming)
+        kept = len(node.inbox())
+        done(world.session(mode, role, node, options=options_for(mode)))
+    inbox_is(node, mode, role == "called", incoming)
+    return kept
 
 
 for _mode, _role in WAYS:
-    for _step in range(5):
-        _name = f"{_mode}, {_role}: link dropped while it sends ({_step + 1}), with its blocks edited, neither lost nor doubled"
-        (SHORT if _step == 2 else LONG).append((_name, dropped_while_it_sends, (_mode, _role, _step)))
+    for _step in range(8):
+        _name = f"{_mode}, {_role}: link dropped while it sends ({_step + 1}), neither lost nor doubled"
+        (SHORT if _step in (1, 5) else LONG).append((_name, dropped_while_it_sends, (_mode, _role, _step)))
+
+
+SPACES, ZEROS = b" " * 9 + b"0", b"0" * 9 + b" "
+
+
+@case("titles and texts of blanks and zeros come unchanged, where blanks of an offset count as zeros", *FRAMED_WAYS)
+def blanks_and_zeros(world, mode, role):
+    header = b"\x01\x08HI\0     0\0\x02\x02"
+    incoming = [for_us(world, mode, title=b"x" + SPACES * 5, text=SPACES * 40 + b"\r"), for_us(world, mode, title=ZEROS * 5 + b"x", text=b"\r" * 9),
+                for_us(world, mode, title=b"0     0", text=header * 30 + ZEROS + b"\r")]
+    node = world.node()
+    with world.box(mode).holding(*incoming, sid=FRAMED):
+        _, link = done(world.session(mode, role, node, options=[BLANKS]))
+    kept_as_sent(node, mode, link.heard["peer"].replace(b"\xff\xff", b"\xff") if role == "called" else link.heard["peer"])
+    expect("titles", [title for _, title, _ in node.inbox()], [message.title for message in incoming])
+
+
+# ---- where LinFBB leaves 01 (docs/INTEROP.md)
+
+@case("its blank-padded offset gets 8, and the message comes once the host takes blanks for zeros", *FRAMED_WAYS)
+def blank_offset(world, mode, role):
+    incoming, outgoing = incoming_mail(world, mode, 1), world.message(mode)
+    node = world.node(outgoing)
+    with world.box(mode).holding(*incoming):
+        ended, link = world.session(mode, role, node)
+        refused(ended, 8)
+        expect("a header with blanks came", b"for us 0\0     0\0" in link.heard["peer"], True)
+        expect("inbox", node.inbox(), [])
+        # As caller ours went first, and its `F> HH` marked it.
+        states_of(node, [outgoing], FORWARDED if role == "caller" else WAITING)
+        world.fetch(mode)
+        done(world.session(mode, role, node, options=[BLANKS]))
+    states_of(node, [outgoing], FORWARDED)
+    inbox_is(node, mode, role == "called", incoming)
+    at_linfbb(world, mode, [outgoing])
 
 
 @case("a SID without F gets 4", ("old", "caller"), ("old", "called"))
@@ -307,7 +395,7 @@ def old_mode(world, mode, role):
 def all_deferred(world, mode, role):
     node = world.node()
     with world.box(mode).holding(for_us(world, mode)):
-        ended, link = world.session(mode, role, node, edits=[BARE], options=["--room", "0"])
+        ended, link = world.session(mode, role, node, options=["--room", "0"])
     refused(ended, 5)
     expect("our answer", link.heard["us"][-8:], b"FS =\rFF\r")
     expect("its last line", link.heard["peer"][-3:], b"FF\r")
@@ -318,7 +406,7 @@ def longer_than_announced(world, mode, role):
     """It announces the text's size and sends its R: and From: lines on top."""
     node, message = world.node(), for_us(world, mode)
     with world.box(mode).holding(message):
-        ended, link = world.session(mode, role, node, edits=[BARE], options=["--room", "60"])
+        ended, link = world.session(mode, role, node, options=["--room", "60"])
     refused(ended, 10)
     expect("its proposal", b" %s %d\r" % (message.bid, len(message.text)) in link.heard["peer"], True)
     expect("our answer", link.heard["us"][-5:], b"FS +\r")
@@ -329,7 +417,7 @@ def longer_than_announced(world, mode, role):
 def ten_digits(world, mode, role):
     node, empty = world.node(), for_us(world, mode, text=b"")
     with world.box(mode).holding(empty, sid=FRAMED):
-        ended, link = world.session(mode, role, node, edits=[BARE])
+        ended, link = world.session(mode, role, node)
     refused(ended, 5)
     expect("its proposal", b" %s 4294967295\r" % empty.bid in link.heard["peer"], True)
 
@@ -338,7 +426,7 @@ def ten_digits(world, mode, role):
 def type_t(world, mode, role):
     node, traffic = world.node(), world.message(mode, type=b"T", at=b"NTSTX", to=b"75001")
     with world.box(mode).holding(traffic):
-        ended, link = world.session(mode, role, node, edits=[BARE])
+        ended, link = world.session(mode, role, node)
     refused(ended, 5)
     expect("its proposal", b"FA T F0AAA NTSTX 75001 %s " % traffic.bid in link.heard["peer"], True)
 

@@ -1,6 +1,7 @@
 """A LinFBB mailbox on loopback, in a scratch folder."""
 import contextlib
 import os
+import random
 import re
 import subprocess
 
@@ -16,10 +17,14 @@ HEAD = re.compile(rb"(?:R:[^\r]*\r\n?)+\r\n?From: [^\r]*\r\n?To  : [^\r]*\r\n?\r
 
 
 def free_port():
-    s = listener()
-    port = s.getsockname()[1]
-    s.close()
-    return port
+    """One where nobody listens, below those that the system gives to callers (32768 on Linux): it stays free while nobody listens there."""
+    while True:
+        port = random.randrange(20000, 32000)
+        try:
+            listener(port).close()
+            return port
+        except OSError:
+            pass
 
 
 def partner_message(message):

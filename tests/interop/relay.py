@@ -23,9 +23,12 @@ class Drop:
     more: int = 0
 
 
-# Edits of what the mailbox says: a pattern, what stands for it, and the beginnings of it that are held back.
-BARE = (re.compile(rb"(^|[\r\n])F> [0-9A-F]{2}(?=\r)"), rb"\1F>", re.compile(rb"(?:^|[\r\n])F(?:>(?: [0-9A-F]{0,2})?)?$"))
-ZEROS = (re.compile(rb"\0     0\0"), b"\x00000000\x00", re.compile(rb"\0 {0,5}$|\0     0$"))
+def other_letter(bid):
+    """An edit of what the mailbox says: one letter of a BID in a proposal. The pattern, what stands for it, and the beginnings of it that are
+    held back."""
+    wrong = bid[:-1] + bytes([bid[-1] ^ 1])
+    beginnings = b"|".join(re.escape((b" " + bid)[:n]) for n in range(1, len(bid) + 2))
+    return re.compile(b" " + re.escape(bid) + b"(?= )"), b" " + wrong, re.compile(b"(?:" + beginnings + b")$")
 
 
 class Relay:

@@ -61,16 +61,16 @@ module _ (w : Await) (y : Say) (k : Keep) (rd : Reader) where
         rw (q, f) (sid-yes o r e n)
 
   -- any line by the phase
-  module _ (ln table known inbox : Bytes) (store : ℕ) (j : Judged) where
-    pub line-in : (p : ℕ) (b : Bool) → w .phase ≡ p → b ≡ isComment ln → b ≡ false → j ≡ lineIn p ln w y k rd table known inbox store → j ≡ judgeOf ln w y k rd table known inbox store
+  module _ (ln : Bytes) (n : ℕ) (table known inbox : Bytes) (store : ℕ) (j : Judged) where
+    pub line-in : (p : ℕ) (b : Bool) → w .phase ≡ p → b ≡ isComment ln → b ≡ false → j ≡ lineIn p ln n w y k rd table known inbox store → j ≡ judgeOf ln n w y k rd table known inbox store
     unfolding judgeOf
-    line-in p b e c n f = rw (sym c ∙ n) (f ∙ ap (λ (q : ℕ). lineIn q ln w y k rd table known inbox store) (sym e))
+    line-in p b e c z f = rw (sym c ∙ z) (f ∙ ap (λ (q : ℕ). lineIn q ln n w y k rd table known inbox store) (sym e))
 
 -- ---------------------------------------------------------------- on the arrays where they stand
 
--- judged beside the table, the known BIDs, the inbox and a store of this size
-abbrev pub judging : Bytes → Bytes → Bytes → Bytes → ℕ → Await → Say → Keep → Reader → Judged
-judging ln table known inbox store w y k r = judgeOf ln w y k r table known inbox store
+-- the line, whose sum is n, judged beside the table, the known BIDs, the inbox and a store of this size
+abbrev pub judging : Bytes → ℕ → Bytes → Bytes → Bytes → ℕ → Await → Say → Keep → Reader → Judged
+judging ln n table known inbox store w y k r = judgeOf ln n w y k r table known inbox store
 
 module _ (s : Numbers) (m : Bytes) (n : length m ≡ arraysLen) (v : Verdict) (f : Await → Say → Keep → Reader → Judged) where
   -- nothing was lent

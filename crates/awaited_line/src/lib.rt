@@ -51,10 +51,11 @@ fn text_line(line: &[u8], s: Numbers) -> Verdict
     went(s)
 }
 
-// The line, without the spaces at its end, by what is awaited. mem: the state's arrays; a line of the partner's turn may change the block, an FS
+// The line, without the spaces at its end, by what is awaited; sum: that of the line as received, its CR included. mem: the state's arrays; a line of the partner's turn may change the block, an FS
 // line the flags of deferred records.
 pub fn judge(
     line: &[u8],
+    sum: u8,
     s: Numbers,
     mem: &mut [u8],
     table: &[u8],
@@ -63,7 +64,7 @@ pub fn judge(
     store: usize,
 ) -> Verdict
     requires { ⌜ length (now mem) ≡ arraysLen ⌝ }
-    ensures { λ r. ⌜ Judges s (now (mem .entry)) r (now (mem .exit)) (λ w y k d. judgeOf (now (line .entry)) w y k d (now (table .entry)) (now (known .entry)) (now (inbox .entry)) store) ⌝ }
+    ensures { λ r. ⌜ Judges s (now (mem .entry)) r (now (mem .exit)) (λ w y k d. judgeOf (now (line .entry)) sum w y k d (now (table .entry)) (now (known .entry)) (now (inbox .entry)) store) ⌝ }
 {
     if line::is_comment(line) {
         return went(s);
@@ -75,6 +76,7 @@ pub fn judge(
         phase::PROMPT => text_line(line, s),
         phase::TURN => partner_turn::turn_line(
             line,
+            sum,
             s,
             &mut mem[places::BLOCK..],
             table,

@@ -1,9 +1,10 @@
 -- Laws for matches with several numbers in one arm, and for tests of every byte of a list.
-use mathlib.Core.Path.{_≡_, refl}
+use mathlib.Core.Path.{_≡_, refl, sym, ap, _∙_}
+use mathlib.Core.Option.{Option, none, some}
 use mathlib.Core.Bool.{Bool, true, false, cond, _||_}
 use mathlib.Core.List.{[], _∷_}
 use mathlib.Core.Logic.{_⊎_, inl, inr}
-use Prim.Native.Nat.{ℕ, zero, suc, _+_, _<_, _≤_}
+use Prim.Native.Nat.{ℕ, zero, suc, _+_, _-_, _*_, _<_, _≤_}
 use native.Mathlib.Omega.{arith}
 use native.Mathlib.Numerals.{add-one}
 use lib.Dec.{eqb, ltb}
@@ -11,7 +12,9 @@ use lib.ListN.{length, getD, drop, drop-of-length-le}
 use lib.Seq.{drop-cons}
 use borrow.Author.Tests.{eq-eqb, ne-eqb, ltb-true, ltb-false}
 use Rattle.grammar.specs.Bytes.{Bytes, all}
-use Rattle.grammar.specs.Fields.{digit}
+use Rattle.grammar.specs.Fields.{digit, upper, hexCapital, hexDigit, hexPair}
+use Rattle.byte.specs.declared.Hex.{Hex}
+use Rattle.byte.specs.Hex.{hexIs}
 use Rattle.grammar.proofs.Basics.{and2}
 
 or-true : (a : Bool) → (a || true) ≡ true
@@ -65,3 +68,42 @@ digit-is x e = go (ltb x 48) refl e
     go : (c : Bool) → ltb x 48 ≡ c → cond c false (ltb x 58) ≡ true → (48 ≤ x) × (x ≤ 57)
     go true q k = let z : _≡_ {A = ℕ} 0 1 = cc in (omega arith, omega arith)
     go false q k = let y = ltb-false x 48 q in let z = ltb-true x 58 k in (omega arith, omega arith)
+
+-- ---------------------------------------------------------------- hexadecimal digits
+
+-- u: the digit as a capital
+pub hex-by : (b u : ℕ) → u ≡ upper b → {o : Option ℕ} → o ≡ hexCapital u → o ≡ hexDigit b
+unfolding hexDigit
+hex-by b u e f = f ∙ ap hexCapital e
+
+-- a digit's value is below 16
+abbrev Low : Option ℕ → Type 0
+Low none = Unit {0}
+Low (some n) = n < 16
+
+capital-low : (u : ℕ) → Low (hexCapital u)
+capital-low u = go (ltb u 48) (ltb u 58) (ltb u 65) (ltb u 71) refl refl refl
+  where
+    go : (a b c d : Bool) → ltb u 58 ≡ b → ltb u 65 ≡ c → ltb u 71 ≡ d → Low (cond a none (cond b (some (u - 48)) (cond c none (cond d (some (u - 55)) none))))
+    go true b c d q r s = tt
+    go false true c d q r s = let z = ltb-true u 58 q in omega arith
+    go false false true d q r s = tt
+    go false false false true q r s = let z = ltb-true u 71 s in omega arith
+    go false false false false q r s = tt
+
+module _ (h x : Hex) (b : ℕ) (e : hexIs h ≡ hexDigit b) (f : h ≡ x) where
+  -- what the digit is, where its case is known
+  pub hex-as : hexDigit b ≡ hexIs x
+  hex-as = sym e ∙ ap hexIs f
+
+pub hex-low : (h : Hex) (v b : ℕ) → hexIs h ≡ hexDigit b → h ≡ Hex.Value v → v < 16
+unfolding hexDigit
+hex-low h v b e f = go (hexCapital (upper b)) (capital-low (upper b)) (sym e ∙ ap hexIs f)
+  where
+    got : Option ℕ → ℕ
+    got none = 0
+    got (some n) = n
+
+    go : (o : Option ℕ) → Low o → o ≡ some v → v < 16
+    go none l q = let z : 0 ≡ v = ap got q in omega arith
+    go (some n) l q = let z : n ≡ v = ap got q in omega arith

@@ -1,2 +1,3 @@
 -- What the code of this crate means in the words of the grammar.
 pub mod Classes
+pub mod Hex

@@ -1,9 +1,10 @@
 // Bytes: the classes that the fields of 01 are made of, each decided by a match with ranges; and letters as capitals.
 ghost use mathlib.Core.Path.{_≡_};
 ghost use Rattle.grammar.specs.Bytes.{all};
-ghost use Rattle.grammar.specs.Fields.{callByte, bidByte, headingByte, notCtrlZ, digit, upper};
+ghost use Rattle.grammar.specs.Fields.{callByte, bidByte, headingByte, notCtrlZ, digit, upper, hexDigit, hexPair};
 ghost use Rattle.grammar.specs.Sid.{authorByte, dataByte};
 ghost use Rattle.byte.specs.Classes.{classOf};
+ghost use Rattle.byte.specs.Hex.{hexIs};
 
 // The classes by name, so that a rule over a class is written and proved once.
 pub enum Class {
@@ -14,6 +15,12 @@ pub enum Class {
     Author,
     Data,
     PlainBody,
+}
+
+// What hexadecimal digits stand for, or no such digits.
+pub enum Hex {
+    Value(u8),
+    Other,
 }
 
 // A letter as a capital; any other byte as it is.
@@ -65,6 +72,33 @@ pub fn digit_byte(b: u8) -> bool
         b'0'..=b'9' => true,
         _ => false,
     }
+}
+
+// A hexadecimal digit, in either case.
+pub fn hex_digit(b: u8) -> Hex
+    ensures { λ r. ⌜ hexIs r ≡ hexDigit b ⌝ }
+{
+    let u = upper_of(b);
+    match u {
+        b'0'..=b'9' => Hex::Value(u - 48),
+        b'A'..=b'F' => Hex::Value(u - 55),
+        _ => Hex::Other,
+    }
+}
+
+// Two hexadecimal digits, the higher one first.
+pub fn hex_pair(high: u8, low: u8) -> Hex
+    ensures { λ r. ⌜ hexIs r ≡ hexPair (hexDigit high) (hexDigit low) ⌝ }
+{
+    let first = hex_digit(high);
+    let Hex::Value(a) = first else {
+        return Hex::Other;
+    };
+    let second = hex_digit(low);
+    let Hex::Value(b) = second else {
+        return Hex::Other;
+    };
+    Hex::Value(a * 16 + b)
 }
 
 // A byte of a SID's author.

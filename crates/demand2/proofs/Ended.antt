@@ -70,11 +70,11 @@ portion-other E (b ∷ bs) s L = go (stops (step E s b)) refl (λ l. portion-oth
 
 -- ---------------------------------------------------------------- over
 
-over-ended : (s : Session) → Over s → ended s ≡ true
+pub over-ended : (s : Session) → Over s → ended s ≡ true
 over-ended s (closed e) = ap (λ (p : Phase). endedIn p (s .out)) e
 over-ended s (fqGiven e o) = ap (λ (p : Phase). endedIn p (s .out)) e ∙ ap null o
 
-ended-over : (s : Session) → ended s ≡ true → Over s
+pub ended-over : (s : Session) → ended s ≡ true → Over s
 ended-over s h = go (s .phase) (s .out) refl refl h
   where
     go : (p : Phase) (o : Bytes) → s .phase ≡ p → s .out ≡ o → endedIn p o ≡ true → Over s

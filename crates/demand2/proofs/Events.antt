@@ -11,17 +11,17 @@ use borrow.Author.Tests.{eq-eqb, lt-ltb}
 use Rattle.grammar.specs.Bytes.{Bytes, CR}
 use Rattle.grammar.specs.Fields.{Form, plain, message, file}
 use Rattle.grammar.specs.Lines.{ends, grows, overruns, trim, isComment}
-use Rattle.grammar.specs.Turns.{Proposal, saysFF, endsBlock, readTurnLine, proposalLine, fixedText, ourSid, ourEnd, withCr}
+use Rattle.grammar.specs.Turns.{Proposal, TurnLine, saysFF, readTurnLine, proposalLine, fixedText, ourSid, ourEnd, withCr}
 use Rattle.grammar.specs.Answers.{Sign, accept, readFs, fsLine}
 use Rattle.grammar.specs.Scan.{Scan, Scanned, goes, got, scanByte}
 use Rattle.grammar.proofs.Refusal.{whole-got}
 use Rattle.mail.specs.Mail.{Record, messageOf, proposalOf, transferOf, recordAt, proposalLines, turnText, transfersText, accepted}
 use Rattle.session.specs.Choices.{Shelf, answersTo}
-use Rattle.session.specs.Session.{awaitsSid, awaitsPrompt, awaitsAnswer, Phase, aLine, newTurn, Memory, Session, withPart, withAfterCr, between, goesOn, speaking, turnMarks, answering, answerMarks, awaitedJudged, Stepped, moved, settled, lineMoved, isPlain, keptIn, nextTransfer, transferMoved, freeStep, step, levelInForce}
+use Rattle.session.specs.Session.{awaitsSid, awaitsPrompt, awaitsAnswer, Phase, aLine, newTurn, Memory, Session, withPart, withAfterCr, between, goesOn, speaking, turnMarks, answering, answered, turnJudged, answerMarks, awaitedJudged, Stepped, moved, settled, lineMoved, isPlain, keptIn, nextTransfer, transferMoved, freeStep, step, levelInForce}
 use Rattle.demand2.specs.Room.{room}
 use Rattle.demand2.specs.Marks.{withSign, AnswerLeaves, TurnLeaves}
 use Rattle.demand2.specs.Refusals.{isDropped, Heeded, awaitsLine, WholeLine, TurnSaid, SoFar, TransferByte}
-use Rattle.demand2.specs.Events.{messageFrom, withMessage, endsWithCr, proposed, blockText, transfersSaid, turnSaid, turnAwaits, weSpeak, transfersOr, Event, lfGoes, lineGrows, ignored, sidOfCaller, sidOfCalled, textLine, prompt, proposal, ffTurn, fqTurn, blockEnd, fsLineComes, transferGrows, transferWhole}
+use Rattle.demand2.specs.Events.{messageFrom, withMessage, endsWithCr, proposed, blockText, transfersSaid, turnSaid, turnAwaits, weSpeak, transfersOr, EndsBlock, bare, summed, Event, lfGoes, lineGrows, ignored, sidOfCaller, sidOfCalled, textLine, prompt, proposal, ffTurn, fqTurn, blockEnd, fsLineComes, transferGrows, transferWhole}
 use Rattle.demand2.proofs.Room.{fits-within}
 use Rattle.demand2.proofs.Marks.{accepted-is, answer-marks, turn-marks, answer-only, turn-only}
 use Rattle.demand2.proofs.Steps.{which-line, line-step, whole-step, transfer-step, turn-step, scan-more}
@@ -94,15 +94,23 @@ module _ (E : Shelf) (q : Bytes) (s : Session) (b : ℕ) where
       → step E s b ≡ moved (between (newTurn false) true (transfersText (E .table) (accepted ss is)) (answerMarks is ss (s .memory)))
   goes-answer ln is ss w p r = whole-step E s b (awaitsAnswer is) ln w p ∙ rw (w .bytes, r)
 
-  goes-ff : (ln : Bytes) → TurnSaid s b false [] ln → readTurnLine (s .memory .framed) ln ≡ saysFF
+  goes-ff : (ln : Bytes) {raw : Bytes} → TurnSaid s b false [] raw ln → readTurnLine (s .memory .framed) ln ≡ saysFF
       → step E s b ≡ moved (weSpeak E true true [] (turnMarks (s .memory)))
   goes-ff ln w r = turn-step E s b false [] ln w ∙ rw r (speaks E s true [] true (proposed E (turnMarks (s .memory))) (turnMarks (s .memory)))
 
-  goes-block : (ln : Bytes) (ff : Bool) (p : Proposal) (ps : List Proposal) → TurnSaid s b ff (p ∷ ps) ln → readTurnLine (s .memory .framed) ln ≡ endsBlock
-      → step E s b ≡ moved (answerTo (p ∷ ps) (turnMarks (s .memory)))
+  -- either end of a block
+  end-judged : (ff : Bool) (p : Proposal) (ps : List Proposal) (raw : Bytes) (t : TurnLine) → EndsBlock raw t
+      → turnJudged E t ff (p ∷ ps) raw (s .part) (s .memory) ≡ answered E (p ∷ ps) (turnMarks (s .memory))
+  end-judged ff p ps raw t bare = refl
+  end-judged ff p ps raw t (summed h e) = rw (eq-eqb _ _ e)
+
+  goes-block : (ln : Bytes) (ff : Bool) (p : Proposal) (ps : List Proposal) {raw : Bytes} → TurnSaid s b ff (p ∷ ps) raw ln
+      → EndsBlock raw (readTurnLine (s .memory .framed) ln) → step E s b ≡ moved (answerTo (p ∷ ps) (turnMarks (s .memory)))
   goes-block ln ff p ps w r =
       let ss = answersTo E (s .memory .inbox) (p ∷ ps) in
-      turn-step E s b ff (p ∷ ps) ln w ∙ rw r (answers E s true ss (accepted ss (p ∷ ps)) (turnMarks (s .memory)))
+      turn-step E s b ff (p ∷ ps) ln w
+      ∙ ap (settled s true) (end-judged ff p ps _ (readTurnLine (s .memory .framed) ln) r)
+      ∙ answers E s true ss (accepted ss (p ∷ ps)) (turnMarks (s .memory))
       ∙ ap (λ (l : List Proposal). moved (transfersOr E true (withCr (fsLine ss)) l (turnMarks (s .memory)))) (accepted-is (p ∷ ps) ss)
 
   module _ (S : SoFar E (s .phase) (s .memory) q) where
@@ -153,13 +161,13 @@ module _ (E : Shelf) (s : Session) (b : ℕ) (ln : Bytes) where
       (answer-marks is ss (s .memory))
 
   -- ITS WHOLE TURN: FF
-  pub ff-leaves : TurnSaid s b false [] ln → readTurnLine (s .memory .framed) ln ≡ saysFF → TurnLeaves (s .memory) (step E s b .session .memory)
+  pub ff-leaves : {raw : Bytes} → TurnSaid s b false [] raw ln → readTurnLine (s .memory .framed) ln ≡ saysFF → TurnLeaves (s .memory) (step E s b .session .memory)
   ff-leaves w r =
       subst (TurnLeaves (s .memory)) (sym (ap (λ (o : Stepped). o .session .memory) (goes-ff E [] s b ln w r))) (turn-marks (s .memory))
 
   -- ITS WHOLE TURN: proposals and F>
-  pub block-leaves : (ff : Bool) (p : Proposal) (ps : List Proposal) → TurnSaid s b ff (p ∷ ps) ln → readTurnLine (s .memory .framed) ln ≡ endsBlock
-      → TurnLeaves (s .memory) (step E s b .session .memory)
+  pub block-leaves : (ff : Bool) (p : Proposal) (ps : List Proposal) {raw : Bytes} → TurnSaid s b ff (p ∷ ps) raw ln
+      → EndsBlock raw (readTurnLine (s .memory .framed) ln) → TurnLeaves (s .memory) (step E s b .session .memory)
   block-leaves ff p ps w r =
       subst (TurnLeaves (s .memory))
       (sym (ap (λ (o : Stepped). o .session .memory) (goes-block E [] s b ln ff p ps w r)

@@ -10,12 +10,15 @@ use lib.Seq.{take-nil, take-add, drop-drop}
 use borrow.Author.Tests.{eqb-true, not-true, not-false}
 use Rattle.grammar.specs.Bytes.{Bytes, null}
 use Rattle.grammar.specs.Refusals.{sessionEnded}
-use Rattle.grammar.proofs.Basics.{and2, or2}
+use Rattle.grammar.proofs.Basics.{no-both, and2, or2}
+use Rattle.mail.specs.Mail.{messageOf}
 use Rattle.session.specs.Choices.{Shelf}
-use Rattle.session.specs.Session.{withOut, Phase, leaving, Session, Stepped, step, ended, endedIn}
+use Rattle.session.specs.Session.{withOut, Phase, leaving, over, Session, Outcome, refuses, goesOn, Stepped, settled, isPlain, keptIn, nextTransfer, step, ended, endedIn}
+use Rattle.session.proofs.Ways.{Way, isRefused, dropsLf, growsLine, ignoresLine, hearsLine, readsOn, readsLast, way}
 use Rattle.session.specs.Calls.{Received, oneMore, stoppedAt, stops, receiveOn, receive, give, handedOut}
-use Rattle.demand2.specs.Refusals.{Live}
+use Rattle.demand2.specs.Refusals.{Over, closed, Live}
 use Rattle.demand2.specs.Portions.{ByteReceived, livesOn, andThen, Counted, all, upTo, GivenTogether, GivenOut}
+use Rattle.demand2.proofs.Ended.{ended-over}
 
 -- ---------------------------------------------------------------- receive
 
@@ -138,6 +141,29 @@ data Dealt (E : Shelf) (s : Session) (bs : Bytes) (r : Received) : Type 0 where
   whole : livesOn r ≡ true → r .count ≡ length bs → Dealt E s bs r
   part : Stopped E s bs r → Dealt E s bs r
 
+-- where a byte stops a portion the session is over: a refusal ends it
+settled-over : (s : Session) (c : Bool) (o : Outcome) → eqb (settled s c o .answer) 0 ≡ false → settled s c o .session .phase ≡ over
+settled-over s c (refuses n) e = refl
+settled-over s c (goesOn p m o) e = absurd (no-both true refl e)
+
+way-over : (E : Shelf) (s : Session) (b : ℕ) (o : Stepped) → Way E s b o → eqb (o .answer) 0 ≡ false → o .session .phase ≡ over
+way-over E s b o (isRefused n k w) e = refl
+way-over E s b o (dropsLf x) e = absurd (no-both true refl e)
+way-over E s b o (growsLine a w x y) e = absurd (no-both true refl e)
+way-over E s b o (ignoresLine a w x y) e = absurd (no-both true refl e)
+way-over E s b o (hearsLine a w x y z j) e = settled-over s true z e
+way-over E s b o (readsOn p ps sc on w x) e = absurd (no-both true refl e)
+way-over E s b o (readsLast p ps sc h x w y) e =
+    settled-over s (isPlain (p .form)) (nextTransfer E ps (keptIn (s .memory) (messageOf p (record { heading = h; body = x })))) e
+
+stop-over : (E : Shelf) (s : Session) (b : ℕ) → stops (step E s b) ≡ true → Over (step E s b .session)
+stop-over E s b h = go (eqb (step E s b .answer) 0) (ended (step E s b .session)) refl refl h
+  where
+    go : (a d : Bool) → eqb (step E s b .answer) 0 ≡ a → ended (step E s b .session) ≡ d → not a || d ≡ true → Over (step E s b .session)
+    go false d e f h = closed (way-over E s b (step E s b) (way E s b) e)
+    go true true e f h = ended-over (step E s b .session) f
+    go true false e f h = absurd (no-both false h refl)
+
 -- one byte before
 one-before : (E : Shelf) (s : Session) (x : ℕ) (u : Bytes) → stops (step E s x) ≡ false → receiveOn E s (x ∷ u) ≡ oneMore (receiveOn E (step E s x .session) u)
 one-before E s x u e = rw e
@@ -187,7 +213,7 @@ counted E s bs L = subst (Counted E s bs) (sym (live-receive E s bs L)) (go (dea
           portion = h .portion;
           alive = ap livesOn f ∙ h .alive;
           consumed = ap (λ (u : Received). u .count) f ∙ h .consumed;
-          ends = ap (λ (u : Received). stops (step E (u .session) (h .byte))) f ∙ h .ends;
+          ends = stop-over E (receive E s (h .before) .session) (h .byte) (ap (λ (u : Received). stops (step E (u .session) (h .byte))) f ∙ h .ends);
           answer = h .answer ∙ sym (ap (λ (u : Received). step E (u .session) (h .byte) .answer) f);
           session = h .session ∙ sym (ap (λ (u : Received). step E (u .session) (h .byte) .session) f);
           count = h .count;

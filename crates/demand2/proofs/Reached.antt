@@ -73,7 +73,7 @@ module _ (E : Shelf) where
   judged-fair a m ln o (hearsSid false fs r f) = alive (newTurn false) (withFramed (framed fs) m) [] refl (λ is e. clash cc) tt
   judged-fair a m ln o (hearsText r) = alive (aLine awaitsPrompt) m [] refl (λ is e. clash cc) tt
   judged-fair a m ln o (hearsPrompt r) = passes-fair m _ (our-turn E _ false m)
-  judged-fair a m ln o (hearsProposal ff ps q r l) = alive (aLine (awaitsTurn ff (ps ++ (q ∷ [])))) m [] refl (λ is e. clash cc) tt
+  judged-fair a m ln o (hearsProposal ff ps q r l) = alive (aLine (awaitsTurn ff (ps ++ (q ∷ [])) _)) m [] refl (λ is e. clash cc) tt
   judged-fair a m ln o (hearsFF r) = passes-fair (turnMarks m) _ (our-turn E [] true (turnMarks m))
   judged-fair a m ln o (hearsFQ r) = (tt, λ is e. clash cc, λ e. refl)
   judged-fair a m ln o (hearsEnd ff p ps r) = passes-fair (turnMarks m) _ (our-answer E (p ∷ ps) (turnMarks m))

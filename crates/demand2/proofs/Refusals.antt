@@ -8,10 +8,10 @@ use Prim.Native.Nat.{ℕ, _≤_}
 use native.Mathlib.Omega.{arith}
 use lib.Dec.{eqb, ltb}
 use lib.ListN.{length}
-use borrow.Author.Tests.{eqb-true, ltb-true, ltb-false, not-true}
+use borrow.Author.Tests.{eqb-true, eqb-false, ltb-true, ltb-false, not-true}
 use Rattle.grammar.specs.Bytes.{Bytes, CR}
 use Rattle.grammar.specs.Lines.{trim}
-use Rattle.grammar.specs.Turns.{Proposal, TurnLine, saysFF, saysFQ, endsBlock, notAllowed, proposes, readTurnLine}
+use Rattle.grammar.specs.Turns.{Proposal, TurnLine, saysFF, saysFQ, endsBlock, notAllowed, proposes, endsSummed, readTurnLine}
 use Rattle.grammar.specs.Transfers.{Parsed, parse}
 use Rattle.grammar.specs.Scan.{Scan, Scanned, goes, got, malformed, wrongSum, noRoom, scan, scanByte, bodyOf, isBodyByte}
 use Rattle.grammar.proofs.Basics.{and2, no-both, and-false}
@@ -19,10 +19,10 @@ use Rattle.grammar.proofs.Rest.{Wrong as Unsummed}
 use Rattle.grammar.proofs.Refusal.{exact as exact-byte, Verdict, exact-8, exact-10, isTen}
 use Rattle.session.specs.Choices.{Shelf}
 use Rattle.session.specs.Session.{Awaited, awaitsTurn, Phase, aLine, awaitsTransfer, leaving, over, Session, between, Outcome, turnMarks, answerMarks, Stepped, roomFor, step, ended, endedIn}
-use Rattle.session.proofs.Ways.{Wrong, noSid, noF, noTurnLine, ffAfterFf, ffInBlock, fqFirst, fqInBlock, emptyBlock, tooMany, noAnswer, Judged, isWrong, hearsSid, hearsText, hearsPrompt, hearsProposal, hearsFF, hearsFQ, hearsEnd, hearsFs, At, Why, waits, hasLeft, isOver, tooLong, unread, unsummed, unkept, Way, isRefused, dropsLf, growsLine, ignoresLine, hearsLine, readsOn, readsLast, way}
+use Rattle.session.proofs.Ways.{Wrong, noSid, noF, noTurnLine, ffAfterFf, ffInBlock, fqFirst, fqInBlock, emptyBlock, emptySummed, tooMany, wrongHex, noAnswer, EndsBlock as Ends, bare as justEnds, summed as endsWith, Judged, isWrong, hearsSid, hearsText, hearsPrompt, hearsProposal, hearsFF, hearsFQ, hearsEnd, hearsFs, At, Why, waits, hasLeft, isOver, tooLong, unread, unsummed, unkept, Way, isRefused, dropsLf, growsLine, ignoresLine, hearsLine, readsOn, readsLast, way}
 use Rattle.demand2.specs.Room.{room}
-use Rattle.demand2.specs.Refusals.{Heeded, awaitsLine, WholeLine, isAllowed, isMiscounted, beginsFs, inTurn, forAnswer, SoFar, TransferByte, Refusal, no2, no3, no4, no5, no6, no7, no8, no9, no10, no11, numberOf, Situation, Exact, Live}
-use Rattle.demand2.specs.Events.{Event, lfGoes, lineGrows, ignored, sidOfCaller, sidOfCalled, textLine, prompt, proposal, ffTurn, fqTurn, blockEnd, fsLineComes, transferGrows, transferWhole}
+use Rattle.demand2.specs.Refusals.{Heeded, awaitsLine, WholeLine, isAllowed, isMiscounted, beginsFs, inTurn, forAnswer, SoFar, TransferByte, Refusal, no2, no3, no4, no5, no6, no7, no8, no9, no10, no11, no13, numberOf, Situation, Exact, Live}
+use Rattle.demand2.specs.Events.{EndsBlock, bare, summed, Event, lfGoes, lineGrows, ignored, sidOfCaller, sidOfCalled, textLine, prompt, proposal, ffTurn, fqTurn, blockEnd, fsLineComes, transferGrows, transferWhole}
 use Rattle.demand2.proofs.Room.{room-is, at-full, within-fits}
 use Rattle.demand2.proofs.Marks.{answer-marks, turn-marks}
 use Rattle.demand2.proofs.Steps.{so-far, scan-more}
@@ -45,16 +45,18 @@ module _ (E : Shelf) (q : Bytes) (s : Session) (b : ℕ) where
 
   module _ (a : Awaited) (e : s .phase ≡ aLine a) (w : WholeLine s b line) where
     -- a line of a turn, by what it says
-    forbidden : (ff : Bool) (ps : List Proposal) (t : TurnLine) → a ≡ awaitsTurn ff ps → readTurnLine (s .memory .framed) line ≡ t → isAllowed ff ps t ≡ false → Found E q s b
+    forbidden : (ff : Bool) (ps : List Proposal) {raw : Bytes} (t : TurnLine) → a ≡ awaitsTurn ff ps raw → readTurnLine (s .memory .framed) line ≡ t
+        → isAllowed ff ps t ≡ false → Found E q s b
     forbidden ff ps t f r x = found no5 (inTurn ff ps line (record { whole = w; awaited = e ∙ ap aLine f }) (ap (isAllowed ff ps) r ∙ x))
 
-    miscounts : (ff : Bool) (ps : List Proposal) (t : TurnLine) → a ≡ awaitsTurn ff ps → readTurnLine (s .memory .framed) line ≡ t → isAllowed ff ps t ≡ true
-        → isMiscounted ps t ≡ true → Found E q s b
+    miscounts : (ff : Bool) (ps : List Proposal) {raw : Bytes} (t : TurnLine) → a ≡ awaitsTurn ff ps raw → readTurnLine (s .memory .framed) line ≡ t
+        → isAllowed ff ps t ≡ true → isMiscounted ps t ≡ true → Found E q s b
     miscounts ff ps t f r x y =
         found no6
         (record {
           ff = ff;
           proposals = ps;
+          raw = _;
           line = line;
           said = record { whole = w; awaited = e ∙ ap aLine f };
           allowed = ap (isAllowed ff ps) r ∙ x;
@@ -70,12 +72,30 @@ module _ (E : Shelf) (q : Bytes) (s : Session) (b : ℕ) where
   wrong-found a e w n (fqFirst r) = forbidden a e w false [] saysFQ refl r refl
   wrong-found a e w n (fqInBlock ff p ps r) = forbidden a e w ff (p ∷ ps) saysFQ refl r (and-false ff false refl)
   wrong-found a e w n (emptyBlock ff r) = miscounts a e w ff [] endsBlock refl r refl refl
+  wrong-found a e w n (emptySummed ff h r) = miscounts a e w ff [] (endsSummed h) refl r refl refl
+  wrong-found a e w n (wrongHex ff p ps h r f) =
+      found no13
+      (record {
+        ff = ff;
+        first = p;
+        others = ps;
+        raw = _;
+        line = line;
+        said = record { whole = w; awaited = e };
+        checksum = h;
+        summed = r;
+        wrong = eqb-false _ _ f;
+      })
   wrong-found a e w n (tooMany ff ps p r l) = miscounts a e w ff ps (proposes p) refl r refl (ap not l)
   wrong-found a e w n (noAnswer is r) = go (beginsFs line) refl
     where
       go : (c : Bool) → beginsFs line ≡ c → Found E q s b
       go true f = found no7 (record { line = line; answer = record { whole = w; places = is; awaited = e; wrong = r }; begun = f })
       go false f = found no5 (forAnswer line (record { whole = w; places = is; awaited = e; wrong = r }) f)
+
+  end-found : (raw : Bytes) (t : TurnLine) → Ends raw t → EndsBlock raw t
+  end-found raw t (justEnds e) = subst (EndsBlock raw) (sym e) bare
+  end-found raw t (endsWith h e f) = subst (EndsBlock raw) (sym e) (summed h (eqb-true _ _ f))
 
   pub judged-found : (a : Awaited) → s .phase ≡ aLine a → WholeLine s b line → (o : Outcome) → Judged E (s .memory) (s .part) a o → Found E q s b
   judged-found a e w o (isWrong n x) = wrong-found a e w n x
@@ -87,7 +107,7 @@ module _ (E : Shelf) (q : Bytes) (s : Session) (b : ℕ) where
   judged-found a e w o (hearsFF r) = happened _ (ffTurn line (record { whole = w; awaited = e }) r (turnMarks (s .memory)) (turn-marks (s .memory)))
   judged-found a e w o (hearsFQ r) = happened _ (fqTurn line (record { whole = w; awaited = e }) r)
   judged-found a e w o (hearsEnd ff p ps r) =
-      happened _ (blockEnd line ff p ps (record { whole = w; awaited = e }) r (turnMarks (s .memory)) (turn-marks (s .memory)))
+      happened _ (blockEnd line ff p ps (record { whole = w; awaited = e }) (end-found _ _ r) (turnMarks (s .memory)) (turn-marks (s .memory)))
   judged-found a e w o (hearsFs is ss r) = happened _ (fsLineComes line is w e ss r (answerMarks is ss (s .memory)) (answer-marks is ss (s .memory)))
 
 module _ (E : Shelf) (q : Bytes) (s : Session) (b : ℕ) (L : Live s) (S : SoFar E (s .phase) (s .memory) q) where
@@ -157,7 +177,7 @@ module _ (E : Shelf) (q : Bytes) (s : Session) (b : ℕ) (L : Live s) (S : SoFar
 back : ℕ → Refusal
 back n =
     cond (eqb n 2) no2 (cond (eqb n 3) no3 (cond (eqb n 4) no4 (cond (eqb n 5) no5 (cond (eqb n 6) no6
-    (cond (eqb n 7) no7 (cond (eqb n 8) no8 (cond (eqb n 9) no9 (cond (eqb n 10) no10 no11))))))))
+    (cond (eqb n 7) no7 (cond (eqb n 8) no8 (cond (eqb n 9) no9 (cond (eqb n 10) no10 (cond (eqb n 11) no11 no13)))))))))
 
 number-back : (n : Refusal) → back (numberOf n) ≡ n
 unfolding back
@@ -171,6 +191,7 @@ number-back no8 = refl
 number-back no9 = refl
 number-back no10 = refl
 number-back no11 = refl
+number-back no13 = refl
 
 pub some-number : (n : Refusal) → (2 ≤ numberOf n) × (numberOf n ≡ 12 → ⊥)
 some-number no2 = (omega arith, λ e. omega arith)
@@ -183,6 +204,7 @@ some-number no8 = (omega arith, λ e. omega arith)
 some-number no9 = (omega arith, λ e. omega arith)
 some-number no10 = (omega arith, λ e. omega arith)
 some-number no11 = (omega arith, λ e. omega arith)
+some-number no13 = (omega arith, λ e. omega arith)
 
 -- REFUSALS ARE EXACT
 pub exact : (E : Shelf) (q : Bytes) (s : Session) (b : ℕ) → Live s → SoFar E (s .phase) (s .memory) q → Exact E q s b
@@ -214,7 +236,7 @@ exact E q s b L S = record { given = given; only = only; none = none₀; else = 
         go (happened t h) = zero-event t h
         go (found m h) = absurd (k m h)
 
--- one situation at a time: "5 before 6 is thought of", 11 before 2, 2 before the rule of the line
+-- one situation at a time: "5 before 6 is thought of", 13 "after 5 and 6", 11 before 2, 2 before the rule of the line
 pub apart : (E : Shelf) (q : Bytes) (s : Session) (b : ℕ) → Live s → SoFar E (s .phase) (s .memory) q → (n m : Refusal) → Situation E q s b n → Situation E q s b m → n ≡ m
 apart E q s b L S n m h k =
     let X = exact E q s b L S in

@@ -1,15 +1,15 @@
--- A SITUATION GIVES ITS NUMBER, and the session is over (`refuses-with`). Idea: each of the ten situations leads through the step to one refusal.
+-- A SITUATION GIVES ITS NUMBER, and the session is over (`refuses-with`). Idea: each of the eleven situations leads through the step to one refusal.
 use mathlib.Core.Path.{_≡_, refl, sym, ap, _∙_, subst}
 use mathlib.Core.Bool.{Bool, true, false, cond, not}
 use mathlib.Core.List.{List, [], _∷_, _++_}
 use Prim.Native.Nat.{ℕ}
 use lib.Dec.{ltb}
 use lib.ListN.{length}
-use borrow.Author.Tests.{le-ltb, not-true}
+use borrow.Author.Tests.{le-ltb, ne-eqb, not-true}
 use Rattle.grammar.specs.Bytes.{Bytes, null}
 use Rattle.grammar.specs.Refusals as number
 use Rattle.grammar.specs.Lines.{ends, grows, overruns}
-use Rattle.grammar.specs.Turns.{Proposal, TurnLine, saysFF, saysFQ, endsBlock, notAllowed, proposes, readTurnLine}
+use Rattle.grammar.specs.Turns.{Proposal, TurnLine, saysFF, saysFQ, endsBlock, notAllowed, proposes, endsSummed, readTurnLine}
 use Rattle.grammar.specs.Answers.{fsNumber}
 use Rattle.grammar.specs.Transfers.{parse}
 use Rattle.grammar.specs.Scan.{Scanned, goes, got, malformed, wrongSum, noRoom, scanByte, bodyOf, isBodyByte}
@@ -17,9 +17,9 @@ use Rattle.grammar.proofs.Basics.{both}
 use Rattle.grammar.proofs.Rest.{Wrong}
 use Rattle.grammar.proofs.Refusal.{exact-8, exact-9, exact-10, isTen}
 use Rattle.session.specs.Choices.{Shelf}
-use Rattle.session.specs.Session.{awaitsSid, awaitsAnswer, Session, withAfterCr, turnJudged, refused, moved, settled, lineMoved, transferMoved, freeStep, step, levelInForce}
+use Rattle.session.specs.Session.{awaitsSid, awaitsAnswer, Session, withAfterCr, turnJudged, Stepped, refused, moved, settled, lineMoved, transferMoved, freeStep, step, levelInForce}
 use Rattle.demand2.specs.Room.{room}
-use Rattle.demand2.specs.Refusals.{LineTooLong, NotSid, NoForwarding, isAllowed, isMiscounted, NoAnswer, beginsFs, LineNotAllowed, inTurn, forAnswer, WrongCount, WrongAnswer, SoFar, WrongTransfer, WrongChecksum, NoRoom, BytesWait, Refusal, no2, no3, no4, no5, no6, no7, no8, no9, no10, no11, numberOf, Situation}
+use Rattle.demand2.specs.Refusals.{LineTooLong, NotSid, NoForwarding, isAllowed, isMiscounted, NoAnswer, beginsFs, LineNotAllowed, inTurn, forAnswer, WrongCount, WrongAnswer, WrongBlockSum, SoFar, WrongTransfer, WrongChecksum, NoRoom, BytesWait, Refusal, no2, no3, no4, no5, no6, no7, no8, no9, no10, no11, no13, numberOf, Situation}
 use Rattle.demand2.proofs.Room.{full-at}
 use Rattle.demand2.proofs.Steps.{which-line, line-step, whole-step, turn-step, transfer-step, so-far}
 
@@ -41,24 +41,31 @@ module _ (E : Shelf) (s : Session) (b : ℕ) where
   no-forwarding : NoForwarding s b → Refuses E s b number.noForwarding
   no-forwarding h = whole-step E s b (awaitsSid (h .caller)) (h .line) (h .whole) (h .awaited) ∙ rw (h .whole .bytes, h .valid, h .without)
 
-  forbidden : (t : TurnLine) (ff : Bool) (ps : List Proposal) → isAllowed ff ps t ≡ false → settled s true (turnJudged E t ff ps (s .memory)) ≡ refused s number.lineNotAllowed
-  forbidden saysFF true [] e = refl
-  forbidden saysFF false [] e = cc
-  forbidden saysFF ff (p ∷ ps) e = refl
-  forbidden saysFQ true [] e = cc
-  forbidden saysFQ false [] e = refl
-  forbidden saysFQ ff (p ∷ ps) e = refl
-  forbidden endsBlock ff ps e = cc
-  forbidden notAllowed ff ps e = refl
-  forbidden (proposes q) ff ps e = cc
+  -- what a line of a turn comes to
+  abbrev turned : TurnLine → Bool → List Proposal → Bytes → Stepped
+  turned t ff ps raw = settled s true (turnJudged E t ff ps raw (s .part) (s .memory))
 
-  miscounted : (t : TurnLine) (ff : Bool) (ps : List Proposal) → isMiscounted ps t ≡ true → settled s true (turnJudged E t ff ps (s .memory)) ≡ refused s number.proposalCount
-  miscounted saysFF ff ps e = cc
-  miscounted saysFQ ff ps e = cc
-  miscounted endsBlock ff [] e = refl
-  miscounted endsBlock ff (p ∷ ps) e = cc
-  miscounted notAllowed ff ps e = cc
-  miscounted (proposes q) ff ps e = rw (not-true (ltb (length ps) 5) e)
+  forbidden : (t : TurnLine) (ff : Bool) (ps : List Proposal) (raw : Bytes) → isAllowed ff ps t ≡ false → turned t ff ps raw ≡ refused s number.lineNotAllowed
+  forbidden saysFF true [] raw e = refl
+  forbidden saysFF false [] raw e = cc
+  forbidden saysFF ff (p ∷ ps) raw e = refl
+  forbidden saysFQ true [] raw e = cc
+  forbidden saysFQ false [] raw e = refl
+  forbidden saysFQ ff (p ∷ ps) raw e = refl
+  forbidden endsBlock ff ps raw e = cc
+  forbidden notAllowed ff ps raw e = refl
+  forbidden (proposes q) ff ps raw e = cc
+  forbidden (endsSummed h) ff ps raw e = cc
+
+  miscounted : (t : TurnLine) (ff : Bool) (ps : List Proposal) (raw : Bytes) → isMiscounted ps t ≡ true → turned t ff ps raw ≡ refused s number.proposalCount
+  miscounted saysFF ff ps raw e = cc
+  miscounted saysFQ ff ps raw e = cc
+  miscounted endsBlock ff [] raw e = refl
+  miscounted endsBlock ff (p ∷ ps) raw e = cc
+  miscounted notAllowed ff ps raw e = cc
+  miscounted (proposes q) ff ps raw e = rw (not-true (ltb (length ps) 5) e)
+  miscounted (endsSummed h) ff [] raw e = refl
+  miscounted (endsSummed h) ff (p ∷ ps) raw e = cc
 
   -- a line where FS is awaited
   answer-step : (ln : Bytes) (h : NoAnswer s b ln) → Refuses E s b (fsNumber (levelInForce (s .memory)) (length (h .places)) ln)
@@ -68,12 +75,16 @@ module _ (E : Shelf) (s : Session) (b : ℕ) where
   answer-number ln h c e = rw (h .wrong, e)
 
   not-allowed : LineNotAllowed s b → Refuses E s b number.lineNotAllowed
-  not-allowed (inTurn ff ps ln h e) = turn-step E s b ff ps ln h ∙ forbidden (readTurnLine (s .memory .framed) ln) ff ps e
+  not-allowed (inTurn ff ps ln h e) = turn-step E s b ff ps ln h ∙ forbidden (readTurnLine (s .memory .framed) ln) ff ps _ e
   not-allowed (forAnswer ln h e) = answer-step ln h ∙ ap (refused s) (answer-number ln h false e)
 
   wrong-count : WrongCount s b → Refuses E s b number.proposalCount
   wrong-count h =
-      turn-step E s b (h .ff) (h .proposals) (h .line) (h .said) ∙ miscounted (readTurnLine (s .memory .framed) (h .line)) (h .ff) (h .proposals) (h .miscounted)
+      turn-step E s b (h .ff) (h .proposals) (h .line) (h .said)
+      ∙ miscounted (readTurnLine (s .memory .framed) (h .line)) (h .ff) (h .proposals) (h .raw) (h .miscounted)
+
+  wrong-block-sum : WrongBlockSum s b → Refuses E s b number.wrongBlockSum
+  wrong-block-sum h = turn-step E s b (h .ff) (h .first ∷ h .others) (h .line) (h .said) ∙ rw (h .summed) (rw (ne-eqb _ _ (h .wrong)))
 
   wrong-answer : WrongAnswer s b → Refuses E s b number.badAnswer
   wrong-answer h = answer-step (h .line) (h .answer) ∙ ap (refused s) (answer-number (h .line) (h .answer) true (h .begun))
@@ -125,3 +136,4 @@ module _ (E : Shelf) (s : Session) (b : ℕ) where
   refuses-with q S no9 h = wrong-sum q S h
   refuses-with q S no10 h = no-room h
   refuses-with q S no11 h = bytes-wait h
+  refuses-with q S no13 h = wrong-block-sum h

@@ -50,11 +50,11 @@ module _ (E : Shelf) (s : Session) (b : ℕ) where
       ∙ ap (λ (n : ℕ). transferMoved E p (t .others) s (scanByte n sc b)) (room-is E (s .memory))
 
   -- a line of a turn
-  pub turn-step : (ff : Bool) (ps : List Proposal) (ln : Bytes) → TurnSaid s b ff ps ln
-      → step E s b ≡ settled s true (turnJudged E (readTurnLine (s .memory .framed) ln) ff ps (s .memory))
-  turn-step ff ps ln h =
-      whole-step (awaitsTurn ff ps) ln (h .whole) (h .awaited)
-      ∙ ap (λ (l : Bytes). settled s true (turnJudged E (readTurnLine (s .memory .framed) l) ff ps (s .memory))) (h .whole .bytes)
+  pub turn-step : (ff : Bool) (ps : List Proposal) {raw : Bytes} (ln : Bytes) → TurnSaid s b ff ps raw ln
+      → step E s b ≡ settled s true (turnJudged E (readTurnLine (s .memory .framed) ln) ff ps raw (s .part) (s .memory))
+  turn-step ff ps {raw} ln h =
+      whole-step (awaitsTurn ff ps raw) ln (h .whole) (h .awaited)
+      ∙ ap (λ (l : Bytes). settled s true (turnJudged E (readTurnLine (s .memory .framed) l) ff ps raw (s .part) (s .memory))) (h .whole .bytes)
 
   -- the bytes so far of a transfer, with its phase known
   pub so-far : (q : Bytes) (p : Proposal) (sc : Scan) (t : TransferByte s b p sc) → SoFar E (s .phase) (s .memory) q → scan (room E (s .memory .inbox)) (p .form) q ≡ goes sc

@@ -5,21 +5,22 @@ use mathlib.Core.Path.{_≡_}
 use mathlib.Core.Bool.{Bool, true, false}
 use mathlib.Core.Option.{some}
 use mathlib.Core.List.{List, [], _∷_, _++_}
-use Prim.Native.Nat.{ℕ, _<_}
+use Prim.Native.Nat.{ℕ, _+_, _%_, _<_}
 use lib.Dec.{eqb}
 use lib.ListN.{length}
-use Rattle.grammar.specs.Bytes.{Bytes, CR}
+use Rattle.grammar.specs.Bytes.{Bytes, byteValues, CR}
 use Rattle.grammar.specs.Ascii.{text}
 use Rattle.grammar.specs.Fields.{Form, plain, message, file}
-use Rattle.grammar.specs.Lines.{lineLimit, trim, isComment, isPrompt}
-use Rattle.grammar.specs.Sid.{readSid, hasFeature, framed, letterF}
-use Rattle.grammar.specs.Turns.{Proposal, saysFF, saysFQ, endsBlock, proposes, readTurnLine, blockLimit, proposalLine, fixedText, ourSid, ourFF, ourFQ, withCr}
+use Rattle.grammar.specs.Lines.{trim, isComment, isPrompt}
+use Rattle.grammar.specs.Sid.{readSid, hasFeature, framed}
+use Rattle.grammar.specs.Turns.{Proposal, TurnLine, saysFF, saysFQ, endsBlock, proposes, endsSummed, readTurnLine, proposalLine, fixedText, ourSid, ourFF, ourFQ, withCr}
 use Rattle.grammar.specs.Answers.{Sign, accept, readFs, fsLine}
-use Rattle.grammar.specs.Transfers.{parse}
+use Rattle.grammar.specs.Transfers.{parse, sum}
 use Rattle.grammar.specs.Scan.{Scan, goes, scan, scanFrom}
 use Rattle.mail.specs.Mail.{Record, Message, proposalOf, transferOf, recordAt}
 use Rattle.session.specs.Choices.{Shelf, chosen, answersTo}
-use Rattle.session.specs.Session.{awaitsSid, awaitsPrompt, awaitsTurn, awaitsAnswer, Phase, aLine, newTurn, awaitsTransfer, leaving, over, Memory, Session, withFramed, withInbox, withPhase, withPart, withAfterCr, between, levelInForce}
+use Rattle.session.specs.Session.{awaitsSid, awaitsPrompt, awaitsTurn, awaitsAnswer, Phase, aLine, newTurn, awaitsTransfer, leaving, over, Memory, Session, withFramed, withInbox, withPhase, withPart, withAfterCr, between}
+use Rattle.demand2.specs.Limits.{lineLimit, blockLimit, letterF, levelInForce}
 use Rattle.demand2.specs.Room.{Fits, room}
 use Rattle.demand2.specs.Marks.{withSign, AnswerLeaves, TurnLeaves}
 use Rattle.demand2.specs.Refusals.{isDropped, Heeded, awaitsLine, WholeLine, TurnSaid, TransferByte}
@@ -76,6 +77,12 @@ abbrev pub transfersOr : Shelf → Bool → Bytes → List Proposal → Memory �
 transfersOr E afterCr o [] m = weSpeak E afterCr false o m
 transfersOr E afterCr o (p ∷ ps) m = between (awaitsTransfer p ps (scanFrom (p .form))) afterCr o m
 
+-- The end of a block of which raw are the proposal lines as received: "A bare `F>` is still taken."; "The sum of all bytes of the block's proposal
+-- lines as received, their CR included, .. plus HH must be 0 modulo 256." (02, Q-5)
+pub data EndsBlock (raw : Bytes) : TurnLine → Type 0 where
+  bare : EndsBlock raw endsBlock
+  summed : (h : ℕ) → (sum raw + h) % byteValues ≡ 0 → EndsBlock raw (endsSummed h)
+
 -- ---------------------------------------------------------------- THE EVENTS
 
 -- The byte b comes to the session s, and then the session is the one named; q: the bytes so far of the transfer under way
@@ -99,18 +106,19 @@ pub data Event (E : Shelf) (q : Bytes) (s : Session) (b : ℕ) : Session → Typ
   -- "then send SID and first turn"
   prompt : (line : Bytes) → WholeLine s b line → s .phase ≡ aLine awaitsPrompt → isPrompt line ≡ true
       → Event E q s b (weSpeak E true false (withCr (fixedText ourSid)) (s .memory))
-  -- a proposal of the partner's
-  proposal : (line : Bytes) (ff : Bool) (ps : List Proposal) → TurnSaid s b ff ps line → (p : Proposal) → readTurnLine (s .memory .framed) line ≡ proposes p
-      → length ps < blockLimit → Event E q s b (between (aLine (awaitsTurn ff (ps ++ (p ∷ [])))) true [] (s .memory))
+  -- a proposal of the partner's; its line as received, and its CR, are among those that a checksum sums
+  proposal : (line : Bytes) (ff : Bool) (ps : List Proposal) {raw : Bytes} → TurnSaid s b ff ps raw line → (p : Proposal)
+      → readTurnLine (s .memory .framed) line ≡ proposes p → length ps < blockLimit
+      → Event E q s b (between (aLine (awaitsTurn ff (ps ++ (p ∷ [])) (raw ++ withCr (s .part)))) true [] (s .memory))
   -- its FF: "State 1 is set at the CR that ends the partner's next whole valid turn.", then our turn
-  ffTurn : (line : Bytes) → TurnSaid s b false [] line → readTurnLine (s .memory .framed) line ≡ saysFF → (after : Memory) → TurnLeaves (s .memory) after
+  ffTurn : (line : Bytes) {raw : Bytes} → TurnSaid s b false [] raw line → readTurnLine (s .memory .framed) line ≡ saysFF → (after : Memory) → TurnLeaves (s .memory) after
       → Event E q s b (weSpeak E true true [] after)
   -- "FQ received ends the session at its CR"
-  fqTurn : (line : Bytes) → TurnSaid s b true [] line → readTurnLine (s .memory .framed) line ≡ saysFQ
+  fqTurn : (line : Bytes) {raw : Bytes} → TurnSaid s b true [] raw line → readTurnLine (s .memory .framed) line ≡ saysFQ
       → Event E q s b (between over true [] (s .memory))
   -- its F>: the same marks, and our FS line waits
-  blockEnd : (line : Bytes) (ff : Bool) (p : Proposal) (ps : List Proposal) → TurnSaid s b ff (p ∷ ps) line → readTurnLine (s .memory .framed) line ≡ endsBlock
-      → (after : Memory) → TurnLeaves (s .memory) after
+  blockEnd : (line : Bytes) (ff : Bool) (p : Proposal) (ps : List Proposal) {raw : Bytes} → TurnSaid s b ff (p ∷ ps) raw line
+      → EndsBlock raw (readTurnLine (s .memory .framed) line) → (after : Memory) → TurnLeaves (s .memory) after
       → Event E q s b
       (transfersOr E true (withCr (fsLine (answersTo E (s .memory .inbox) (p ∷ ps)))) (withSign accept (p ∷ ps) (answersTo E (s .memory .inbox) (p ∷ ps))) after)
   -- its FS line: "`-` sets state 2 .. Accepted records are sent in order.", then its turn

@@ -2,7 +2,7 @@
 -- events, whatever the portions; and our turns, our answers, our marks, our counts and what we write are 01's.
 --
 -- What 01 wants shut out              the theorem that shuts it out (in proofs/)
--- a forwarder that refuses everything Refusals.exact (`else`: 0 wherever none of the ten situations holds), Ended.twelve (12 only on a session that is
+-- a forwarder that refuses everything Refusals.exact (`else`: 0 wherever none of the eleven situations holds), Ended.twelve (12 only on a session that is
 --                                     over), live-exact (which sessions are); whole units, also directly after a CR: Units.line-whole (no byte of a line is
 --                                     refused before its CR), Units.transfer-kept (a valid transfer that fits is kept)
 -- one that finds less room than there Room.full-at, at-full, fits-within, within-fits, room-is: 10 (NoRoom) and a kept message (transferWhole) go by
@@ -25,7 +25,9 @@
 -- a byte                              session after it is the event's. Portions.receive-byte: receive on one byte is its step; with two-portions this
 --                                     settles receive
 -- All this holds of every session that open, receive and give lead to, by the bytes of the transfer under way that came since it began:
--- Reached.reached-sound, exact-reached, complete-reached; reached-portion (whatever the portions).
+-- Reached.reached-sound, exact-reached, complete-reached; reached-portion (whatever the portions). ALL OF IT ON ONE PAGE: NextByte, proved for every such
+-- session by NextByte.next-byte. The numbers of 01 that it goes by stand in Limits; Limits.limits-are: the model has the same.
+pub mod Limits
 pub mod Room
 pub mod Refusals
 pub mod Marks
@@ -37,3 +39,4 @@ pub mod Units
 pub mod Opening
 pub mod Reached
 pub mod ReadBack
+pub mod NextByte

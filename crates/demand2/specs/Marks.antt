@@ -7,7 +7,7 @@ use lib.Dec.{eqb}
 use lib.ListN.{length, getD}
 use Rattle.grammar.specs.Answers.{Sign, accept, decline, defer, writeSign}
 use Rattle.session.specs.Session.{Memory}
-use Rattle.phase.specs.Phase.{stateDeclined}
+use Rattle.demand2.specs.Limits.{stateForwarded, stateDeclined}
 
 -- This place is among these.
 abbrev pub isIn : ℕ → List ℕ → Bool
@@ -40,7 +40,7 @@ pub record AnswerLeaves (is : List ℕ) (ss : List Sign) (before after : Memory)
 -- The memory before and after the partner's whole valid turn, FF or `F>`.
 pub record TurnLeaves (before after : Memory) : Type 0 where
   -- "State 1 is set at the CR that ends the partner's next whole valid turn.": for each record that is being sent, and no other
-  pub state : (k : ℕ) → k < length (before .states) → getD (after .states) k 0 ≡ cond (isIn k (before .sending)) 1 (getD (before .states) k 0)
+  pub state : (k : ℕ) → k < length (before .states) → getD (after .states) k 0 ≡ cond (isIn k (before .sending)) stateForwarded (getD (before .states) k 0)
   pub records : length (after .states) ≡ length (before .states)
   pub sending : after .sending ≡ []
   pub deferred : after .deferred ≡ before .deferred

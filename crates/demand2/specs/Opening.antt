@@ -7,7 +7,7 @@ use lib.ListN.{length, getD}
 use Rattle.grammar.specs.Ascii.{text}
 use Rattle.grammar.specs.Turns.{withCr}
 use Rattle.session.specs.Session.{awaitsSid, aLine, Session}
-use Rattle.mail.specs.Mail.{recordLimit}
+use Rattle.demand2.specs.Limits.{recordLimit}
 
 -- caller: the role (true: 1, caller); states: those of the records, as open found them
 pub record OpenExact (caller : Bool) (states : List ℕ) (s : Session) : Type 0 where

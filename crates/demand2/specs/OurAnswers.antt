@@ -9,9 +9,9 @@ use Rattle.grammar.specs.Turns.{Proposal}
 use Rattle.grammar.specs.Answers.{Sign, accept, decline, defer}
 use Rattle.mail.specs.Mail.{Record, Message}
 use Rattle.session.specs.Choices.{Shelf, answersTo}
+use Rattle.demand2.specs.Limits.{bodyLimit}
 use Rattle.demand2.specs.Room.{keptBytes}
 use Rattle.demand2.specs.Marks.{withSign}
-use Rattle.grammar.specs.Fields.{bodyLimit}
 
 -- The BID stands in the list, in whichever case its letters are.
 pub record Among (b : Bytes) (bids : List Bytes) : Type 0 where

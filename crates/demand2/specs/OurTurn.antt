@@ -8,10 +8,11 @@ use Prim.Native.Nat.{ℕ, _+_, _≤_, _<_}
 use lib.Dec.{eqb, ltb, leb}
 use lib.ListN.{length, getD}
 use Rattle.grammar.specs.Bytes.{all}
-use Rattle.grammar.specs.Turns.{inMode, blockLimit, fixedText, ourFF, ourFQ, withCr, announcedLimit}
+use Rattle.grammar.specs.Turns.{inMode, fixedText, ourFF, ourFQ, withCr}
 use Rattle.mail.specs.Mail.{Record, recordAt}
 use Rattle.session.specs.Choices.{Shelf, sizeAt}
 use Rattle.session.specs.Session.{Memory}
+use Rattle.demand2.specs.Limits.{blockLimit, announcedLimit}
 use Rattle.demand2.specs.Marks.{isIn}
 use Rattle.demand2.specs.Events.{proposed, blockText, turnSaid}
 

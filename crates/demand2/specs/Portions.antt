@@ -9,7 +9,8 @@ use lib.ListN.{length}
 use Rattle.grammar.specs.Bytes.{Bytes}
 use Rattle.session.specs.Choices.{Shelf}
 use Rattle.session.specs.Session.{Session, step, ended}
-use Rattle.session.specs.Calls.{Received, stops, receive, give, handedOut}
+use Rattle.session.specs.Calls.{Received, receive, give, handedOut}
+use Rattle.demand2.specs.Refusals.{Over}
 
 -- ---------------------------------------------------------------- receive
 
@@ -33,7 +34,7 @@ andThen E r ys =
     r
 
 -- "unless .. the session ends on the way, and reports how many; the refused byte is the last one counted": where it ended, the bytes before
--- were all consumed, and with this one it was over
+-- were all consumed and it lived on, and with this one it is over
 pub record EndedAt (E : Shelf) (s : Session) (bs : Bytes) (r : Received) : Type 0 where
   pub before : Bytes
   pub byte : ℕ
@@ -41,7 +42,7 @@ pub record EndedAt (E : Shelf) (s : Session) (bs : Bytes) (r : Received) : Type 
   pub portion : bs ≡ before ++ byte ∷ rest
   pub alive : livesOn (receive E s before) ≡ true
   pub consumed : receive E s before .count ≡ length before
-  pub ends : stops (step E (receive E s before .session) byte) ≡ true
+  pub ends : Over (step E (receive E s before .session) byte .session)
   pub answer : r .answer ≡ step E (receive E s before .session) byte .answer
   pub session : r .session ≡ step E (receive E s before .session) byte .session
   pub count : r .count ≡ suc (length before)

@@ -11,10 +11,10 @@ use Rattle.grammar.specs.Answers.{Sign}
 use Rattle.session.specs.Choices.{Shelf}
 use Rattle.session.specs.Session.{awaitsAnswer, Phase, aLine, awaitsTransfer, leaving, over, Memory, Session, opened, ended}
 use Rattle.session.specs.Calls.{receive, give}
+use Rattle.demand2.specs.Limits.{recordLimit}
 use Rattle.demand2.specs.Refusals.{isDropped, SoFar}
 use Rattle.demand2.specs.Marks.{isIn, withSign, AnswerLeaves}
 use Rattle.demand2.specs.OurTurn.{OurBlock}
-use Rattle.mail.specs.Mail.{recordLimit}
 
 -- How many transfers are owed to us, the one under way with them.
 abbrev pub owed : Phase → ℕ

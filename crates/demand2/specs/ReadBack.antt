@@ -8,11 +8,12 @@ use Prim.Native.Nat.{_≤_}
 use lib.ListN.{length}
 use Rattle.grammar.specs.Bytes.{Bytes, CR, splitAt}
 use Rattle.grammar.specs.Fields.{Form, plain, message, file}
-use Rattle.grammar.specs.Lines.{lineLimit, trim, isComment}
+use Rattle.grammar.specs.Lines.{trim, isComment}
 use Rattle.grammar.specs.Turns.{proposes, readTurnLine, proposalLine, withCr}
 use Rattle.grammar.specs.Answers.{Sign, readFs, fsLine, level0}
 use Rattle.grammar.specs.Transfers.{readTransfer}
 use Rattle.mail.specs.Mail.{Record, proposalOf, transferOf}
+use Rattle.demand2.specs.Limits.{lineLimit}
 
 -- "form 0 in plain mode, 1 and 2 in framed mode": whether the mode in which such a record is proposed is framed
 abbrev pub modeOf : Form → Bool

@@ -8,27 +8,28 @@
 --      crates/open    6   WrongCount         10   NoRoom
 --  2   LineTooLong       7   WrongAnswer        11   BytesWait
 --  3   NotSid            8   WrongTransfer      12   Exact12, below
---  4   NoForwarding
+--  4   NoForwarding                             13   WrongBlockSum (02, Q-5)
 use mathlib.Core.Path.{_≡_}
 use mathlib.Core.Bool.{Bool, true, false, not, _&&_}
 use mathlib.Core.Option.{none, some}
 use mathlib.Core.List.{List, [], _∷_, _++_}
-use Prim.Native.Nat.{ℕ, _≤_}
+use Prim.Native.Nat.{ℕ, _+_, _%_, _≤_}
 use lib.Dec.{eqb, ltb}
 use lib.ListN.{length}
-use Rattle.grammar.specs.Bytes.{Bytes, CR, LF, null, isSome}
+use Rattle.grammar.specs.Bytes.{Bytes, byteValues, CR, LF, null, isSome}
 use Rattle.grammar.specs.Ascii.{text}
 use Rattle.grammar.specs.Refusals as number
 use Rattle.grammar.specs.Fields.{after}
-use Rattle.grammar.specs.Lines.{lineLimit, trim, isComment}
-use Rattle.grammar.specs.Sid.{readSid, hasFeature, letterF}
-use Rattle.grammar.specs.Turns.{Proposal, TurnLine, saysFF, saysFQ, endsBlock, notAllowed, proposes, readTurnLine, blockLimit}
+use Rattle.grammar.specs.Lines.{trim, isComment}
+use Rattle.grammar.specs.Sid.{readSid, hasFeature}
+use Rattle.grammar.specs.Turns.{Proposal, TurnLine, saysFF, saysFQ, endsBlock, notAllowed, proposes, endsSummed, readTurnLine}
 use Rattle.grammar.specs.Answers.{readFs}
-use Rattle.grammar.specs.Transfers.{Parsed, parse}
+use Rattle.grammar.specs.Transfers.{Parsed, parse, sum}
 use Rattle.grammar.specs.Scan.{Scan, goes, scan, bodyOf, isBodyByte}
 use Rattle.session.specs.Choices.{Shelf}
-use Rattle.session.specs.Session.{awaitsSid, awaitsTurn, awaitsAnswer, Phase, aLine, awaitsTransfer, leaving, over, Memory, Session, between, step, ended, levelInForce}
+use Rattle.session.specs.Session.{awaitsSid, awaitsTurn, awaitsAnswer, Phase, aLine, awaitsTransfer, leaving, over, Memory, Session, between, step, ended}
 use Rattle.session.specs.Calls.{receive}
+use Rattle.demand2.specs.Limits.{lineLimit, blockLimit, letterF, levelInForce}
 use Rattle.demand2.specs.Room.{Full, room}
 
 -- ---------------------------------------------------------------- the order: "then 12, 11, 2, then the rule of the line or transfer"
@@ -83,7 +84,7 @@ pub record NoForwarding (s : Session) (b : ℕ) : Type 0 where
   pub valid : readSid line ≡ some features
   pub without : hasFeature letterF features ≡ false
 
--- ---------------------------------------------------------------- 5 to 7
+-- ---------------------------------------------------------------- 5 to 7, and 13
 
 -- What a line may say in the partner's turn. ff: our turn just now was FF; ps: its proposals so far. "A turn is `FF`, or one to five
 -- proposals and `F>`."; "FQ is allowed only in answer to our FF. FF in answer to our FF gets 5."
@@ -93,19 +94,21 @@ isAllowed ff ps saysFQ = ff && null ps
 isAllowed ff ps endsBlock = true
 isAllowed ff ps notAllowed = false
 isAllowed ff ps (proposes q) = true
+isAllowed ff ps (endsSummed h) = true
 
--- "sixth proposal, or F> with none"
+-- "sixth proposal, or F> with none", with or without a checksum
 abbrev pub isMiscounted : List Proposal → TurnLine → Bool
 isMiscounted ps saysFF = false
 isMiscounted ps saysFQ = false
 isMiscounted ps endsBlock = null ps
 isMiscounted ps notAllowed = false
 isMiscounted ps (proposes q) = not (ltb (length ps) blockLimit)
+isMiscounted ps (endsSummed h) = null ps
 
--- A line of the partner's turn, of which these proposals are there.
-pub record TurnSaid (s : Session) (b : ℕ) (ff : Bool) (ps : List Proposal) (line : Bytes) : Type 0 where
+-- A line of the partner's turn, of which these proposals are there, on the lines raw as received.
+pub record TurnSaid (s : Session) (b : ℕ) (ff : Bool) (ps : List Proposal) (raw line : Bytes) : Type 0 where
   pub whole : WholeLine s b line
-  pub awaited : s .phase ≡ aLine (awaitsTurn ff ps)
+  pub awaited : s .phase ≡ aLine (awaitsTurn ff ps raw)
 
 -- A line where the FS line on our n proposals is awaited, and it is none.
 pub record NoAnswer (s : Session) (b : ℕ) (line : Bytes) : Type 0 where
@@ -120,7 +123,7 @@ beginsFs line = isSome (after (text "FS") line)
 
 -- 5: "a turn line that isn't allowed here"
 pub data LineNotAllowed (s : Session) (b : ℕ) : Type 0 where
-  inTurn : (ff : Bool) (ps : List Proposal) (line : Bytes) → TurnSaid s b ff ps line
+  inTurn : (ff : Bool) (ps : List Proposal) {raw : Bytes} (line : Bytes) → TurnSaid s b ff ps raw line
       → isAllowed ff ps (readTurnLine (s .memory .framed) line) ≡ false → LineNotAllowed s b
   forAnswer : (line : Bytes) → NoAnswer s b line → beginsFs line ≡ false → LineNotAllowed s b
 
@@ -128,8 +131,9 @@ pub data LineNotAllowed (s : Session) (b : ℕ) : Type 0 where
 pub record WrongCount (s : Session) (b : ℕ) : Type 0 where
   pub ff : Bool
   pub proposals : List Proposal
+  pub raw : Bytes
   pub line : Bytes
-  pub said : TurnSaid s b ff proposals line
+  pub said : TurnSaid s b ff proposals raw line
   pub allowed : isAllowed ff proposals (readTurnLine (s .memory .framed) line) ≡ true
   pub miscounted : isMiscounted proposals (readTurnLine (s .memory .framed) line) ≡ true
 
@@ -138,6 +142,19 @@ pub record WrongAnswer (s : Session) (b : ℕ) : Type 0 where
   pub line : Bytes
   pub answer : NoAnswer s b line
   pub begun : beginsFs line ≡ true
+
+-- 13: "wrong proposal checksum, tested after 5 and 6 and before any answer is formed" (02, Q-5). "The sum of all bytes of the block's proposal
+-- lines as received, their CR included, `;` lines and dropped LFs excluded, plus HH must be 0 modulo 256." There is at least one proposal
+pub record WrongBlockSum (s : Session) (b : ℕ) : Type 0 where
+  pub ff : Bool
+  pub first : Proposal
+  pub others : List Proposal
+  pub raw : Bytes
+  pub line : Bytes
+  pub said : TurnSaid s b ff (first ∷ others) raw line
+  pub checksum : ℕ
+  pub summed : readTurnLine (s .memory .framed) line ≡ endsSummed checksum
+  pub wrong : (sum raw + checksum) % byteValues ≡ 0 → ⊥
 
 -- ---------------------------------------------------------------- 8 to 10
 
@@ -188,7 +205,7 @@ pub record BytesWait (s : Session) (b : ℕ) : Type 0 where
 -- ---------------------------------------------------------------- THE TABLE
 
 pub data Refusal : Type 0 where
-  no2 no3 no4 no5 no6 no7 no8 no9 no10 no11 : Refusal
+  no2 no3 no4 no5 no6 no7 no8 no9 no10 no11 no13 : Refusal
 
 abbrev pub numberOf : Refusal → ℕ
 numberOf no2 = number.lineTooLong
@@ -201,6 +218,7 @@ numberOf no8 = number.badTransfer
 numberOf no9 = number.badChecksum
 numberOf no10 = number.storeFull
 numberOf no11 = number.bytesWait
+numberOf no13 = number.wrongBlockSum
 
 -- "Given when". E: what the session was opened with; q: the bytes so far of the transfer under way (the `SoFar` of `s`, for a session that is reached
 -- those that came since it began); s: the session just before the byte; b: the byte
@@ -215,6 +233,7 @@ Situation E q s b no8 = WrongTransfer q s b
 Situation E q s b no9 = WrongChecksum q s b
 Situation E q s b no10 = NoRoom E s b
 Situation E q s b no11 = BytesWait s b
+Situation E q s b no13 = WrongBlockSum s b
 
 -- THE STATEMENT, for a byte that comes to a live session: each number exactly in its situation, 0 exactly where none of them holds; and
 -- "Table marks and kept messages stand as they did just before the refused byte", nothing waits, the session is over.

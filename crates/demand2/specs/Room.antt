@@ -5,7 +5,7 @@ use lib.ListN.{length}
 use Rattle.grammar.specs.Bytes.{Bytes}
 use Rattle.mail.specs.Mail.{Message}
 use Rattle.session.specs.Choices.{Shelf}
-use Rattle.grammar.specs.Fields.{bodyLimit}
+use Rattle.demand2.specs.Limits.{bodyLimit}
 
 -- "bodies lie one after another in a lent store": so many bytes of it are used
 abbrev pub keptBytes : List Message → ℕ

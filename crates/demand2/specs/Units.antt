@@ -7,13 +7,14 @@ use Prim.Native.Nat.{ℕ, suc, _+_, _≤_}
 use lib.Dec.{eqb}
 use lib.ListN.{length}
 use Rattle.grammar.specs.Bytes.{Bytes, CR, LF, null, all}
-use Rattle.grammar.specs.Lines.{lineLimit, dropLf}
+use Rattle.grammar.specs.Lines.{dropLf}
 use Rattle.grammar.specs.Turns.{Proposal}
 use Rattle.grammar.specs.Transfers.{parse}
 use Rattle.grammar.specs.Scan.{scanFrom}
 use Rattle.session.specs.Choices.{Shelf}
 use Rattle.session.specs.Session.{Phase, awaitsTransfer, Memory, Session, withPart, between, step}
 use Rattle.session.specs.Calls.{Received, receive}
+use Rattle.demand2.specs.Limits.{lineLimit}
 use Rattle.demand2.specs.Room.{Fits}
 use Rattle.demand2.specs.Events.{messageFrom, withMessage, endsWithCr, transfersOr}
 

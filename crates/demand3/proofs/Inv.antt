@@ -24,7 +24,7 @@ use Rattle.log.proofs.Spoken.{spoken, spoken-append, spoken-none, gave-spoken}
 abbrev pub lineOf : Awaited → Theirs
 lineOf (awaitsSid c) = theirSid c
 lineOf awaitsPrompt = theirText
-lineOf (awaitsTurn ff ps) = theirTurn ff (map proposes ps)
+lineOf (awaitsTurn ff ps raw) = theirTurn ff (map proposes ps) raw
 lineOf (awaitsAnswer is) = theirAnswer is
 
 abbrev pub nextOf : Phase → Next
@@ -50,7 +50,7 @@ no-line = (refl, omega arith)
 abbrev pub Few : Awaited → Type 0
 Few (awaitsSid c) = Unit {0}
 Few awaitsPrompt = Unit {0}
-Few (awaitsTurn ff ps) = length ps ≤ 5
+Few (awaitsTurn ff ps raw) = length ps ≤ 5
 Few (awaitsAnswer is) = Unit {0}
 
 -- what the session holds of the partner's unit so far, u

@@ -9,24 +9,26 @@ use lib.Dec.{eqb, ltb}
 use lib.ListN.{length, length-append, length-map}
 use borrow.Author.Tests.{ltb-true, le-leb}
 use Rattle.grammar.specs.Bytes.{Bytes, CR, LF}
-use Rattle.grammar.specs.Refusals.{noForwarding, proposalCount}
+use Rattle.grammar.specs.Refusals.{noForwarding, proposalCount, wrongBlockSum}
 use Rattle.grammar.specs.Fields.{Form, plain, message, file}
 use Rattle.grammar.specs.Lines.{ends, grows, overruns, trim, isComment, isPrompt}
 use Rattle.grammar.specs.Sid.{readSid, hasFeature, framed}
-use Rattle.grammar.specs.Turns.{Proposal, TurnLine, saysFF, saysFQ, endsBlock, notAllowed, proposes, readTurnLine, fixedText, ourSid, ourFF, ourFQ, withCr}
+use Rattle.grammar.specs.Turns.{Proposal, TurnLine, saysFF, saysFQ, endsBlock, notAllowed, proposes, endsSummed, readTurnLine, fixedText, ourSid, ourFF, ourFQ, withCr}
 use Rattle.grammar.specs.Answers.{Sign, readFs, fsNumber, fsLine, level0}
-use Rattle.grammar.specs.Transfers.{readTransfer}
+use Rattle.grammar.specs.Transfers.{readTransfer, sumRight}
 use Rattle.grammar.specs.Scan.{Scan, Scanned, goes, got, malformed, wrongSum, noRoom, scanByte, scanFrom}
 use Rattle.grammar.proofs.Refusal.{Reach, reach-step, from, contentOf, read-as}
 use Rattle.mail.specs.Mail.{Record, messageOf, turnText, transfersText, accepted}
 use Rattle.session.specs.Choices.{Shelf, answersTo}
 use Rattle.session.specs.Session.{Awaited, awaitsSid, awaitsPrompt, awaitsTurn, awaitsAnswer, Phase, aLine, newTurn, awaitsTransfer, leaving, Memory, Session, withFramed, withPart, withAfterCr, between, Outcome, refuses, goesOn, speaking, ourTurn as speakNow, turnMarks, answering, answered, turnJudged, answerMarks, answerJudged, afterSid, sidJudged, textJudged, awaitedJudged, lineJudged, refused, settled, lineMoved, keptIn, nextTransfer, transferMoved, roomFor, lineStep, phaseStep, freeStep, step, ended}
 use Rattle.session.specs.Session
-use Rattle.log.specs.Log.{ourNewTurn, took, ourSidLine, ourAnswer, theirText, Next, weSay, theySay, theirTransfer, Course, Book, Log, isOurs, saidOn, inOrder, said, theirsOwed, placesOf, ourProposed, Effect, effect, theirSaid, theirAnswered, theirSidRead, theirRead, theirLine, judgedLine}
+use Rattle.log.specs.Log.{ourNewTurn, took, ourSidLine, ourAnswer, theirText, Next, weSay, theySay, theirTransfer, Course, Book, Log, isOurs, saidOn, inOrder, said, theirsOwed, placesOf, ourProposed, Effect, effect, summedEnd, checked, rawWith, theirSaid, theirTurnLine, theirAnswered, theirSidRead, theirRead, theirLine, judgedLine}
 use Rattle.log.specs.Log
 use Rattle.log.specs.Fed.{Fed, unitByte, outOfOrder, fedByte}
 use Rattle.log.proofs.Said.{said-after}
 use Rattle.log.proofs.Spoken.{spoken, spoken-nil, spoken-append, spoken-alone, spoken-ours, withSpoken, at, AllFit, map-snoc, ff-spoken, fq-spoken, sid-spoken, turn-spoken, fs-spoken, transfers-spoken}
+use Rattle.log.specs.Effects.{forwardedSent}
+use Rattle.demand3.proofs.Effects.{marked-alike, declined-alike, accepted-alike, message-alike}
 use Rattle.demand3.proofs.Choice.{Sound, ourChoice, proposalsAt}
 use Rattle.demand3.proofs.Inv.{lineOf, Few, nextOf, courseOf, bookOf, no-line, Pending, Live, Inv, live, gone}
 
@@ -71,7 +73,7 @@ our-turn E S o ff m s a c e = go ff (ourChoice E m) (S .few m) (S .own m) (S .fi
 
 answer : (E : Shelf) → Sound E → (ps : List Proposal) (m : Memory) (s : Session) → 1 ≤ length ps → length ps ≤ 5
     → Inv E (settled s true (answered E ps m) .session) (after true m (record { next = weSay (ourAnswer ps); sent = m .sending }))
-answer E S ps m s k l = go (accepted ss ps) (fs-spoken (E .table) (m .framed) ps ss (m .sending) (S .full (m .inbox) ps) k l)
+answer E S ps m s k l = go (accepted ss ps) (rw (accepted-alike ss ps) (fs-spoken (E .table) (m .framed) ps ss (m .sending) (S .full (m .inbox) ps) k l))
   where
     ss : List Sign
     ss = answersTo E (m .inbox) ps
@@ -147,32 +149,46 @@ module _ (E : Shelf) (S : Sound E) (part : Bytes) (a : Bool) (m : Memory) where
   text-line false = quiet awaitsPrompt (aLine awaitsPrompt) m (no-line, tt)
 
   -- FF, and a whole block
-  after-ff : (p : Awaited) → AfterLine p (speakNow E [] true (turnMarks m)) (effect (bookOf (turnMarks m)) [] (ourNewTurn true))
+  after-ff : (p : Awaited) → AfterLine p (speakNow E [] true (turnMarks m)) (effect (Log.withStates (bookOf m) (forwardedSent (m .sending) (m .states))) [] (ourNewTurn true))
   unfolding AfterLine
   after-ff p =
-      our-turn E S [] true (turnMarks m) (idle (aLine p) part a m) true (record { next = ourNewTurn true; sent = [] })
-      (spoken-nil (E .table) (m .framed) (at (ourNewTurn true) []))
+      rw (← marked-alike (m .sending) (m .states))
+      (our-turn E S [] true (turnMarks m) (idle (aLine p) part a m) true (record { next = ourNewTurn true; sent = [] })
+      (spoken-nil (E .table) (m .framed) (at (ourNewTurn true) [])))
 
   after-block : (p : Awaited) (q : Proposal) (qs : List Proposal) → length (q ∷ qs) ≤ 5
-      → AfterLine p (answered E (q ∷ qs) (turnMarks m)) (effect (bookOf (turnMarks m)) [] (weSay (ourAnswer (q ∷ qs))))
+      → AfterLine p (answered E (q ∷ qs) (turnMarks m)) (effect (Log.withStates (bookOf m) (forwardedSent (m .sending) (m .states))) [] (weSay (ourAnswer (q ∷ qs))))
   unfolding AfterLine
-  after-block p q qs h = answer E S (q ∷ qs) (turnMarks m) (idle (aLine p) part a m) (omega arith) h
+  after-block p q qs h = rw (← marked-alike (m .sending) (m .states)) (answer E S (q ∷ qs) (turnMarks m) (idle (aLine p) part a m) (omega arith) h)
 
-  -- the lines of the partner's turn so far say ps; the next is l
-  turn-line : (ff : Bool) (ps : List Proposal) (l : TurnLine) → length ps ≤ 5
-      → AfterLine (awaitsTurn ff ps) (turnJudged E l ff ps m) (theirSaid ff (map proposes ps ++ (l ∷ [])) (bookOf m) (m .sending) (said ff (map proposes ps ++ (l ∷ []))))
-  turn-line ff ps l h = rw (said-after ff ps (l ∷ []) h) (go ff ps l h)
+  -- the lines of the partner's turn so far say ps, and are raw as received; the next is l
+  turn-line : (ff : Bool) (ps : List Proposal) (raw : Bytes) (l : TurnLine) → length ps ≤ 5
+      → AfterLine (awaitsTurn ff ps raw) (turnJudged E l ff ps raw part m) (theirTurnLine ff (map proposes ps) raw (bookOf m) (m .sending) part (checked raw l))
+  turn-line ff ps raw l h = rw (said-after ff ps (checked raw l ∷ []) h) (go ff ps l h)
     where
+      says-now : Bool → List Proposal → TurnLine → Effect
+      says-now ff ps l = theirSaid ff (map proposes ps ++ (l ∷ [])) (rawWith raw part l) (bookOf m) (m .sending) (inOrder ff (saidOn ps (l ∷ [])))
+
       five : (ff : Bool) (ps : List Proposal) (q : Proposal) (c : Bool) → ltb (length ps) 5 ≡ c
-          → AfterLine (awaitsTurn ff ps) (cond c (goesOn (aLine (awaitsTurn ff (ps ++ (q ∷ [])))) m []) (refuses proposalCount))
-          (theirSaid ff (map proposes ps ++ (proposes q ∷ [])) (bookOf m) (m .sending) (inOrder ff (cond c Log.unfinished Log.wrong)))
+          → AfterLine (awaitsTurn ff ps raw) (cond c (goesOn (aLine (awaitsTurn ff (ps ++ (q ∷ [])) (raw ++ withCr part))) m []) (refuses proposalCount))
+          (theirSaid ff (map proposes ps ++ (proposes q ∷ [])) (raw ++ withCr part) (bookOf m) (m .sending) (inOrder ff (cond c Log.unfinished Log.wrong)))
       five ff ps q true e =
           rw (map-snoc ps q)
-          (quiet _ (aLine (awaitsTurn ff (ps ++ (q ∷ [])))) m (no-line, simp length-append (omega (arith, ltb-true (length ps) 5 e))))
+          (quiet _ (aLine (awaitsTurn ff (ps ++ (q ∷ [])) (raw ++ withCr part))) m (no-line, simp length-append (omega (arith, ltb-true (length ps) 5 e))))
       five ff ps q false e = wrong-line _ _ _ refl
 
+      -- the checksum is right or wrong
+      summed-end : (ff : Bool) (p : Proposal) (ps : List Proposal) → length (p ∷ ps) ≤ 5 → (c : Bool)
+          → AfterLine (awaitsTurn ff (p ∷ ps) raw) (cond c (answered E (p ∷ ps) (turnMarks m)) (refuses wrongBlockSum)) (says-now ff (p ∷ ps) (summedEnd c))
+      summed-end ff p ps h true = after-block _ p ps h
+      summed-end ff p ps h false = wrong-line _ _ _ refl
+
+      summed-alone : (ff c : Bool) (n : ℕ) → AfterLine (awaitsTurn ff [] raw) (refuses n) (says-now ff [] (summedEnd c))
+      summed-alone ff true n = wrong-line _ _ _ refl
+      summed-alone ff false n = wrong-line _ _ _ refl
+
       go : (ff : Bool) (ps : List Proposal) (l : TurnLine) → length ps ≤ 5
-          → AfterLine (awaitsTurn ff ps) (turnJudged E l ff ps m) (theirSaid ff (map proposes ps ++ (l ∷ [])) (bookOf m) (m .sending) (inOrder ff (saidOn ps (l ∷ []))))
+          → AfterLine (awaitsTurn ff ps raw) (turnJudged E l ff ps raw part m) (says-now ff ps (checked raw l))
       go true [] saysFF h = wrong-line _ _ _ refl
       go false [] saysFF h = after-ff _
       go ff (p ∷ ps) saysFF h = wrong-line _ _ _ refl
@@ -184,21 +200,24 @@ module _ (E : Shelf) (S : Sound E) (part : Bytes) (a : Bool) (m : Memory) where
       go ff [] notAllowed h = wrong-line _ _ _ refl
       go ff (p ∷ ps) notAllowed h = wrong-line _ _ _ refl
       go ff ps (proposes q) h = five ff ps q (ltb (length ps) 5) refl
+      go ff [] (endsSummed n) h = summed-alone ff (sumRight raw n) _
+      go ff (p ∷ ps) (endsSummed n) h = summed-end ff p ps h (sumRight raw n)
 
   answer-line : (is : List ℕ) (n : ℕ) (r : Option (List Sign)) → AfterLine (awaitsAnswer is) (answerJudged E is m n r) (theirAnswered is (bookOf m) (m .sending) r)
   unfolding AfterLine
   answer-line is n none = wrong-line (awaitsAnswer is) n _ refl
   answer-line is n (some ss) =
-      says E (idle (aLine (awaitsAnswer is)) part a m) true (newTurn false) (answerMarks is ss m) (transfersText (E .table) (accepted ss is))
+      rw (← declined-alike is ss (m .states)) (rw (← accepted-alike ss is)
+      (says E (idle (aLine (awaitsAnswer is)) part a m) true (newTurn false) (answerMarks is ss m) (transfersText (E .table) (accepted ss is))
       (record { next = Log.oursOwed (accepted ss is); sent = m .sending })
       (transfers-spoken (E .table) (m .framed) (accepted ss is) (m .sending))
-      (no-line, omega arith)
+      (no-line, omega arith)))
 
   -- the line that is awaited
   read-line : (p : Awaited) → Few p → AfterLine p (awaitedJudged E p m part) (theirRead (lineOf p) (bookOf m) (m .sending) part)
   read-line (awaitsSid c) f = sid-line c (readSid (trim part))
   read-line awaitsPrompt f = text-line (isPrompt (trim part))
-  read-line (awaitsTurn ff ps) f = turn-line ff ps (readTurnLine (m .framed) (trim part)) f
+  read-line (awaitsTurn ff ps raw) f = turn-line ff ps raw (readTurnLine (m .framed) (trim part)) f
   read-line (awaitsAnswer is) f = answer-line is (fsNumber level0 (length is) (trim part)) (readFs level0 (length is) (trim part))
 
   -- a comment, or the line
@@ -267,7 +286,8 @@ module _ (E : Shelf) (S : Sound E) (part : Bytes) (a : Bool) (m : Memory) where
       go (got t x) e k =
           rw e
           (rw (plain-alike (p .form))
-          (next-transfer (awaitsTransfer p ps sc) (Log.isPlain (p .form)) ps (keptIn m (messageOf p (record { heading = t; body = x })))))
+          (rw (← message-alike p (record { heading = t; body = x }))
+          (next-transfer (awaitsTransfer p ps sc) (Log.isPlain (p .form)) ps (keptIn m (messageOf p (record { heading = t; body = x }))))))
       go malformed e k = rw e (refusal E (idle here part a m) (twin here false m (u ++ (b ∷ []))) refl)
       go wrongSum e k = rw e (refusal E (idle here part a m) (twin here false m (u ++ (b ∷ []))) refl)
       go noRoom e k = rw e (refusal E (idle here part a m) (twin here false m (u ++ (b ∷ []))) refl)

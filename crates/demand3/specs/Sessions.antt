@@ -138,6 +138,9 @@ sessions =
     ∷ example (sent (receiving (text "FB B D E F Y1 3\r") ∷ [])) (0 ∷ []) [] (greeted ++ (ours ++ text "T\rhi\u{1a}\r")) false
     -- but at its F>
     ∷ example (sent (receiving (text "FB B D E F Y1 3\rF>\r") ∷ giving 99 ∷ [])) (1 ∷ []) [] (greeted ++ (ours ++ text "T\rhi\u{1a}\rFS +\r")) false
+    -- or at its F> with the right checksum (02, Q-5); with a wrong one nothing is marked and nothing said
+    ∷ example (sent (receiving (text ";\rFB B D E F Y1 3\r\nF> DD\r") ∷ giving 99 ∷ [])) (1 ∷ []) [] (greeted ++ (ours ++ text "T\rhi\u{1a}\rFS +\r")) false
+    ∷ example (sent (receiving (text "FB B D E F Y1 3\rF> DE\r") ∷ giving 99 ∷ receiving (text "FF\r") ∷ [])) (0 ∷ []) [] (greeted ++ (ours ++ text "T\rhi\u{1a}\r")) true
     -- a body's first LF is kept, one after the transfer is dropped; then our turn, with nothing to propose
     ∷ example (sent (receiving (text "FB B D E F Y1 3\rF>\r") ∷ giving 99 ∷ receiving (text "U\r\nyo\u{1a} \r\n") ∷ giving 99 ∷ receiving (text "FQ\rFF\r") ∷ []))
     (1 ∷ []) (theirs plain ∷ []) (greeted ++ (ours ++ text "T\rhi\u{1a}\rFS +\rFF\r")) true

@@ -42,9 +42,9 @@ Other n = eqb n 1 ≡ false
 abbrev OtherJ : Judged → Type 0
 OtherJ j = eqb (j .answer) 1 ≡ false
 
-judge-other : (ln : Bytes) (w : Await) (y : Say) (k : Keep) (r : Reader) (table known inbox : Bytes) (store : ℕ) → OtherJ (judgeOf ln w y k r table known inbox store)
-judge-other ln w y k r table known inbox store =
-    by-line-ways ln w y k r table known inbox store OtherJ (record { refused = λ n e. e; goes = λ s m v z q. refl; begins = λ m v z q i. refl })
+judge-other : (ln : Bytes) (n : ℕ) (w : Await) (y : Say) (k : Keep) (r : Reader) (table known inbox : Bytes) (store : ℕ) → OtherJ (judgeOf ln n w y k r table known inbox store)
+judge-other ln n w y k r table known inbox store =
+    by-line-ways ln n w y k r table known inbox store OtherJ (record { refused = λ m e. e; goes = λ s m v z q. refl; begins = λ m v z q i. refl })
 
 settle-other : (s : Session) (j : Judged) (p : Bool) (table : Bytes) → OtherJ j → Other (settleOf s j p table .answer)
 unfolding settleOf
@@ -56,7 +56,7 @@ line-other s b table known inbox store = go (lineByte false (s .line .len) b)
   where
     go : (l : LineByte) → Other (lineMoved l s b table known inbox store .answer)
     go dropped = refl
-    go ends = settle-other s _ true table (judge-other _ (s .now) (s .say) (s .keep) (s .reading .reader) table known inbox store)
+    go ends = settle-other s _ true table (judge-other _ _ (s .now) (s .say) (s .keep) (s .reading .reader) table known inbox store)
     go grows = refl
     go overruns = refl
 

@@ -18,7 +18,7 @@ use Rattle.transfer_step.specs.declared.Outcome.the-variants.{More, Whole, Malf
 use Rattle.transfer_step.specs.Step.{stepOf}
 use Rattle.transfer_read.specs.Feed.{headingPut, roomOf}
 use Rattle.transfer_read.proofs.Room.{step-within}
-use Rattle.line_effect.specs.Judge.{judgeOf}
+use Rattle.line_effect.specs.Judge.{lineSum, judgeOf}
 use Rattle.waiting.specs.Waiting.{waitingOf}
 use Rattle.pending.specs.Pending.{waits}
 use Rattle.receive_defined.specs.Receiving.{Cs, cs, moved, refusedOf, Settled, lineMoved, lineStepOf, reading, transferMoved, transferStep, transferStepOf, lfDropped, lineByteOf, byteOf, run, stops, receiveFrom}
@@ -140,10 +140,10 @@ module _ (F : Fixed) (nt ni ns : ℕ) (c : Cs) (b : ℕ) (G : Good F nt ni ns c)
           → Good F nt ni ns (cs (out (cond d ends (cond e grows overruns)) .session) (out (cond d ends (cond e grows overruns)) .table) (c .inbox) (c .store))
       go true e q =
           settle-ok F nt ni ns (c .session)
-          (judgeOf (trim (take (c .session .line .len) (c .session .line .bytes))) (c .session .now) (c .session .say) (c .session .keep) (c .session .reading .reader) (c .table) known (c .inbox) (length (c .store)))
+          (judgeOf (trim (take (c .session .line .len) (c .session .line .bytes))) (lineSum (take (c .session .line .len) (c .session .line .bytes))) (c .session .now) (c .session .say) (c .session .keep) (c .session .reading .reader) (c .table) known (c .inbox) (length (c .store)))
           true (c .inbox) (c .store) (G .heading) (G .line) (c .table) (G .lent)
           (judge-ok (c .table) known (c .inbox) (c .store) (c .session .now) (c .session .say) (c .session .keep) (c .session .reading .reader)
-          (G .now) (G .say) (G .keep) (G .reader) (G .box) (waits-none (c .session .say) E .1) (trim (take (c .session .line .len) (c .session .line .bytes))) (G .awaited .quiet) N)
+          (G .now) (G .say) (G .keep) (G .reader) (G .box) (waits-none (c .session .say) E .1) (trim (take (c .session .line .len) (c .session .line .bytes))) (lineSum (take (c .session .line .len) (c .session .line .bytes))) (G .awaited .quiet) N)
           (λ x. refused)
       go false true q =
           record {

@@ -52,16 +52,16 @@ pub none-ok : FiveOk noFive
 none-ok = record { few = omega arith; size = refl; octets = octets-zeros 5 }
 
 pub in-phase : (p : ℕ) (w : Await) → p < 256 → AwaitOk w → AwaitOk (inPhase p w)
-in-phase p w h g = record { phase = h; current = g .current; proposals = g .proposals; ours = g .ours; block = g .block; octets = g .octets }
+in-phase p w h g = record { phase = h; current = g .current; proposals = g .proposals; ours = g .ours; sum = g .sum; block = g .block; octets = g .octets }
 
 pub to-turn : (ff : Bool) (w : Await) → AwaitOk w → AwaitOk (toTurn ff w)
-to-turn ff w g = record { phase = omega arith; current = g .current; proposals = omega arith; ours = g .ours; block = g .block; octets = g .octets }
+to-turn ff w g = record { phase = omega arith; current = g .current; proposals = omega arith; ours = g .ours; sum = omega arith; block = g .block; octets = g .octets }
 
 pub to-answer : (f : Five) (w : Await) → FiveOk f → AwaitOk w → AwaitOk (toAnswer f w)
-to-answer f w h g = record { phase = omega arith; current = g .current; proposals = g .proposals; ours = h; block = g .block; octets = g .octets }
+to-answer f w h g = record { phase = omega arith; current = g .current; proposals = g .proposals; ours = h; sum = g .sum; block = g .block; octets = g .octets }
 
 pub to-transfer : (i : ℕ) (w : Await) → i < 256 → AwaitOk w → AwaitOk (toTransfer i w)
-to-transfer i w h g = record { phase = omega arith; current = h; proposals = g .proposals; ours = g .ours; block = g .block; octets = g .octets }
+to-transfer i w h g = record { phase = omega arith; current = h; proposals = g .proposals; ours = g .ours; sum = g .sum; block = g .block; octets = g .octets }
 
 pub says-then : (n : ℕ) (y : Say) → n < 256 → SayOk y → SayOk (saysThen n y)
 says-then n y h g = record { first = g .first; then = h; pos = g .pos; signs = g .signs }

@@ -5,17 +5,17 @@ use mathlib.Core.Path.{_≡_, refl, sym, _∙_, subst}
 use mathlib.Core.Bool.{Bool, true, false, cond}
 use mathlib.Core.Option.{Option, none, some}
 use mathlib.Core.List.{List}
-use Prim.Native.Nat.{ℕ, _+_, _*_, _≤_, _<_}
+use Prim.Native.Nat.{ℕ, _+_, _*_, _%_, _≤_, _<_}
 use native.Mathlib.Omega.{arith}
 use lib.Dec.{eqb, ltb}
 use lib.ListN.{length, drop}
 use borrow.Author.Tests.{eqb-true, ltb-true}
 use Rattle.grammar.specs.Bytes.{Bytes}
-use Rattle.grammar.specs.Refusals.{notSid, noForwarding, lineNotAllowed, proposalCount}
+use Rattle.grammar.specs.Refusals.{notSid, noForwarding, lineNotAllowed, proposalCount, wrongBlockSum}
 use Rattle.grammar.specs.Fields.{formNumber}
 use Rattle.grammar.specs.Lines.{isComment, isPrompt}
 use Rattle.grammar.specs.Sid.{readSid, hasFeature, framed}
-use Rattle.grammar.specs.Turns.{Proposal, TurnLine, saysFF, saysFQ, endsBlock, notAllowed, proposes, readTurnLine}
+use Rattle.grammar.specs.Turns.{Proposal, TurnLine, saysFF, saysFQ, endsBlock, notAllowed, proposes, endsSummed, readTurnLine}
 use Rattle.grammar.proofs.AsRead.{Proper, TurnOk, turn-read-ok}
 use Rattle.fs_line.specs.Answers.{answerNumber, answerSigns}
 use Rattle.buffer.proofs.Laws.{put-length}
@@ -29,7 +29,7 @@ use Rattle.session_memory.specs.declared.Say.{Say}
 use Rattle.session_memory.specs.Session.{Keep}
 use Rattle.our_answer.specs.Answers.{answersOf}
 use Rattle.entries.specs.Decoded.{placeCount}
-use Rattle.line_effect.specs.Judge.{noMarks, judged, refusal, wentOn, inPhase, toTurn, toTransfer, saysFirst, saysThen, saysSigns, inMode, sends, afterSid, sidRead, sidLine, textLine, turnMarks, settledKeep, nextAccepted, readerFor, answered, endLine, withProposal, proposalLine, ffLine, fqLine, turnRead, turnLine, picked, flagged, transfersAfter, answerTaken, answerLine, lineIn, judgeOf}
+use Rattle.line_effect.specs.Judge.{noMarks, judged, refusal, wentOn, inPhase, toTurn, toTransfer, saysFirst, saysThen, saysSigns, inMode, sends, afterSid, sidRead, sidLine, textLine, turnMarks, settledKeep, nextAccepted, readerFor, answered, endLine, summedLine, withProposal, proposalLine, ffLine, fqLine, turnRead, turnLine, picked, flagged, transfersAfter, answerTaken, answerLine, lineIn, judgeOf}
 use Rattle.line_effect.specs.declared.Marks.{Marks}
 use Rattle.form_test.specs.Form.{pluses}
 use Rattle.form_closed.proofs.Laws.{octets-put, flag-octets, picked-octets, five-of, held-length, held-octets, next-found, length-flagged, picked-few}
@@ -116,28 +116,29 @@ module _ (table known inbox store : Bytes) (w : Await) (y : Say) (k : Keep) (r :
       go true false = bad lineNotAllowed refl
       go false b = bad lineNotAllowed refl
 
-  proposal-ok : (md : Bool) (q : Proposal) → Proper md q → w .phase ≡ 3 → JGood inbox store (proposalLine q w y k r)
+  proposal-ok : (md : Bool) (q : Proposal) (n : ℕ) → Proper md q → w .phase ≡ 3 → JGood inbox store (proposalLine q n w y k r)
   unfolding proposalLine
-  proposal-ok md q h p = go (ltb (w .proposals) 5) refl
+  proposal-ok md q n h p = go (ltb (w .proposals) 5) refl
     where
       c : Bytes
       c = proposalOut (formNumber (q .form)) (q .type) (q .from) (q .at) (q .to) (q .bid) (q .size)
 
-      more : w .proposals < 5 → AwaitOk (withProposal q w)
+      more : w .proposals < 5 → AwaitOk (withProposal q n w)
       more l =
           record {
             phase = W .phase;
             current = W .current;
             proposals = omega arith;
             ours = W .ours;
+            sum = omega arith;
             block = put-length (w .block) (at (w .proposals * proposalLen)) c ∙ W .block;
             octets = octets-put (w .block) (at (w .proposals * proposalLen)) c (W .octets) (proposal-octets md q h);
           }
 
-      go : (a : Bool) → ltb (w .proposals) 5 ≡ a → JGood inbox store (cond a (wentOn (withProposal q w) y k r) (refusal proposalCount w y k r))
+      go : (a : Bool) → ltb (w .proposals) 5 ≡ a → JGood inbox store (cond a (wentOn (withProposal q n w) y k r) (refusal proposalCount w y k r))
       go true e =
-          on (withProposal q w) y k r noMarks (more (ltb-true (w .proposals) 5 e)) Y K R B (omega arith) not-sent
-          (free (withProposal q w) y k r inbox store (λ a b. a p) (λ x. omega arith))
+          on (withProposal q n w) y k r noMarks (more (ltb-true (w .proposals) 5 e)) Y K R B (omega arith) not-sent
+          (free (withProposal q n w) y k r inbox store (λ a b. a p) (λ x. omega arith))
       go false e = bad proposalCount refl
 
   answered-ok : (f : Five) → AnswersOk w k inbox f → JGood inbox store (answered f (nextAccepted f 0) w y k r)
@@ -172,16 +173,27 @@ module _ (table known inbox store : Bytes) (w : Await) (y : Say) (k : Keep) (r :
       go true = bad proposalCount refl
       go false = answered-ok (answersOf w k table known inbox (length store)) (answers-ok w k table known inbox (length store) (W .proposals) (B .placed))
 
-  turn-ok : (ln : Bytes) → w .phase ≡ 3 → JGood inbox store (turnLine ln w y k r table known inbox (length store))
-  unfolding turnLine
-  turn-ok ln p = go (readTurnLine (k .framed) ln) (turn-read-ok (k .framed) ln)
+  summed-ok : (h : ℕ) → JGood inbox store (summedLine h w y k r table known inbox (length store))
+  unfolding summedLine
+  summed-ok h = go (eqb (w .proposals) 0) (eqb ((w .sum + h) % 256) 0)
     where
-      go : (t : TurnLine) → TurnOk (k .framed) t → JGood inbox store (turnRead t w y k r table known inbox (length store))
+      go : (a b : Bool) → JGood inbox store (cond a (refusal proposalCount w y k r) (cond b (endLine w y k r table known inbox (length store)) (refusal wrongBlockSum w y k r)))
+      go true b = bad proposalCount refl
+      go false true = end-ok
+      go false false = bad wrongBlockSum refl
+
+  -- n: the sum of the line
+  turn-ok : (ln : Bytes) (n : ℕ) → w .phase ≡ 3 → JGood inbox store (turnLine ln n w y k r table known inbox (length store))
+  unfolding turnLine
+  turn-ok ln n p = go (readTurnLine (k .framed) ln) (turn-read-ok (k .framed) ln)
+    where
+      go : (t : TurnLine) → TurnOk (k .framed) t → JGood inbox store (turnRead t n w y k r table known inbox (length store))
       go saysFF h = ff-ok
       go saysFQ h = fq-ok
       go endsBlock h = end-ok
       go notAllowed h = bad lineNotAllowed refl
-      go (proposes q) h = proposal-ok (k .framed) q h p
+      go (proposes q) h = proposal-ok (k .framed) q n h p
+      go (endsSummed h) z = summed-ok h
 
   taken-ok : (ss : Bytes) → JGood inbox store (answerTaken ss w y k r)
   taken-ok ss =
@@ -211,25 +223,26 @@ module _ (table known inbox store : Bytes) (w : Await) (y : Say) (k : Keep) (r :
       go true e = taken-ok (answerSigns (w .ours .count) ln)
       go false e = bad (answerNumber (w .ours .count) ln) e
 
-  line-ok : (ln : Bytes) → ((w .phase ≡ 3 → ⊥) → w .phase ≤ 5 → k .sending .count ≡ 0) → (w .phase ≡ 5 → ⊥)
-      → JGood inbox store (lineIn (w .phase) ln w y k r table known inbox (length store))
-  line-ok ln q n = go (eqb (w .phase) 0) (eqb (w .phase) 1) (eqb (w .phase) 2) (eqb (w .phase) 3) (eqb (w .phase) 4) refl refl refl refl
+  line-ok : (ln : Bytes) (s : ℕ) → ((w .phase ≡ 3 → ⊥) → w .phase ≤ 5 → k .sending .count ≡ 0) → (w .phase ≡ 5 → ⊥)
+      → JGood inbox store (lineIn (w .phase) ln s w y k r table known inbox (length store))
+  line-ok ln s q n = go (eqb (w .phase) 0) (eqb (w .phase) 1) (eqb (w .phase) 2) (eqb (w .phase) 3) (eqb (w .phase) 4) refl refl refl refl
     where
       go : (a b c d e : Bool) → eqb (w .phase) 0 ≡ a → eqb (w .phase) 1 ≡ b → eqb (w .phase) 2 ≡ c → eqb (w .phase) 3 ≡ d
           → JGood inbox store (cond a (sidLine ln w y k r) (cond b (sidLine ln w y k r) (cond c (textLine ln w y k r)
-          (cond d (turnLine ln w y k r table known inbox (length store)) (cond e (answerLine ln w y k r) (refusal lineNotAllowed w y k r))))))
+          (cond d (turnLine ln s w y k r table known inbox (length store)) (cond e (answerLine ln w y k r) (refusal lineNotAllowed w y k r))))))
       go true b c d e p₀ p₁ p₂ p₃ = let z = eqb-true (w .phase) 0 p₀ in sid-ok ln (q (λ u. omega arith) (omega arith))
       go false true c d e p₀ p₁ p₂ p₃ = let z = eqb-true (w .phase) 1 p₁ in sid-ok ln (q (λ u. omega arith) (omega arith))
       go false false true d e p₀ p₁ p₂ p₃ = let z = eqb-true (w .phase) 2 p₂ in text-ok ln n (q (λ u. omega arith) (omega arith))
-      go false false false true e p₀ p₁ p₂ p₃ = turn-ok ln (eqb-true (w .phase) 3 p₃)
+      go false false false true e p₀ p₁ p₂ p₃ = turn-ok ln s (eqb-true (w .phase) 3 p₃)
       go false false false false true p₀ p₁ p₂ p₃ = answer-ok ln
       go false false false false false p₀ p₁ p₂ p₃ = bad lineNotAllowed refl
 
-  pub judge-ok : (ln : Bytes) → ((w .phase ≡ 3 → ⊥) → w .phase ≤ 5 → k .sending .count ≡ 0) → (w .phase ≡ 5 → ⊥)
-      → JGood inbox store (judgeOf ln w y k r table known inbox (length store))
+  -- s: the sum of the line
+  pub judge-ok : (ln : Bytes) (s : ℕ) → ((w .phase ≡ 3 → ⊥) → w .phase ≤ 5 → k .sending .count ≡ 0) → (w .phase ≡ 5 → ⊥)
+      → JGood inbox store (judgeOf ln s w y k r table known inbox (length store))
   unfolding judgeOf
-  judge-ok ln q n = go (isComment ln)
+  judge-ok ln s q n = go (isComment ln)
     where
-      go : (a : Bool) → JGood inbox store (cond a (wentOn w y k r) (lineIn (w .phase) ln w y k r table known inbox (length store)))
+      go : (a : Bool) → JGood inbox store (cond a (wentOn w y k r) (lineIn (w .phase) ln s w y k r table known inbox (length store)))
       go true = same-on n q
-      go false = line-ok ln q n
+      go false = line-ok ln s q n

@@ -10,10 +10,10 @@ use borrow.Author.Tests.{eq-eqb, eqb-true, eqb-false, ltb-true, ltb-false, lt-lt
 use Rattle.grammar.specs.Bytes.{Bytes}
 use Rattle.grammar.specs.Transfers.{partOf}
 use Rattle.grammar.proofs.Basics.{and2, both, or-second}
-use Rattle.places.specs.Places.{arraysAt, blockAt, blockLen, currentAt, deferredAt, deferredLen, firstAt, headingAt, headingLen, lengthAt, lineAt, lineLen, offsetAt, oursAt, phaseAt, placeAt, sendingAt, signsAt, sumAt, thenAt}
+use Rattle.places.specs.Places.{arraysAt, blockAt, blockLen, blockSumAt, currentAt, deferredAt, deferredLen, firstAt, headingAt, headingLen, lengthAt, lineAt, lineLen, offsetAt, oursAt, phaseAt, placeAt, sendingAt, signsAt, sumAt, thenAt}
 use Rattle.layout.specs.Layout.{byteAt, le2, le4, le8}
 use Rattle.layout.proofs.Laws.{octets}
-use Rattle.session_memory.specs.State.{at, flag, held, fiveAt, arrayAt, fiveOut, loadAwait, loadSay, loadKeep, loadReading, loadLine, loadOf, smallOut, numbersOut, arraysOut, numberPart}
+use Rattle.session_memory.specs.State.{at, flag, held, fiveAt, arrayAt, fiveOut, loadAwait, loadSay, loadKeep, loadReading, loadLine, loadOf, smallOut, numbersOut, tailOut, arraysOut, numberPart}
 use Rattle.session_memory.specs.declared.Five.{Five}
 use Rattle.session_memory.specs.Session.{Session}
 use Rattle.session_memory.proofs.Laws.{Shaped, load-shaped}
@@ -147,6 +147,7 @@ form-in F sm table inbox store o ot oi os fits e =
         current = b currentAt;
         proposals = leb-true (s .now .proposals) 5 (n₅ .0);
         ours = five-in sm oursAt o (leb-true (s .now .ours .count) 5 (n₂ .0)) (h .now .ours);
+        sum = b blockSumAt;
         block = h .now .block;
         octets = array-octets blockLen sm (arraysAt + blockAt) o;
       };
@@ -249,5 +250,10 @@ module _ (F : Fixed) (nt ni ns : ℕ) (c : Cs) (g : Good F nt ni ns c) where
       octets-append (s .keep .deferred) _ (g .keep .octets)
       (octets-append (s .reading .heading) _ (g .heading .octets) (octets-append (s .line .bytes) (s .now .block) (g .line .octets) (g .now .octets)))
 
+  tail-octets : Octets (tailOut (c .session))
+  unfolding tailOut
+  tail-octets = octets-cons (g .now .sum) octets-nil
+
   pub part-octets : Octets (numberPart (c .session))
-  part-octets = octets-append (smallOut (c .session)) (numbersOut (c .session)) small-octets numbers-octets
+  part-octets =
+      octets-append (smallOut (c .session)) _ small-octets (octets-append (numbersOut (c .session)) (tailOut (c .session)) numbers-octets tail-octets)

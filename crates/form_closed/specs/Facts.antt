@@ -47,6 +47,7 @@ pub record AwaitOk (w : Await) : Type 0 where
   pub current : w .current < byteValues
   pub proposals : w .proposals ≤ blockLimit
   pub ours : FiveOk (w .ours)
+  pub sum : w .sum < byteValues
   pub block : length (w .block) ≡ blockLen
   pub octets : Octets (w .block)
 

@@ -17,6 +17,11 @@ use Rattle.waiting.specs.Pieces.{piecesOf}
 use Rattle.give_place.specs.Located.{At}
 use Rattle.give_place.specs.declared.Place.{Place}
 use Rattle.pending.specs.Pending.{waits}
+use Rattle.phase.specs.Phase.{phaseTurn, phaseTransfer}
+use Rattle.places.specs.Places.{lineLen, headingLen}
+use Rattle.grammar.specs.Turns.{blockLimit}
+use Rattle.grammar.specs.Answers.{plusSign}
+use Rattle.grammar.specs.Fields.{bodyLimit}
 
 -- The mark that open leaves.
 abbrev pub markOk : Bytes → Bool
@@ -30,8 +35,8 @@ sameSizes a b =
 -- Counts within their arrays.
 unfoldable pub countsOk : Session → Bool
 countsOk s =
-    leb (s .line .len) 256 && (leb (s .now .ours .count) 5 && (leb (s .say .signs .count) 5 && (leb (s .keep .sending .count) 5
-    && (leb (s .now .proposals) 5 && leb (s .reading .reader .head) 80))))
+    leb (s .line .len) lineLen && (leb (s .now .ours .count) blockLimit && (leb (s .say .signs .count) blockLimit && (leb (s .keep .sending .count) blockLimit
+    && (leb (s .now .proposals) blockLimit && leb (s .reading .reader .head) headingLen))))
 
 -- How many store bytes the first n messages of the inbox use, from message i on.
 abbrev pub usedFrom : Bytes → ℕ → ℕ → ℕ
@@ -41,10 +46,14 @@ usedFrom inbox i (suc n) = bodyLength (entryAt entrySize inbox i) + usedFrom inb
 unfoldable pub usedBy : Bytes → ℕ → ℕ
 usedBy inbox n = usedFrom inbox 0 n
 
--- "up to 64 messages": the messages kept have their places, and their bodies' bytes are those that the session counts.
+-- "up to 64 messages"
+abbrev pub messageLimit : ℕ
+messageLimit = 64
+
+-- The messages kept have their places, and their bodies' bytes are those that the session counts.
 unfoldable pub inboxOk : Session → Bytes → Bytes → Bool
 inboxOk s inbox store =
-    leb (placeCount inbox) 64 && (leb (s .keep .kept) (placeCount inbox)
+    leb (placeCount inbox) messageLimit && (leb (s .keep .kept) (placeCount inbox)
     && (eqb (usedBy inbox (s .keep .kept)) (s .keep .used) && leb (s .keep .used) (length store)))
 
 -- Where something waits, not all of it is given.
@@ -54,22 +63,22 @@ waitingOk s table titles names bodies = not (waits (s .say)) || ltb (s .say .pos
 -- How many `+` are among the sign bytes.
 abbrev pub pluses : List ℕ → ℕ
 pluses [] = 0
-pluses (x ∷ xs) = cond (eqb x 43) (suc (pluses xs)) (pluses xs)
+pluses (x ∷ xs) = cond (eqb x plusSign) (suc (pluses xs)) (pluses xs)
 
 -- A transfer under way is that of an accepted proposal, and it and those after it have their places and room.
 unfoldable pub transferOk : Session → Bytes → Bytes → Bool
 transferOk s inbox store =
     ltb (s .now .current) (s .now .proposals) && (eqb (s .say .signs .count) (s .now .proposals)
-    && (eqb (getD (s .say .signs .items) (s .now .current) 0) 43
+    && (eqb (getD (s .say .signs .items) (s .now .current) 0) plusSign
     && (leb (s .keep .kept + pluses (drop (s .now .current) (held (s .say .signs)))) (placeCount inbox)
-    && (leb (s .reading .reader .body) 65535 && leb (s .keep .used + s .reading .reader .body) (length store)))))
+    && (leb (s .reading .reader .body) bodyLimit && leb (s .keep .used + s .reading .reader .body) (length store)))))
 
--- Records are being sent only while the partner's turn, our leaving or nothing is awaited; phase 5 is a transfer under way.
+-- Records are being sent only while the partner's turn, our leaving or nothing is awaited.
 unfoldable pub phaseOk : Session → Bytes → Bytes → Bool
 phaseOk s inbox store =
-    cond (eqb (s .now .phase) 3) true
-    (cond (ltb 5 (s .now .phase)) true
-    (eqb (s .keep .sending .count) 0 && cond (eqb (s .now .phase) 5) (transferOk s inbox store) true))
+    cond (eqb (s .now .phase) phaseTurn) true
+    (cond (ltb phaseTransfer (s .now .phase)) true
+    (eqb (s .keep .sending .count) 0 && cond (eqb (s .now .phase) phaseTransfer) (transferOk s inbox store) true))
 
 -- The state, read from session memory.
 unfoldable pub stateOk : Session → Bytes → Bytes → Bytes → Bytes → Bytes → Bytes → Bool

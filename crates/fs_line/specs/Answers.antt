@@ -11,7 +11,7 @@ use Rattle.grammar.specs.Ascii.{text}
 use Rattle.grammar.specs.Refusals.{badAnswer, lineNotAllowed}
 use Rattle.grammar.specs.Fields.{after}
 use Rattle.grammar.specs.Turns.{blockLimit}
-use Rattle.grammar.specs.Answers.{Sign, accept, decline, defer, writeSign, readSigns, readFs, fsNumber, level0, plusSign, minusSign, equalSign}
+use Rattle.grammar.specs.Answers.{Sign, accept, decline, defer, signOf, writeSign, readSigns, readFs, fsNumber, level0, plusSign, minusSign, equalSign}
 use Rattle.fs_line.specs.declared.Answers.{Answers}
 use Rattle.fs_line.specs.declared.Sign as code
 
@@ -21,6 +21,17 @@ signIs code.Sign.Accept = some accept
 signIs code.Sign.Decline = some decline
 signIs code.Sign.Defer = some defer
 signIs code.Sign.Other = none
+
+-- 01's number for each case: a line with any other byte in a sign's place is an "FS line wrong in form or count"
+abbrev pub signNumber : code.Sign → ℕ
+signNumber code.Sign.Accept = 0
+signNumber code.Sign.Decline = 0
+signNumber code.Sign.Defer = 0
+signNumber code.Sign.Other = badAnswer
+
+-- and what it is for a byte
+abbrev pub byteNumber : ℕ → ℕ
+byteNumber b = cond (isSome (signOf b)) 0 badAnswer
 
 -- "FS, one space, one sign a proposal": the signs to n proposals, of which a block has five at most
 unfoldable pub answered : ℕ → Bytes → Option (List Sign)

@@ -11,7 +11,7 @@ ghost use Rattle.grammar.specs.Refusals.{badAnswer};
 ghost use Rattle.grammar.specs.Fields.{upper, after};
 ghost use Rattle.grammar.specs.Turns.{blockLimit};
 ghost use Rattle.grammar.specs.Answers.{signOf, readSigns};
-ghost use Rattle.fs_line.specs.Answers.{signIs, signBytes, zeroed, answerNumber, answerSigns};
+ghost use Rattle.fs_line.specs.Answers.{signIs, signNumber, byteNumber, signBytes, zeroed, answerNumber, answerSigns};
 
 // 01's number of a line that is not allowed where FS is awaited.
 const LINE_NOT_ALLOWED: u8 = 5;
@@ -38,7 +38,7 @@ pub struct Answers {
 
 // The sign that a byte is.
 pub fn sign_of(b: u8) -> Sign
-    ensures { λ r. ⌜ signIs r ≡ signOf b ⌝ }
+    ensures { λ r. ⌜ (signIs r ≡ signOf b) × (signNumber r ≡ byteNumber b) ⌝ }
 {
     match b {
         b'+' => Sign::Accept,

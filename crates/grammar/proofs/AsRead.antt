@@ -9,11 +9,11 @@ use native.Mathlib.Nat.{mul-le-mul-right, mul-assoc, pow-succ', pow-le-pow-right
 use lib.Dec.{eqb, ltb}
 use lib.ListN.{length, length-set, set}
 use borrow.Author.Tests.{ltb-true}
-use Rattle.grammar.specs.Bytes.{Bytes, CR, CTRLZ, all, before, null, same, splitAt}
+use Rattle.grammar.specs.Bytes.{Bytes, CR, CTRLZ, all, before, byteValues, null, same, splitAt}
 use Rattle.grammar.specs.Ascii.{text}
-use Rattle.grammar.specs.Fields.{Form, after, bodyFair, digit, file, isAt, isBid, isCall, isHeading, isSize, message, plain, readFrom, sized, starts, upper, words}
+use Rattle.grammar.specs.Fields.{Form, after, bodyFair, digit, file, hexDigit, hexPair, isAt, isBid, isCall, isHeading, isSize, message, plain, readFrom, sized, starts, twoHex, upper, words}
 use Rattle.grammar.specs.Sid.{authorByte, authorRead, dataByte, dataRead, hasFeature, isLetter, letterPlace, noFeatures, readFeatures, readLevels, readSid, sidEnd, sidRead, splitLast, withFeature}
-use Rattle.grammar.specs.Turns.{Proposal, fieldsRead, formOf, inMode, isType, readProposal, sevenRead, typeOf, TurnLine, saysFF, saysFQ, endsBlock, notAllowed, proposes, orNotAllowed, readTurnLine}
+use Rattle.grammar.specs.Turns.{Proposal, fieldsRead, formOf, inMode, isType, readProposal, sevenRead, typeOf, TurnLine, saysFF, saysFQ, endsBlock, notAllowed, proposes, endsSummed, orNotAllowed, readSummedEnd, readTurnLine, summedOr, twoHexRead}
 use Rattle.grammar.specs.Transfers.{Parsed, blocks, blocksRead, bodyRead, headRead, isHeader, lenRead, offRead, parse, readFramed, spacesCR, titleRead, zeroDigit}
 use Rattle.grammar.proofs.Basics.{and2, field-is}
 
@@ -123,24 +123,68 @@ proposal-proper md ln = go (starts ln)
     go true = seven-if md (words ln)
     go false = tt
 
--- a turn line as read: a proposal in it is proper
+-- a number as read is below n
+abbrev pub Below : ℕ → Option ℕ → Type 0
+Below n none = Unit {0}
+Below n (some a) = a < n
+
+-- a hexadecimal digit
+hex-if : (b : ℕ) → Below 16 (hexDigit b)
+unfolding hexDigit
+hex-if b = go (ltb (upper b) 48) (ltb (upper b) 58) (ltb (upper b) 65) (ltb (upper b) 71) refl refl
+  where
+    go : (c d e f : Bool) → ltb (upper b) 58 ≡ d → ltb (upper b) 71 ≡ f
+        → Below 16 (cond c none (cond d (some (upper b - 48)) (cond e none (cond f (some (upper b - 55)) none))))
+    go true d e f x y = tt
+    go false true e f x y = let k = ltb-true (upper b) 58 x in omega arith
+    go false false true f x y = tt
+    go false false false true x y = let k = ltb-true (upper b) 71 y in omega arith
+    go false false false false x y = tt
+
+-- two of them are a byte
+two-hex-if : (w : Bytes) → Below byteValues (twoHex w)
+unfolding twoHex
+two-hex-if [] = tt
+two-hex-if (a ∷ []) = tt
+two-hex-if (a ∷ b ∷ []) = go (hexDigit a) (hexDigit b) (hex-if a) (hex-if b)
+  where
+    go : (x y : Option ℕ) → Below 16 x → Below 16 y → Below byteValues (hexPair x y)
+    go none y h k = tt
+    go (some x) none h k = tt
+    go (some x) (some y) h k = omega arith
+two-hex-if (a ∷ b ∷ c ∷ cs) = tt
+
+summed-if : (ln : Bytes) → Below byteValues (readSummedEnd ln)
+unfolding readSummedEnd
+summed-if ln = go (after (text "F> ") ln)
+  where
+    go : (o : Option Bytes) → Below byteValues (twoHexRead o)
+    go none = tt
+    go (some r) = two-hex-if r
+
+-- a turn line as read: a proposal in it is proper, a checksum in it is a byte
 abbrev pub TurnOk : Bool → TurnLine → Type 0
 TurnOk md saysFF = Unit {0}
 TurnOk md saysFQ = Unit {0}
 TurnOk md endsBlock = Unit {0}
 TurnOk md notAllowed = Unit {0}
 TurnOk md (proposes q) = Proper md q
+TurnOk md (endsSummed h) = h < byteValues
 
 pub turn-read-ok : (md : Bool) (ln : Bytes) → TurnOk md (readTurnLine md ln)
 unfolding readTurnLine
-turn-read-ok md ln = go (same (map upper ln) (text "FF")) (same (map upper ln) (text "FQ")) (same (map upper ln) (text "F>")) (readProposal md ln) (proposal-proper md ln)
+turn-read-ok md ln =
+    go (same (map upper ln) (text "FF")) (same (map upper ln) (text "FQ")) (same (map upper ln) (text "F>"))
+    (readSummedEnd ln) (readProposal md ln) (summed-if ln) (proposal-proper md ln)
   where
-    go : (a b c : Bool) (o : Option Proposal) → ProperIf md o → TurnOk md (cond a saysFF (cond b saysFQ (cond c endsBlock (orNotAllowed o))))
-    go true b c o h = tt
-    go false true c o h = tt
-    go false false true o h = tt
-    go false false false none h = tt
-    go false false false (some q) h = h
+    go : (a b c : Bool) (s : Option ℕ) (o : Option Proposal) → Below byteValues s → ProperIf md o
+        → TurnOk md (cond a saysFF (cond b saysFQ (cond c endsBlock (summedOr s (orNotAllowed o)))))
+    go true b c s o k h = tt
+    go false true c s o k h = tt
+    go false false true s o k h = tt
+    go false false false (some n) o k h = k
+    go false false false none none k h = tt
+    go false false false none (some q) k h = h
 
 -- ---------------------------------------------------------------- features as read
 

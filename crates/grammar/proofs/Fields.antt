@@ -170,13 +170,13 @@ unfolding isBid
 bid-field w e = field-is bidByte 12 w e
 
 -- "size (1 to 9 digits)"
-size-ok : (n : ℕ) → n < 10 ^ 9 → isSize (decimal n) ≡ true
+pub size-ok : (n : ℕ) → n < 10 ^ 9 → isSize (decimal n) ≡ true
 unfolding isSize
 size-ok n h =
     let f = num-field 8 n in
     rw (num-fuel 8 9 n (omega arith) h) (field-of digit 9 (writeNum 9 n) (f .class) (f .least) (f .most))
 
-type-word : (t : ℕ) → isType t ≡ true → Word (t ∷ [])
+pub type-word : (t : ℕ) → isType t ≡ true → Word (t ∷ [])
 type-word t e = go (eqb t 80) refl
   where
     go : (c : Bool) → eqb t 80 ≡ c → Word (t ∷ [])
@@ -198,7 +198,7 @@ form-back true plain e = cc
 form-back true message e = refl
 form-back true file e = refl
 
-letters-word : (f : Form) → Word (70 ∷ formLetter f ∷ [])
+pub letters-word : (f : Form) → Word (70 ∷ formLetter f ∷ [])
 letters-word plain = (refl, (refl, tt))
 letters-word message = (refl, (refl, tt))
 letters-word file = (refl, (refl, tt))

@@ -1,5 +1,5 @@
--- Theorems about the grammar. What a reader of the rules wants to know first stands in Examples, OurLines, TransferBack, Refusal,
--- Portions and Spelling; the others carry them.
+-- Theorems about the grammar. What a reader of the rules wants to know first stands in Examples, Edges, OurLines, AsWritten,
+-- TransferBack, Refusal, Portions, Spelling and SummedEnd; the others carry them.
 pub mod Basics
 pub mod Fields
 pub mod Bids
@@ -15,4 +15,7 @@ pub mod Exact
 pub mod Refusal
 pub mod Portions
 pub mod Spelling
+pub mod SummedEnd
 pub mod Examples
+pub mod Edges
+pub mod AsWritten

@@ -12,7 +12,7 @@ use Rattle.grammar.specs.Bytes.{Bytes, CR, SP, all, same}
 use Rattle.grammar.specs.Fields.{Form, bidByte, callByte, digit, file, message, plain, upper, writeNum}
 use Rattle.grammar.specs.Lines.{isComment, isPrompt, trim}
 use Rattle.grammar.specs.Sid.{readSid, sidNumber}
-use Rattle.grammar.specs.Turns.{Proposal, endsBlock, fixedText, formLetter, inMode, isType, notAllowed, ourBlock, ourEnd, ourFF, ourFQ, ourPrompt, ourSid, proposable, proposalLine, proposes, readProposal, readTurnLine, saysFF, saysFQ, sp}
+use Rattle.grammar.specs.Turns.{Proposal, endsBlock, fixedText, formLetter, inMode, isType, notAllowed, ourBlock, ourEnd, ourFF, ourFQ, ourPrompt, ourSid, proposable, proposalLine, proposes, readProposal, readSummedEnd, readTurnLine, saysFF, saysFQ, sp}
 use Rattle.grammar.specs.Answers.{OurLine, Sign, accept, decline, defer, fixedLine, fsLine, ourAnswer, ourProposal, readFs, readSigns, writeSign, written, Level, level0}
 use Rattle.grammar.proofs.Basics.{Field, Lacks, lacks-append, all-lacks, or-second}
 use Rattle.grammar.proofs.Fields.{num-field, atByte, at-field, call-field, bid-field, Ours, ours, proposal-back}
@@ -45,13 +45,20 @@ proposal-starts : (p : Proposal) → proposalLine p ≡ 70 ∷ formLetter (p .fo
 unfolding proposalLine tailOf
 proposal-starts p = refl
 
+-- nor F> with a checksum
+not-summed : (f : Form) (r : Bytes) → readSummedEnd (70 ∷ formLetter f ∷ r) ≡ none
+unfolding readSummedEnd
+not-summed plain r = refl
+not-summed message r = refl
+not-summed file r = refl
+
 kind-of : (md : Bool) (p : Proposal) (ln : Bytes) → ln ≡ 70 ∷ formLetter (p .form) ∷ SP ∷ tailOf p → readProposal md ln ≡ some p → readTurnLine md ln ≡ proposes p
 unfolding readTurnLine
 kind-of md p ln q k =
     rw (ap (λ (w : Bytes). same (map upper w) (70 ∷ 70 ∷ [])) q ∙ not-short (p .form) 70 SP (tailOf p))
     (rw (ap (λ (w : Bytes). same (map upper w) (70 ∷ 81 ∷ [])) q ∙ not-short (p .form) 81 SP (tailOf p))
     (rw (ap (λ (w : Bytes). same (map upper w) (70 ∷ 62 ∷ [])) q ∙ not-short (p .form) 62 SP (tailOf p))
-    (rw k)))
+    (rw (ap readSummedEnd q ∙ not-summed (p .form) (SP ∷ tailOf p)) (rw k))))
 
 pub proposal-read : (md : Bool) (p : Proposal) → proposable p ≡ true → inMode md (p .form) ≡ true → readTurnLine md (proposalLine p) ≡ proposes p
 proposal-read md p h e = kind-of md p (proposalLine p) (proposal-starts p) (proposal-back md p (ours p h) e)
@@ -85,7 +92,7 @@ sid-read = refl
 
 -- an empty line says nothing
 pub empty-line : (md : Bool) (v : Level) (n : ℕ) → (readTurnLine md [] ≡ notAllowed) × (readFs v n [] ≡ none) × (readSid [] ≡ none) × (isComment [] ≡ false) × (isPrompt [] ≡ false)
-unfolding readTurnLine readProposal readFs readSid isComment isPrompt
+unfolding readTurnLine readSummedEnd readProposal readFs readSid isComment isPrompt
 empty-line md v n = (refl, refl, refl, refl, refl)
 
 pub prompt-read : isPrompt (fixedText ourPrompt) ≡ true

@@ -1,5 +1,6 @@
 -- 01, "Examples at the edges": the marked (●) ones as one list of questions with their answers, and a second list of edges that the
--- other sentences of 01 draw. Both are proved by computation, each as one statement, in proofs/Examples.
+-- other sentences of 01, and the requests of 02, draw; those of bytes stand in Edges. Both are proved by computation, each as one statement, in
+-- proofs/Examples.
 use mathlib.Core.Bool.{Bool, true, false}
 use mathlib.Core.Option.{Option, none, some}
 use mathlib.Core.List.{List, [], _∷_, _++_}
@@ -8,15 +9,16 @@ use lib.ListN.{length, replicate}
 use Rattle.grammar.specs.Bytes.{Bytes}
 use Rattle.grammar.specs.Ascii.{text}
 use Rattle.grammar.specs.Fields.{Form, file, message, plain, sameBid}
-use Rattle.grammar.specs.Lines.{trim, lineByte, lineByteNumber, LineRead, line, refused, unfinished, lineSteps}
+use Rattle.grammar.specs.Lines.{trim, isComment, isPrompt, lineByte, lineByteNumber, LineRead, line, refused, unfinished, lineSteps}
 use Rattle.grammar.specs.Sid.{framed, readSid, sidNumber}
-use Rattle.grammar.specs.Turns.{Proposal, TurnLine, endsBlock, notAllowed, ourBlock, proposes, readTurnLine, saysFF, saysFQ, turnLineNumber}
+use Rattle.grammar.specs.Turns.{Proposal, TurnLine, endsBlock, endsSummed, notAllowed, ourBlock, proposes, readTurnLine, saysFF, saysFQ, turnLineNumber}
 use Rattle.grammar.specs.Answers.{Sign, accept, decline, defer, fsNumber, readFs, level0}
 use Rattle.grammar.specs.Transfers.{Content, readTransfer, writeTransfer}
 use Rattle.grammar.specs.Scan.{Scanned, goes, got, inBody, inData, inHead, malformed, noRoom, scan, wrongSum}
 
 pub data Question : Type 0 where
   sid : Bytes → Question  -- a partner's first line
+  textLine : Bytes → Question  -- a line where the prompt is awaited
   turnLine : Bool → Bytes → Question  -- a line of a turn, in plain (false) or framed (true) mode
   proposed : List ℕ → Question  -- how many of the records with these announced sizes
   awaited : ℕ → Bytes → Question  -- a line where FS is awaited, to so many proposals
@@ -28,6 +30,7 @@ pub data Question : Type 0 where
 
 pub data Answer : Type 0 where
   sidIs : ℕ → Bool → List ℕ → Answer  -- the number, the mode, the 27 levels
+  textIs : Bool → Bool → Answer  -- whether the line is ignored, and whether it is a prompt
   number : ℕ → Answer
   says : ℕ → TurnLine → Answer  -- the number, and what a line of a turn says
   signs : List Sign → Answer
@@ -52,6 +55,7 @@ itself n = n
 
 abbrev pub answer : Question → Answer
 answer (sid ln) = sidAnswer (readSid (trim ln))
+answer (textLine ln) = textIs (isComment (trim ln)) (isPrompt (trim ln))
 answer (turnLine md ln) = lineAnswer (readTurnLine md (trim ln))
 answer (proposed sizes) = number (length (ourBlock itself 0 0 sizes))
 answer (awaited n ln) = fsAnswer (fsNumber level0 n (trim ln)) (readFs level0 n (trim ln))
@@ -150,6 +154,30 @@ edges =
     record { asked = turnLine false (text "ff"); told = says 0 saysFF } ∷
     record { asked = turnLine false (text "Fq  "); told = says 0 saysFQ } ∷
     record { asked = turnLine false (text "f>"); told = says 0 endsBlock } ∷
+    record { asked = turnLine false (text "f>   "); told = says 0 endsBlock } ∷
+    record { asked = turnLine false (text "F> 00"); told = says 0 (endsSummed 0) } ∷
+    record { asked = turnLine false (text "F> FF"); told = says 0 (endsSummed 255) } ∷
+    record { asked = turnLine true (text "f> a9"); told = says 0 (endsSummed 169) } ∷
+    record { asked = turnLine false (text "F> 9A"); told = says 0 (endsSummed 154) } ∷
+    record { asked = turnLine false (text "F> 4f  "); told = says 0 (endsSummed 79) } ∷
+    record { asked = turnLine false (text "F> fA"); told = says 0 (endsSummed 250) } ∷
+    record { asked = turnLine false (text "F>00"); told = says 5 notAllowed } ∷
+    record { asked = turnLine false (text "F>  00"); told = says 5 notAllowed } ∷
+    record { asked = turnLine false (text "F> 0"); told = says 5 notAllowed } ∷
+    record { asked = turnLine false (text "F> 000"); told = says 5 notAllowed } ∷
+    record { asked = turnLine false (text "F> 00 0"); told = says 5 notAllowed } ∷
+    record { asked = turnLine false (text "F> 0 0"); told = says 5 notAllowed } ∷
+    record { asked = turnLine false (text "F> 0G"); told = says 5 notAllowed } ∷
+    record { asked = turnLine false (text "F> g0"); told = says 5 notAllowed } ∷
+    record { asked = turnLine false (text "F> /0"); told = says 5 notAllowed } ∷
+    record { asked = turnLine false (text "F> 0:"); told = says 5 notAllowed } ∷
+    record { asked = turnLine false (text "F> @0"); told = says 5 notAllowed } ∷
+    record { asked = turnLine false (text "F> 0`"); told = says 5 notAllowed } ∷
+    record { asked = turnLine false (text " F> 00"); told = says 5 notAllowed } ∷
+    record { asked = turnLine false (text "F>\t00"); told = says 5 notAllowed } ∷
+    record { asked = turnLine false (text "F > 00"); told = says 5 notAllowed } ∷
+    record { asked = turnLine false (text "FB> 00"); told = says 5 notAllowed } ∷
+    record { asked = turnLine false (text "F< 00"); told = says 5 notAllowed } ∷
     record { asked = awaited 3 (text "fs -+=  "); told = signs (decline ∷ accept ∷ defer ∷ []) } ∷
     record { asked = awaited 3 (text "FS  -+="); told = number 7 } ∷
     record { asked = awaited 3 (text "FSX"); told = number 7 } ∷
@@ -160,6 +188,8 @@ edges =
     record { asked = awaited 3 (text "FF"); told = number 5 } ∷
     record { asked = awaited 3 (text ""); told = number 5 } ∷
     record { asked = awaited 3 (text "F>"); told = number 5 } ∷
+    record { asked = awaited 3 (text "F> 00"); told = number 5 } ∷
+    record { asked = sid (text "F> 00"); told = number 3 } ∷
     record { asked = awaited 3 (text " FS -+="); told = number 5 } ∷
     record { asked = received 65535 message (2 ∷ []); told = heard none malformed } ∷
     record { asked = received 65535 message (1 ∷ 3 ∷ []); told = heard none malformed } ∷

@@ -145,6 +145,26 @@ readFrom a (x ∷ xs) = readFrom (a * 10 + (x - 48)) xs
 abbrev pub readSize : Bytes → Option ℕ
 readSize w = cond (isSize w) (some (readFrom 0 w)) none
 
+-- The value of a hexadecimal digit: 0-9, or a capital A-F.
+abbrev pub hexCapital : ℕ → Option ℕ
+hexCapital u = cond (ltb u 48) none (cond (ltb u 58) (some (u - 48)) (cond (ltb u 65) none (cond (ltb u 71) (some (u - 55)) none)))
+
+-- "hexadecimal digits in either case" (02, Q-5)
+unfoldable pub hexDigit : ℕ → Option ℕ
+hexDigit b = hexCapital (upper b)
+
+abbrev pub hexPair : Option ℕ → Option ℕ → Option ℕ
+hexPair none y = none
+hexPair (some a) none = none
+hexPair (some a) (some b) = some (a * 16 + b)
+
+-- "two hexadecimal digits" and nothing more: the number that they stand for
+unfoldable pub twoHex : Bytes → Option ℕ
+twoHex [] = none
+twoHex (a ∷ []) = none
+twoHex (a ∷ b ∷ []) = hexPair (hexDigit a) (hexDigit b)
+twoHex (a ∷ b ∷ c ∷ cs) = none
+
 -- The decimal digits of n without leading zeros, f at most.
 unfoldable pub writeNum : ℕ → ℕ → Bytes
 writeNum zero n = []

@@ -11,3 +11,5 @@ pub mod Answers
 pub mod Transfers
 pub mod Scan
 pub mod Examples
+pub mod Edges
+pub mod AsWritten

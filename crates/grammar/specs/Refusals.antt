@@ -52,3 +52,7 @@ bytesWait = 11
 -- "receive on an ended session"
 abbrev pub sessionEnded : ℕ
 sessionEnded = 12
+
+-- "wrong proposal checksum" (02, Q-5)
+abbrev pub wrongBlockSum : ℕ
+wrongBlockSum = 13

@@ -7,7 +7,7 @@ use lib.Dec.{eqb, ltb}
 use Rattle.grammar.specs.Bytes.{Bytes, CR, SP, same}
 use Rattle.grammar.specs.Ascii.{text}
 use Rattle.grammar.specs.Refusals.{lineNotAllowed}
-use Rattle.grammar.specs.Fields.{Form, plain, message, file, upper, starts, words, isCall, isAt, isBid, isSize, readFrom, decimal}
+use Rattle.grammar.specs.Fields.{Form, plain, message, file, upper, after, starts, words, isCall, isAt, isBid, isSize, readFrom, twoHex, decimal}
 
 -- ---------------------------------------------------------------- read
 
@@ -54,14 +54,28 @@ sevenRead md (a ∷ b ∷ c ∷ d ∷ e ∷ f ∷ g ∷ h ∷ hs) = none
 unfoldable pub readProposal : Bool → Bytes → Option Proposal
 readProposal md ln = cond (starts ln) (sevenRead md (words ln)) none
 
--- What a line says in a turn: FF, FQ, F>, a proposal, or nothing that is allowed.
+-- What a line says in a turn: FF, FQ, F>, a proposal, F> with the block's checksum, or nothing that is allowed.
 pub data TurnLine : Type 0 where
   saysFF saysFQ endsBlock notAllowed : TurnLine
   proposes : Proposal → TurnLine
+  endsSummed : ℕ → TurnLine
+
+abbrev pub twoHexRead : Option Bytes → Option ℕ
+twoHexRead none = none
+twoHexRead (some r) = twoHex r
+
+-- "Many partners end the block with `F> HH`, two hexadecimal digits in either case." (02, Q-5): one space, as it is written there
+unfoldable pub readSummedEnd : Bytes → Option ℕ
+readSummedEnd ln = twoHexRead (after (text "F> ") ln)
 
 abbrev pub orNotAllowed : Option Proposal → TurnLine
 orNotAllowed none = notAllowed
 orNotAllowed (some p) = proposes p
+
+-- t: what the line says if it is no F> with a checksum
+abbrev pub summedOr : Option ℕ → TurnLine → TurnLine
+summedOr none t = t
+summedOr (some h) t = endsSummed h
 
 -- "Command .. letters are taken in either case"
 unfoldable pub readTurnLine : Bool → Bytes → TurnLine
@@ -69,7 +83,7 @@ readTurnLine md ln =
     cond (same (map upper ln) (text "FF")) saysFF
     (cond (same (map upper ln) (text "FQ")) saysFQ
     (cond (same (map upper ln) (text "F>")) endsBlock
-    (orNotAllowed (readProposal md ln))))
+    (summedOr (readSummedEnd ln) (orNotAllowed (readProposal md ln)))))
 
 -- 01's number for each case
 abbrev pub turnLineNumber : TurnLine → ℕ
@@ -78,6 +92,7 @@ turnLineNumber saysFQ = 0
 turnLineNumber endsBlock = 0
 turnLineNumber notAllowed = lineNotAllowed
 turnLineNumber (proposes p) = 0
+turnLineNumber (endsSummed h) = 0
 
 -- ---------------------------------------------------------------- our block
 

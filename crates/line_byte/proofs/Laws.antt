@@ -1,15 +1,17 @@
 -- What a byte of a line is, one byte more where the line stands, and the line up to its length.
 use mathlib.Core.Path.{_≡_, refl, sym, ap, _∙_, subst}
 use mathlib.Core.Bool.{Bool, true, false, cond}
-use mathlib.Core.List.{_++_, append-nil}
-use Prim.Native.Nat.{ℕ, _+_, _<_, _≤_, min}
+use mathlib.Core.List.{[], _∷_, _++_, append-nil}
+use Prim.Native.Nat.{ℕ, _+_, _%_, _<_, _≤_, min}
 use native.Mathlib.Omega.{arith}
 use lib.Dec.{eqb, ltb}
 use lib.ListN.{length, set, take, drop, replicate, length-drop, length-replicate, drop-of-length-le}
 use lib.Seq.{take-all, length-take-le}
 use borrow.Author.Tests.{ltb-true, ltb-false}
-use Rattle.grammar.specs.Bytes.{Bytes}
-use Rattle.grammar.specs.Lines.{LineByte, dropped, ends, grows, overruns, lineByte, lineLimit}
+use Rattle.grammar.specs.Bytes.{Bytes, CR}
+use Rattle.grammar.specs.Lines.{LineByte, dropped, ends, grows, overruns, lineByte, lineLimit, trim}
+use Rattle.grammar.specs.Transfers.{sum}
+use Rattle.grammar.proofs.TransferBack.{sum-wraps}
 use Rattle.line.specs.declared.LineByte as code
 use Rattle.line.specs.Byte.{lineByteIs}
 use Rattle.buffer.specs.Put.{putBytes}
@@ -22,7 +24,7 @@ use Rattle.region.proofs.Laws.{set-in, set-before, set-after}
 use Rattle.numbers.specs.declared.Numbers.{Numbers}
 use Rattle.numbers.specs.Whole.{deferredIn, headingIn, lineIn, blockIn, sessionOf, wholeOf}
 use Rattle.line_effect.specs.declared.Verdict.{Verdict}
-use Rattle.line_effect.specs.Judge.{judgeOf}
+use Rattle.line_effect.specs.Judge.{lineSum, judgeOf}
 use Rattle.line_effect.specs.Verdict.{Judges}
 use Rattle.receive_defined.specs.Receiving.{Settled, longer, lineMoved, lineStepOf}
 
@@ -99,6 +101,21 @@ copied m e h f =
 -- ---------------------------------------------------------------- the line's end
 
 module _ (s : Numbers) (m e : Bytes) (v : Verdict) (table known inbox : Bytes) (store : ℕ) where
-  pub judged-as : (l r : Bytes) → l ≡ r → Judges s m v e (λ w y k d. judgeOf l w y k d table known inbox store)
-      → Judges s m v e (λ w y k d. judgeOf r w y k d table known inbox store)
-  judged-as l r q h = subst (λ (x : Bytes). Judges s m v e (λ w y k d. judgeOf x w y k d table known inbox store)) q h
+  -- the line l, which is r, without the spaces at its end, and its sum
+  pub judged-as : (l r : Bytes) → l ≡ r → Judges s m v e (λ w y k d. judgeOf (trim l) (lineSum l) w y k d table known inbox store)
+      → Judges s m v e (λ w y k d. judgeOf (trim r) (lineSum r) w y k d table known inbox store)
+  judged-as l r q h = subst (λ (x : Bytes). Judges s m v e (λ w y k d. judgeOf (trim x) (lineSum x) w y k d table known inbox store)) q h
+
+  -- the same by what was handed on: these bytes and this sum
+  pub judged-by : (l t : Bytes) (n : ℕ) → t ≡ trim l → n ≡ lineSum l → Judges s m v e (λ w y k d. judgeOf t n w y k d table known inbox store)
+      → Judges s m v e (λ w y k d. judgeOf (trim l) (lineSum l) w y k d table known inbox store)
+  judged-by l t n q z h =
+      subst (λ (x : ℕ). Judges s m v e (λ w y k d. judgeOf (trim l) x w y k d table known inbox store)) z
+      (subst (λ (x : Bytes). Judges s m v e (λ w y k d. judgeOf x n w y k d table known inbox store)) q h)
+
+-- ---------------------------------------------------------------- the sum of a line
+
+-- n: the sum of its bytes, r: with the CR
+pub sum-cr : (l : Bytes) (n r : ℕ) → n ≡ sum l % 256 → r ≡ (n + CR) % 256 → r ≡ lineSum l
+unfolding lineSum
+sum-cr l n r e f = f ∙ ap (λ (x : ℕ). (x + CR) % 256) e ∙ sym (sum-wraps l CR)

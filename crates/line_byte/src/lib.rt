@@ -11,7 +11,7 @@ ghost use Rattle.grammar.specs.Bytes.{CR};
 ghost use Rattle.grammar.specs.Lines.{lineLimit, trim, ends};
 ghost use Rattle.places.specs.Places.{arraysLen};
 ghost use Rattle.numbers.specs.Whole.{lineIn, wholeOf};
-ghost use Rattle.line_effect.specs.Judge.{judgeOf};
+ghost use Rattle.line_effect.specs.Judge.{lineSum, judgeOf};
 ghost use Rattle.line_effect.specs.Verdict.{Judges};
 ghost use Rattle.receive_defined.specs.Receiving.{settled, longer, lineMoved, lineStepOf};
 
@@ -32,6 +32,13 @@ fn line_of(mem: &[u8]) -> [u8; 256]
     line
 }
 
+// The sum of the line as received, its CR included.
+fn line_sum(line: &[u8]) -> u8
+    ensures { λ r. ⌜ r ≡ lineSum (now (line .entry)) ⌝ }
+{
+    std::num::wrapping_add_u8(checksum::sum(line), line::CR)
+}
+
 // A whole line, judged without the spaces at its end.
 fn judged(
     line: &[u8],
@@ -43,10 +50,11 @@ fn judged(
     store: usize,
 ) -> Verdict
     requires { ⌜ length (now mem) ≡ arraysLen ⌝ }
-    ensures { λ r. ⌜ Judges s (now (mem .entry)) r (now (mem .exit)) (λ w y k d. judgeOf (trim (now (line .entry))) w y k d (now (table .entry)) (now (known .entry)) (now (inbox .entry)) store) ⌝ }
+    ensures { λ r. ⌜ Judges s (now (mem .entry)) r (now (mem .exit)) (λ w y k d. judgeOf (trim (now (line .entry))) (lineSum (now (line .entry))) w y k d (now (table .entry)) (now (known .entry)) (now (inbox .entry)) store) ⌝ }
 {
     let n = line::trimmed(line);
-    awaited_line::judge(&line[..n], s, mem, table, known, inbox, store)
+    let sum = line_sum(line);
+    awaited_line::judge(&line[..n], sum, s, mem, table, known, inbox, store)
 }
 
 // The CR of a line: the line is judged up to its length, and what it comes to is settled.

@@ -3,12 +3,12 @@ use mathlib.Core.Path.{_≡_, refl}
 use mathlib.Core.Bool.{Bool, true, false, cond}
 use mathlib.Core.Option.{Option, none, some}
 use mathlib.Core.List.{List}
-use Prim.Native.Nat.{ℕ}
+use Prim.Native.Nat.{ℕ, _+_, _%_}
 use lib.Dec.{eqb, ltb}
 use Rattle.grammar.specs.Bytes.{Bytes}
 use Rattle.grammar.specs.Lines.{isComment, isPrompt}
 use Rattle.grammar.specs.Sid.{readSid, hasFeature}
-use Rattle.grammar.specs.Turns.{TurnLine, saysFF, saysFQ, endsBlock, notAllowed, proposes, readTurnLine}
+use Rattle.grammar.specs.Turns.{TurnLine, saysFF, saysFQ, endsBlock, notAllowed, proposes, endsSummed, readTurnLine}
 use Rattle.fs_line.specs.Answers.{answerNumber}
 use Rattle.transfer_step.specs.declared.Reader.{Reader}
 use Rattle.session_memory.specs.Session.{Await}
@@ -17,7 +17,7 @@ use Rattle.session_memory.specs.Session.{Keep}
 use Rattle.phase.specs.Phase.{phaseCalledSid, phaseCallerSid, phasePrompt, phaseTurn, phaseFs, blockLimit, noProposal}
 use Rattle.our_answer.specs.Answers.{answersOf}
 use Rattle.line_effect.specs.Judged.{Judged}
-use Rattle.line_effect.specs.Judge.{refusal, sidRead, sidLine, textLine, nextAccepted, endLine, proposalLine, ffLine, fqLine, turnRead, turnLine, answerLine, judgeOf}
+use Rattle.line_effect.specs.Judge.{refusal, sidRead, sidLine, textLine, nextAccepted, endLine, summedLine, proposalLine, ffLine, fqLine, turnRead, turnLine, answerLine, judgeOf}
 
 -- taken, or as it was
 pub record Kept (w : Await) (k : Keep) (j : Judged) : Type 0 where
@@ -46,22 +46,24 @@ module _ (w : Await) (y : Say) (k : Keep) (r : Reader) where
   unfolding textLine
   text-kept ln = by (isPrompt ln) (taken _ refl) (taken _ refl)
 
-  module _ (table known inbox : Bytes) (store : ℕ) where
+  -- n: the sum of the line
+  module _ (n : ℕ) (table known inbox : Bytes) (store : ℕ) where
     end-kept : Kept w k (endLine w y k r table known inbox store)
     unfolding endLine
     end-kept =
         by (eqb (w .proposals) 0) (refused _)
         (by (eqb (nextAccepted (answersOf w k table known inbox store) 0) noProposal) (taken _ refl) (taken _ refl))
 
-    turn-read : (t : TurnLine) → Kept w k (turnRead t w y k r table known inbox store)
-    unfolding ffLine fqLine proposalLine
+    turn-read : (t : TurnLine) → Kept w k (turnRead t n w y k r table known inbox store)
+    unfolding ffLine fqLine proposalLine summedLine
     turn-read saysFF = by (eqb (w .proposals) 0) (by (w .ff) (refused _) (taken _ refl)) (refused _)
     turn-read saysFQ = by (eqb (w .proposals) 0) (by (w .ff) (taken _ refl) (refused _)) (refused _)
     turn-read endsBlock = end-kept
     turn-read notAllowed = refused _
     turn-read (proposes q) = by (ltb (w .proposals) blockLimit) (taken _ refl) (refused _)
+    turn-read (endsSummed h) = by (eqb (w .proposals) 0) (refused _) (by (eqb ((w .sum + h) % 256) 0) end-kept (refused _))
 
-    turn-kept : (ln : Bytes) → Kept w k (turnLine ln w y k r table known inbox store)
+    turn-kept : (ln : Bytes) → Kept w k (turnLine ln n w y k r table known inbox store)
     unfolding turnLine
     turn-kept ln = turn-read (readTurnLine (k .framed) ln)
 
@@ -69,7 +71,7 @@ module _ (w : Await) (y : Say) (k : Keep) (r : Reader) where
     unfolding answerLine
     answer-kept ln = by (eqb (answerNumber (w .ours .count) ln) 0) (taken _ refl) (refused _)
 
-    pub judge-kept : (ln : Bytes) → Kept w k (judgeOf ln w y k r table known inbox store)
+    pub judge-kept : (ln : Bytes) → Kept w k (judgeOf ln n w y k r table known inbox store)
     unfolding judgeOf
     judge-kept ln =
         by (isComment ln) (taken _ refl)

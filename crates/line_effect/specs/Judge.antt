@@ -3,15 +3,16 @@
 use mathlib.Core.Bool.{Bool, true, false, cond, not}
 use mathlib.Core.Option.{Option, none, some}
 use mathlib.Core.List.{List, [], _∷_}
-use Prim.Native.Nat.{ℕ, zero, suc, _+_, _*_}
+use Prim.Native.Nat.{ℕ, zero, suc, _+_, _*_, _%_}
 use lib.Dec.{eqb, ltb, leb}
 use lib.ListN.{length, getD, set, drop}
 use Rattle.grammar.specs.Bytes.{Bytes}
-use Rattle.grammar.specs.Refusals.{notSid, noForwarding, lineNotAllowed, proposalCount}
+use Rattle.grammar.specs.Refusals.{notSid, noForwarding, lineNotAllowed, proposalCount, wrongBlockSum}
 use Rattle.grammar.specs.Fields.{formNumber}
 use Rattle.grammar.specs.Lines.{isComment, isPrompt}
 use Rattle.grammar.specs.Sid.{readSid, hasFeature, framed}
-use Rattle.grammar.specs.Turns.{Proposal, TurnLine, saysFF, saysFQ, endsBlock, notAllowed, proposes, readTurnLine}
+use Rattle.grammar.specs.Turns.{Proposal, TurnLine, saysFF, saysFQ, endsBlock, notAllowed, proposes, endsSummed, readTurnLine, turnLineNumber, withCr}
+use Rattle.grammar.specs.Transfers.{sum}
 use Rattle.grammar.specs.Answers.{accept, decline, defer, writeSign}
 use Rattle.fs_line.specs.Answers.{answerNumber, answerSigns}
 use Rattle.buffer.specs.Put.{putBytes}
@@ -19,7 +20,7 @@ use Rattle.layout.specs.Layout.{byteAt, entryAt, proposalSize, proposalOut}
 use Rattle.transfer_step.specs.declared.Reader.{Reader}
 use Rattle.transfer_step.specs.Step.{startOf}
 use Rattle.session_memory.specs.State.{at, held, fiveOf, noFive}
-use Rattle.session_memory.specs.Setters.{withPhase, withFf, withCurrent, withProposals, withOurs, withFirst, withThen, withSigns, withFramed, withSending}
+use Rattle.session_memory.specs.Setters.{withPhase, withFf, withCurrent, withProposals, withOurs, withSum, withFirst, withThen, withSigns, withFramed, withSending}
 use Rattle.session_memory.specs.declared.Five.{Five}
 use Rattle.session_memory.specs.Session.{Await}
 use Rattle.session_memory.specs.declared.Say.{Say}
@@ -49,7 +50,7 @@ inPhase p w = withPhase p w
 
 -- The partner's turn is awaited, with no line of it yet; ff: our turn just now was FF.
 abbrev pub toTurn : Bool → Await → Await
-toTurn ff w = withPhase phaseTurn (withFf ff (withProposals 0 (w .block) w))
+toTurn ff w = withPhase phaseTurn (withFf ff (withSum 0 (withProposals 0 (w .block) w)))
 
 -- The FS line on our records at these places is awaited.
 abbrev pub toAnswer : Five → Await → Await
@@ -120,13 +121,25 @@ endLine w y k r table known inbox store =
     cond (eqb (w .proposals) 0) (refusal proposalCount w y k r)
     (answered (answersOf w k table known inbox store) (nextAccepted (answersOf w k table known inbox store) 0) w y k r)
 
-abbrev pub withProposal : Proposal → Await → Await
-withProposal q w =
-    withProposals (w .proposals + 1)
-    (putBytes (w .block) (at (w .proposals * proposalSize)) (proposalOut (formNumber (q .form)) (q .type) (q .from) (q .at) (q .to) (q .bid) (q .size))) w
+-- "plus HH must be 0 modulo 256" (02, Q-5): 13, "tested after 5 and 6 and before any answer is formed"; h: HH
+unfoldable pub summedLine : ℕ → Await → Say → Keep → Reader → Bytes → Bytes → Bytes → ℕ → Judged
+summedLine h w y k r table known inbox store =
+    cond (eqb (w .proposals) 0) (refusal proposalCount w y k r)
+    (cond (eqb ((w .sum + h) % 256) 0) (endLine w y k r table known inbox store) (refusal wrongBlockSum w y k r))
 
-unfoldable pub proposalLine : Proposal → Await → Say → Keep → Reader → Judged
-proposalLine q w y k r = cond (ltb (w .proposals) blockLimit) (wentOn (withProposal q w) y k r) (refusal proposalCount w y k r)
+-- "The sum of all bytes .. as received, their CR included" (02, Q-5), of one line, modulo 256
+unfoldable pub lineSum : Bytes → ℕ
+lineSum ln = sum (withCr ln) % 256
+
+-- n: the sum of the proposal's line
+abbrev pub withProposal : Proposal → ℕ → Await → Await
+withProposal q n w =
+    withSum ((w .sum + n) % 256)
+    (withProposals (w .proposals + 1)
+    (putBytes (w .block) (at (w .proposals * proposalSize)) (proposalOut (formNumber (q .form)) (q .type) (q .from) (q .at) (q .to) (q .bid) (q .size))) w)
+
+unfoldable pub proposalLine : Proposal → ℕ → Await → Say → Keep → Reader → Judged
+proposalLine q n w y k r = cond (ltb (w .proposals) blockLimit) (wentOn (withProposal q n w) y k r) (refusal proposalCount w y k r)
 
 unfoldable pub ffLine : Await → Say → Keep → Reader → Judged
 ffLine w y k r =
@@ -140,15 +153,16 @@ fqLine w y k r =
     (cond (w .ff) (wentOn (inPhase phaseOver w) y k r) (refusal lineNotAllowed w y k r))
     (refusal lineNotAllowed w y k r)
 
-abbrev pub turnRead : TurnLine → Await → Say → Keep → Reader → Bytes → Bytes → Bytes → ℕ → Judged
-turnRead saysFF w y k r table known inbox store = ffLine w y k r
-turnRead saysFQ w y k r table known inbox store = fqLine w y k r
-turnRead endsBlock w y k r table known inbox store = endLine w y k r table known inbox store
-turnRead notAllowed w y k r table known inbox store = refusal lineNotAllowed w y k r
-turnRead (proposes q) w y k r table known inbox store = proposalLine q w y k r
+abbrev pub turnRead : TurnLine → ℕ → Await → Say → Keep → Reader → Bytes → Bytes → Bytes → ℕ → Judged
+turnRead saysFF n w y k r table known inbox store = ffLine w y k r
+turnRead saysFQ n w y k r table known inbox store = fqLine w y k r
+turnRead endsBlock n w y k r table known inbox store = endLine w y k r table known inbox store
+turnRead notAllowed n w y k r table known inbox store = refusal (turnLineNumber notAllowed) w y k r
+turnRead (proposes q) n w y k r table known inbox store = proposalLine q n w y k r
+turnRead (endsSummed h) n w y k r table known inbox store = summedLine h w y k r table known inbox store
 
-unfoldable pub turnLine : Bytes → Await → Say → Keep → Reader → Bytes → Bytes → Bytes → ℕ → Judged
-turnLine ln w y k r table known inbox store = turnRead (readTurnLine (k .framed) ln) w y k r table known inbox store
+unfoldable pub turnLine : Bytes → ℕ → Await → Say → Keep → Reader → Bytes → Bytes → Bytes → ℕ → Judged
+turnLine ln n w y k r table known inbox store = turnRead (readTurnLine (k .framed) ln) n w y k r table known inbox store
 
 -- ---------------------------------------------------------------- the FS line
 
@@ -182,16 +196,16 @@ answerLine ln w y k r =
 
 -- ---------------------------------------------------------------- any line
 
-abbrev pub lineIn : ℕ → Bytes → Await → Say → Keep → Reader → Bytes → Bytes → Bytes → ℕ → Judged
-lineIn p ln w y k r table known inbox store =
+abbrev pub lineIn : ℕ → Bytes → ℕ → Await → Say → Keep → Reader → Bytes → Bytes → Bytes → ℕ → Judged
+lineIn p ln n w y k r table known inbox store =
     cond (eqb p phaseCalledSid) (sidLine ln w y k r)
     (cond (eqb p phaseCallerSid) (sidLine ln w y k r)
     (cond (eqb p phasePrompt) (textLine ln w y k r)
-    (cond (eqb p phaseTurn) (turnLine ln w y k r table known inbox store)
+    (cond (eqb p phaseTurn) (turnLine ln n w y k r table known inbox store)
     (cond (eqb p phaseFs) (answerLine ln w y k r)
     (refusal lineNotAllowed w y k r)))))
 
--- A line without the spaces at its end; the slices are the table, the known BIDs and the inbox, store is the inbox store's size.
-unfoldable pub judgeOf : Bytes → Await → Say → Keep → Reader → Bytes → Bytes → Bytes → ℕ → Judged
-judgeOf ln w y k r table known inbox store =
-    cond (isComment ln) (wentOn w y k r) (lineIn (w .phase) ln w y k r table known inbox store)
+-- A line without the spaces at its end, and n, the sum of the line as received; the slices are the table, the known BIDs and the inbox, store is the inbox store's size.
+unfoldable pub judgeOf : Bytes → ℕ → Await → Say → Keep → Reader → Bytes → Bytes → Bytes → ℕ → Judged
+judgeOf ln n w y k r table known inbox store =
+    cond (isComment ln) (wentOn w y k r) (lineIn (w .phase) ln n w y k r table known inbox store)

@@ -1,7 +1,7 @@
 -- "What the rules forbid isn't valid: it changes nothing and ends the log.": of a line the log says so itself (`over`); here it is shown of a
 -- transfer, which has no end to be judged at. Once no whole transfer begins with the bytes so far, whatever bytes come after them change
 -- nothing, for ever. Idea: no unit is cut off any more, so the log stays as it is, or stops at a byte of the other side. And it is shown of a
--- turn of ours that proposes what no record is: its BID has no place in the table.
+-- turn of ours that proposes what no record is: its BID has no place in the table; and of one that ends with a checksum.
 use mathlib.Core.Path.{_≡_, refl, sym, ap, _∙_}
 use mathlib.Core.Bool.{Bool, true, false, cond, _&&_}
 use mathlib.Core.Option.{Option, none, some}
@@ -12,13 +12,14 @@ use lib.Dec.{eqb}
 use lib.ListN.{length}
 use borrow.Author.Tests.{le-ltb}
 use Rattle.grammar.specs.Bytes.{Bytes, CR, LF, same, isSome}
-use Rattle.grammar.specs.Turns.{Proposal, TurnLine, readTurnLine, withCr}
+use Rattle.grammar.specs.Turns.{Proposal, TurnLine, endsSummed, readTurnLine, withCr}
 use Rattle.grammar.specs.Answers.{consO}
 use Rattle.grammar.specs.Transfers.{readTransfer}
 use Rattle.grammar.proofs.Basics.{Lacks, snoc-cons, and-false}
 use Rattle.mail.specs.Mail.{Record, recordAt, transferOf, placeOf}
 use Rattle.log.specs.Log.{weSay, Event, took, gave, over, ourTurn, Course, Book, Log, isOurs, turn, said, placeFound, placesOf, ourSaid, theirTransfer, ourTransfer, whole, withAfterCr}
 use Rattle.log.specs.Fed.{unitByte, outOfOrder, fedByte, fedAll}
+use Rattle.log.proofs.Said.{summed-wrong}
 use Rattle.log.proofs.Units.{within, ended-stays, line-fed, owing}
 
 -- the log k has the same records sent, states, mode and messages kept as l
@@ -113,3 +114,10 @@ no-record-ends T ff ls ln a sent k ps p qs c e h =
     ends : (ps : List Proposal) → ourSaid T ff (ls ++ (readTurnLine (k .framed) ln ∷ [])) (turn (ps ++ p ∷ qs)) ≡ over
     ends [] = rw (none-of-them T [] p qs h)
     ends (q ∷ ps) = rw (none-of-them T (q ∷ ps) p qs h)
+
+-- OUR TURN THAT ENDS WITH A CHECKSUM ENDS THE LOG: "We go on writing the bare form." (02, Q-5)
+pub our-sum-ends : (T : List Record) (ff : Bool) (ls : List TurnLine) (ln : Bytes) (a : Bool) (sent : List ℕ) (k : Book) (h : ℕ)
+    → Lacks CR ln → readTurnLine (k .framed) ln ≡ endsSummed h
+    → fedAll T (record { log = owing a (weSay (ourTurn ff ls)) sent k; raw = [] }) (map gave (withCr ln)) ≡ record { log = owing a over sent k; raw = [] }
+our-sum-ends T ff ls ln a sent k h c e =
+    line-fed T (owing a (weSay (ourTurn ff ls)) sent k) ln (and-false a false refl) refl c ∙ rw e (rw (summed-wrong ff ls h))

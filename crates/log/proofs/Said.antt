@@ -1,14 +1,14 @@
 -- What the lines of a turn come to: the proposals so far, and what follows them; and no whole turn stands before the last line of another.
 -- Idea: each proposal moves over to those so far.
-use mathlib.Core.Path.{_≡_, refl, ap, _∙_}
+use mathlib.Core.Path.{_≡_, refl, sym, ap, _∙_}
 use mathlib.Core.Bool.{Bool, true, false, cond}
 use mathlib.Core.List.{List, [], _∷_, _++_, map, append-assoc, append-nil}
-use Prim.Native.Nat.{_+_, _≤_}
+use Prim.Native.Nat.{ℕ, _+_, _≤_}
 use native.Mathlib.Omega.{arith}
 use lib.Dec.{ltb}
 use lib.ListN.{length, length-append}
 use borrow.Author.Tests.{lt-ltb}
-use Rattle.grammar.specs.Turns.{Proposal, TurnLine, saysFF, saysFQ, endsBlock, notAllowed, proposes}
+use Rattle.grammar.specs.Turns.{Proposal, TurnLine, saysFF, saysFQ, endsBlock, notAllowed, proposes, endsSummed}
 use Rattle.grammar.proofs.Basics.{no-both}
 use Rattle.log.specs.Log.{Said, unfinished, farewell, wrong, turn, saidOn, inOrder, said}
 
@@ -24,15 +24,16 @@ said-after ff ps ls h = ap (inOrder ff) (said-on [] ps ls (omega arith))
 
 -- ---------------------------------------------------------------- before the last line
 
-abbrev isTurn : Said → Bool
-isTurn (turn ps) = true
-isTurn unfinished = false
-isTurn farewell = false
-isTurn wrong = false
+-- a whole turn, or one that is not whole yet
+abbrev pub goesWell : Said → Bool
+goesWell (turn ps) = true
+goesWell unfinished = true
+goesWell farewell = false
+goesWell wrong = false
 
-in-order : (ff : Bool) (s : Said) → isTurn (inOrder ff s) ≡ true → isTurn s ≡ true
+in-order : (ff : Bool) (s : Said) → goesWell (inOrder ff s) ≡ true → goesWell s ≡ true
 in-order ff (turn ps) h = refl
-in-order ff unfinished h = h
+in-order ff unfinished h = refl
 in-order true farewell h = h
 in-order false farewell h = h
 in-order ff wrong h = h
@@ -41,7 +42,7 @@ never : {x : Said} → false ≡ true → x ≡ unfinished
 never h = absurd (no-both false h refl)
 
 -- ps: the proposals so far
-before-last : (ps : List Proposal) (xs : List TurnLine) (y : TurnLine) (ys : List TurnLine) → isTurn (saidOn ps (xs ++ y ∷ ys)) ≡ true → saidOn ps xs ≡ unfinished
+before-last : (ps : List Proposal) (xs : List TurnLine) (y : TurnLine) (ys : List TurnLine) → goesWell (saidOn ps (xs ++ y ∷ ys)) ≡ true → saidOn ps xs ≡ unfinished
 before-last [] [] y ys h = refl
 before-last (p ∷ ps) [] y ys h = refl
 before-last [] (saysFF ∷ []) y ys h = never h
@@ -55,17 +56,64 @@ before-last (p ∷ ps) (endsBlock ∷ []) y ys h = never h
 before-last (p ∷ ps) (endsBlock ∷ x ∷ xs) y ys h = never h
 before-last [] (notAllowed ∷ xs) y ys h = never h
 before-last (p ∷ ps) (notAllowed ∷ xs) y ys h = never h
+before-last [] (endsSummed n ∷ xs) y ys h = never h
+before-last (p ∷ ps) (endsSummed n ∷ xs) y ys h = never h
 before-last ps (proposes q ∷ xs) y ys h = go (ltb (length ps) 5) h (before-last (ps ++ (q ∷ [])) xs y ys)
   where
-    go : (c : Bool) → isTurn (cond c (saidOn (ps ++ (q ∷ [])) (xs ++ y ∷ ys)) wrong) ≡ true
-        → (isTurn (saidOn (ps ++ (q ∷ [])) (xs ++ y ∷ ys)) ≡ true → saidOn (ps ++ (q ∷ [])) xs ≡ unfinished)
+    go : (c : Bool) → goesWell (cond c (saidOn (ps ++ (q ∷ [])) (xs ++ y ∷ ys)) wrong) ≡ true
+        → (goesWell (saidOn (ps ++ (q ∷ [])) (xs ++ y ∷ ys)) ≡ true → saidOn (ps ++ (q ∷ [])) xs ≡ unfinished)
         → cond c (saidOn (ps ++ (q ∷ [])) xs) wrong ≡ unfinished
     go true h more = more h
     go false h more = never h
 
--- the lines xs of a whole turn, with ys and its last line to come, are not whole yet, and nothing in them is wrong
-pub said-before : (ff : Bool) (xs ys : List TurnLine) (last : TurnLine) (ps : List Proposal) → said ff (xs ++ (ys ++ (last ∷ []))) ≡ turn ps → said ff xs ≡ unfinished
+-- lines with more of a turn to come are not whole yet, and nothing in them is wrong
+pub said-before : (ff : Bool) (xs : List TurnLine) (y : TurnLine) (ys : List TurnLine) → goesWell (said ff (xs ++ y ∷ ys)) ≡ true → said ff xs ≡ unfinished
 unfolding said
-said-before ff xs [] last ps h = ap (inOrder ff) (before-last [] xs last [] (in-order ff (saidOn [] (xs ++ (last ∷ []))) (ap isTurn h)))
-said-before ff xs (y ∷ ys) last ps h =
-    ap (inOrder ff) (before-last [] xs y (ys ++ (last ∷ [])) (in-order ff (saidOn [] (xs ++ y ∷ (ys ++ (last ∷ [])))) (ap isTurn h)))
+said-before ff xs y ys h = ap (inOrder ff) (before-last [] xs y ys (in-order ff (saidOn [] (xs ++ y ∷ ys)) h))
+
+-- so of any beginning of lines that are not whole yet
+pub said-part : (ff : Bool) (xs ys : List TurnLine) → said ff (xs ++ ys) ≡ unfinished → said ff xs ≡ unfinished
+said-part ff xs [] h = ap (said ff) (sym (append-nil xs)) ∙ h
+said-part ff xs (y ∷ ys) h = said-before ff xs y ys (ap goesWell h)
+
+-- ---------------------------------------------------------------- a line that no turn has
+
+module _ (t : TurnLine) (never-last : (ps : List Proposal) → saidOn ps (t ∷ []) ≡ wrong) where
+  with-line : (ps : List Proposal) (xs : List TurnLine) → saidOn ps (xs ++ (t ∷ [])) ≡ wrong
+  with-line ps [] = never-last ps
+  with-line [] (saysFF ∷ []) = refl
+  with-line [] (saysFF ∷ x ∷ xs) = refl
+  with-line (p ∷ ps) (saysFF ∷ xs) = refl
+  with-line [] (saysFQ ∷ []) = refl
+  with-line [] (saysFQ ∷ x ∷ xs) = refl
+  with-line (p ∷ ps) (saysFQ ∷ xs) = refl
+  with-line [] (endsBlock ∷ xs) = refl
+  with-line (p ∷ ps) (endsBlock ∷ []) = refl
+  with-line (p ∷ ps) (endsBlock ∷ x ∷ xs) = refl
+  with-line [] (notAllowed ∷ xs) = refl
+  with-line (p ∷ ps) (notAllowed ∷ xs) = refl
+  with-line [] (endsSummed n ∷ xs) = refl
+  with-line (p ∷ ps) (endsSummed n ∷ xs) = refl
+  with-line ps (proposes q ∷ xs) = go (ltb (length ps) 5) (with-line (ps ++ (q ∷ [])) xs)
+    where
+      go : (c : Bool) → saidOn (ps ++ (q ∷ [])) (xs ++ (t ∷ [])) ≡ wrong → cond c (saidOn (ps ++ (q ∷ [])) (xs ++ (t ∷ []))) wrong ≡ wrong
+      go true more = more
+      go false more = refl
+
+-- what is not allowed, a wrong checksum of the partner's among it
+pub not-allowed-wrong : (ff : Bool) (xs : List TurnLine) → said ff (xs ++ (notAllowed ∷ [])) ≡ wrong
+unfolding said
+not-allowed-wrong ff xs = ap (inOrder ff) (with-line notAllowed last [] xs)
+  where
+    last : (ps : List Proposal) → saidOn ps (notAllowed ∷ []) ≡ wrong
+    last [] = refl
+    last (p ∷ ps) = refl
+
+-- F> with a checksum, where it isn't the partner's and right
+pub summed-wrong : (ff : Bool) (xs : List TurnLine) (h : ℕ) → said ff (xs ++ (endsSummed h ∷ [])) ≡ wrong
+unfolding said
+summed-wrong ff xs h = ap (inOrder ff) (with-line (endsSummed h) last [] xs)
+  where
+    last : (ps : List Proposal) → saidOn ps (endsSummed h ∷ []) ≡ wrong
+    last [] = refl
+    last (p ∷ ps) = refl

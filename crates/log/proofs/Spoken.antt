@@ -15,7 +15,8 @@ use Rattle.grammar.specs.Answers.{Sign, readFs, fsLine, fixedLine, ourProposal,
 use Rattle.grammar.specs.Transfers.{writeTransfer}
 use Rattle.grammar.proofs.Basics.{Lacks, snoc-cons}
 use Rattle.grammar.proofs.OurLines.{proposal-read, fs-back, ff-read, fq-read, end-read, good-line}
-use Rattle.mail.specs.Mail.{Record, recordAt, headingFor, transferOf, proposalLines, turnText, transfersText, accepted}
+use Rattle.mail.specs.Mail.{Record, recordAt, headingFor, transferOf, proposalLines, turnText, transfersText}
+use Rattle.log.specs.Effects.{acceptedBy}
 use Rattle.log.specs.Log.{theirNewTurn, ourNewTurn, gave, Ours, ourGreeting, ourFirstPrompt, ourSidLine, ourTurn, ourAnswer, theirSid, Next, over, weSay, theySay, ourTransfer, Course, isOurs, placesOf, ourProposed, oursOwed, theirsOwed, ourLine, ourUnit, whole, said, applied, withAfterCr}
 use Rattle.log.specs.Fed.{Fed, fedAll, outOfOrder}
 use Rattle.log.proofs.Said.{said-after}
@@ -158,7 +159,7 @@ turn-spoken T md ff p ps sent f h =
 -- ---------------------------------------------------------------- an answer
 
 pub fs-spoken : (T : List Record) (md : Bool) (ps : List Proposal) (ss : List Sign) (sent : List ℕ) → length ss ≡ length ps → 1 ≤ length ps → length ps ≤ 5
-    → spoken T md (at (weSay (ourAnswer ps)) sent) (withCr (fsLine ss)) ≡ at (theirsOwed (accepted ss ps)) sent
+    → spoken T md (at (weSay (ourAnswer ps)) sent) (withCr (fsLine ss)) ≡ at (theirsOwed (acceptedBy ss ps)) sent
 fs-spoken T md ps ss sent h k l =
     line-spoken T md (ourAnswer ps) sent (fsLine ss) [] (good-line (OurLine.ourAnswer ss) (omega arith, omega arith) .whole)
     ∙ rw (ap (λ (n : ℕ). readFs level0 n (fsLine ss)) (sym h) ∙ fs-back level0 ss)

@@ -14,7 +14,8 @@ use Rattle.grammar.specs.Turns.{Proposal, withCr}
 use Rattle.grammar.specs.Transfers.{Content, Parsed, parse, valid, readTransfer}
 use Rattle.grammar.proofs.Basics.{Lacks, snoc-cons, and-false}
 use Rattle.grammar.proofs.Refusal.{no-longer}
-use Rattle.mail.specs.Mail.{Record, Message, messageOf, recordAt, transferOf}
+use Rattle.mail.specs.Mail.{Record, Message, recordAt, transferOf}
+use Rattle.log.specs.Effects.{keptAs}
 use Rattle.log.specs.Log.{Event, took, gave, Next, over, weSay, theySay, theirTransfer, ourTransfer, Book, Log, isOurs, oursOwed, theirsOwed, isPlain, whole, applied, stopped, Cut, notWhole, outOfTurn, unit, cutUnit, withAfterCr, afterCut, logUnits, logOpened, log, withKept}
 use Rattle.log.specs.Fed.{Fed, unitByte, outOfOrder, fedByte, fedAll}
 use Rattle.log.proofs.Spoken.{same-prefix, transfer-spoken, gave-spoken}
@@ -252,7 +253,7 @@ keeping k x = withKept k (k .kept ++ (x ∷ []))
 pub their-transfer-fed : (T : List Record) (p : Proposal) (ps : List Proposal) (sent : List ℕ) (k : Book) (u : Bytes) (b : ℕ) (c : Content)
     → readTransfer (p .form) (u ++ (b ∷ [])) ≡ some c
     → fedAll T (record { log = owing false (theirTransfer p ps) sent k; raw = [] }) (map took (u ++ (b ∷ [])))
-    ≡ record { log = owing (isPlain (p .form)) (theirsOwed ps) sent (keeping k (messageOf p c)); raw = [] }
+    ≡ record { log = owing (isPlain (p .form)) (theirsOwed ps) sent (keeping k (keptAs p c)); raw = [] }
 their-transfer-fed T p ps sent k u b c e =
     unit-fed T (owing false (theirTransfer p ps) sent k) u b refl (their-yet T p ps u [] b [] c e) (rw e) ∙ rw e
 

@@ -14,10 +14,11 @@ use Rattle.grammar.specs.Bytes.{Bytes, CR, LF, same, isSome}
 use Rattle.grammar.specs.Fields.{Form, plain, message, file}
 use Rattle.grammar.specs.Lines.{trim, isComment, isPrompt, lineLimit}
 use Rattle.grammar.specs.Sid.{readSid, hasFeature, framed, letterF}
-use Rattle.grammar.specs.Turns.{Proposal, TurnLine, saysFF, saysFQ, endsBlock, notAllowed, proposes, readTurnLine, fixedText, ourSid, ourPrompt, blockLimit}
+use Rattle.grammar.specs.Turns.{Proposal, TurnLine, saysFF, saysFQ, endsBlock, notAllowed, proposes, endsSummed, readTurnLine, fixedText, ourSid, ourPrompt, withCr, blockLimit}
 use Rattle.grammar.specs.Answers.{Sign, consO, readFs, Level, level0}
-use Rattle.grammar.specs.Transfers.{Content, readTransfer}
-use Rattle.mail.specs.Mail.{Record, Message, messageOf, recordAt, transferOf, placeOf, accepted, marked, declined}
+use Rattle.grammar.specs.Transfers.{Content, readTransfer, sumRight}
+use Rattle.mail.specs.Mail.{Record, Message, recordAt, transferOf, placeOf}
+use Rattle.log.specs.Effects.{forwardedSent, acceptedBy, declinedBy, keptAs}
 
 -- ---------------------------------------------------------------- what the log is fed and what it keeps
 
@@ -26,7 +27,7 @@ pub data Event : Type 0 where
   took gave : ℕ → Event
 
 -- A line of ours, and one of the partner's. A turn has the lines of it so far, and whether the turn just before it was FF; the places or
--- proposals are "last proposals".
+-- proposals are "last proposals". The partner's turn also has its proposal lines as received, each with its CR.
 pub data Ours : Type 0 where
   ourGreeting ourFirstPrompt ourSidLine : Ours
   ourTurn : Bool → List TurnLine → Ours
@@ -35,7 +36,7 @@ pub data Ours : Type 0 where
 pub data Theirs : Type 0 where
   theirText : Theirs
   theirSid : Bool → Theirs
-  theirTurn : Bool → List TurnLine → Theirs
+  theirTurn : Bool → List TurnLine → Bytes → Theirs
   theirAnswer : List ℕ → Theirs
 
 -- Which unit the rules allow next, and of which side: a line, or one of the "transfers owed", with the others. over: the log has ended.
@@ -51,7 +52,7 @@ abbrev pub ourNewTurn : Bool → Next
 ourNewTurn ff = weSay (ourTurn ff [])
 
 abbrev pub theirNewTurn : Bool → Next
-theirNewTurn ff = theySay (theirTurn ff [])
+theirNewTurn ff = theySay (theirTurn ff [] [])
 
 -- What units of either side change: which unit is next, and the records sent.
 pub record Course : Type 0 where
@@ -85,7 +86,8 @@ pub data Said : Type 0 where
   unfinished farewell wrong : Said
   turn : List Proposal → Said
 
--- "A turn is `FF`, or one to five proposals and `F>`.": ps are the proposals so far
+-- "A turn is `FF`, or one to five proposals and `F>`.": ps are the proposals so far. F> with a checksum stands for F> where the partner says it
+-- and it is right (`checked`); "We go on writing the bare form." (02, Q-5), so in a turn of ours it is wrong
 abbrev pub saidOn : List Proposal → List TurnLine → Said
 saidOn ps [] = unfinished
 saidOn [] (saysFF ∷ []) = turn []
@@ -96,10 +98,12 @@ saidOn [] (saysFF ∷ l ∷ ls) = wrong
 saidOn [] (saysFQ ∷ l ∷ ls) = wrong
 saidOn [] (endsBlock ∷ ls) = wrong
 saidOn [] (notAllowed ∷ ls) = wrong
+saidOn [] (endsSummed h ∷ ls) = wrong
 saidOn (p ∷ ps) (saysFF ∷ ls) = wrong
 saidOn (p ∷ ps) (saysFQ ∷ ls) = wrong
 saidOn (p ∷ ps) (endsBlock ∷ l ∷ ls) = wrong
 saidOn (p ∷ ps) (notAllowed ∷ ls) = wrong
+saidOn (p ∷ ps) (endsSummed h ∷ ls) = wrong
 
 -- "FQ is allowed only in answer to our FF. FF in answer to our FF gets 5.", and so for us; ff: the turn just before was FF
 abbrev pub inOrder : Bool → Said → Said
@@ -150,7 +154,7 @@ ourSaid T ff ls (turn (p ∷ ps)) = ourProposed (placesOf T (p ∷ ps))
 -- "FS line, at its CR: the other side owes the accepted transfers in order."
 abbrev pub ourAnswered : List Proposal → Option (List Sign) → Next
 ourAnswered ps none = over
-ourAnswered ps (some ss) = theirsOwed (accepted ss ps)
+ourAnswered ps (some ss) = theirsOwed (acceptedBy ss ps)
 
 -- A line of ours. "Lines under SID and opening only choose the mode."; "Called: we send it, CR, `>`, CR"
 abbrev pub ourLine : List Record → Bool → Ours → Bytes → Next
@@ -196,11 +200,39 @@ afterTheirTurn (p ∷ ps) = weSay (ourAnswer (p ∷ ps))
 
 -- "Turn, at its last CR: its proposals replace the last .. The partner's makes every sent record 1." The records sent are then forgotten; 01
 -- does not say so, and it comes to the same: a state set to 1 stays 1, as we propose only waiting records.
-abbrev pub theirSaid : Bool → List TurnLine → Book → List ℕ → Said → Effect
-theirSaid ff ls k sent unfinished = effect k sent (theySay (theirTurn ff ls))
-theirSaid ff ls k sent farewell = effect k sent over
-theirSaid ff ls k sent wrong = effect k sent over
-theirSaid ff ls k sent (turn ps) = effect (withStates k (marked sent (k .states))) [] (afterTheirTurn ps)
+abbrev pub theirSaid : Bool → List TurnLine → Bytes → Book → List ℕ → Said → Effect
+theirSaid ff ls raw k sent unfinished = effect k sent (theySay (theirTurn ff ls raw))
+theirSaid ff ls raw k sent farewell = effect k sent over
+theirSaid ff ls raw k sent wrong = effect k sent over
+theirSaid ff ls raw k sent (turn ps) = effect (withStates k (forwardedSent sent (k .states))) [] (afterTheirTurn ps)
+
+-- What F> with a checksum says that is right (true) or wrong.
+abbrev pub summedEnd : Bool → TurnLine
+summedEnd true = endsBlock
+summedEnd false = notAllowed
+
+-- "The sum of all bytes of the block's proposal lines as received, their CR included, .. plus HH must be 0 modulo 256. .. A turn with a wrong
+-- checksum is no valid turn." (02, Q-5): what a line of the partner's says after the proposal lines raw
+abbrev pub checked : Bytes → TurnLine → TurnLine
+checked raw (endsSummed h) = summedEnd (sumRight raw h)
+checked raw saysFF = saysFF
+checked raw saysFQ = saysFQ
+checked raw endsBlock = endsBlock
+checked raw notAllowed = notAllowed
+checked raw (proposes p) = proposes p
+
+-- The proposal lines with the line ln, as received and with its CR, if that is one.
+abbrev pub rawWith : Bytes → Bytes → TurnLine → Bytes
+rawWith raw ln (proposes p) = raw ++ withCr ln
+rawWith raw ln saysFF = raw
+rawWith raw ln saysFQ = raw
+rawWith raw ln endsBlock = raw
+rawWith raw ln notAllowed = raw
+rawWith raw ln (endsSummed h) = raw
+
+-- A line ln of the partner's turn that says t.
+abbrev pub theirTurnLine : Bool → List TurnLine → Bytes → Book → List ℕ → Bytes → TurnLine → Effect
+theirTurnLine ff ls raw k sent ln t = theirSaid ff (ls ++ (t ∷ [])) (rawWith raw ln t) k sent (said ff (ls ++ (t ∷ [])))
 
 -- The level at which the partner's FS line is read; ours has the signs of level 0.
 abbrev pub levelInForce : Book → Level
@@ -209,12 +241,12 @@ levelInForce k = level0
 -- "The partner's makes declined records 2."
 abbrev pub theirAnswered : List ℕ → Book → List ℕ → Option (List Sign) → Effect
 theirAnswered is k sent none = effect k sent over
-theirAnswered is k sent (some ss) = effect (withStates k (declined is ss (k .states))) sent (oursOwed (accepted ss is))
+theirAnswered is k sent (some ss) = effect (withStates k (declinedBy ss is (k .states))) sent (oursOwed (acceptedBy ss is))
 
 -- "Caller: we await the SID, skip text lines until the prompt"; called, "then its first turn"
 abbrev pub afterTheirSid : Bool → Theirs
 afterTheirSid true = theirText
-afterTheirSid false = theirTurn false []
+afterTheirSid false = theirTurn false [] []
 
 -- "Partner has B: framed mode, at any level. Otherwise plain mode."; a SID without F (letter 5) is refused with 4
 abbrev pub theirSidRead : Bool → Book → List ℕ → Option (List ℕ) → Effect
@@ -226,8 +258,7 @@ theirSidRead c k sent (some fs) =
 abbrev pub theirRead : Theirs → Book → List ℕ → Bytes → Effect
 theirRead theirText k sent ln = cond (isPrompt (trim ln)) (effect k sent (weSay ourSidLine)) (effect k sent (theySay theirText))
 theirRead (theirSid c) k sent ln = theirSidRead c k sent (readSid (trim ln))
-theirRead (theirTurn ff ls) k sent ln =
-    theirSaid ff (ls ++ (readTurnLine (k .framed) (trim ln) ∷ [])) k sent (said ff (ls ++ (readTurnLine (k .framed) (trim ln) ∷ [])))
+theirRead (theirTurn ff ls raw) k sent ln = theirTurnLine ff ls raw k sent ln (checked raw (readTurnLine (k .framed) (trim ln)))
 theirRead (theirAnswer is) k sent ln = theirAnswered is k sent (readFs (levelInForce k) (length is) (trim ln))
 
 -- "A line that begins with `;` is ignored wherever a line is awaited"
@@ -241,7 +272,7 @@ judgedLine n k sent ln = cond (leb (length ln) lineLimit) (theirLine n k sent ln
 -- "Partner's owed transfer, at its last byte: kept, with its proposal's form and fields as read, and its own heading and body."
 abbrev pub theirTransferred : Proposal → List Proposal → Book → List ℕ → Option Content → Effect
 theirTransferred p ps k sent none = effect k sent over
-theirTransferred p ps k sent (some c) = effect (withKept k (k .kept ++ (messageOf p c ∷ []))) sent (theirsOwed ps)
+theirTransferred p ps k sent (some c) = effect (withKept k (k .kept ++ (keptAs p c ∷ []))) sent (theirsOwed ps)
 
 -- ---------------------------------------------------------------- units
 

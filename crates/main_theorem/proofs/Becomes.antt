@@ -12,7 +12,9 @@ use Rattle.grammar.proofs.Basics.{or2, or-left, or-right, no-both, not-so}
 use Rattle.mail.specs.Mail.{Record, Message}
 use Rattle.log.specs.Log.{Event, Course, Book, Log, applied, Cut, notWhole, outOfTurn, unit, cutUnit, withAfterCr, afterCut, logUnits}
 use Rattle.main_theorem.specs.Deeds.{Deed, answered, sent, turned, weAnswered, nothing, brought, deedOf, deedsCut, deedsFrom, gives, wasDeclined, thenTurned, sentThenTurned, wasForwarded, Fate, messagesBrought}
-use Rattle.main_theorem.proofs.DeedStates.{has, has-append, accepted-has, marked-length, declined-length, marked-other, marked-here, declined-other, declined-here}
+use Rattle.log.specs.Effects.{oneOf, isMinus, given}
+use Rattle.log.proofs.Effects.{made-length, made-other, made-here}
+use Rattle.main_theorem.proofs.DeedStates.{one-append, accepted-one, declined-one}
 use Rattle.main_theorem.proofs.Deeds.{owes, Does, unit-does}
 
 -- ---------------------------------------------------------------- states that stay
@@ -59,11 +61,11 @@ module _ (i : ℕ) where
   pub record Becomes (ds : List Deed) (e : Book) (c : Course) (k : Book) : Type 0 where
     pub last : (at k ≡ 0 → ⊥) → at e ≡ at k
     pub declines : i < length (k .states) → wasDeclined i ds ≡ true → at e ≡ 2
-    pub turns : i < length (k .states) → has i (c .sent) ≡ true → thenTurned ds ≡ true → at e ≡ 1
+    pub turns : i < length (k .states) → oneOf i (c .sent) ≡ true → thenTurned ds ≡ true → at e ≡ 1
     pub sends : i < length (k .states) → sentThenTurned i ds ≡ true → at e ≡ 1
     pub forwards : i < length (k .states) → wasForwarded i ds ≡ true → at e ≡ 1
-    pub rests : wasDeclined i ds ≡ false → wasForwarded i ds ≡ false → (has i (c .sent) ≡ true → thenTurned ds ≡ false)
-        → (has i (owes (c .next)) ≡ true → sentThenTurned i ds ≡ false) → at e ≡ at k
+    pub rests : wasDeclined i ds ≡ false → wasForwarded i ds ≡ false → (oneOf i (c .sent) ≡ true → thenTurned ds ≡ false)
+        → (oneOf i (owes (c .next)) ≡ true → sentThenTurned i ds ≡ false) → at e ≡ at k
 
   never : {A : Type 0} → false ≡ true → A
   never e = absurd (no-both false e refl)
@@ -90,83 +92,83 @@ module _ (i : ℕ) where
         record {
           last = last-before;
           declines = λ h w. ih .declines (l h) w;
-          turns = λ h w v. ih .turns (l h) (ap (has i) q ∙ w) v;
+          turns = λ h w v. ih .turns (l h) (ap (oneOf i) q ∙ w) v;
           sends = λ h w. ih .sends (l h) w;
           forwards = λ h w. ih .forwards (l h) w;
-          rests = λ w v x y. ih .rests w v (λ z. x (ap (has i) (sym q) ∙ z)) (λ z. never (sym (ap (has i) r) ∙ z)) ∙ ap (λ (st : List ℕ). getD st i 0) p;
+          rests = λ w v x y. ih .rests w v (λ z. x (ap (oneOf i) (sym q) ∙ z)) (λ z. never (sym (ap (oneOf i) r) ∙ z)) ∙ ap (λ (st : List ℕ). getD st i 0) p;
         }
 
     by-deed : (d : Deed) → Does d c k c′ k′ → Becomes (d ∷ ds) e c k
     by-deed nothing q =
         let b = unmoved (q .0) (q .1) (q .2) in
         record { last = b .last; declines = b .declines; turns = b .turns; sends = b .sends; forwards = b .forwards; rests = b .rests }
-    by-deed (brought x) q =
+    by-deed (brought w x) q =
         let b = unmoved (q .0) (q .1) (q .2) in
         record { last = b .last; declines = b .declines; turns = b .turns; sends = b .sends; forwards = b .forwards; rests = b .rests }
     by-deed (weAnswered ss) q =
         let b = unmoved (q .0) (q .1) (q .2) in
         record { last = b .last; declines = b .declines; turns = b .turns; sends = b .sends; forwards = b .forwards; rests = b .rests }
     by-deed (turned ps) q =
-        let len : i < length (k .states) → i < length (k′ .states) = λ h. subst (λ (x : ℕ). i < x) (sym (ap length (q .0) ∙ marked-length (c .sent) (k .states))) h in
+        let len : i < length (k .states) → i < length (k′ .states) = λ h. subst (λ (x : ℕ). i < x) (sym (ap length (q .0) ∙ made-length 0 1 (c .sent) (k .states))) h in
         record {
           last = last-before;
           declines = λ h w. ih .declines (len h) w;
           turns = λ h w v.
-              let f : at k′ ≡ 1 = ap (λ (st : List ℕ). getD st i 0) (q .0) ∙ marked-here i (c .sent) (k .states) w h in
+              let f : at k′ ≡ 1 = ap (λ (st : List ℕ). getD st i 0) (q .0) ∙ made-here 1 (c .sent) (k .states) i w h in
               ih .last (λ z. omega arith) ∙ f;
           sends = λ h w. ih .sends (len h) w;
           forwards = λ h w. ih .forwards (len h) w;
           rests = λ w v x y.
-              let f : has i (c .sent) ≡ false = not-so (has i (c .sent)) (λ z. no-both true refl (x z)) in
-              ih .rests w v (λ z. never (sym (ap (has i) (q .1)) ∙ z)) (λ z. never (sym (ap (has i) (q .2)) ∙ z))
-              ∙ ap (λ (st : List ℕ). getD st i 0) (q .0) ∙ marked-other i (c .sent) (k .states) f;
+              let f : oneOf i (c .sent) ≡ false = not-so (oneOf i (c .sent)) (λ z. no-both true refl (x z)) in
+              ih .rests w v (λ z. never (sym (ap (oneOf i) (q .1)) ∙ z)) (λ z. never (sym (ap (oneOf i) (q .2)) ∙ z))
+              ∙ ap (λ (st : List ℕ). getD st i 0) (q .0) ∙ made-other 1 (c .sent) (k .states) i f;
         }
     by-deed (sent j) q =
         let len : i < length (k .states) → i < length (k′ .states) = λ h. subst (λ (x : List ℕ). i < length x) (sym (q .0)) h in
-        let now : has i (c′ .sent) ≡ has i (c .sent) || has i (j ∷ []) = ap (has i) (q .1) ∙ has-append i (c .sent) (j ∷ []) in
+        let now : oneOf i (c′ .sent) ≡ oneOf i (c .sent) || oneOf i (j ∷ []) = ap (oneOf i) (q .1) ∙ one-append i (c .sent) (j ∷ []) in
         record {
           last = last-before;
           declines = λ h w. ih .declines (len h) w;
-          turns = λ h w v. ih .turns (len h) (now ∙ or-left (has i (c .sent)) (has i (j ∷ [])) w) v;
+          turns = λ h w v. ih .turns (len h) (now ∙ or-left (oneOf i (c .sent)) (oneOf i (j ∷ [])) w) v;
           sends = λ h w. then-sent (eqb i j) refl (thenTurned ds) refl (len h) now w;
           forwards = λ h w. ih .forwards (len h) w;
           rests = λ w v x y.
-              ih .rests w v (λ z. sent-turned (has i (c .sent)) (eqb i j) refl refl x y (sym now ∙ z) (q .2)) (λ z. or2 (eqb i j && thenTurned ds) (sentThenTurned i ds) (y (ap (has i) (q .2) ∙ or-right (eqb i j) (has i (owes (c′ .next))) z)) .1)
+              ih .rests w v (λ z. sent-turned (oneOf i (c .sent)) (eqb i j) refl refl x y (sym now ∙ z) (q .2)) (λ z. or2 (eqb i j && thenTurned ds) (sentThenTurned i ds) (y (ap (oneOf i) (q .2) ∙ or-right (eqb i j) (oneOf i (owes (c′ .next))) z)) .1)
               ∙ ap (λ (st : List ℕ). getD st i 0) (q .0);
         }
       where
-        then-sent : (a : Bool) → eqb i j ≡ a → (b : Bool) → thenTurned ds ≡ b → i < length (k′ .states) → has i (c′ .sent) ≡ has i (c .sent) || has i (j ∷ [])
+        then-sent : (a : Bool) → eqb i j ≡ a → (b : Bool) → thenTurned ds ≡ b → i < length (k′ .states) → oneOf i (c′ .sent) ≡ oneOf i (c .sent) || oneOf i (j ∷ [])
             → (a && b) || sentThenTurned i ds ≡ true → at e ≡ 1
-        then-sent true p true r h now w = ih .turns h (now ∙ or-right (has i (c .sent)) (has i (j ∷ [])) (or-left (eqb i j) false p)) r
+        then-sent true p true r h now w = ih .turns h (now ∙ or-right (oneOf i (c .sent)) (oneOf i (j ∷ [])) (or-left (eqb i j) false p)) r
         then-sent true p false r h now w = ih .sends h w
         then-sent false p b r h now w = ih .sends h w
 
-        sent-turned : (a b : Bool) → has i (c .sent) ≡ a → eqb i j ≡ b → (has i (c .sent) ≡ true → thenTurned ds ≡ false)
-            → (has i (owes (c .next)) ≡ true → (eqb i j && thenTurned ds) || sentThenTurned i ds ≡ false)
+        sent-turned : (a b : Bool) → oneOf i (c .sent) ≡ a → eqb i j ≡ b → (oneOf i (c .sent) ≡ true → thenTurned ds ≡ false)
+            → (oneOf i (owes (c .next)) ≡ true → (eqb i j && thenTurned ds) || sentThenTurned i ds ≡ false)
             → a || (b || false) ≡ true → owes (c .next) ≡ j ∷ owes (c′ .next) → thenTurned ds ≡ false
         sent-turned true b p r x y z o = x p
         sent-turned false true p r x y z o =
-            ap (λ (t : Bool). t && thenTurned ds) (sym r) ∙ or2 (eqb i j && thenTurned ds) (sentThenTurned i ds) (y (ap (has i) o ∙ or-left (eqb i j) (has i (owes (c′ .next))) r)) .0
+            ap (λ (t : Bool). t && thenTurned ds) (sym r) ∙ or2 (eqb i j && thenTurned ds) (sentThenTurned i ds) (y (ap (oneOf i) o ∙ or-left (eqb i j) (oneOf i (owes (c′ .next))) r)) .0
         sent-turned false false p r x y z o = never z
     by-deed (answered is ss) q =
-        let len : i < length (k .states) → i < length (k′ .states) = λ h. subst (λ (x : ℕ). i < x) (sym (ap length (q .0) ∙ declined-length is ss (k .states))) h in
+        let len : i < length (k .states) → i < length (k′ .states) = λ h. subst (λ (x : ℕ). i < x) (sym (ap length (q .0) ∙ made-length 0 2 (given isMinus ss is) (k .states))) h in
         record {
           last = last-before;
           declines = λ h w. now-declined (gives decline i is ss) refl h (len h) w;
-          turns = λ h w v. ih .turns (len h) (ap (has i) (q .1) ∙ w) v;
+          turns = λ h w v. ih .turns (len h) (ap (oneOf i) (q .1) ∙ w) v;
           sends = λ h w. ih .sends (len h) w;
           forwards = λ h w. now-accepted (gives accept i is ss) (sentThenTurned i ds) refl (len h) w;
           rests = λ w v x y.
               let a = or2 (gives decline i is ss) (wasDeclined i ds) w in
               let b = or2 (gives accept i is ss && sentThenTurned i ds) (wasForwarded i ds) v in
-              ih .rests (a .1) (b .1) (λ z. x (ap (has i) (sym (q .1)) ∙ z))
-              (λ z. ap (λ (t : Bool). t && sentThenTurned i ds) (sym (sym (accepted-has i ss is) ∙ ap (has i) (sym (q .2)) ∙ z)) ∙ b .0)
-              ∙ ap (λ (st : List ℕ). getD st i 0) (q .0) ∙ declined-other i is ss (k .states) (a .0);
+              ih .rests (a .1) (b .1) (λ z. x (ap (oneOf i) (sym (q .1)) ∙ z))
+              (λ z. ap (λ (t : Bool). t && sentThenTurned i ds) (sym (sym (accepted-one i ss is) ∙ ap (oneOf i) (sym (q .2)) ∙ z)) ∙ b .0)
+              ∙ ap (λ (st : List ℕ). getD st i 0) (q .0) ∙ made-other 2 (given isMinus ss is) (k .states) i (declined-one i ss is ∙ a .0);
         }
       where
         now-declined : (b : Bool) → gives decline i is ss ≡ b → i < length (k .states) → i < length (k′ .states) → b || wasDeclined i ds ≡ true → at e ≡ 2
         now-declined true g h l w =
-            let f : at k′ ≡ 2 = ap (λ (st : List ℕ). getD st i 0) (q .0) ∙ declined-here i is ss (k .states) g h in
+            let f : at k′ ≡ 2 = ap (λ (st : List ℕ). getD st i 0) (q .0) ∙ made-here 2 (given isMinus ss is) (k .states) i (declined-one i ss is ∙ g) h in
             ih .last (λ z. omega arith) ∙ f
         now-declined false g h l w = ih .declines l w
 
@@ -200,7 +202,7 @@ module _ (i : ℕ) where
       b = by-units T Becomes at-end becomes n es l k
 
       neither : wasForwarded i ds ≡ false → wasDeclined i ds ≡ false → at (l .book) ≡ 0 → at end ≡ 0
-      neither f d z = b .rests d f (λ q. never (sym (ap (has i) s) ∙ q)) (λ q. never (sym (ap (has i) o) ∙ q)) ∙ z
+      neither f d z = b .rests d f (λ q. never (sym (ap (oneOf i) s) ∙ q)) (λ q. never (sym (ap (oneOf i) o) ∙ q)) ∙ z
 
       was-forwarded : (x y : Bool) → wasForwarded i ds ≡ x → wasDeclined i ds ≡ y → at (l .book) ≡ 0 → eqb (at end) 1 ≡ wasForwarded i ds
       was-forwarded true y f d z = ap (λ (a : ℕ). eqb a 1) (b .forwards h f) ∙ sym f
@@ -225,5 +227,5 @@ kept-law T n es l k =
     more (weAnswered ss) ds e c k c′ k′ q ih = ih ∙ ap (λ (ms : List Message). ms ++ messagesBrought ds) (q .3)
     more (turned ps) ds e c k c′ k′ q ih = ih ∙ ap (λ (ms : List Message). ms ++ messagesBrought ds) (q .3)
     more nothing ds e c k c′ k′ q ih = ih ∙ ap (λ (ms : List Message). ms ++ messagesBrought ds) (q .3)
-    more (brought x) ds e c k c′ k′ q ih =
+    more (brought w x) ds e c k c′ k′ q ih =
         ih ∙ ap (λ (ms : List Message). ms ++ messagesBrought ds) (q .3) ∙ append-assoc (k .kept) (x ∷ []) (messagesBrought ds)

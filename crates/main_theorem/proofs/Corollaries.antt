@@ -11,7 +11,7 @@ use Rattle.represents.specs.Represents.{messagesOf}
 use Rattle.marking.specs.States.{StatesOnly}
 use Rattle.main_theorem.specs.Calls.{Memory, messageCount}
 use Rattle.main_theorem.specs.Demand3.{openedBy, CallsOn, finally}
-use Rattle.main_theorem.specs.Deeds.{wasForwarded, wasDeclined, messagesBrought, weAccepted, BroughtFor, AsAccepted}
+use Rattle.main_theorem.specs.Deeds.{wasForwarded, wasDeclined, messagesBrought, transfersBrought, weAccepted, BroughtFor, AsAccepted}
 use Rattle.main_theorem.specs.InWords.{done}
 use Rattle.main_theorem.proofs.InWords.{in-words}
 
@@ -50,11 +50,11 @@ module _ (role : ℕ) (M : Memory) (open-accepted : openedBy role M .reply .answ
   inbox-exactly = in-words role M open-accepted cs .inbox
 
   -- "exactly the accepted messages received whole, in order": the first message of the inbox is of the first proposal to which our FS lines gave `+`,
-  -- the second of the second, and so on, form and fields alike
+  -- the second of the second, and so on, form and fields alike; its heading and body are those of its transfer
   pub inbox-accepted :
-      BroughtFor (messagesOf (finally role M cs .inbox) (finally role M cs .store) (messageCount (finally role M cs))) (weAccepted (done role M cs))
+      BroughtFor (transfersBrought (done role M cs)) (messagesOf (finally role M cs .inbox) (finally role M cs .store) (messageCount (finally role M cs))) (weAccepted (done role M cs))
   inbox-accepted =
-      subst (λ (xs : List Message). BroughtFor xs (weAccepted (done role M cs))) (sym inbox-exactly) (in-words role M open-accepted cs .accepted)
+      subst (λ (xs : List Message). BroughtFor (transfersBrought (done role M cs)) xs (weAccepted (done role M cs))) (sym inbox-exactly) (in-words role M open-accepted cs .accepted)
 
   -- and none of them is left out: after an FS line of ours nothing comes but the transfers it accepted, in order, until the last is in
   pub accepted-owed : AsAccepted [] [] (done role M cs)

@@ -14,9 +14,10 @@ use Rattle.grammar.specs.Turns.{Proposal, TurnLine, readTurnLine, fixedText, ou
 use Rattle.grammar.specs.Answers.{Sign, accept, decline, defer, readFs, level0}
 use Rattle.grammar.specs.Transfers.{Content, readTransfer}
 use Rattle.grammar.proofs.Basics.{no-both, by-cond, by-test}
-use Rattle.mail.specs.Mail.{Record, accepted, marked, declined}
-use Rattle.log.specs.Log.{ourNewTurn, Event, took, gave, Ours, ourGreeting, ourFirstPrompt, ourSidLine, ourTurn, ourAnswer, Theirs, theirText, theirSid, theirTurn, theirAnswer, Next, over, weSay, theySay, theirTransfer, ourTransfer, Course, Book, Log, isOurs, Said, unfinished, farewell, wrong, turn, said, placesOf, ourProposed, ourSaid, ourAnswered, oursOwed, theirsOwed, ourLine, Effect, effect, theirSaid, theirAnswered, theirSidRead, theirRead, theirTransferred, afterTheirTurn, whole, applied, Cut, notWhole, outOfTurn, unit, cutUnit, withAfterCr, logOpened, levelInForce}
-use Rattle.main_theorem.specs.Deeds.{Deed, answered, sent, turned, weAnswered, nothing, brought, turnDeed, answerDeed, ourAnswerDeed, transferDeed, theirDeed, ourDeed, deedOf, deedsCut, deedsFrom, deeds, messagesBrought, gotPlus, acceptedFrom, BroughtFor, AsAccepted}
+use Rattle.mail.specs.Mail.{Record}
+use Rattle.log.specs.Effects.{forwardedSent, acceptedBy, declinedBy}
+use Rattle.log.specs.Log.{ourNewTurn, Event, took, gave, Ours, ourGreeting, ourFirstPrompt, ourSidLine, ourTurn, ourAnswer, Theirs, theirText, theirSid, theirTurn, theirAnswer, Next, over, weSay, theySay, theirTransfer, ourTransfer, Course, Book, Log, isOurs, Said, unfinished, farewell, wrong, turn, said, checked, rawWith, placesOf, ourProposed, ourSaid, ourAnswered, oursOwed, theirsOwed, ourLine, Effect, effect, theirSaid, theirAnswered, theirSidRead, theirRead, theirTransferred, afterTheirTurn, whole, applied, Cut, notWhole, outOfTurn, unit, cutUnit, withAfterCr, logOpened, levelInForce}
+use Rattle.main_theorem.specs.Deeds.{Deed, answered, sent, turned, weAnswered, nothing, brought, turnDeed, answerDeed, ourAnswerDeed, transferDeed, theirDeed, ourDeed, deedOf, deedsCut, deedsFrom, deeds, messagesBrought, transfersBrought, gotPlus, acceptedFrom, BroughtFor, AsAccepted}
 
 -- the records whose transfers we owe
 abbrev pub owes : Next → List ℕ
@@ -28,12 +29,12 @@ owes (theirTransfer p ps) = []
 
 -- what course and book have become after a unit with this deed: states, records sent, records owed, messages kept
 abbrev pub Does : Deed → Course → Book → Course → Book → Type 0
-Does (answered is ss) c k d l = (l .states ≡ declined is ss (k .states)) × (d .sent ≡ c .sent) × (owes (d .next) ≡ accepted ss is) × (l .kept ≡ k .kept)
+Does (answered is ss) c k d l = (l .states ≡ declinedBy ss is (k .states)) × (d .sent ≡ c .sent) × (owes (d .next) ≡ acceptedBy ss is) × (l .kept ≡ k .kept)
 Does (sent i) c k d l = (l .states ≡ k .states) × (d .sent ≡ c .sent ++ (i ∷ [])) × (owes (c .next) ≡ i ∷ owes (d .next)) × (l .kept ≡ k .kept)
-Does (turned ps) c k d l = (l .states ≡ marked (c .sent) (k .states)) × (d .sent ≡ []) × (owes (d .next) ≡ []) × (l .kept ≡ k .kept)
+Does (turned ps) c k d l = (l .states ≡ forwardedSent (c .sent) (k .states)) × (d .sent ≡ []) × (owes (d .next) ≡ []) × (l .kept ≡ k .kept)
 Does (weAnswered ss) c k d l = (l .states ≡ k .states) × (d .sent ≡ c .sent) × (owes (d .next) ≡ []) × (l .kept ≡ k .kept)
 Does nothing c k d l = (l .states ≡ k .states) × (d .sent ≡ c .sent) × (owes (d .next) ≡ []) × (l .kept ≡ k .kept)
-Does (brought x) c k d l = (l .states ≡ k .states) × (d .sent ≡ c .sent) × (owes (d .next) ≡ []) × (l .kept ≡ k .kept ++ (x ∷ []))
+Does (brought w x) c k d l = (l .states ≡ k .states) × (d .sent ≡ c .sent) × (owes (d .next) ≡ []) × (l .kept ≡ k .kept ++ (x ∷ []))
 
 owed-ours : (is : List ℕ) → owes (oursOwed is) ≡ is
 owed-ours [] = refl
@@ -64,20 +65,20 @@ module _ (T : List Record) (a : Bool) (st : List ℕ) (k : Book) where
   quiet : (n m : Next) → owes m ≡ [] → Comes nothing n (record { next = m; sent = st }) k
   quiet n m e = (refl, refl, e, refl)
 
-  said-does : (ff : Bool) (ls : List TurnLine) (n : Next) (z : Said) → ComesTo (turnDeed z) n (theirSaid ff ls k st z)
-  said-does ff ls n unfinished = quiet n (theySay (theirTurn ff ls)) refl
-  said-does ff ls n farewell = quiet n over refl
-  said-does ff ls n wrong = quiet n over refl
-  said-does ff ls n (turn ps) = (refl, refl, owed-answer ps, refl)
+  said-does : (ff : Bool) (ls : List TurnLine) (raw : Bytes) (n : Next) (z : Said) → ComesTo (turnDeed z) n (theirSaid ff ls raw k st z)
+  said-does ff ls raw n unfinished = quiet n (theySay (theirTurn ff ls raw)) refl
+  said-does ff ls raw n farewell = quiet n over refl
+  said-does ff ls raw n wrong = quiet n over refl
+  said-does ff ls raw n (turn ps) = (refl, refl, owed-answer ps, refl)
 
   answered-does : (is : List ℕ) (n : Next) (z : Option (List Sign)) → ComesTo (answerDeed is z) n (theirAnswered is k st z)
   answered-does is n none = quiet n over refl
-  answered-does is n (some ss) = (refl, refl, owed-ours (accepted ss is), refl)
+  answered-does is n (some ss) = (refl, refl, owed-ours (acceptedBy ss is), refl)
 
-  transferred-does : (p : Proposal) (ps : List Proposal) (n : Next) (z : Option Content)
-      → ComesTo (transferDeed p z) n (theirTransferred p ps k st z)
-  transferred-does p ps n none = quiet n over refl
-  transferred-does p ps n (some x) = (refl, refl, owed-theirs ps, refl)
+  transferred-does : (p : Proposal) (ps : List Proposal) (w : Bytes) (n : Next) (z : Option Content)
+      → ComesTo (transferDeed p w z) n (theirTransferred p ps k st z)
+  transferred-does p ps w n none = quiet n over refl
+  transferred-does p ps w n (some x) = (refl, refl, owed-theirs ps, refl)
 
   sid-does : (c : Bool) (n : Next) (z : Option (List ℕ)) → ComesTo nothing n (theirSidRead c k st z)
   sid-does c n none = quiet n over refl
@@ -91,9 +92,10 @@ module _ (T : List Record) (a : Bool) (st : List ℕ) (k : Book) where
   read-does : (n : Theirs) (u : Bytes) → ComesTo (theirDeed n k u) (theySay n) (theirRead n k st u)
   read-does theirText u = text-does (theySay theirText) (isPrompt (trim u))
   read-does (theirSid c) u = sid-does c (theySay (theirSid c)) (readSid (trim u))
-  read-does (theirTurn ff ls) u =
-      let ls′ = ls ++ (readTurnLine (k .framed) (trim u) ∷ []) in
-      said-does ff ls′ (theySay (theirTurn ff ls)) (said ff ls′)
+  read-does (theirTurn ff ls raw) u =
+      let t = checked raw (readTurnLine (k .framed) (trim u)) in
+      let ls′ = ls ++ (t ∷ []) in
+      said-does ff ls′ (rawWith raw u t) (theySay (theirTurn ff ls raw)) (said ff ls′)
   read-does (theirAnswer is) u = answered-does is (theySay (theirAnswer is)) (readFs (levelInForce k) (length is) (trim u))
 
   -- x, y: the line's tests
@@ -116,7 +118,7 @@ module _ (T : List Record) (a : Bool) (st : List ℕ) (k : Book) where
 
   our-answered : (ps : List Proposal) (n : Next) (z : Option (List Sign)) → Comes (ourAnswerDeed z) n (record { next = ourAnswered ps z; sent = st }) k
   our-answered ps n none = quiet n over refl
-  our-answered ps n (some ss) = (refl, refl, owed-theirs (accepted ss ps), refl)
+  our-answered ps n (some ss) = (refl, refl, owed-theirs (acceptedBy ss ps), refl)
 
   owes-nothing : (b : Bool) (n m : Next) → owes n ≡ [] → owes m ≡ [] → owes (cond b n m) ≡ []
   owes-nothing b n m e f = by-cond (λ (x : Next). owes x ≡ []) b e f
@@ -134,7 +136,7 @@ module _ (T : List Record) (a : Bool) (st : List ℕ) (k : Book) where
   does over u b = quiet over over refl
   does (weSay n) u b = ours-does n u
   does (theySay n) u b = line-does n u (leb (length u) lineLimit) (isComment (trim u))
-  does (theirTransfer p ps) u b = transferred-does p ps (theirTransfer p ps) (readTransfer (p .form) (u ++ (b ∷ [])))
+  does (theirTransfer p ps) u b = transferred-does p ps (u ++ (b ∷ [])) (theirTransfer p ps) (readTransfer (p .form) (u ++ (b ∷ [])))
   does (ourTransfer i is) u b = (refl, refl, ap (λ (js : List ℕ). i ∷ js) (sym (owed-ours is)), refl)
 
 -- THE EFFECT OF A UNIT is that of its deed
@@ -193,7 +195,7 @@ no-deeds (answering ps) = tt
 no-deeds (bringing ps) = λ last. tt
 
 -- the log's word for it and the deeds' are one
-got-plus : (ss : List Sign) (ps : List Proposal) → accepted ss ps ≡ gotPlus ss ps
+got-plus : (ss : List Sign) (ps : List Proposal) → acceptedBy ss ps ≡ gotPlus ss ps
 got-plus [] [] = refl
 got-plus [] (p ∷ ps) = refl
 got-plus (s ∷ ss) [] = refl
@@ -249,23 +251,24 @@ module _ (T : List Record) (a : Bool) (st : List ℕ) (k : Book) (ds : List Deed
   idle h = λ last. (refl, h last)
 
   -- a line of the partner's turn, of its answer, our answer, and a transfer: z is what it says
-  turn-brings : (ff : Bool) (ls : List TurnLine) (z : Said) → Brings (stand (theirSaid ff ls k st z .course .next)) ds → Brings (bringing []) (turnDeed z ∷ ds)
-  turn-brings ff ls unfinished h = idle h
-  turn-brings ff ls farewell h = idle (ends h)
-  turn-brings ff ls wrong h = idle (ends h)
-  turn-brings ff ls (turn []) h = λ last. (refl, h [])
-  turn-brings ff ls (turn (p ∷ ps)) h = λ last. (refl, h)
+  turn-brings : (ff : Bool) (ls : List TurnLine) (raw : Bytes) (z : Said) → Brings (stand (theirSaid ff ls raw k st z .course .next)) ds → Brings (bringing []) (turnDeed z ∷ ds)
+  turn-brings ff ls raw unfinished h = idle h
+  turn-brings ff ls raw farewell h = idle (ends h)
+  turn-brings ff ls raw wrong h = idle (ends h)
+  turn-brings ff ls raw (turn []) h = λ last. (refl, h [])
+  turn-brings ff ls raw (turn (p ∷ ps)) h = λ last. (refl, h)
 
   answer-brings : (is : List ℕ) (z : Option (List Sign)) → Brings (stand (theirAnswered is k st z .course .next)) ds → Brings (bringing []) (answerDeed is z ∷ ds)
   answer-brings is none h = idle (ends h)
-  answer-brings is (some ss) h = λ last. (refl, ours-free (accepted ss is) h last)
+  answer-brings is (some ss) h = λ last. (refl, ours-free (acceptedBy ss is) h last)
 
   read-brings : (n : Theirs) (u : Bytes) → Brings (stand (theirRead n k st u .course .next)) ds → Brings (bringing []) (theirDeed n k u ∷ ds)
   read-brings theirText u h = idle (by-cond FreeTo (isPrompt (trim u)) stays stays h)
   read-brings (theirSid c) u h = idle (sid-free c (readSid (trim u)) h)
-  read-brings (theirTurn ff ls) u h =
-      let ls′ = ls ++ (readTurnLine (k .framed) (trim u) ∷ []) in
-      turn-brings ff ls′ (said ff ls′) h
+  read-brings (theirTurn ff ls raw) u h =
+      let t = checked raw (readTurnLine (k .framed) (trim u)) in
+      let ls′ = ls ++ (t ∷ []) in
+      turn-brings ff ls′ (rawWith raw u t) (said ff ls′) h
   read-brings (theirAnswer is) u h = answer-brings is (readFs (levelInForce k) (length is) (trim u)) h
 
   -- x, y: the line's tests
@@ -280,14 +283,14 @@ module _ (T : List Record) (a : Bool) (st : List ℕ) (k : Book) (ds : List Deed
   our-answer-brings ps none h = (refl, no-more ps h)
   our-answer-brings ps (some ss) h = (
     refl,
-    subst (λ (qs : List Proposal). AsAccepted ps qs ds) (got-plus ss ps) (subst (λ (s : Stand). Brings s ds) (owed-stand (accepted ss ps)) h ps),
+    subst (λ (qs : List Proposal). AsAccepted ps qs ds) (got-plus ss ps) (subst (λ (s : Stand). Brings s ds) (owed-stand (acceptedBy ss ps)) h ps),
   )
 
-  transfer-brings : (p : Proposal) (ps : List Proposal) (z : Option Content) → isSome z ≡ true
-      → Brings (stand (theirTransferred p ps k st z .course .next)) ds → Brings (bringing (p ∷ ps)) (transferDeed p z ∷ ds)
-  transfer-brings p ps none w h = absurd (no-both false w refl)
-  transfer-brings p ps (some c) w h = λ last. (
-    record { form = refl; type = refl; from = refl; at = refl; to = refl; bid = refl },
+  transfer-brings : (p : Proposal) (ps : List Proposal) (v : Bytes) (z : Option Content) → readTransfer (p .form) v ≡ z → isSome z ≡ true
+      → Brings (stand (theirTransferred p ps k st z .course .next)) ds → Brings (bringing (p ∷ ps)) (transferDeed p v z ∷ ds)
+  transfer-brings p ps v none e w h = absurd (no-both false w refl)
+  transfer-brings p ps v (some c) e w h = λ last. (
+    record { form = refl; type = refl; from = refl; at = refl; to = refl; bid = refl; content = e },
     subst (λ (s : Stand). Brings s ds) (owed-stand ps) h last,
   )
 
@@ -306,7 +309,7 @@ module _ (T : List Record) (a : Bool) (st : List ℕ) (k : Book) (ds : List Deed
   unit-brings over u b w h = absurd (no-both false w refl)
   unit-brings (weSay n) u b w h = ours-brings n u h
   unit-brings (theySay n) u b w h = line-brings n u (leb (length u) lineLimit) (isComment (trim u)) h
-  unit-brings (theirTransfer p ps) u b w h = transfer-brings p ps (readTransfer (p .form) (u ++ (b ∷ []))) w h
+  unit-brings (theirTransfer p ps) u b w h = transfer-brings p ps (u ++ (b ∷ [])) (readTransfer (p .form) (u ++ (b ∷ []))) refl w h
   unit-brings (ourTransfer i is) u b w h = λ last. (refl, ours-free is h last)
 
 -- and all units to come
@@ -333,10 +336,10 @@ accepted-law T caller states es = at-open caller (units-bring T (length es) es (
     at-open false h = h
 
 -- so the messages brought are, from the first on, those of the proposals that we accepted
-pub brought-law : (ds : List Deed) (last owed : List Proposal) → AsAccepted last owed ds → BroughtFor (messagesBrought ds) (owed ++ acceptedFrom last ds)
+pub brought-law : (ds : List Deed) (last owed : List Proposal) → AsAccepted last owed ds → BroughtFor (transfersBrought ds) (messagesBrought ds) (owed ++ acceptedFrom last ds)
 brought-law [] last owed h = tt
-brought-law (brought x ∷ ds) last [] h = absurd h
-brought-law (brought x ∷ ds) last (p ∷ owed) h = (h .0, brought-law ds last owed (h .1))
+brought-law (brought w x ∷ ds) last [] h = absurd h
+brought-law (brought w x ∷ ds) last (p ∷ owed) h = (h .0, brought-law ds last owed (h .1))
 brought-law (turned ps ∷ ds) last owed h = rw (h .0) (brought-law ds ps [] (h .1))
 brought-law (weAnswered ss ∷ ds) last owed h = rw (h .0) (brought-law ds last (gotPlus ss last) (h .1))
 brought-law (answered is ss ∷ ds) last owed h = rw (h .0) (brought-law ds last [] (h .1))

@@ -5,22 +5,28 @@ use mathlib.Core.List.{List, [], _∷_, map}
 use Prim.Native.Nat.{ℕ}
 use lib.Dec.{eqb}
 use Rattle.grammar.specs.Bytes.{Bytes}
+use Rattle.grammar.specs.Refusals.{sessionEnded}
 use Rattle.session.specs.Choices.{Shelf}
 use Rattle.session.specs.Session as on-lists
 use Rattle.session.specs.Calls.{receive, give}
+use Rattle.demand2.specs.Refusals.{Over, Live}
 use Rattle.demand2.specs.Reached.{Reached, atOpen}
 use Rattle.demand2.specs.Reached as reached
+use Rattle.demand2.proofs.Ended.{over-ended}
+use Rattle.demand2.proofs.Opening.{open-exact}
 use Rattle.demand2.proofs.Reached.{reached-portion}
+use Rattle.demand2.proofs.NextByte.{next-byte}
 use Rattle.demand3.specs.Demand as on-lists-run
 use Rattle.marking.specs.States.{statesOf}
-use Rattle.main_theorem.specs.Calls.{Lent, Buffer, Memory, fixedIn, lentIn, sizesOf, received, given}
+use Rattle.give.specs.Giving.{reply}
+use Rattle.main_theorem.specs.Calls.{Lent, Buffer, Memory, fixedIn, lentIn, sizesOf, received, given, unchangedBy, isCaller}
 use Rattle.main_theorem.specs.Demand3.{CallsOn, openedBy, finally}
 use Rattle.main_theorem.specs.Demand2.{callOf, shelfIn, Claim2}
 use Rattle.main_theorem.proofs.Accepted.{table-reads-back}
 use Rattle.main_theorem.proofs.Opening.{freshCs, accepted}
 use Rattle.main_theorem.proofs.Held.{Held}
 use Rattle.main_theorem.proofs.Giving.{GaveAs, give-law}
-use Rattle.main_theorem.proofs.Run.{TookAs, receive-law}
+use Rattle.main_theorem.proofs.Run.{TookAs, receive-law, received-over, given-over, received-none}
 use Rattle.main_theorem.proofs.Demand3.{ran}
 
 -- every list of calls leads to a session that is reached
@@ -53,6 +59,18 @@ module _ (role : ℕ) (M : Memory) (e : openedBy role M .reply .answer ≡ 0) (c
   gave b place =
       give-law (fixedIn M) (shelfIn M) (freshCs role (lentIn M)) (sizesOf (fixedIn M) (lentIn M)) end after held (b .bytes) place
 
+  -- after the end, and no bytes before it
+  over-receive : Over after → (b : Buffer) → received (fixedIn M) end (b .bytes) ≡ unchangedBy (reply sessionEnded 0 0) end
+  over-receive o b =
+      received-over (fixedIn M) (shelfIn M) (freshCs role (lentIn M)) (sizesOf (fixedIn M) (lentIn M)) end after held (over-ended after o) (b .bytes)
+
+  over-give : Over after → (b : Buffer) (place : ℕ) → given (fixedIn M) end (b .bytes) place ≡ record { reply = reply 0 0 0; sm = end .sm; buf = b .bytes }
+  over-give o b place =
+      given-over (fixedIn M) (shelfIn M) (freshCs role (lentIn M)) (sizesOf (fixedIn M) (lentIn M)) end after held (over-ended after o) (b .bytes) place
+
+  none-receive : Live after → received (fixedIn M) end [] ≡ unchangedBy (reply 0 0 0) end
+  none-receive l = received-none (fixedIn M) (shelfIn M) (freshCs role (lentIn M)) (sizesOf (fixedIn M) (lentIn M)) end after held l
+
 -- THE THEOREM
 pub demand-2-lent : Claim2
 demand-2-lent role M e cs =
@@ -61,11 +79,16 @@ demand-2-lent role M e cs =
       transfer = (led role M e cs) .0;
       same = refl;
       reached = (led role M e cs) .1;
-      answers = λ b. took role M e cs b .answer;
-      consumes = λ b. took role M e cs b .count;
+      began = open-exact (isCaller role) (statesOf (M .table .bytes));
+      next = next-byte (shelfIn M) (after role M e cs) ((led role M e cs) .0) ((led role M e cs) .1);
+      receives = λ b. took role M e cs b .replies;
+      form = held role M e cs .inForm .form;
       states = held role M e cs .represents .holds .states;
       keeps = held role M e cs .represents .holds .boxed .messages;
-      gives = λ b place. gave role M e cs b place .count;
+      gives = λ b place. gave role M e cs b place .replies;
       writes = λ b place. gave role M e cs b place .buffer;
+      endedReceive = over-receive role M e cs;
+      endedGive = over-give role M e cs;
+      noBytes = none-receive role M e cs;
       readsBack = table-reads-back (M .table .bytes) (M .titles .bytes) (M .names .bytes) (M .bodies .bytes) (accepted role (fixedIn M) (lentIn M) e .fault);
     }

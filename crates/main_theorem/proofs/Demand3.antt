@@ -22,7 +22,7 @@ use Rattle.form_closed.specs.Fixed.{Fixed}
 use Rattle.represents.specs.Represents.{messagesOf}
 use Rattle.marking.specs.States.{withStates}
 use Rattle.main_theorem.specs.Demand2.{callOf}
-use Rattle.main_theorem.specs.Calls.{Lent, Memory, fixedIn, lentIn, sizesOf, messageCount, received, given, withSession, run}
+use Rattle.main_theorem.specs.Calls.{Lent, Memory, fixedIn, lentIn, sizesOf, lentSession, messageCount, received, given, withSession, run}
 use Rattle.main_theorem.specs.Demand3.{openedBy, CallsOn, finally, logged, Claim}
 use Rattle.marking.proofs.States.{with-law}
 use Rattle.form_closed.proofs.Answers.{receive-exactly, give-exactly}
@@ -119,7 +119,7 @@ demand-3-lent role M e cs =
       places = ran role M e cs .held .spared .inbox .past;
       rest = ran role M e cs .held .spared .store .past;
       others = λ o b place.
-          let sm = finally role M cs .sm in
-          let f = other-form sm (sizesOf (fixedIn M) (lentIn M)) o (ran role M e cs .held .sizes) in
+          let f = other-form (finally role M cs .sm) (sizesOf (fixedIn M) (lentIn M)) o (ran role M e cs .held .sizes) in
+          let sm = lentSession (o .session) (finally role M cs .sm) in
           (receive-one (o .fixed) sm (o .table) (o .inbox) (o .store) (b .bytes) f, give-one (o .fixed) sm (o .table) (o .inbox) (o .store) (b .bytes) place f);
     }

@@ -137,8 +137,7 @@ module _ (F : Fixed) (E : Shelf) (c : Cs) (s : on-lists.Session) (h : Represents
 
 module _ (F : Fixed) (E : Shelf) (c₀ : Cs) (z : Sizes) where
   pub record GaveAs (m : Lent) (buf : Bytes) (place : ℕ) (s : on-lists.Session) (g : Given) : Type 0 where
-    pub answer : g .reply .answer ≡ 0
-    pub count : g .reply .count ≡ length (handedOut s (length buf - place))
+    pub replies : g .reply ≡ reply 0 0 (length (handedOut s (length buf - place)))
     pub buffer : g .buf ≡ wrote buf place (handedOut s (length buf - place))
     pub held : Held F E c₀ z (withSession m (g .sm)) (give s (length buf - place))
 
@@ -150,8 +149,7 @@ module _ (F : Fixed) (E : Shelf) (c₀ : Cs) (z : Sizes) where
     still : take space (s .out) ≡ [] → drop space (s .out) ≡ s .out → GaveAs m buf place s (record { reply = reply 0 0 0; sm = m .sm; buf = buf })
     still e f =
         record {
-          answer = refl;
-          count = ap length (sym e);
+          replies = ap (λ (o : Bytes). reply 0 0 (length o)) (sym e);
           buffer = sym (ap (wrote buf place) e ∙ wrote-nil buf place);
           held = subst (Held F E c₀ z m) (sym (give-still s space f)) h;
         }
@@ -166,8 +164,7 @@ module _ (F : Fixed) (E : Shelf) (c₀ : Cs) (z : Sizes) where
         let e = h .represents .says in
         let left = handedOf (loadOf (m .sm)) (length (take space (s .out))) (length lot) in
         record {
-          answer = refl;
-          count = ap (λ (o : Bytes). length (take space o)) e;
+          replies = ap (λ (o : Bytes). reply 0 0 (length (take space o))) e;
           buffer = ap (λ (o : Bytes). wrote buf place (take space o)) e;
           held = subst (λ (o : Bytes). Held F E c₀ z (withSession m (saveOf (m .sm) (handedOf (loadOf (m .sm)) (length (take space o)) (length lot)))) (give s space)) (sym e)
               (saved-held F E c₀ z m s h (cs left (m .table) (m .inbox) (m .store)) (give s space)

@@ -9,28 +9,26 @@ use lib.Dec.{eqb}
 use lib.ListN.{length}
 use borrow.Author.Tests.{ne-eqb}
 use Rattle.grammar.specs.Bytes.{Bytes}
-use Rattle.grammar.specs.Refusals.{sessionEnded}
 use Rattle.grammar.proofs.Basics.{or2}
 use Rattle.session.specs.Choices.{Shelf}
 use Rattle.session.specs.Session as on-lists
 use Rattle.session.specs.Calls as calls
 use Rattle.session_memory.specs.declared.Sizes.{Sizes}
-use Rattle.pending.specs.Pending.{hasToGive}
-use Rattle.give.specs.Giving.{Given, reply, giveOf}
-use Rattle.receive_defined.specs.Receiving.{Cs, Moved, byteOf, Run, run, stops, receiveFrom, Received, unchanged, receiveOf}
+use Rattle.give.specs.Giving.{Given}
+use Rattle.receive_defined.specs.Receiving.{Cs, Moved, byteOf, Run, run, stops, receiveFrom, Received, receiveOf}
 use Rattle.form_closed.specs.Fixed.{Fixed}
 use Rattle.represents.specs.Represents.{Represents}
 use Rattle.represents.specs.Frame.{Spared}
 use Rattle.represents.specs.Link.{Moving}
 use Rattle.main_theorem.specs.Demand2.{callOf}
 use Rattle.main_theorem.specs.Calls as lent-calls
-use Rattle.main_theorem.specs.Calls.{Lent, Call, receives, gives, receivesOther, givesOther, received, given, leftBy, withSession}
+use Rattle.main_theorem.specs.Calls.{Lent, lentSession, Other, Call, receives, gives, receivesOther, givesOther, received, given, leftBy, withSession, aside}
 use Rattle.main_theorem.specs.Store.{lastByte, lastLive}
 use Rattle.represents.proofs.Byte.{over-law, byte-law, same-stops, spared-then}
 use Rattle.form_closed.proofs.Closed.{receive-one, give-one}
 use Rattle.main_theorem.proofs.Giving.{give-law}
 use Rattle.main_theorem.proofs.Held.{csOf, Held, held-good}
-use Rattle.main_theorem.proofs.Run.{other-form, receive-law}
+use Rattle.main_theorem.proofs.Run.{other-form, own-same, receive-law, received-over, given-over}
 use Rattle.represents.proofs.Stays.{byte-stays}
 use Rattle.form_closed.specs.Facts.{Octets, Good}
 use Rattle.form_closed.proofs.Laws.{octets-first, octets-rest}
@@ -87,31 +85,29 @@ module _ (F : Fixed) (E : Shelf) (c₀ : Cs) where
     received-store m s h live (b ∷ bs) =
         rw (h .inForm .form, over-law F E (csOf m) s (held-good F E c₀ z m s h) (h .represents) ∙ live, ne-eqb (length (b ∷ bs)) 0 (λ e. omega arith))
 
-    -- on an ended session no call changes anything
-    received-over : (m : Lent) (s : on-lists.Session) → Held F E c₀ z m s → on-lists.ended s ≡ true → (bs : Bytes)
-        → received F m bs ≡ unchanged (reply sessionEnded 0 0) (m .sm) (m .table) (m .inbox) (m .store)
-    unfolding receiveOf
-    received-over m s h e bs = rw (h .inForm .form, over-law F E (csOf m) s (held-good F E c₀ z m s h) (h .represents) ∙ e)
-
-    given-over : (m : Lent) (s : on-lists.Session) → Held F E c₀ z m s → on-lists.ended s ≡ true → (buf : Bytes) (place : ℕ)
-        → given F m buf place ≡ record { reply = reply 0 0 0; sm = m .sm; buf = buf }
-    unfolding giveOf hasToGive
-    given-over m s h e buf place = rw (h .inForm .form, over-law F E (csOf m) s (held-good F E c₀ z m s h) (h .represents) ∙ e)
-
+    -- on an ended session no call changes the store
     over-stays : (cs : List (Call z)) (m : Lent) (s : on-lists.Session) → Held F E c₀ z m s → on-lists.ended s ≡ true → (lent-calls.run F m cs) .0 .store ≡ m .store
     over-stays [] m s h e = refl
     over-stays (receives b ∷ cs) m s h e =
-        ap (λ (r : Received). (lent-calls.run F (leftBy r) cs) .0 .store) (received-over m s h e (b .bytes)) ∙ over-stays cs m s h e
+        ap (λ (r : Received). (lent-calls.run F (leftBy r) cs) .0 .store) (received-over F E c₀ z m s h e (b .bytes)) ∙ over-stays cs m s h e
     over-stays (gives b place ∷ cs) m s h e =
-        ap (λ (g : Given). (lent-calls.run F (withSession m (g .sm)) cs) .0 .store) (given-over m s h e (b .bytes) place) ∙ over-stays cs m s h e
+        ap (λ (g : Given). (lent-calls.run F (withSession m (g .sm)) cs) .0 .store) (given-over F E c₀ z m s h e (b .bytes) place) ∙ over-stays cs m s h e
     over-stays (receivesOther o b ∷ cs) m s h e =
-        ap (λ (r : Received). (lent-calls.run F (withSession m (r .sm)) cs) .0 .store)
-        (receive-one (o .fixed) (m .sm) (o .table) (o .inbox) (o .store) (b .bytes) (other-form (m .sm) z o (h .sizes)))
+        ap (λ (r : Received). (lent-calls.run F (aside o m (r .sm)) cs) .0 .store)
+        (receive-one (o .fixed) (lentSession (o .session) (m .sm)) (o .table) (o .inbox) (o .store) (b .bytes) (other-form (m .sm) z o (h .sizes)))
+        ∙ ap (λ (sm : Bytes). (lent-calls.run F (withSession m sm) cs) .0 .store) (own-same (o .session) (m .sm))
         ∙ over-stays cs m s h e
     over-stays (givesOther o b place ∷ cs) m s h e =
-        ap (λ (g : Given). (lent-calls.run F (withSession m (g .sm)) cs) .0 .store)
-        (give-one (o .fixed) (m .sm) (o .table) (o .inbox) (o .store) (b .bytes) place (other-form (m .sm) z o (h .sizes)))
+        ap (λ (g : Given). (lent-calls.run F (aside o m (g .sm)) cs) .0 .store)
+        (give-one (o .fixed) (lentSession (o .session) (m .sm)) (o .table) (o .inbox) (o .store) (b .bytes) place (other-form (m .sm) z o (h .sizes)))
+        ∙ ap (λ (sm : Bytes). (lent-calls.run F (withSession m sm) cs) .0 .store) (own-same (o .session) (m .sm))
         ∙ over-stays cs m s h e
+
+    -- a call that changed nothing stands before the others
+    aside-last : (o : Other z) (cs : List (Call z)) (m : Lent) (s : on-lists.Session) → Shown (lastLive E s (map callOf cs)) ((lent-calls.run F m cs) .0 .store)
+        → Shown (lastLive E s (map callOf cs)) ((lent-calls.run F (aside o m (lentSession (o .session) (m .sm))) cs) .0 .store)
+    aside-last o cs m s h =
+        subst (λ (sm : Bytes). Shown (lastLive E s (map callOf cs)) ((lent-calls.run F (withSession m sm) cs) .0 .store)) (sym (own-same (o .session) (m .sm))) h
 
     -- a list of calls: of the session just before its end, or after them
     pub calls-last : (cs : List (Call z)) (m : Lent) (s : on-lists.Session) → Held F E c₀ z m s → on-lists.ended s ≡ false
@@ -152,8 +148,10 @@ module _ (F : Fixed) (E : Shelf) (c₀ : Cs) where
         go true e f = record { state = csOf m; represents = h .represents; spared = h .spared; same = sym (over-stays cs left (calls.give s room) after e); within = held-good F E c₀ z m s h .box .within }
         go false e f = f e
     calls-last (receivesOther o b ∷ cs) m s h live =
-        subst (λ (r : Received). Shown (lastLive E s (map callOf cs)) ((lent-calls.run F (withSession m (r .sm)) cs) .0 .store))
-        (sym (receive-one (o .fixed) (m .sm) (o .table) (o .inbox) (o .store) (b .bytes) (other-form (m .sm) z o (h .sizes)))) (calls-last cs m s h live)
+        subst (λ (r : Received). Shown (lastLive E s (map callOf cs)) ((lent-calls.run F (aside o m (r .sm)) cs) .0 .store))
+        (sym (receive-one (o .fixed) (lentSession (o .session) (m .sm)) (o .table) (o .inbox) (o .store) (b .bytes) (other-form (m .sm) z o (h .sizes))))
+        (aside-last o cs m s (calls-last cs m s h live))
     calls-last (givesOther o b place ∷ cs) m s h live =
-        subst (λ (g : Given). Shown (lastLive E s (map callOf cs)) ((lent-calls.run F (withSession m (g .sm)) cs) .0 .store))
-        (sym (give-one (o .fixed) (m .sm) (o .table) (o .inbox) (o .store) (b .bytes) place (other-form (m .sm) z o (h .sizes)))) (calls-last cs m s h live)
+        subst (λ (g : Given). Shown (lastLive E s (map callOf cs)) ((lent-calls.run F (aside o m (g .sm)) cs) .0 .store))
+        (sym (give-one (o .fixed) (lentSession (o .session) (m .sm)) (o .table) (o .inbox) (o .store) (b .bytes) place (other-form (m .sm) z o (h .sizes))))
+        (aside-last o cs m s (calls-last cs m s h live))

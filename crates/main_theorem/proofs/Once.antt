@@ -18,7 +18,10 @@ use Rattle.session.specs.Choices.{Shelf, wanted, candidates, sizeAt, chosen}
 use Rattle.session.specs.Session.{Awaited, awaitsSid, awaitsPrompt, awaitsTurn, awaitsAnswer, Phase, aLine, awaitsTransfer, leaving, over, Memory, Session, Outcome, refuses, goesOn, turnMarks, Stepped, settled, isPlain, nextTransfer, step}
 use Rattle.session.proofs.Ways.{Passes, toEnd, toTurn, toAnswer, toTransfer, our-turn, our-answer, next-transfer, Judged, isWrong, hearsSid, hearsText, hearsPrompt, hearsProposal, hearsFF, hearsFQ, hearsEnd, hearsFs, Way, isRefused, dropsLf, growsLine, ignoresLine, hearsLine, readsOn, readsLast, way}
 use Rattle.main_theorem.specs.Deeds.{gives}
-use Rattle.main_theorem.proofs.DeedStates.{has, marked-other, declined-other}
+use Rattle.log.specs.Effects.{oneOf, isMinus, given}
+use Rattle.log.proofs.Effects.{made-other}
+use Rattle.demand3.proofs.Effects.{marked-alike, declined-alike}
+use Rattle.main_theorem.proofs.DeedStates.{declined-one}
 use Rattle.main_theorem.proofs.Becomes.{Keeps}
 
 -- ---------------------------------------------------------------- waiting places, each once
@@ -31,32 +34,39 @@ Waiting (i ∷ is) st = (getD st i 0 ≡ 0) × Waiting is st
 -- each place once
 abbrev Once : List ℕ → Type 0
 Once [] = Unit {0}
-Once (i ∷ is) = (has i is ≡ false) × Once is
+Once (i ∷ is) = (oneOf i is ≡ false) × Once is
 
 -- a record that does not wait is none of them
-none-waits : (i : ℕ) (is st : List ℕ) → Waiting is st → (getD st i 0 ≡ 0 → ⊥) → has i is ≡ false
+none-waits : (i : ℕ) (is st : List ℕ) → Waiting is st → (getD st i 0 ≡ 0 → ⊥) → oneOf i is ≡ false
 none-waits i [] st w h = refl
 none-waits i (j ∷ is) st w h =
     rw (ne-eqb i j (λ e. h (ap (λ (x : ℕ). getD st x 0) e ∙ w .0))) (none-waits i is st (w .1) h)
+
+-- a record that is none of those keeps its state
+marked-other : (i : ℕ) (is st : List ℕ) → oneOf i is ≡ false → getD (marked is st) i 0 ≡ getD st i 0
+marked-other i is st h = ap (λ (l : List ℕ). getD l i 0) (marked-alike is st) ∙ made-other 1 is st i h
+
+declined-other : (i : ℕ) (is : List ℕ) (ss : List Sign) (st : List ℕ) → gives decline i is ss ≡ false → getD (declined is ss st) i 0 ≡ getD st i 0
+declined-other i is ss st h = ap (λ (l : List ℕ). getD l i 0) (declined-alike is ss st) ∙ made-other 2 (given isMinus ss is) st i (declined-one i ss is ∙ h)
 
 marks-keep : (is st : List ℕ) → Waiting is st → Keeps st (marked is st)
 marks-keep is st w i h = marked-other i is st (none-waits i is st w h)
 
 -- a place that is declined is one of them
-none-declined : (i : ℕ) (is : List ℕ) (ss : List Sign) → has i is ≡ false → gives decline i is ss ≡ false
+none-declined : (i : ℕ) (is : List ℕ) (ss : List Sign) → oneOf i is ≡ false → gives decline i is ss ≡ false
 none-declined i [] ss h = refl
 none-declined i (j ∷ is) [] h = refl
 none-declined i (j ∷ is) (s ∷ ss) h =
-    let p = or2 (eqb i j) (has i is) h in
+    let p = or2 (eqb i j) (oneOf i is) h in
     rw (p .0) (none-declined i is ss (p .1))
 
 declines-keep : (is : List ℕ) (ss : List Sign) (st : List ℕ) → Waiting is st → Keeps st (declined is ss st)
 declines-keep is ss st w i h = declined-other i is ss st (none-declined i is ss (none-waits i is st w h))
 
-waiting-set : (j v : ℕ) (is st : List ℕ) → has j is ≡ false → Waiting is st → Waiting is (set st j v)
+waiting-set : (j v : ℕ) (is st : List ℕ) → oneOf j is ≡ false → Waiting is st → Waiting is (set st j v)
 waiting-set j v [] st h w = tt
 waiting-set j v (i ∷ is) st h w =
-    let p = or2 (eqb j i) (has j is) h in
+    let p = or2 (eqb j i) (oneOf j is) h in
     (getD-set-other st j i v 0 (λ e. eqb-false j i (p .0) (sym e)) ∙ w .0, waiting-set j v is st (p .1) (w .1))
 
 -- those accepted still wait when the others are declined
@@ -80,7 +90,7 @@ from-less : (n m : ℕ) (is : List ℕ) → n ≤ m → From m is → From n is
 from-less n m [] h f = tt
 from-less n m (i ∷ is) h f = let k = f .0 in (omega arith, from-less n m is h (f .1))
 
-not-from : (n : ℕ) (is : List ℕ) → From (suc n) is → has n is ≡ false
+not-from : (n : ℕ) (is : List ℕ) → From (suc n) is → oneOf n is ≡ false
 not-from n [] f = refl
 not-from n (i ∷ is) f = let k = f .0 in rw (ne-eqb n i (λ e. omega arith)) (not-from n is (f .1))
 
@@ -111,12 +121,12 @@ candidates-fit md st fl (r ∷ T) i = go (wanted md r (getD st i 0) (getD fl i 0
         record { once = (not-from i cs g, f .once); waiting = (z, f .waiting) }
     go false e f g = f
 
-block-has : (size : ℕ → ℕ) (n s i : ℕ) (xs : List ℕ) → has i xs ≡ false → has i (ourBlock size n s xs) ≡ false
+block-has : (size : ℕ → ℕ) (n s i : ℕ) (xs : List ℕ) → oneOf i xs ≡ false → oneOf i (ourBlock size n s xs) ≡ false
 block-has size n s i [] h = refl
-block-has size n s i (x ∷ xs) h = go (ltb n 5 && ltb s 10240) (or2 (eqb i x) (has i xs) h) (λ k. block-has size (n + 1) (s + size x) i xs k)
+block-has size n s i (x ∷ xs) h = go (ltb n 5 && ltb s 10240) (or2 (eqb i x) (oneOf i xs) h) (λ k. block-has size (n + 1) (s + size x) i xs k)
   where
-    go : (b : Bool) → (eqb i x ≡ false) × (has i xs ≡ false) → (has i xs ≡ false → has i (ourBlock size (n + 1) (s + size x) xs) ≡ false)
-        → has i (cond b (x ∷ ourBlock size (n + 1) (s + size x) xs) []) ≡ false
+    go : (b : Bool) → (eqb i x ≡ false) × (oneOf i xs ≡ false) → (oneOf i xs ≡ false → oneOf i (ourBlock size (n + 1) (s + size x) xs) ≡ false)
+        → oneOf i (cond b (x ∷ ourBlock size (n + 1) (s + size x) xs) []) ≡ false
     go true p ih = rw (p .0) (ih (p .1))
     go false p ih = refl
 
@@ -139,7 +149,7 @@ chosen-fit T md st fl = block-fit (sizeAt T) st 0 0 (candidates md st fl 0 T) (c
 abbrev pub SendsLine : Awaited → Memory → Type 0
 SendsLine (awaitsSid c) m = m .sending ≡ []
 SendsLine awaitsPrompt m = m .sending ≡ []
-SendsLine (awaitsTurn ff ps) m = Waiting (m .sending) (m .states)
+SendsLine (awaitsTurn ff ps raw) m = Waiting (m .sending) (m .states)
 SendsLine (awaitsAnswer is) m = (m .sending ≡ []) × Fit (m .states) is
 
 abbrev pub Sends : Phase → Memory → Type 0

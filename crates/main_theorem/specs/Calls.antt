@@ -1,17 +1,18 @@
 -- A list of calls over lent memory: "Each call is lent the same memory, as the last one left it, and nobody else writes it meanwhile."
 use mathlib.Core.Path.{_≡_}
-use mathlib.Core.Bool.{true, false, Bool}
+use mathlib.Core.Bool.{true, Bool, not}
 use mathlib.Core.List.{List, [], _∷_, _++_, map}
 use Prim.Native.Nat.{ℕ, _<_}
 use lib.ListN.{length, take, drop}
 use Rattle.grammar.specs.Bytes.{Bytes, all, isByte, wordValues}
 use Rattle.log.specs.Log.{Event, took, gave}
-use Rattle.session_memory.specs.State.{loadOf}
+use Rattle.session_memory.specs.State.{sessionSize, loadOf}
 use Rattle.session_memory.specs.declared.Sizes.{Sizes}
-use Rattle.form_test.specs.Form.{sameSizes, lentSizes}
+use Rattle.form_test.specs.Form.{sameSizes, lentSizes, formOf}
 use Rattle.give.specs.Giving.{Given, giveOf}
+use Rattle.give.specs.declared.Reply.{Reply}
 use Rattle.open.specs.Opening.{Opened, openOf}
-use Rattle.receive_defined.specs.Receiving.{Received, receiveOf}
+use Rattle.receive_defined.specs.Receiving.{Received, unchanged, receiveOf}
 use Rattle.form_closed.specs.Fixed.{Fixed}
 use Rattle.represents.specs.Frame.{reachOf}
 use lib.Dec.{eqb}
@@ -62,16 +63,37 @@ storeReach m = reachOf (loadOf (m .sm))
 
 -- ---------------------------------------------------------------- one call
 
--- Other buffers beside session memory than those of the sizes z: at least one size is another.
+-- The session memory that a call is lent: the session's own, as the last call left it, or other bytes.
+pub data SessionLent : Type 0 where
+  itsOwn : SessionLent
+  otherBytes : Bytes → SessionLent
+
+-- The bytes lent; sm: the session's own.
+abbrev pub lentSession : SessionLent → Bytes → Bytes
+lentSession itsOwn sm = sm
+lentSession (otherBytes x) sm = x
+
+-- The session's own after the call, which left y of the bytes lent.
+abbrev pub ownAfter : SessionLent → Bytes → Bytes → Bytes
+ownAfter itsOwn sm y = y
+ownAfter (otherBytes x) sm y = sm
+
+-- "a lent size isn't the one open kept in session memory", or session memory isn't "bytes of one fixed size". z: the sizes that open kept; y: those lent
+abbrev pub anotherSize : Sizes → SessionLent → Sizes → Bool
+anotherSize z itsOwn y = not (sameSizes z y)
+anotherSize z (otherBytes x) y = not (eqb (length x) sessionSize)
+
+-- Other memory than that of the sizes z: at least one size is another, that of session memory included.
 pub record Other (z : Sizes) : Type 0 where
+  pub session : SessionLent
   pub fixed : Fixed
   pub table : Bytes
   pub inbox : Bytes
   pub store : Bytes
-  pub another : sameSizes z (lentSizes table (fixed .titles) (fixed .names) (fixed .bodies) (fixed .known) inbox store) ≡ false
+  pub another : anotherSize z session (lentSizes table (fixed .titles) (fixed .names) (fixed .bodies) (fixed .known) inbox store) ≡ true
 
 -- "every list of receive and give calls, refused ones included, with whatever bytes and buffers", after an open that was lent buffers of the
--- sizes z: a receive of these bytes; a give into this buffer from a place on; and the same two lent other buffers.
+-- sizes z: a receive of these bytes; a give into this buffer from a place on; and the same two lent other memory.
 pub data Call (z : Sizes) : Type 0 where
   receives : Buffer → Call z
   gives : Buffer → ℕ → Call z
@@ -94,12 +116,20 @@ received F m bs = receiveOf (m .sm) (m .table) (F .titles) (F .names) (F .bodies
 abbrev pub given : Fixed → Lent → Bytes → ℕ → Given
 given F m buf place = giveOf (m .sm) (m .table) (F .titles) (F .names) (F .bodies) (F .known) (m .inbox) (m .store) buf place
 
+-- "the lent memory fails a form test. The test is listed in docs/": this memory passes it, and its sizes are those that open kept
+abbrev pub passes : Fixed → Lent → Bool
+passes F m = formOf (m .sm) (m .table) (F .titles) (F .names) (F .bodies) (F .known) (m .inbox) (m .store)
+
 -- The memory that a receive leaves, and one that leaves all but session memory.
 abbrev pub leftBy : Received → Lent
 leftBy r = record { sm = r .sm; table = r .table; inbox = r .inbox; store = r .store }
 
 abbrev pub withSession : Lent → Bytes → Lent
 withSession m sm = record { sm = sm; table = m .table; inbox = m .inbox; store = m .store }
+
+-- "and change nothing, the session included": a receive with this reply
+abbrev pub unchangedBy : Reply → Lent → Received
+unchangedBy r m = unchanged r (m .sm) (m .table) (m .inbox) (m .store)
 
 -- "fed the bytes consumed and given, by the calls' counts": those given are read from the buffer
 abbrev pub tookBy : Bytes → Received → List Event
@@ -110,9 +140,13 @@ gaveBy place g = map gave (take (g .reply .count) (drop place (g .buf)))
 
 -- ---------------------------------------------------------------- a list of calls
 
--- The lent bytes of a call that is lent other buffers, with the session memory sm.
+-- The lent bytes of a call that is lent other memory; sm: the session's own session memory.
 abbrev pub instead : {z : Sizes} → Other z → Bytes → Lent
-instead o sm = record { sm = sm; table = o .table; inbox = o .inbox; store = o .store }
+instead o sm = record { sm = lentSession (o .session) sm; table = o .table; inbox = o .inbox; store = o .store }
+
+-- The session's memory after such a call, which left y of the session memory that it was lent.
+abbrev pub aside : {z : Sizes} → Other z → Lent → Bytes → Lent
+aside o m y = withSession m (ownAfter (o .session) (m .sm) y)
 
 -- The memory after the calls, and what they say to the log, in order.
 abbrev pub run : {z : Sizes} → Fixed → Lent → List (Call z) → Lent × List Event
@@ -125,7 +159,7 @@ run F m (gives b place ∷ cs) =
     ((run F (withSession m (g .sm)) cs) .0, gaveBy place g ++ (run F (withSession m (g .sm)) cs) .1)
 run F m (receivesOther o b ∷ cs) =
     let r = received (o .fixed) (instead o (m .sm)) (b .bytes) in
-    ((run F (withSession m (r .sm)) cs) .0, tookBy (b .bytes) r ++ (run F (withSession m (r .sm)) cs) .1)
+    ((run F (aside o m (r .sm)) cs) .0, tookBy (b .bytes) r ++ (run F (aside o m (r .sm)) cs) .1)
 run F m (givesOther o b place ∷ cs) =
     let g = given (o .fixed) (instead o (m .sm)) (b .bytes) place in
-    ((run F (withSession m (g .sm)) cs) .0, gaveBy place g ++ (run F (withSession m (g .sm)) cs) .1)
+    ((run F (aside o m (g .sm)) cs) .0, gaveBy place g ++ (run F (aside o m (g .sm)) cs) .1)

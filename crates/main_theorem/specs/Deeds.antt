@@ -12,21 +12,22 @@ use Rattle.grammar.specs.Lines.{trim, isComment, lineLimit}
 use Rattle.grammar.specs.Turns.{Proposal, readTurnLine}
 use Rattle.grammar.specs.Answers.{Sign, accept, decline, defer, readFs, level0}
 use Rattle.grammar.specs.Transfers.{Content, readTransfer}
-use Rattle.mail.specs.Mail.{Record, Message, messageOf}
-use Rattle.log.specs.Log.{Event, Ours, ourGreeting, ourFirstPrompt, ourSidLine, ourTurn, ourAnswer, Theirs, theirText, theirSid, theirTurn, theirAnswer, Next, over, weSay, theySay, theirTransfer, ourTransfer, Log, Said, unfinished, farewell, wrong, turn, said, applied, Cut, notWhole, outOfTurn, unit, cutUnit, withAfterCr, logOpened, Book, levelInForce}
+use Rattle.mail.specs.Mail.{Record, Message}
+use Rattle.log.specs.Effects.{keptAs}
+use Rattle.log.specs.Log.{Event, Ours, ourGreeting, ourFirstPrompt, ourSidLine, ourTurn, ourAnswer, Theirs, theirText, theirSid, theirTurn, theirAnswer, Next, over, weSay, theySay, theirTransfer, ourTransfer, Log, Said, unfinished, farewell, wrong, turn, said, checked, applied, Cut, notWhole, outOfTurn, unit, cutUnit, withAfterCr, logOpened, Book, levelInForce}
 use Rattle.phase.specs.Phase.{stateWaiting, stateForwarded, stateDeclined}
 
 -- ---------------------------------------------------------------- what a whole unit does
 
 -- answered: a valid FS line of the partner's, on our records at these places. sent: the link has taken the whole transfer of this record.
--- turned: a whole valid turn of the partner's, with its proposals. weAnswered: our FS line. brought: a transfer received whole. nothing: any
--- other unit.
+-- turned: a whole valid turn of the partner's, with its proposals. weAnswered: our FS line. brought: a transfer received whole, its bytes and the
+-- message it brings. nothing: any other unit.
 pub data Deed : Type 0 where
   answered : List ℕ → List Sign → Deed
   sent : ℕ → Deed
   turned : List Proposal → Deed
   weAnswered : List Sign → Deed
-  brought : Message → Deed
+  brought : Bytes → Message → Deed
   nothing : Deed
 
 -- "Turn, at its last CR"
@@ -46,10 +47,10 @@ abbrev pub ourAnswerDeed : Option (List Sign) → Deed
 ourAnswerDeed none = nothing
 ourAnswerDeed (some ss) = weAnswered ss
 
--- "Partner's owed transfer, at its last byte"
-abbrev pub transferDeed : Proposal → Option Content → Deed
-transferDeed p none = nothing
-transferDeed p (some c) = brought (messageOf p c)
+-- "Partner's owed transfer, at its last byte": w
+abbrev pub transferDeed : Proposal → Bytes → Option Content → Deed
+transferDeed p w none = nothing
+transferDeed p w (some c) = brought w (keptAs p c)
 
 -- d where u is neither a comment nor too long, else nothing
 abbrev pub ifLine : Bytes → Deed → Deed
@@ -59,7 +60,7 @@ ifLine u d = cond (leb (length u) lineLimit) (cond (isComment (trim u)) nothing 
 abbrev pub theirDeed : Theirs → Book → Bytes → Deed
 theirDeed theirText k u = nothing
 theirDeed (theirSid c) k u = nothing
-theirDeed (theirTurn ff ls) k u = turnDeed (said ff (ls ++ (readTurnLine (k .framed) (trim u) ∷ [])))
+theirDeed (theirTurn ff ls raw) k u = turnDeed (said ff (ls ++ (checked raw (readTurnLine (k .framed) (trim u)) ∷ [])))
 theirDeed (theirAnswer is) k u = answerDeed is (readFs (levelInForce k) (length is) (trim u))
 
 abbrev pub ourDeed : Ours → Bytes → Deed
@@ -73,7 +74,7 @@ ourDeed (ourAnswer ps) u = ourAnswerDeed (readFs level0 (length ps) u)
 abbrev pub deedOf : Next → Book → Bytes → ℕ → Deed
 deedOf (theySay n) k u b = ifLine u (theirDeed n k u)
 deedOf (weSay n) k u b = ourDeed n u
-deedOf (theirTransfer p ps) k u b = transferDeed p (readTransfer (p .form) (u ++ (b ∷ [])))
+deedOf (theirTransfer p ps) k u b = transferDeed p (u ++ (b ∷ [])) (readTransfer (p .form) (u ++ (b ∷ [])))
 deedOf (ourTransfer i is) k u b = sent i
 deedOf over k u b = nothing
 
@@ -120,7 +121,7 @@ wasDeclined i (sent j ∷ ds) = wasDeclined i ds
 wasDeclined i (turned ps ∷ ds) = wasDeclined i ds
 wasDeclined i (weAnswered ss ∷ ds) = wasDeclined i ds
 wasDeclined i (nothing ∷ ds) = wasDeclined i ds
-wasDeclined i (brought x ∷ ds) = wasDeclined i ds
+wasDeclined i (brought w x ∷ ds) = wasDeclined i ds
 
 -- "and a whole valid turn of the partner came after that"
 abbrev pub thenTurned : List Deed → Bool
@@ -130,7 +131,7 @@ thenTurned (weAnswered ss ∷ ds) = thenTurned ds
 thenTurned (answered is ss ∷ ds) = thenTurned ds
 thenTurned (sent j ∷ ds) = thenTurned ds
 thenTurned (nothing ∷ ds) = thenTurned ds
-thenTurned (brought x ∷ ds) = thenTurned ds
+thenTurned (brought w x ∷ ds) = thenTurned ds
 
 -- "the link had taken its whole transfer"
 abbrev pub sentThenTurned : ℕ → List Deed → Bool
@@ -140,7 +141,7 @@ sentThenTurned i (answered is ss ∷ ds) = sentThenTurned i ds
 sentThenTurned i (turned ps ∷ ds) = sentThenTurned i ds
 sentThenTurned i (weAnswered ss ∷ ds) = sentThenTurned i ds
 sentThenTurned i (nothing ∷ ds) = sentThenTurned i ds
-sentThenTurned i (brought x ∷ ds) = sentThenTurned i ds
+sentThenTurned i (brought w x ∷ ds) = sentThenTurned i ds
 
 -- "a valid FS line accepted it"
 abbrev pub wasForwarded : ℕ → List Deed → Bool
@@ -150,7 +151,7 @@ wasForwarded i (sent j ∷ ds) = wasForwarded i ds
 wasForwarded i (turned ps ∷ ds) = wasForwarded i ds
 wasForwarded i (weAnswered ss ∷ ds) = wasForwarded i ds
 wasForwarded i (nothing ∷ ds) = wasForwarded i ds
-wasForwarded i (brought x ∷ ds) = wasForwarded i ds
+wasForwarded i (brought w x ∷ ds) = wasForwarded i ds
 
 -- What becomes of record i by these deeds: its state before and after them.
 pub record Fate (i : ℕ) (ds : List Deed) (before after : ℕ) : Type 0 where
@@ -167,12 +168,22 @@ pub record Fate (i : ℕ) (ds : List Deed) (before after : ℕ) : Type 0 where
 -- "The inbox holds exactly the accepted messages received whole, in order"
 abbrev pub messagesBrought : List Deed → List Message
 messagesBrought [] = []
-messagesBrought (brought x ∷ ds) = x ∷ messagesBrought ds
+messagesBrought (brought w x ∷ ds) = x ∷ messagesBrought ds
 messagesBrought (answered is ss ∷ ds) = messagesBrought ds
 messagesBrought (sent j ∷ ds) = messagesBrought ds
 messagesBrought (turned ps ∷ ds) = messagesBrought ds
 messagesBrought (weAnswered ss ∷ ds) = messagesBrought ds
 messagesBrought (nothing ∷ ds) = messagesBrought ds
+
+-- and the bytes of each one's transfer
+abbrev pub transfersBrought : List Deed → List Bytes
+transfersBrought [] = []
+transfersBrought (brought w x ∷ ds) = w ∷ transfersBrought ds
+transfersBrought (answered is ss ∷ ds) = transfersBrought ds
+transfersBrought (sent j ∷ ds) = transfersBrought ds
+transfersBrought (turned ps ∷ ds) = transfersBrought ds
+transfersBrought (weAnswered ss ∷ ds) = transfersBrought ds
+transfersBrought (nothing ∷ ds) = transfersBrought ds
 
 -- ---------------------------------------------------------------- which messages they are
 
@@ -189,34 +200,37 @@ acceptedFrom last (turned ps ∷ ds) = acceptedFrom ps ds
 acceptedFrom last (weAnswered ss ∷ ds) = gotPlus ss last ++ acceptedFrom last ds
 acceptedFrom last (answered is ss ∷ ds) = acceptedFrom last ds
 acceptedFrom last (sent j ∷ ds) = acceptedFrom last ds
-acceptedFrom last (brought x ∷ ds) = acceptedFrom last ds
+acceptedFrom last (brought w x ∷ ds) = acceptedFrom last ds
 acceptedFrom last (nothing ∷ ds) = acceptedFrom last ds
 
 -- at first there are no proposals
 abbrev pub weAccepted : List Deed → List Proposal
 weAccepted ds = acceptedFrom [] ds
 
--- "kept, with its proposal's form and fields as read"
-pub record OfProposal (p : Proposal) (x : Message) : Type 0 where
+-- "kept, with its proposal's form and fields as read, and its own heading and body"; w: the bytes of its transfer
+pub record KeptFrom (p : Proposal) (w : Bytes) (x : Message) : Type 0 where
   pub form : x .form ≡ p .form
   pub type : x .type ≡ p .type
   pub from : x .from ≡ p .from
   pub at : x .at ≡ p .at
   pub to : x .to ≡ p .to
   pub bid : x .bid ≡ p .bid
+  pub content : readTransfer (p .form) w ≡ some (record { heading = x .heading; body = x .body })
 
--- The messages are of these proposals, one by one from the first; the proposals after them have no message yet.
-abbrev pub BroughtFor : List Message → List Proposal → Type 0
-BroughtFor [] ps = Unit {0}
-BroughtFor (x ∷ xs) [] = ⊥
-BroughtFor (x ∷ xs) (p ∷ ps) = OfProposal p x × BroughtFor xs ps
+-- The messages are of these transfers and proposals, one by one from the first; the proposals after them have no message yet.
+abbrev pub BroughtFor : List Bytes → List Message → List Proposal → Type 0
+BroughtFor [] [] ps = Unit {0}
+BroughtFor [] (x ∷ xs) ps = ⊥
+BroughtFor (w ∷ ws) [] ps = ⊥
+BroughtFor (w ∷ ws) (x ∷ xs) [] = ⊥
+BroughtFor (w ∷ ws) (x ∷ xs) (p ∷ ps) = KeptFrom p w x × BroughtFor ws xs ps
 
 -- "FS line, at its CR: the other side owes the accepted transfers in order.": while one is owed nothing comes but it, and none comes that is not
 -- owed. last: "last proposals"; owed: those that our FS line accepted and that have not come yet.
 abbrev pub AsAccepted : List Proposal → List Proposal → List Deed → Type 0
 AsAccepted last owed [] = Unit {0}
-AsAccepted last [] (brought x ∷ ds) = ⊥
-AsAccepted last (p ∷ owed) (brought x ∷ ds) = OfProposal p x × AsAccepted last owed ds
+AsAccepted last [] (brought w x ∷ ds) = ⊥
+AsAccepted last (p ∷ owed) (brought w x ∷ ds) = KeptFrom p w x × AsAccepted last owed ds
 AsAccepted last owed (turned ps ∷ ds) = (owed ≡ []) × AsAccepted ps [] ds
 AsAccepted last owed (weAnswered ss ∷ ds) = (owed ≡ []) × AsAccepted last (gotPlus ss last) ds
 AsAccepted last owed (answered is ss ∷ ds) = (owed ≡ []) × AsAccepted last [] ds

@@ -1,23 +1,30 @@
--- DEMAND 2 over lent memory. After an accepted open and every list of calls there is the session on lists that the same calls lead to; of every
--- session that open, receive and give lead to crates/demand2 says when each refusal comes, what each byte does, what we propose, answer and give.
--- What the next call on lent memory answers, consumes and gives is what that session does. The proof is proofs/Demand2.
+-- DEMAND 2 over lent memory. After an accepted open and every list of calls there is the session on lists that the same calls lead to. What holds of its
+-- next byte, when each refusal comes, what each other byte does, what we propose, answer and give, stands on one page (`next`: NextByte of crates/demand2).
+-- The whole reply of the next call on lent memory, and what it leaves, is what that session does. The proof is proofs/Demand2; what holds of a reply on
+-- whatever memory, whoever wrote it, stands in Replies.
 use mathlib.Core.Path.{_≡_}
-use mathlib.Core.List.{map}
+use mathlib.Core.Bool.{true}
+use mathlib.Core.List.{[], map}
 use Prim.Native.Nat.{ℕ, _-_, _<_}
 use lib.ListN.{length}
 use Rattle.grammar.specs.Bytes.{Bytes}
+use Rattle.grammar.specs.Refusals.{sessionEnded}
 use Rattle.mail.specs.Mail.{recordAt}
 use Rattle.session.specs.Choices.{Shelf}
 use Rattle.session.specs.Session.{Session, opened}
 use Rattle.session.specs.Calls.{receive, handedOut}
+use Rattle.demand2.specs.Refusals.{Over, Live}
+use Rattle.demand2.specs.Opening.{OpenExact}
 use Rattle.demand2.specs.Reached.{Reached}
 use Rattle.demand2.specs.ReadBack.{ReadsBack}
+use Rattle.demand2.specs.NextByte.{NextByte}
 use Rattle.demand3.specs.Demand as on-lists-run
 use Rattle.buffer.specs.Put.{wrote}
+use Rattle.give.specs.Giving.{reply}
 use Rattle.entries.specs.Decoded.{recordCount, recordsOf, knownBids, placeCount}
 use Rattle.marking.specs.States.{statesOf}
 use Rattle.represents.specs.Represents.{messagesOf}
-use Rattle.main_theorem.specs.Calls.{Buffer, Memory, fixedIn, messageCount, received, given, Call, receives, gives, receivesOther, givesOther, isCaller}
+use Rattle.main_theorem.specs.Calls.{Buffer, Memory, fixedIn, messageCount, passes, received, given, unchangedBy, Call, receives, gives, receivesOther, givesOther, isCaller}
 use Rattle.main_theorem.specs.Demand3.{openedBy, CallsOn, finally}
 use Rattle.session_memory.specs.declared.Sizes.{Sizes}
 
@@ -44,17 +51,30 @@ pub record Demand2 (role : ℕ) (M : Memory) (cs : CallsOn M) : Type 0 where
   pub transfer : Bytes
   pub same : session ≡ (on-lists-run.run (shelfIn M) (opened (isCaller role) (statesOf (M .table .bytes))) (map callOf cs)) .0
   pub reached : Reached (shelfIn M) session transfer
-  -- "What is read, answered": the number given back, and how many bytes are consumed
-  pub answers : (b : Buffer) → received (fixedIn M) (finally role M cs) (b .bytes) .reply .answer ≡ receive (shelfIn M) session (b .bytes) .answer
-  pub consumes : (b : Buffer) → received (fixedIn M) (finally role M cs) (b .bytes) .reply .count ≡ receive (shelfIn M) session (b .bytes) .count
+  -- how it began, and THE PAGE: its next byte, every portion, every give
+  pub began : OpenExact (isCaller role) (statesOf (M .table .bytes)) (opened (isCaller role) (statesOf (M .table .bytes)))
+  pub next : NextByte (shelfIn M) transfer session
+  -- "whatever an accepted open leaves passes it, and so does what a receive or give leaves": no call that is lent this memory answers 1 (Replies)
+  pub form : passes (fixedIn M) (finally role M cs) ≡ true
+  -- "What is read, answered": the whole reply of a receive, which is the number given back, "Place is 0 in every answer but 1.", and how many bytes are
+  -- consumed
+  pub receives : (b : Buffer)
+      → received (fixedIn M) (finally role M cs) (b .bytes) .reply ≡ reply (receive (shelfIn M) session (b .bytes) .answer) 0 (receive (shelfIn M) session (b .bytes) .count)
   -- "kept": the states and the messages are the session's
   pub states : statesOf (finally role M cs .table) ≡ session .memory .states
   pub keeps : messagesOf (finally role M cs .inbox) (finally role M cs .store) (messageCount (finally role M cs)) ≡ session .memory .inbox
-  -- "and sent": how many bytes are given, and which; "no other byte of the buffer changes"
+  -- "and sent": the whole reply of a give, answer 0, place 0 and how many bytes are given; which, and "no other byte of the buffer changes"
   pub gives : (b : Buffer) (place : ℕ)
-      → given (fixedIn M) (finally role M cs) (b .bytes) place .reply .count ≡ length (handedOut session (length (b .bytes) - place))
+      → given (fixedIn M) (finally role M cs) (b .bytes) place .reply ≡ reply 0 0 (length (handedOut session (length (b .bytes) - place)))
   pub writes : (b : Buffer) (place : ℕ)
       → given (fixedIn M) (finally role M cs) (b .bytes) place .buf ≡ wrote (b .bytes) place (handedOut session (length (b .bytes) - place))
+  -- after the end: "nothing consumed, nothing changed", and "Give on an ended session writes nothing and answers 0 with count 0."
+  pub endedReceive : Over session → (b : Buffer)
+      → received (fixedIn M) (finally role M cs) (b .bytes) ≡ unchangedBy (reply sessionEnded 0 0) (finally role M cs)
+  pub endedGive : Over session → (b : Buffer) (place : ℕ)
+      → given (fixedIn M) (finally role M cs) (b .bytes) place ≡ record { reply = reply 0 0 0; sm = finally role M cs .sm; buf = b .bytes }
+  -- "Receiving no bytes on a live session answers 0 and changes nothing."
+  pub noBytes : Live session → received (fixedIn M) (finally role M cs) [] ≡ unchangedBy (reply 0 0 0) (finally role M cs)
   -- "A proposal or transfer that we write reads back as the same fields and the same bytes."
   pub readsBack : (i : ℕ) → i < recordCount (M .table .bytes) → ReadsBack (recordAt (shelfIn M .table) i)
 

@@ -10,10 +10,9 @@ use Rattle.marking.specs.States.{statesOf}
 use Rattle.grammar.specs.Refusals.{badMemory, noPlace}
 use Rattle.give.specs.Giving.{reply}
 use Rattle.open.specs.Opening.{Opened}
-use Rattle.receive_defined.specs.Receiving.{unchanged}
 use Rattle.represents.specs.Laid.{entriesBytes, bodiesBytes}
 use Rattle.marking.specs.States.{withStates}
-use Rattle.main_theorem.specs.Calls.{Lent, Buffer, Memory, fixedIn, lentIn, Other, Call, openedOn, received, given, sizesOf, messageCount, storeReach, withSession, instead, run, isCaller}
+use Rattle.main_theorem.specs.Calls.{Lent, Buffer, Memory, fixedIn, lentIn, Other, Call, openedOn, received, given, sizesOf, lentSession, messageCount, storeReach, withSession, unchangedBy, instead, run, isCaller}
 
 -- "Take an accepted open"
 abbrev pub openedBy : ℕ → Memory → Opened
@@ -48,10 +47,10 @@ pub record Demand3 (role : ℕ) (M : Memory) (cs : CallsOn M) : Type 0 where
   pub rest : drop (storeReach (finally role M cs)) (finally role M cs .store) ≡ drop (storeReach (finally role M cs)) (M .store .bytes)
   -- and of the inbox, "so are inbox places past the count"
   pub places : drop (messageCount (finally role M cs) * entrySize) (finally role M cs .inbox) ≡ drop (messageCount (finally role M cs) * entrySize) (M .inbox .bytes)
-  -- and a call that is lent other buffers, whichever of them are other ones, answers 1 with place 255 and count 0 and changes none of them
+  -- and a call that is lent memory of another size, session memory or whichever buffer, answers 1 with place 255 and count 0 and changes none of it
   pub others : (o : Other (sizesOf (fixedIn M) (lentIn M))) (b : Buffer) (place : ℕ)
-      → (received (o .fixed) (instead o (finally role M cs .sm)) (b .bytes) ≡ unchanged (reply badMemory noPlace 0) (finally role M cs .sm) (o .table) (o .inbox) (o .store))
-      × (given (o .fixed) (instead o (finally role M cs .sm)) (b .bytes) place ≡ record { reply = reply badMemory noPlace 0; sm = finally role M cs .sm; buf = b .bytes })
+      → (received (o .fixed) (instead o (finally role M cs .sm)) (b .bytes) ≡ unchangedBy (reply badMemory noPlace 0) (instead o (finally role M cs .sm)))
+      × (given (o .fixed) (instead o (finally role M cs .sm)) (b .bytes) place ≡ record { reply = reply badMemory noPlace 0; sm = lentSession (o .session) (finally role M cs .sm); buf = b .bytes })
 
 -- THE CLAIM
 abbrev pub Claim : Type 0

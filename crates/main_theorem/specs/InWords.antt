@@ -9,7 +9,7 @@ use Rattle.represents.specs.Represents.{messagesOf}
 use Rattle.marking.specs.States.{StatesOnly}
 use Rattle.main_theorem.specs.Calls.{Memory, messageCount, isCaller}
 use Rattle.main_theorem.specs.Demand3.{openedBy, CallsOn, finally, traced}
-use Rattle.main_theorem.specs.Deeds.{Deed, deeds, Fate, messagesBrought, weAccepted, BroughtFor, AsAccepted}
+use Rattle.main_theorem.specs.Deeds.{Deed, deeds, Fate, messagesBrought, transfersBrought, weAccepted, BroughtFor, AsAccepted}
 
 -- What the bytes consumed and given did, unit by unit, as the log cuts them.
 abbrev pub done : ℕ → (M : Memory) → CallsOn M → List Deed
@@ -23,9 +23,9 @@ pub record InWords (role : ℕ) (M : Memory) (cs : CallsOn M) : Type 0 where
   pub others : StatesOnly (M .table .bytes) (finally role M cs .table)
   -- "The inbox holds exactly the accepted messages received whole, in order, byte for byte."
   pub inbox : messagesOf (finally role M cs .inbox) (finally role M cs .store) (messageCount (finally role M cs)) ≡ messagesBrought (done role M cs)
-  -- "exactly the accepted messages": from the first on they are of the proposals to which our FS lines gave `+`, form and fields alike, none passed
-  -- over; those of the last ones may not have been received whole
-  pub accepted : BroughtFor (messagesBrought (done role M cs)) (weAccepted (done role M cs))
+  -- "exactly the accepted messages": from the first on they are of the proposals to which our FS lines gave `+`, form and fields alike, each with the
+  -- heading and the body that the bytes of its transfer bring, none passed over; those of the last ones may not have been received whole
+  pub accepted : BroughtFor (transfersBrought (done role M cs)) (messagesBrought (done role M cs)) (weAccepted (done role M cs))
   -- and no unit of either side, but the transfers in order, comes between an FS line of ours and the last of those it accepted
   pub owed : AsAccepted [] [] (done role M cs)
 

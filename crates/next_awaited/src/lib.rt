@@ -19,6 +19,7 @@ pub fn to_turn(awaited: AwaitNumbers, ff: bool) -> AwaitNumbers
     t.phase = phase::TURN;
     t.ff = ff;
     t.proposals = 0;
+    t.sum = 0;
     t
 }
 

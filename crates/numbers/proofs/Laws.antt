@@ -12,7 +12,7 @@ use Rattle.buffer.specs.Put.{putBytes, Puts}
 use Rattle.places.specs.Places.{numbersStart, numbersEnd, numbersLen, arraysAt, freeLen, deferredLen, headingLen, lineLen, blockLen, deferredAt, headingAt, lineAt, blockAt, arraysLen, arraysEnd, sessionLen}
 use Rattle.layout.specs.Layout.{byteAt, le2, le4, le8}
 use Rattle.layout.proofs.Places.{put-fits}
-use Rattle.session_memory.specs.State.{at, flag, fiveOut, arrayAt, fiveAt, loadOf, loadAwait, loadSay, loadKeep, loadReading, loadLine, smallOut, numbersOut, arraysOut, numberPart, saveOf}
+use Rattle.session_memory.specs.State.{at, flag, fiveOut, arrayAt, fiveAt, loadOf, loadAwait, loadSay, loadKeep, loadReading, loadLine, smallOut, numbersOut, tailOut, arraysOut, numberPart, saveOf}
 use Rattle.session_memory.specs.declared.Five.{Five}
 use Rattle.session_memory.specs.declared.Say.{Say}
 use Rattle.transfer_step.specs.declared.Reader.{Reader}
@@ -22,7 +22,7 @@ use Rattle.numbers.specs.declared.AwaitNumbers.{AwaitNumbers}
 use Rattle.numbers.specs.declared.KeepNumbers.{KeepNumbers}
 use Rattle.numbers.specs.declared.LineNumbers.{LineNumbers}
 use Rattle.numbers.specs.declared.Numbers.{Numbers}
-use Rattle.numbers.specs.Whole.{deferredIn, headingIn, lineIn, blockIn, sessionOf, wholeOf, awaitNumbers, sayNumbers, keepNumbers, readerNumbers, lineNumbers, numbersAt, smallBytes, largeBytes, numberBytes}
+use Rattle.numbers.specs.Whole.{deferredIn, headingIn, lineIn, blockIn, sessionOf, wholeOf, awaitNumbers, sayNumbers, keepNumbers, readerNumbers, lineNumbers, numbersAt, smallBytes, largeBytes, tailBytes, numberBytes}
 use Rattle.buffer.specs.declared.Cursor.{Cursor}
 use Rattle.buffer.proofs.Laws.{puts-then}
 
@@ -52,9 +52,9 @@ five-read s i h f₀ f₁ f₂ f₃ f₄ f₅ =
     (f₄ ∙ k (i + 4) 3 (omega arith) (omega arith)) (f₅ ∙ k (i + 5) 4 (omega arith) (omega arith))
     ∙ five-items (take 5 (drop (i + 1) s)) (length-take-le 5 (drop (i + 1) s) (omega arith)) ∙ sym (array-in 5 s (i + 1) (omega arith)))
 
-pub same-numbers-await : {a b c d e f : ℕ} {x y : Bool} {g h : Five} → a ≡ b → x ≡ y → c ≡ d → e ≡ f → g ≡ h
-    → _≡_ {A = AwaitNumbers} (record { phase = a; ff = x; current = c; proposals = e; ours = g }) (record { phase = b; ff = y; current = d; proposals = f; ours = h })
-same-numbers-await e₁ e₂ e₃ e₄ e₅ = rw (e₁, e₂, e₃, e₄, e₅)
+pub same-numbers-await : {a b c d e f i j : ℕ} {x y : Bool} {g h : Five} → a ≡ b → x ≡ y → c ≡ d → e ≡ f → g ≡ h → i ≡ j
+    → _≡_ {A = AwaitNumbers} (record { phase = a; ff = x; current = c; proposals = e; ours = g; sum = i }) (record { phase = b; ff = y; current = d; proposals = f; ours = h; sum = j })
+same-numbers-await e₁ e₂ e₃ e₄ e₅ e₆ = rw (e₁, e₂, e₃, e₄, e₅, e₆)
 
 pub same-numbers-keep : {x y : Bool} {a b c d : ℕ} {g h : Five} → x ≡ y → a ≡ b → c ≡ d → g ≡ h
     → _≡_ {A = KeepNumbers} (record { framed = x; kept = a; used = c; sending = g }) (record { framed = y; kept = b; used = d; sending = h })
@@ -98,7 +98,7 @@ load-whole sm n =
 -- ---------------------------------------------------------------- written
 
 pub out-length : (h : Numbers) → length (numberBytes h) ≡ numbersLen
-unfolding numberBytes smallOut numbersOut
+unfolding numberBytes smallOut numbersOut tailOut
 out-length h = refl
 
 -- the arrays, one after the other, are the memory
@@ -113,7 +113,7 @@ arrays-are h m n =
     rw (e₄, e₃, e₂) (take-append-drop deferredLen m)
 
 numbers-same : (h : Numbers) (m : Bytes) → numberPart (wholeOf h m) ≡ numberBytes h
-unfolding numberBytes smallOut numbersOut wholeOf
+unfolding numberBytes smallOut numbersOut tailOut wholeOf
 numbers-same h m = refl
 
 -- SAVING THE NUMBERS, where w stands in the place of the arrays, SAVES THE WHOLE SESSION
@@ -169,10 +169,11 @@ large-are h {l} {f} {b} {p} {u} e₁ e₂ e₃ e₄ e₅ =
     ∙ ap (λ (i : Bytes). largeFrom (le2 (h .line .len)) (le2 (h .reader .left)) (le4 (h .reader .body)) i u) e₄
     ∙ ap (λ (i : Bytes). largeFrom (le2 (h .line .len)) (le2 (h .reader .left)) (le4 (h .reader .body)) (le8 (h .say .pos)) i) e₅
 
--- both parts, put one behind the other
-pub parts-saved : (sm : Bytes) (h : Numbers) {x y : Bytes} {r t : Cursor} {e f : Bytes} → x ≡ smallBytes h → y ≡ largeBytes h
-    → Puts sm (at numbersStart) x r e → Puts e r y t f → f ≡ putBytes sm (at numbersStart) (numberBytes h)
+-- the parts, put one behind the other
+pub parts-saved : (sm : Bytes) (h : Numbers) {x y z : Bytes} {r t u : Cursor} {e f g : Bytes} → x ≡ smallBytes h → y ≡ largeBytes h → z ≡ tailBytes h
+    → Puts sm (at numbersStart) x r e → Puts e r y t f → Puts f t z u g → g ≡ putBytes sm (at numbersStart) (numberBytes h)
 unfolding numberBytes
-parts-saved sm h {x} {y} e₁ e₂ a b =
-    puts-then sm (at numbersStart) x y a b .1
-    ∙ ap (λ (l : Bytes). putBytes sm (at numbersStart) (l ++ y)) e₁ ∙ ap (λ (l : Bytes). putBytes sm (at numbersStart) (smallBytes h ++ l)) e₂
+parts-saved sm h {x} {y} {z} e₁ e₂ e₃ a b c =
+    puts-then sm (at numbersStart) x (y ++ z) a (puts-then _ _ y z b c) .1
+    ∙ ap (λ (l : Bytes). putBytes sm (at numbersStart) (l ++ (y ++ z))) e₁ ∙ ap (λ (l : Bytes). putBytes sm (at numbersStart) (smallBytes h ++ (l ++ z))) e₂
+    ∙ ap (λ (l : Bytes). putBytes sm (at numbersStart) (smallBytes h ++ (largeBytes h ++ l))) e₃

@@ -3,10 +3,10 @@ use mathlib.Core.List.{[]}
 use Prim.Native.Nat.{ℕ}
 use lib.Dec.{eqb}
 use Rattle.grammar.specs.Bytes.{Bytes}
-use Rattle.places.specs.Places.{phaseAt, ffAt, framedAt, afterCrAt, firstAt, thenAt, keptAt, currentAt, proposalsAt, oursAt, sendingAt, signsAt, placeAt, lengthAt, headAt, offsetAt, sumAt, lineLengthAt, leftAt, bodyAt, posAt, usedAt, deferredAt, deferredLen, headingAt, headingLen, lineAt, lineLen, blockAt, blockLen}
+use Rattle.places.specs.Places.{phaseAt, ffAt, framedAt, afterCrAt, firstAt, thenAt, keptAt, currentAt, proposalsAt, oursAt, sendingAt, signsAt, placeAt, lengthAt, headAt, offsetAt, sumAt, lineLengthAt, leftAt, bodyAt, posAt, usedAt, blockSumAt, deferredAt, deferredLen, headingAt, headingLen, lineAt, lineLen, blockAt, blockLen}
 use Rattle.layout.specs.Layout.{byteAt, le2At, le4At, le8At}
 use Rattle.transfer_step.specs.declared.Reader.{Reader}
-use Rattle.session_memory.specs.State.{fiveAt, smallOut, numbersOut, numberPart}
+use Rattle.session_memory.specs.State.{fiveAt, smallOut, numbersOut, tailOut, numberPart}
 use Rattle.session_memory.specs.Session.{Await}
 use Rattle.session_memory.specs.declared.Say.{Say}
 use Rattle.session_memory.specs.Session.{Keep}
@@ -31,7 +31,7 @@ abbrev pub blockIn : Bytes → Bytes
 blockIn m = region blockAt blockLen m
 
 abbrev pub awaitOf : AwaitNumbers → Bytes → Await
-awaitOf w block = record { phase = w .phase; ff = w .ff; current = w .current; proposals = w .proposals; ours = w .ours; block = block }
+awaitOf w block = record { phase = w .phase; ff = w .ff; current = w .current; proposals = w .proposals; ours = w .ours; sum = w .sum; block = block }
 
 abbrev pub keepOf : KeepNumbers → Bytes → Keep
 keepOf k deferred = record { framed = k .framed; kept = k .kept; used = k .used; sending = k .sending; deferred = deferred }
@@ -54,7 +54,7 @@ wholeOf h m = sessionOf h (deferredIn m) (headingIn m) (lineIn m) (blockIn m)
 -- ---------------------------------------------------------------- read
 
 unfoldable pub awaitNumbers : Bytes → AwaitNumbers
-awaitNumbers sm = record { phase = byteAt sm phaseAt; ff = eqb (byteAt sm ffAt) 1; current = byteAt sm currentAt; proposals = byteAt sm proposalsAt; ours = fiveAt sm oursAt }
+awaitNumbers sm = record { phase = byteAt sm phaseAt; ff = eqb (byteAt sm ffAt) 1; current = byteAt sm currentAt; proposals = byteAt sm proposalsAt; ours = fiveAt sm oursAt; sum = byteAt sm blockSumAt }
 
 unfoldable pub sayNumbers : Bytes → Say
 sayNumbers sm = record { first = byteAt sm firstAt; then = byteAt sm thenAt; pos = le8At sm posAt; signs = fiveAt sm signsAt }
@@ -82,12 +82,15 @@ numbersAt sm = record { now = awaitNumbers sm; say = sayNumbers sm; keep = keepN
 
 -- ---------------------------------------------------------------- written
 
--- the numbers of one byte, and the longer ones after them; they don't look at the arrays
+-- the numbers of one byte, the longer ones after them, and the tail; they don't look at the arrays
 abbrev pub smallBytes : Numbers → Bytes
 smallBytes h = smallOut (sessionOf h [] [] [] [])
 
 abbrev pub largeBytes : Numbers → Bytes
 largeBytes h = numbersOut (sessionOf h [] [] [] [])
+
+abbrev pub tailBytes : Numbers → Bytes
+tailBytes h = tailOut (sessionOf h [] [] [] [])
 
 -- what a save writes for the numbers
 unfoldable pub numberBytes : Numbers → Bytes

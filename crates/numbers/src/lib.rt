@@ -13,7 +13,7 @@ ghost use Rattle.buffer.specs.Put.{putBytes};
 ghost use Rattle.places.specs.Places.{numbersStart, sessionLen};
 ghost use Rattle.layout.specs.Layout.{byteAt, le2At, le4At, le8At};
 ghost use Rattle.session_memory.specs.State.{at, flag, fiveAt};
-ghost use Rattle.numbers.specs.Whole.{awaitNumbers, sayNumbers, keepNumbers, readerNumbers, lineNumbers, numbersAt, smallBytes, largeBytes, numberBytes};
+ghost use Rattle.numbers.specs.Whole.{awaitNumbers, sayNumbers, keepNumbers, readerNumbers, lineNumbers, numbersAt, smallBytes, largeBytes, tailBytes, numberBytes};
 
 pub struct AwaitNumbers {
     pub phase: u8,
@@ -21,6 +21,7 @@ pub struct AwaitNumbers {
     pub current: u8,
     pub proposals: u8,
     pub ours: Five,
+    pub sum: u8,
 }
 
 pub struct KeepNumbers {
@@ -113,6 +114,7 @@ fn load_await(sm: &[u8]) -> AwaitNumbers
         current: byte(sm, places::CURRENT),
         proposals: byte(sm, places::PROPOSALS),
         ours: five(sm, places::OURS),
+        sum: byte(sm, places::BLOCK_SUM),
     }
 }
 
@@ -272,12 +274,20 @@ fn large_bytes(h: Numbers) -> [u8; 24]
     ]
 }
 
+// The tail, in the order of its places.
+fn tail_bytes(h: Numbers) -> [u8; 1]
+    ensures { λ r. ⌜ r ≡ tailBytes h ⌝ }
+{
+    [h.now.sum]
+}
+
 // The numbers into session memory.
 pub fn save(sm: &mut [u8], h: Numbers)
     ensures { λ _. ⌜ now (sm .exit) ≡ putBytes (now (sm .entry)) (at numbersStart) (numberBytes h) ⌝ }
 {
     let small = small_bytes(h);
     let large = large_bytes(h);
+    let tail = tail_bytes(h);
     let c = buffer::put(
         sm,
         Cursor {
@@ -286,5 +296,6 @@ pub fn save(sm: &mut [u8], h: Numbers)
         },
         &small,
     );
-    let _d = buffer::put(sm, c, &large);
+    let d = buffer::put(sm, c, &large);
+    let _e = buffer::put(sm, d, &tail);
 }

@@ -6,7 +6,7 @@ use native.Mathlib.Omega.{arith}
 use lib.Dec.{eqb}
 use lib.ListN.{length, set, take, drop, replicate, take-append-drop}
 use Rattle.grammar.specs.Bytes.{Bytes}
-use Rattle.places.specs.Places.{sessionLen, arraysAt, arraysLen, lineAt, headingAt, ffAt, framedAt, afterCrAt, firstAt, thenAt, keptAt, currentAt, proposalsAt, oursAt, sendingAt, signsAt, placeAt, lengthAt, headAt, offsetAt, sumAt, lineLengthAt, leftAt, bodyAt, posAt, usedAt}
+use Rattle.places.specs.Places.{sessionLen, arraysAt, arraysLen, lineAt, headingAt, ffAt, framedAt, afterCrAt, firstAt, thenAt, keptAt, currentAt, proposalsAt, oursAt, sendingAt, signsAt, placeAt, lengthAt, headAt, offsetAt, sumAt, lineLengthAt, leftAt, bodyAt, posAt, usedAt, blockSumAt}
 use Rattle.places.specs.Places as places
 use Rattle.layout.specs.Layout.{byteAt, le2At, le4At}
 use Rattle.layout.proofs.Places.{byte-kept, le8-kept, part-kept}
@@ -60,7 +60,7 @@ lent-same a n m = ap (λ (x : Bytes). take a m ++ x) (take-append-drop n (drop a
 pub numbers-lent : (sm w : Bytes) → length sm ≡ sessionLen → numbersAt (lent arraysAt arraysLen sm w) ≡ numbersAt sm
 unfolding lent numbersAt awaitNumbers sayNumbers keepNumbers readerNumbers lineNumbers
 numbers-lent sm w n =
-    same-numbers (same-numbers-await (byte places.phaseAt (omega arith)) (ap (λ (x : ℕ). eqb x 1) (byte ffAt (omega arith))) (byte currentAt (omega arith)) (byte proposalsAt (omega arith)) (five oursAt (omega arith)))
+    same-numbers (same-numbers-await (byte places.phaseAt (omega arith)) (ap (λ (x : ℕ). eqb x 1) (byte ffAt (omega arith))) (byte currentAt (omega arith)) (byte proposalsAt (omega arith)) (five oursAt (omega arith)) (byte blockSumAt (omega arith)))
     (same-say (byte firstAt (omega arith)) (byte thenAt (omega arith)) (le8-kept arraysAt sm r k posAt (omega arith)) (five signsAt (omega arith)))
     (same-numbers-keep (ap (λ (x : ℕ). eqb x 1) (byte framedAt (omega arith))) (byte keptAt (omega arith)) (le8-kept arraysAt sm r k usedAt (omega arith)) (five sendingAt (omega arith)))
     (same-reader (byte placeAt (omega arith)) (byte lengthAt (omega arith)) (byte headAt (omega arith)) (byte offsetAt (omega arith)) (two leftAt (omega arith)) (byte sumAt (omega arith)) (four bodyAt (omega arith)))

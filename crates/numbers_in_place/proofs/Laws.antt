@@ -1,5 +1,5 @@
 -- THE NUMBERS OF SESSION MEMORY WITH A FEW CHANGED: saved, they change the bytes of those few, and the flags, which are saved as 1 or 0.
-use Prim.Native.Nat.{ℕ, suc, _+_, _<_, _≤_}
+use Prim.Native.Nat.{ℕ, suc, _+_, _-_, _<_, _≤_}
 use mathlib.Core.Path.{_≡_, refl, sym, ap, _∙_}
 use mathlib.Core.List.{[], _∷_, _++_, append-nil}
 use native.Mathlib.Omega.{arith}
@@ -8,14 +8,14 @@ use lib.ListN.{length, getD, set, take, drop}
 use lib.Seq.{sets, length-sets, getD-take, getD-drop}
 use Rattle.grammar.specs.Bytes.{Bytes}
 use Rattle.buffer.specs.Put.{putBytes}
-use Rattle.places.specs.Places.{sessionLen, ffAt, framedAt, afterCrAt, firstAt, thenAt, keptAt, oursAt, sendingAt, signsAt, placeAt, lengthAt, headAt, offsetAt, sumAt, lineLengthAt, leftAt, bodyAt, posAt, usedAt}
+use Rattle.places.specs.Places.{sessionLen, ffAt, framedAt, afterCrAt, firstAt, thenAt, keptAt, oursAt, sendingAt, signsAt, placeAt, lengthAt, headAt, offsetAt, sumAt, lineLengthAt, leftAt, bodyAt, posAt, usedAt, tailAt, tailLen, numbersEnd}
 use Rattle.places.specs.Places as places
 use Rattle.layout.specs.Layout.{byteAt, le2At, le4At, le8At, le2, le4, le8}
-use Rattle.session_memory.specs.State.{at, flag, fiveAt, fiveOut, arrayAt, smallOut, numbersOut}
+use Rattle.session_memory.specs.State.{at, flag, fiveAt, fiveOut, arrayAt, smallOut, numbersOut, tailOut}
 use Rattle.session_memory.proofs.Laws.{array-in}
 use Rattle.transfer_step.specs.declared.Reader.{Reader}
 use Rattle.numbers.specs.declared.Numbers.{Numbers}
-use Rattle.numbers.specs.Whole.{awaitNumbers, sayNumbers, keepNumbers, readerNumbers, lineNumbers, numbersAt, numberBytes}
+use Rattle.numbers.specs.Whole.{awaitNumbers, sayNumbers, keepNumbers, readerNumbers, lineNumbers, numbersAt, tailBytes, numberBytes}
 use Rattle.numbers.proofs.Laws.{out-length}
 use Rattle.numbers_in_place.specs.Changed.{withLine, withReader, withSay}
 use Rattle.numbers_in_place.proofs.Written.{bytesFrom, Agrees, agrees-same, agrees-later, agrees-set, skipped, put-sets, le2-back, le4-back, le8-back}
@@ -32,8 +32,8 @@ five-back sm i h =
     list6 e₁ e₂ e₃ e₄ e₅ = rw (e₁, e₂, e₃, e₄, e₅)
 
 -- the numbers' bytes, piece by piece
-abbrev pieces : Bytes → Bytes → Bytes → Bytes → Bytes → Bytes → Bytes → Bytes → Bytes → Bytes → Bytes
-pieces a o d g r l f b p u = (a ++ (o ++ (d ++ (g ++ r)))) ++ (l ++ (f ++ (b ++ (p ++ u))))
+abbrev pieces : Bytes → Bytes → Bytes → Bytes → Bytes → Bytes → Bytes → Bytes → Bytes → Bytes → Bytes → Bytes
+pieces a o d g r l f b p u t = (a ++ (o ++ (d ++ (g ++ r)))) ++ ((l ++ (f ++ (b ++ (p ++ u)))) ++ t)
 
 module _ (sm : Bytes) (n : length sm ≡ sessionLen) (small : (i : ℕ) → byteAt sm i < 256) where
   abbrev ff : ℕ
@@ -45,12 +45,23 @@ module _ (sm : Bytes) (n : length sm ≡ sessionLen) (small : (i : ℕ) → byte
   abbrev phase : ℕ
   phase = byteAt sm places.phaseAt
 
-  fives : (a r l f b p u : Bytes) → pieces a (fiveOut (fiveAt sm oursAt)) (fiveOut (fiveAt sm sendingAt)) (fiveOut (fiveAt sm signsAt)) r l f b p u
-      ≡ pieces a (bytesFrom sm oursAt 6) (bytesFrom sm sendingAt 6) (bytesFrom sm signsAt 6) r l f b p u
-  fives a r l f b p u =
-      ap (λ (x : Bytes). pieces a x (fiveOut (fiveAt sm sendingAt)) (fiveOut (fiveAt sm signsAt)) r l f b p u) (five-back sm oursAt (omega arith))
-      ∙ ap (λ (x : Bytes). pieces a (bytesFrom sm oursAt 6) x (fiveOut (fiveAt sm signsAt)) r l f b p u) (five-back sm sendingAt (omega arith))
-      ∙ ap (λ (x : Bytes). pieces a (bytesFrom sm oursAt 6) (bytesFrom sm sendingAt 6) x r l f b p u) (five-back sm signsAt (omega arith))
+  -- THE TAIL as it was read is written as it stands; the only law here that a later number changes
+  tail-back : tailBytes (numbersAt sm) ≡ bytesFrom sm tailAt tailLen
+  unfolding tailOut numbersAt awaitNumbers
+  tail-back = refl
+
+  -- up to five numbers, and the tail
+  stay : (a r l f b p u : Bytes) → pieces a (fiveOut (fiveAt sm oursAt)) (fiveOut (fiveAt sm sendingAt)) (fiveOut (fiveAt sm signsAt)) r l f b p u (tailBytes (numbersAt sm))
+      ≡ pieces a (bytesFrom sm oursAt 6) (bytesFrom sm sendingAt 6) (bytesFrom sm signsAt 6) r l f b p u (bytesFrom sm tailAt tailLen)
+  stay a r l f b p u =
+      let t : Bytes = tailBytes (numbersAt sm) in
+      let o : Bytes = bytesFrom sm oursAt 6 in
+      let d : Bytes = bytesFrom sm sendingAt 6 in
+      let g : Bytes = bytesFrom sm signsAt 6 in
+      ap (λ (x : Bytes). pieces a x (fiveOut (fiveAt sm sendingAt)) (fiveOut (fiveAt sm signsAt)) r l f b p u t) (five-back sm oursAt (omega arith))
+      ∙ ap (λ (x : Bytes). pieces a o x (fiveOut (fiveAt sm signsAt)) r l f b p u t) (five-back sm sendingAt (omega arith))
+      ∙ ap (λ (x : Bytes). pieces a o d x r l f b p u t) (five-back sm signsAt (omega arith))
+      ∙ ap (λ (x : Bytes). pieces a o d g r l f b p u x) tail-back
 
   -- the phase is as it was
   phase-stays : (l : Bytes) → sets sm places.numbersStart (phase ∷ l) ≡ sets sm ffAt l
@@ -63,19 +74,20 @@ module _ (sm : Bytes) (n : length sm ≡ sessionLen) (small : (i : ℕ) → byte
 
   -- ---------------------------------------------------------------- the line
 
-  line-bytes : (k : ℕ) → numberBytes (withLine k (numbersAt sm)) ≡ phase ∷ ff ∷ framed ∷ 0 ∷ (bytesFrom sm firstAt 28 ++ (le2 k ++ (bytesFrom sm leftAt 22 ++ [])))
-  unfolding numberBytes smallOut numbersOut numbersAt awaitNumbers sayNumbers keepNumbers readerNumbers lineNumbers
+  line-bytes : (k : ℕ) → numberBytes (withLine k (numbersAt sm)) ≡ phase ∷ ff ∷ framed ∷ 0 ∷ (bytesFrom sm firstAt 28 ++ (le2 k ++ (bytesFrom sm leftAt (numbersEnd - leftAt) ++ [])))
+  unfolding numberBytes smallOut numbersOut tailOut numbersAt awaitNumbers sayNumbers keepNumbers readerNumbers lineNumbers
   line-bytes k =
       let a : Bytes = phase ∷ ff ∷ framed ∷ 0 ∷ bytesFrom sm firstAt 5 in
       let r : Bytes = bytesFrom sm placeAt 5 in
       let o : Bytes = bytesFrom sm oursAt 6 in
       let d : Bytes = bytesFrom sm sendingAt 6 in
       let g : Bytes = bytesFrom sm signsAt 6 in
-      fives a r (le2 k) (le2 (le2At sm leftAt)) (le4 (le4At sm bodyAt)) (le8 (le8At sm posAt)) (le8 (le8At sm usedAt))
-      ∙ ap (λ (x : Bytes). pieces a o d g r (le2 k) x (le4 (le4At sm bodyAt)) (le8 (le8At sm posAt)) (le8 (le8At sm usedAt))) (le2-back sm small leftAt)
-      ∙ ap (λ (x : Bytes). pieces a o d g r (le2 k) (bytesFrom sm leftAt 2) x (le8 (le8At sm posAt)) (le8 (le8At sm usedAt))) (le4-back sm small bodyAt)
-      ∙ ap (λ (x : Bytes). pieces a o d g r (le2 k) (bytesFrom sm leftAt 2) (bytesFrom sm bodyAt 4) x (le8 (le8At sm usedAt))) (le8-back sm small posAt)
-      ∙ ap (λ (x : Bytes). pieces a o d g r (le2 k) (bytesFrom sm leftAt 2) (bytesFrom sm bodyAt 4) (bytesFrom sm posAt 8) x) (le8-back sm small usedAt)
+      let t : Bytes = bytesFrom sm tailAt tailLen in
+      stay a r (le2 k) (le2 (le2At sm leftAt)) (le4 (le4At sm bodyAt)) (le8 (le8At sm posAt)) (le8 (le8At sm usedAt))
+      ∙ ap (λ (x : Bytes). pieces a o d g r (le2 k) x (le4 (le4At sm bodyAt)) (le8 (le8At sm posAt)) (le8 (le8At sm usedAt)) t) (le2-back sm small leftAt)
+      ∙ ap (λ (x : Bytes). pieces a o d g r (le2 k) (bytesFrom sm leftAt 2) x (le8 (le8At sm posAt)) (le8 (le8At sm usedAt)) t) (le4-back sm small bodyAt)
+      ∙ ap (λ (x : Bytes). pieces a o d g r (le2 k) (bytesFrom sm leftAt 2) (bytesFrom sm bodyAt 4) x (le8 (le8At sm usedAt)) t) (le8-back sm small posAt)
+      ∙ ap (λ (x : Bytes). pieces a o d g r (le2 k) (bytesFrom sm leftAt 2) (bytesFrom sm bodyAt 4) (bytesFrom sm posAt 8) x t) (le8-back sm small usedAt)
 
   -- session memory with the flags as a taken byte leaves them
   abbrev flagged : Bytes
@@ -94,9 +106,9 @@ module _ (sm : Bytes) (n : length sm ≡ sessionLen) (small : (i : ℕ) → byte
   pub line-saved : (k : ℕ) → sets flagged lineLengthAt (le2 k) ≡ putBytes sm (at places.numbersStart) (numberBytes (withLine k (numbersAt sm)))
   line-saved k =
       sym
-      (saved-as (withLine k (numbersAt sm)) (ff ∷ framed ∷ 0 ∷ (bytesFrom sm firstAt 28 ++ (le2 k ++ (bytesFrom sm leftAt 22 ++ [])))) (line-bytes k)
-      ∙ skipped 28 firstAt flagged sm (le2 k ++ (bytesFrom sm leftAt 22 ++ [])) flagged-after
-      ∙ skipped 22 leftAt (sets flagged lineLengthAt (le2 k)) sm []
+      (saved-as (withLine k (numbersAt sm)) (ff ∷ framed ∷ 0 ∷ (bytesFrom sm firstAt 28 ++ (le2 k ++ (bytesFrom sm leftAt (numbersEnd - leftAt) ++ [])))) (line-bytes k)
+      ∙ skipped 28 firstAt flagged sm (le2 k ++ (bytesFrom sm leftAt (numbersEnd - leftAt) ++ [])) flagged-after
+      ∙ skipped (numbersEnd - leftAt) leftAt (sets flagged lineLengthAt (le2 k)) sm []
       (written-after (le2 k) lineLengthAt leftAt flagged (omega arith) (agrees-later firstAt leftAt flagged sm (omega arith) flagged-after)))
 
   -- ---------------------------------------------------------------- the reader
@@ -108,29 +120,30 @@ module _ (sm : Bytes) (n : length sm ≡ sessionLen) (small : (i : ℕ) → byte
   sizes-out r = le2 (r .left) ++ le4 (r .body)
 
   reader-bytes : (r : Reader) → numberBytes (withReader r (numbersAt sm))
-      ≡ phase ∷ ff ∷ framed ∷ 0 ∷ (bytesFrom sm firstAt 23 ++ (small-out r ++ (bytesFrom sm lineLengthAt 2 ++ (sizes-out r ++ (bytesFrom sm posAt 16 ++ [])))))
-  unfolding numberBytes smallOut numbersOut numbersAt awaitNumbers sayNumbers keepNumbers readerNumbers lineNumbers
+      ≡ phase ∷ ff ∷ framed ∷ 0 ∷ (bytesFrom sm firstAt 23 ++ (small-out r ++ (bytesFrom sm lineLengthAt 2 ++ (sizes-out r ++ (bytesFrom sm posAt (numbersEnd - posAt) ++ [])))))
+  unfolding numberBytes smallOut numbersOut tailOut numbersAt awaitNumbers sayNumbers keepNumbers readerNumbers lineNumbers
   reader-bytes r =
       let a : Bytes = phase ∷ ff ∷ framed ∷ 0 ∷ bytesFrom sm firstAt 5 in
       let o : Bytes = bytesFrom sm oursAt 6 in
       let d : Bytes = bytesFrom sm sendingAt 6 in
       let g : Bytes = bytesFrom sm signsAt 6 in
-      fives a (small-out r) (le2 (le2At sm lineLengthAt)) (le2 (r .left)) (le4 (r .body)) (le8 (le8At sm posAt)) (le8 (le8At sm usedAt))
-      ∙ ap (λ (x : Bytes). pieces a o d g (small-out r) x (le2 (r .left)) (le4 (r .body)) (le8 (le8At sm posAt)) (le8 (le8At sm usedAt))) (le2-back sm small lineLengthAt)
-      ∙ ap (λ (x : Bytes). pieces a o d g (small-out r) (bytesFrom sm lineLengthAt 2) (le2 (r .left)) (le4 (r .body)) x (le8 (le8At sm usedAt))) (le8-back sm small posAt)
-      ∙ ap (λ (x : Bytes). pieces a o d g (small-out r) (bytesFrom sm lineLengthAt 2) (le2 (r .left)) (le4 (r .body)) (bytesFrom sm posAt 8) x) (le8-back sm small usedAt)
+      let t : Bytes = bytesFrom sm tailAt tailLen in
+      stay a (small-out r) (le2 (le2At sm lineLengthAt)) (le2 (r .left)) (le4 (r .body)) (le8 (le8At sm posAt)) (le8 (le8At sm usedAt))
+      ∙ ap (λ (x : Bytes). pieces a o d g (small-out r) x (le2 (r .left)) (le4 (r .body)) (le8 (le8At sm posAt)) (le8 (le8At sm usedAt)) t) (le2-back sm small lineLengthAt)
+      ∙ ap (λ (x : Bytes). pieces a o d g (small-out r) (bytesFrom sm lineLengthAt 2) (le2 (r .left)) (le4 (r .body)) x (le8 (le8At sm usedAt)) t) (le8-back sm small posAt)
+      ∙ ap (λ (x : Bytes). pieces a o d g (small-out r) (bytesFrom sm lineLengthAt 2) (le2 (r .left)) (le4 (r .body)) (bytesFrom sm posAt 8) x t) (le8-back sm small usedAt)
 
   pub reader-saved : (r : Reader) → sets (sets flagged placeAt (small-out r)) leftAt (sizes-out r)
       ≡ putBytes sm (at places.numbersStart) (numberBytes (withReader r (numbersAt sm)))
   reader-saved r =
       let m : Bytes = sets flagged placeAt (small-out r) in
-      let k : Bytes = bytesFrom sm posAt 16 ++ [] in
+      let k : Bytes = bytesFrom sm posAt (numbersEnd - posAt) ++ [] in
       let f : Agrees lineLengthAt m sm = written-after (small-out r) placeAt lineLengthAt flagged (omega arith) (agrees-later firstAt lineLengthAt flagged sm (omega arith) flagged-after) in
       sym
       (saved-as (withReader r (numbersAt sm)) (ff ∷ framed ∷ 0 ∷ (bytesFrom sm firstAt 23 ++ (small-out r ++ (bytesFrom sm lineLengthAt 2 ++ (sizes-out r ++ k))))) (reader-bytes r)
       ∙ skipped 23 firstAt flagged sm (small-out r ++ (bytesFrom sm lineLengthAt 2 ++ (sizes-out r ++ k))) flagged-after
       ∙ skipped 2 lineLengthAt m sm (sizes-out r ++ k) f
-      ∙ skipped 16 posAt (sets m leftAt (sizes-out r)) sm []
+      ∙ skipped (numbersEnd - posAt) posAt (sets m leftAt (sizes-out r)) sm []
       (written-after (sizes-out r) leftAt posAt m (omega arith) (agrees-later lineLengthAt posAt m sm (omega arith) f)))
 
   -- ---------------------------------------------------------------- what waits for give
@@ -139,19 +152,20 @@ module _ (sm : Bytes) (n : length sm ≡ sessionLen) (small : (i : ℕ) → byte
   after-cr = flag (eqb (byteAt sm afterCrAt) 1)
 
   say-bytes : (first then pos : ℕ) → numberBytes (withSay first then pos (numbersAt sm))
-      ≡ phase ∷ ff ∷ framed ∷ after-cr ∷ first ∷ then ∷ (bytesFrom sm keptAt 34 ++ (le8 pos ++ (bytesFrom sm usedAt 8 ++ [])))
-  unfolding numberBytes smallOut numbersOut numbersAt awaitNumbers sayNumbers keepNumbers readerNumbers lineNumbers
+      ≡ phase ∷ ff ∷ framed ∷ after-cr ∷ first ∷ then ∷ (bytesFrom sm keptAt 34 ++ (le8 pos ++ (bytesFrom sm usedAt (numbersEnd - usedAt) ++ [])))
+  unfolding numberBytes smallOut numbersOut tailOut numbersAt awaitNumbers sayNumbers keepNumbers readerNumbers lineNumbers
   say-bytes first then pos =
       let a : Bytes = phase ∷ ff ∷ framed ∷ after-cr ∷ first ∷ then ∷ bytesFrom sm keptAt 3 in
       let r : Bytes = bytesFrom sm placeAt 5 in
       let o : Bytes = bytesFrom sm oursAt 6 in
       let d : Bytes = bytesFrom sm sendingAt 6 in
       let g : Bytes = bytesFrom sm signsAt 6 in
-      fives a r (le2 (le2At sm lineLengthAt)) (le2 (le2At sm leftAt)) (le4 (le4At sm bodyAt)) (le8 pos) (le8 (le8At sm usedAt))
-      ∙ ap (λ (x : Bytes). pieces a o d g r x (le2 (le2At sm leftAt)) (le4 (le4At sm bodyAt)) (le8 pos) (le8 (le8At sm usedAt))) (le2-back sm small lineLengthAt)
-      ∙ ap (λ (x : Bytes). pieces a o d g r (bytesFrom sm lineLengthAt 2) x (le4 (le4At sm bodyAt)) (le8 pos) (le8 (le8At sm usedAt))) (le2-back sm small leftAt)
-      ∙ ap (λ (x : Bytes). pieces a o d g r (bytesFrom sm lineLengthAt 2) (bytesFrom sm leftAt 2) x (le8 pos) (le8 (le8At sm usedAt))) (le4-back sm small bodyAt)
-      ∙ ap (λ (x : Bytes). pieces a o d g r (bytesFrom sm lineLengthAt 2) (bytesFrom sm leftAt 2) (bytesFrom sm bodyAt 4) (le8 pos) x) (le8-back sm small usedAt)
+      let t : Bytes = bytesFrom sm tailAt tailLen in
+      stay a r (le2 (le2At sm lineLengthAt)) (le2 (le2At sm leftAt)) (le4 (le4At sm bodyAt)) (le8 pos) (le8 (le8At sm usedAt))
+      ∙ ap (λ (x : Bytes). pieces a o d g r x (le2 (le2At sm leftAt)) (le4 (le4At sm bodyAt)) (le8 pos) (le8 (le8At sm usedAt)) t) (le2-back sm small lineLengthAt)
+      ∙ ap (λ (x : Bytes). pieces a o d g r (bytesFrom sm lineLengthAt 2) x (le4 (le4At sm bodyAt)) (le8 pos) (le8 (le8At sm usedAt)) t) (le2-back sm small leftAt)
+      ∙ ap (λ (x : Bytes). pieces a o d g r (bytesFrom sm lineLengthAt 2) (bytesFrom sm leftAt 2) x (le8 pos) (le8 (le8At sm usedAt)) t) (le4-back sm small bodyAt)
+      ∙ ap (λ (x : Bytes). pieces a o d g r (bytesFrom sm lineLengthAt 2) (bytesFrom sm leftAt 2) (bytesFrom sm bodyAt 4) (le8 pos) x t) (le8-back sm small usedAt)
 
   -- the flags and the pieces from their place on, then how many bytes are given
   pub say-saved : (first then pos : ℕ) → sets (sets sm ffAt (ff ∷ framed ∷ after-cr ∷ first ∷ then ∷ [])) posAt (le8 pos)
@@ -159,12 +173,12 @@ module _ (sm : Bytes) (n : length sm ≡ sessionLen) (small : (i : ℕ) → byte
   say-saved first then pos =
       let w : Bytes = ff ∷ framed ∷ after-cr ∷ first ∷ then ∷ [] in
       let m : Bytes = sets sm ffAt w in
-      let k : Bytes = bytesFrom sm usedAt 8 ++ [] in
+      let k : Bytes = bytesFrom sm usedAt (numbersEnd - usedAt) ++ [] in
       let f : Agrees keptAt m sm = written-after w ffAt keptAt sm (omega arith) (agrees-same keptAt sm) in
       sym
       (saved-as (withSay first then pos (numbersAt sm)) (ff ∷ framed ∷ after-cr ∷ first ∷ then ∷ (bytesFrom sm keptAt 34 ++ (le8 pos ++ k))) (say-bytes first then pos)
       ∙ skipped 34 keptAt m sm (le8 pos ++ k) f
-      ∙ skipped 8 usedAt (sets m posAt (le8 pos)) sm [] (written-after (le8 pos) posAt usedAt m (omega arith) (agrees-later keptAt usedAt m sm (omega arith) f)))
+      ∙ skipped (numbersEnd - usedAt) usedAt (sets m posAt (le8 pos)) sm [] (written-after (le8 pos) posAt usedAt m (omega arith) (agrees-later keptAt usedAt m sm (omega arith) f)))
 
   -- the same by two writes
   pub say-put : (first then pos : ℕ) → putBytes (putBytes sm (at ffAt) (ff ∷ framed ∷ after-cr ∷ first ∷ then ∷ [])) (at posAt) (le8 pos)

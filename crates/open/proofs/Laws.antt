@@ -21,6 +21,7 @@ use Rattle.entries.specs.Decoded.{entries}
 use Rattle.form_test.specs.Form.{lentSizes}
 use Rattle.give.specs.Giving.{reply}
 use Rattle.give.specs.declared.Reply.{Reply}
+use Rattle.places.specs.Places.{bidMax, recordBid}
 use Rattle.open.specs.Opening.{lengthOk, within, recordOk, placeOk, faultFrom, tableFault, bidsOk, knownOk, sizesOk, Opened, opened, openOf}
 
 -- ---------------------------------------------------------------- the body
@@ -42,7 +43,7 @@ module _ (bodies : Bytes) (form : Form) (start len S L : ℕ) (a : start ≡ S) 
 
 module _ (table titles names bodies : Bytes) (i : ℕ) (c : Bytes) (e : c ≡ entryAt recordSize table i) {t : Bool} (f : t ≡ recordOk c titles names bodies) where
   abbrev others : Bool
-  others = not (among (fieldIn 12 56 (entryAt recordSize table i)) (entries (fieldIn 12 56) recordSize table i))
+  others = not (among (fieldIn bidMax recordBid (entryAt recordSize table i)) (entries (fieldIn bidMax recordBid) recordSize table i))
 
   there : t ≡ recordOk (entryAt recordSize table i) titles names bodies
   there = f ∙ ap (λ (x : Bytes). recordOk x titles names bodies) e
@@ -51,11 +52,11 @@ module _ (table titles names bodies : Bytes) (i : ℕ) (c : Bytes) (e : c ≡ en
   unfolding placeOk
   place-bad h = sym (ap (λ (x : Bool). x && others) (told-not there h))
 
-  pub place-new : not t ≡ false → (b : Bytes) → b ≡ fieldIn 12 56 c → {u : Bool} → u ≡ among b (entries (fieldIn 12 56) recordSize table i)
+  pub place-new : not t ≡ false → (b : Bytes) → b ≡ fieldIn bidMax recordBid c → {u : Bool} → u ≡ among b (entries (fieldIn bidMax recordBid) recordSize table i)
       → not u ≡ placeOk table titles names bodies i
   unfolding placeOk
   place-new h b g k =
-      ap not (k ∙ ap (λ (x : Bytes). among x (entries (fieldIn 12 56) recordSize table i)) (g ∙ ap (fieldIn 12 56) e))
+      ap not (k ∙ ap (λ (x : Bytes). among x (entries (fieldIn bidMax recordBid) recordSize table i)) (g ∙ ap (fieldIn bidMax recordBid) e))
       ∙ sym (ap (λ (x : Bool). x && others) (told there h))
 
 -- ---------------------------------------------------------------- the known BIDs from place i on

@@ -19,6 +19,8 @@ ghost use Rattle.layout.specs.Layout.{byteAt, le2At, le4At, fieldIn, recordSize
 ghost use Rattle.session_memory.specs.State.{sessionSize};
 ghost use Rattle.entries.specs.Decoded.{recordCount, knownCount};
 ghost use Rattle.give.specs.Giving.{reply};
+ghost use Rattle.places.specs.Places.{atMax, bidMax, recordForm, recordTitle, recordTitleLength, recordName, recordNameLength, recordBody, recordBodyLength};
+ghost use Rattle.record_text.specs.Texts.{fileForm};
 ghost use Rattle.open.specs.Opening.{lengthOk, numbersOk, fieldsOk, within, headingOk, textsOk, recordOk, placeOk, tableFault, knownOk, entriesOk, sizesOk, openOf, Opened};
 
 // Roles: called, caller.
@@ -105,7 +107,7 @@ fn call_ok(c: &[u8], at: u8) -> bool
 
 // The field at this place is an at field.
 fn at_ok(c: &[u8], at: u8) -> bool
-    ensures { λ r. ⌜ r ≡ lengthOk (now (c .entry)) at 38 && isAt (fieldIn 38 at (now (c .entry))) ⌝ }
+    ensures { λ r. ⌜ r ≡ lengthOk (now (c .entry)) at atMax && isAt (fieldIn atMax at (now (c .entry))) ⌝ }
 {
     if !length_ok(c, at, places::AT_MAX) {
         return false;
@@ -115,7 +117,7 @@ fn at_ok(c: &[u8], at: u8) -> bool
 
 // The field at this place is a BID.
 fn bid_ok(c: &[u8], at: u8) -> bool
-    ensures { λ r. ⌜ r ≡ lengthOk (now (c .entry)) at 12 && isBid (fieldIn 12 at (now (c .entry))) ⌝ }
+    ensures { λ r. ⌜ r ≡ lengthOk (now (c .entry)) at bidMax && isBid (fieldIn bidMax at (now (c .entry))) ⌝ }
 {
     if !length_ok(c, at, places::BID_MAX) {
         return false;
@@ -164,7 +166,7 @@ fn heading_ok(s: &[u8], start: usize, len: usize, needed: bool) -> bool
 
 // The title; forms 0 and 1 need one.
 fn title_ok(c: &[u8], titles: &[u8]) -> bool
-    ensures { λ r. ⌜ r ≡ headingOk (now (titles .entry)) (le4At (now (c .entry)) 73) (byteAt (now (c .entry)) 77) (not (eqb (byteAt (now (c .entry)) 1) 2)) ⌝ }
+    ensures { λ r. ⌜ r ≡ headingOk (now (titles .entry)) (le4At (now (c .entry)) recordTitle) (byteAt (now (c .entry)) recordTitleLength) (not (eqb (byteAt (now (c .entry)) recordForm) fileForm)) ⌝ }
 {
     heading_ok(
         titles,
@@ -176,7 +178,7 @@ fn title_ok(c: &[u8], titles: &[u8]) -> bool
 
 // The name; form 2 needs one.
 fn name_ok(c: &[u8], names: &[u8]) -> bool
-    ensures { λ r. ⌜ r ≡ headingOk (now (names .entry)) (le4At (now (c .entry)) 78) (byteAt (now (c .entry)) 82) (eqb (byteAt (now (c .entry)) 1) 2) ⌝ }
+    ensures { λ r. ⌜ r ≡ headingOk (now (names .entry)) (le4At (now (c .entry)) recordName) (byteAt (now (c .entry)) recordNameLength) (eqb (byteAt (now (c .entry)) recordForm) fileForm) ⌝ }
 {
     heading_ok(
         names,
@@ -188,7 +190,7 @@ fn name_ok(c: &[u8], names: &[u8]) -> bool
 
 // The body.
 fn body_ok(c: &[u8], bodies: &[u8]) -> bool
-    ensures { λ r. ⌜ r ≡ within (now (bodies .entry)) (le4At (now (c .entry)) 83) (le2At (now (c .entry)) 87) && isBody (formIs (byteAt (now (c .entry)) 1)) (partOf (now (bodies .entry)) (le4At (now (c .entry)) 83) (le2At (now (c .entry)) 87)) ⌝ }
+    ensures { λ r. ⌜ r ≡ within (now (bodies .entry)) (le4At (now (c .entry)) recordBody) (le2At (now (c .entry)) recordBodyLength) && isBody (formIs (byteAt (now (c .entry)) recordForm)) (partOf (now (bodies .entry)) (le4At (now (c .entry)) recordBody) (le2At (now (c .entry)) recordBodyLength)) ⌝ }
 {
     let form = byte_at(c, FORM);
     let start = number4(c, BODY);

@@ -13,7 +13,7 @@ use borrow.Author.Tests.{eqb-true, eqb-false, eq-eqb, ne-eqb, leb-true, leb-fals
 use Rattle.grammar.specs.Bytes.{Bytes}
 use Rattle.grammar.specs.Refusals.{badMemory, noPlace}
 use Rattle.places.specs.Places.{numbersStart, numbersEnd, freeLen, arraysLen, arraysEnd, sessionLen}
-use Rattle.session_memory.specs.State.{saveOf, saveSizes, sizesOut, freshOf, numberPart, smallOut, numbersOut, arraysOut}
+use Rattle.session_memory.specs.State.{saveOf, saveSizes, sizesOut, freshOf, numberPart, smallOut, numbersOut, tailOut, arraysOut}
 use Rattle.session_memory.specs.declared.Sizes.{Sizes}
 use Rattle.session_memory.proofs.Laws.{saved, sizes-saved, sizes-length}
 use Rattle.entries.specs.Decoded.{recordCount}
@@ -73,7 +73,7 @@ module _ (L : Lending) where
 -- ---------------------------------------------------------------- what an accepted open leaves
 
 numbers-are : (r : ℕ) → IsRole r → numberPart (freshOf (eqb r 1)) ≡ numbersAtFirst r
-unfolding freshOf smallOut numbersOut
+unfolding freshOf smallOut numbersOut tailOut
 numbers-are r (inl e) = subst (λ (x : ℕ). numberPart (freshOf (eqb x 1)) ≡ numbersAtFirst x) (sym e) refl
 numbers-are r (inr e) = subst (λ (x : ℕ). numberPart (freshOf (eqb x 1)) ≡ numbersAtFirst x) (sym e) refl
 

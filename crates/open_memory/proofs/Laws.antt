@@ -46,7 +46,7 @@ fresh-saved sm n h e f g =
 pub numbers-are : (awaited first : ℕ) {f : Five} {r : Reader} → f ≡ noFive → r ≡ startOf 0
     → _≡_ {A = Numbers}
     (record {
-      now = record { phase = awaited; ff = false; current = 0; proposals = 0; ours = f };
+      now = record { phase = awaited; ff = false; current = 0; proposals = 0; ours = f; sum = 0 };
       say = record { first = first; then = 0; pos = 0; signs = f };
       keep = record { framed = false; kept = 0; used = 0; sending = f };
       reader = r;

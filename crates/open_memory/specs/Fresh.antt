@@ -9,7 +9,7 @@ use Rattle.numbers.specs.declared.Numbers.{Numbers}
 abbrev pub freshNumbers : ℕ → ℕ → Numbers
 freshNumbers awaited first =
     record {
-      now = record { phase = awaited; ff = false; current = 0; proposals = 0; ours = noFive };
+      now = record { phase = awaited; ff = false; current = 0; proposals = 0; ours = noFive; sum = 0 };
       say = record { first = first; then = 0; pos = 0; signs = noFive };
       keep = record { framed = false; kept = 0; used = 0; sending = noFive };
       reader = startOf 0;

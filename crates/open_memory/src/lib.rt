@@ -76,6 +76,7 @@ fn numbers_of(awaited: u8, first: u8) -> Numbers
             current: 0,
             proposals: 0,
             ours: none,
+            sum: 0,
         },
         say: Say {
             first: first,

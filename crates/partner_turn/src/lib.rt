@@ -1,5 +1,6 @@
-// The lines of the partner's turn: proposals, F>, FF and FQ.
+// The lines of the partner's turn: proposals, F> with or without a checksum, FF and FQ.
 use buffer::Cursor;
+use byte::Hex;
 use line_effect::Verdict;
 use line_effect::marked;
 use line_effect::marks_of;
@@ -12,15 +13,18 @@ use numbers::Numbers;
 use proposal::Proposal;
 use proposal::TurnLine;
 use session_memory::Five;
+use std::num::wrapping_add_u8;
 ghost use mathlib.Core.Path.{_≡_};
+ghost use Prim.Native.Nat.{ℕ};
 ghost use Rattle.grammar.specs.Bytes.{Bytes};
 ghost use Rattle.buffer.specs.Put.{putBytes};
 ghost use Rattle.span.specs.Places.{part};
 ghost use Rattle.layout.specs.Layout.{proposalOut};
-ghost use Rattle.proposal.specs.Meaning.{ProposalLies, proposalIs};
+ghost use Rattle.proposal.specs.Meaning.{ProposalLies, proposalIs, endIs};
+ghost use Rattle.partner_turn.specs.Check.{rightBy};
 ghost use Rattle.session_memory.specs.State.{at};
 ghost use Rattle.numbers.specs.Whole.{awaitOf, keepOf};
-ghost use Rattle.line_effect.specs.Judge.{judged, turnMarks, settledKeep, nextAccepted, answered, endLine, proposalLine, ffLine, fqLine, turnLine};
+ghost use Rattle.line_effect.specs.Judge.{judged, turnMarks, settledKeep, nextAccepted, answered, proposalLine, ffLine, fqLine, turnRead, turnLine};
 ghost use Rattle.line_effect.specs.Verdict.{judgedOf};
 
 // The partner's turn is whole, so what we were sending is forwarded.
@@ -57,8 +61,19 @@ fn answered(signs: Five, s: Numbers, block: &[u8]) -> Verdict
     whole_turn(t, phase::NOT_OUR_TURN)
 }
 
-// F>: the block is whole.
+// The sum so far with the checksum is 0; F> without one is taken with no test.
+fn sum_right(sum: u8, check: Hex) -> bool
+    ensures { λ r. ⌜ r ≡ rightBy check sum ⌝ }
+{
+    match check {
+        Hex::Value(h) => wrapping_add_u8(sum, h) == 0,
+        Hex::Other => true,
+    }
+}
+
+// F>: the block is whole. 6 comes before 13, and 13 before any answer.
 fn end_line(
+    check: Hex,
     s: Numbers,
     block: &[u8],
     table: &[u8],
@@ -66,10 +81,13 @@ fn end_line(
     inbox: &[u8],
     store: usize,
 ) -> Verdict
-    ensures { λ r. ⌜ ((deferred : Bytes) → judgedOf r (now (block .entry)) deferred ≡ endLine (awaitOf (s .now) (now (block .entry))) (s .say) (keepOf (s .keep) deferred) (s .reader) (now (table .entry)) (now (known .entry)) (now (inbox .entry)) store) ⌝ }
+    ensures { λ r. ⌜ ((deferred : Bytes) (n : ℕ) → judgedOf r (now (block .entry)) deferred ≡ turnRead (endIs check) n (awaitOf (s .now) (now (block .entry))) (s .say) (keepOf (s .keep) deferred) (s .reader) (now (table .entry)) (now (known .entry)) (now (inbox .entry)) store) ⌝ }
 {
     if s.now.proposals == 0 {
         return refusal(refusal::PROPOSAL_COUNT, s);
+    }
+    if !sum_right(s.now.sum, check) {
+        return refusal(refusal::WRONG_BLOCK_SUM, s);
     }
     let signs = our_answer::answers(s, block, table, known, inbox, store);
     answered(signs, s, block)
@@ -102,10 +120,10 @@ fn with_proposal(line: &[u8], p: Proposal, block: &mut [u8], place: usize)
     );
 }
 
-// A proposal of the partner's.
-fn proposal_line(line: &[u8], p: Proposal, s: Numbers, block: &mut [u8]) -> Verdict
+// A proposal of the partner's; sum: that of its line.
+fn proposal_line(line: &[u8], sum: u8, p: Proposal, s: Numbers, block: &mut [u8]) -> Verdict
     requires { ⌜ ProposalLies (now line) p ⌝ }
-    ensures { λ r. ⌜ ((deferred : Bytes) → judgedOf r (now (block .exit)) deferred ≡ proposalLine (proposalIs (now (line .entry)) p) (awaitOf (s .now) (now (block .entry))) (s .say) (keepOf (s .keep) deferred) (s .reader)) ⌝ }
+    ensures { λ r. ⌜ ((deferred : Bytes) → judgedOf r (now (block .exit)) deferred ≡ proposalLine (proposalIs (now (line .entry)) p) sum (awaitOf (s .now) (now (block .entry))) (s .say) (keepOf (s .keep) deferred) (s .reader)) ⌝ }
 {
     if phase::BLOCK_LIMIT <= s.now.proposals {
         return refusal(refusal::PROPOSAL_COUNT, s);
@@ -114,6 +132,7 @@ fn proposal_line(line: &[u8], p: Proposal, s: Numbers, block: &mut [u8]) -> Verd
     with_proposal(line, p, block, n * (places::PROPOSAL as usize));
     let mut awaited = s.now;
     awaited.proposals = s.now.proposals + 1;
+    awaited.sum = wrapping_add_u8(s.now.sum, sum);
     let mut t = s;
     t.now = awaited;
     went(t)
@@ -147,9 +166,10 @@ fn fq_line(s: Numbers) -> Verdict
     went(over)
 }
 
-// A line of the partner's turn; block are its proposals so far.
+// A line of the partner's turn, and its sum as it was received; block are the proposals so far.
 pub fn turn_line(
     line: &[u8],
+    sum: u8,
     s: Numbers,
     block: &mut [u8],
     table: &[u8],
@@ -157,14 +177,14 @@ pub fn turn_line(
     inbox: &[u8],
     store: usize,
 ) -> Verdict
-    ensures { λ r. ⌜ ((deferred : Bytes) → judgedOf r (now (block .exit)) deferred ≡ turnLine (now (line .entry)) (awaitOf (s .now) (now (block .entry))) (s .say) (keepOf (s .keep) deferred) (s .reader) (now (table .entry)) (now (known .entry)) (now (inbox .entry)) store) ⌝ }
+    ensures { λ r. ⌜ ((deferred : Bytes) → judgedOf r (now (block .exit)) deferred ≡ turnLine (now (line .entry)) sum (awaitOf (s .now) (now (block .entry))) (s .say) (keepOf (s .keep) deferred) (s .reader) (now (table .entry)) (now (known .entry)) (now (inbox .entry)) store) ⌝ }
 {
     let r = proposal::read_turn_line(line, s.keep.framed);
     match r {
         TurnLine::FF => ff_line(s),
         TurnLine::FQ => fq_line(s),
-        TurnLine::End => end_line(s, block, table, known, inbox, store),
+        TurnLine::End(check) => end_line(check, s, block, table, known, inbox, store),
         TurnLine::NotAllowed => refusal(refusal::LINE_NOT_ALLOWED, s),
-        TurnLine::Proposed(p) => proposal_line(line, p, s, block),
+        TurnLine::Proposed(p) => proposal_line(line, sum, p, s, block),
     }
 }

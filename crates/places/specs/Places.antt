@@ -209,8 +209,18 @@ posAt = 100
 abbrev pub usedAt : ℕ
 usedAt = 108
 
+-- the tail of the numbers: a number that comes later takes the next bytes here, and none of those before it moves
+abbrev pub tailAt : ℕ
+tailAt = 116
+
+abbrev pub blockSumAt : ℕ
+blockSumAt = tailAt
+
 abbrev pub numbersEnd : ℕ
-numbersEnd = 116
+numbersEnd = blockSumAt + 1
+
+abbrev pub tailLen : ℕ
+tailLen = numbersEnd - tailAt
 
 abbrev pub numbersLen : ℕ
 numbersLen = numbersEnd - numbersStart

@@ -136,7 +136,12 @@ pub const POS: usize = 100;
 
 pub const USED: usize = 108;
 
-pub const NUMBERS_END: usize = 116;
+// The tail of the numbers: a number that comes later takes the next bytes here, and none of those before it moves.
+pub const TAIL: usize = 116;
+
+pub const BLOCK_SUM: usize = TAIL;
+
+pub const NUMBERS_END: usize = BLOCK_SUM + 1;
 
 pub const NUMBERS_LENGTH: usize = NUMBERS_END - NUMBERS;
 

@@ -1,4 +1,4 @@
--- Words of a turn's line: compared in either case, counted to seven, and read as a proposal.
+-- Words of a turn's line: compared in either case, counted to seven, and read as a proposal; F> with a checksum.
 use mathlib.Core.Path.{_≡_, refl, sym, ap, _∙_, subst}
 use mathlib.Core.Bool.{Bool, true, false, cond, not, _&&_}
 use mathlib.Core.Option.{Option, none, some}
@@ -11,8 +11,11 @@ use lib.ListN.{length, getD, set, take, drop, length-set, length-append, length-
 use lib.Seq.{drop-cons, take-all, take-suc-set, length-take-le}
 use borrow.Author.Tests.{eq-eqb, ne-eqb, lt-ltb, le-ltb, not-true, not-false}
 use Rattle.grammar.specs.Bytes.{Bytes, SP}
-use Rattle.grammar.specs.Fields.{formIs, upper, words, starts, isCall, isAt, isBid, isSize, readFrom, readSize}
+use Rattle.grammar.specs.Fields.{formIs, upper, words, starts, isCall, isAt, isBid, isSize, readFrom, readSize, hexDigit, hexPair, twoHex}
+use Rattle.grammar.specs.Ascii.{text}
 use Rattle.grammar.specs.Turns as turns
+use Rattle.byte.specs.declared.Hex.{Hex}
+use Rattle.byte.specs.Hex.{hexIs}
 use Rattle.span.specs.declared.Span.{Span}
 use Rattle.size.specs.declared.Size.{Size}
 use Rattle.span.specs.Places.{part, wordsBy}
@@ -205,6 +208,65 @@ module _ (framed : Bool) (l : Bytes) (h : 1 ≤ length l) where
 
     pub line-lies : (w : Seven) → s ≡ Split.Words w → SevenLie l w
     line-lies w e = (subst (SplitIs l) e f) .1
+
+-- ---------------------------------------------------------------- F> with a checksum
+
+-- the first three bytes, and then the digits
+summed-by : (a b c : ℕ) (r : Bytes) → turns.readSummedEnd (a ∷ b ∷ c ∷ r) ≡ cond (isWord (text "F> ") (a ∷ b ∷ c ∷ [])) (twoHex r) none
+unfolding turns.readSummedEnd
+summed-by a b c r = go (eqb (upper a) 70) (eqb (upper b) 62) (eqb (upper c) 32)
+  where
+    go : (p q s : Bool) → turns.twoHexRead (cond p (cond q (cond s (some r) none) none) none) ≡ cond (p && (q && (s && true))) (twoHex r) none
+    go true true true = refl
+    go true true false = refl
+    go true false s = refl
+    go false q s = refl
+
+no-digits : {A : Type 0} (b : Bool) → _≡_ {A = Option A} (cond b none none) none
+no-digits true = refl
+no-digits false = refl
+
+pub summed-length : (l : Bytes) → (length l ≡ 5 → ⊥) → none ≡ turns.readSummedEnd l
+unfolding turns.readSummedEnd twoHex
+summed-length [] n = refl
+summed-length (a ∷ []) n = go (eqb (upper a) 70)
+  where
+    go : (p : Bool) → none ≡ turns.twoHexRead (cond p none none)
+    go true = refl
+    go false = refl
+summed-length (a ∷ b ∷ []) n = go (eqb (upper a) 70) (eqb (upper b) 62)
+  where
+    go : (p q : Bool) → none ≡ turns.twoHexRead (cond p (cond q none none) none)
+    go true true = refl
+    go true false = refl
+    go false q = refl
+summed-length (a ∷ b ∷ c ∷ []) n = sym (summed-by a b c [] ∙ no-digits (isWord (text "F> ") (a ∷ b ∷ c ∷ [])))
+summed-length (a ∷ b ∷ c ∷ d ∷ []) n = sym (summed-by a b c (d ∷ []) ∙ no-digits (isWord (text "F> ") (a ∷ b ∷ c ∷ [])))
+summed-length (a ∷ b ∷ c ∷ d ∷ e ∷ []) n = absurd (n refl)
+summed-length (a ∷ b ∷ c ∷ d ∷ e ∷ f ∷ r) n = sym (summed-by a b c (d ∷ e ∷ f ∷ r) ∙ no-digits (isWord (text "F> ") (a ∷ b ∷ c ∷ [])))
+
+-- w: whether the line begins with F> and a space
+summed-here : (l : Bytes) → length l ≡ 5 → (w : Bool) → w ≡ isWord (text "F> ") (take 3 l)
+    → cond w (hexPair (hexDigit (getD l 3 0)) (hexDigit (getD l 4 0))) none ≡ turns.readSummedEnd l
+unfolding twoHex
+summed-here [] n w e = let z : ⊥ = omega arith in absurd z
+summed-here (a ∷ []) n w e = let z : ⊥ = omega arith in absurd z
+summed-here (a ∷ b ∷ []) n w e = let z : ⊥ = omega arith in absurd z
+summed-here (a ∷ b ∷ c ∷ []) n w e = let z : ⊥ = omega arith in absurd z
+summed-here (a ∷ b ∷ c ∷ d ∷ []) n w e = let z : ⊥ = omega arith in absurd z
+summed-here (a ∷ b ∷ c ∷ d ∷ f ∷ []) n w e = ap (λ (x : Bool). cond x (hexPair (hexDigit d) (hexDigit f)) none) e ∙ sym (summed-by a b c (d ∷ f ∷ []))
+summed-here (a ∷ b ∷ c ∷ d ∷ f ∷ g ∷ r) n w e = let z : ⊥ = omega arith in absurd z
+
+module _ (l : Bytes) (n : length l ≡ 5) (w : Bool) (e : w ≡ isWord (text "F> ") (take 3 l)) where
+  pub summed-none : w ≡ false → none ≡ turns.readSummedEnd l
+  summed-none f = ap (λ (x : Bool). cond x (hexPair (hexDigit (getD l 3 0)) (hexDigit (getD l 4 0))) none) (sym f) ∙ summed-here l n w e
+
+  pub summed-pair : w ≡ true → hexPair (hexDigit (getD l 3 0)) (hexDigit (getD l 4 0)) ≡ turns.readSummedEnd l
+  summed-pair f = ap (λ (x : Bool). cond x (hexPair (hexDigit (getD l 3 0)) (hexDigit (getD l 4 0))) none) (sym f) ∙ summed-here l n w e
+
+-- what the end is, where its case is known
+pub summed-as : (l : Bytes) (h x : Hex) → hexIs h ≡ turns.readSummedEnd l → h ≡ x → turns.readSummedEnd l ≡ hexIs x
+summed-as l h x e f = sym e ∙ ap hexIs f
 
 -- ---------------------------------------------------------------- for callers
 

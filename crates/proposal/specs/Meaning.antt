@@ -9,6 +9,7 @@ use lib.ListN.{length}
 use Rattle.grammar.specs.Bytes.{Bytes, same}
 use Rattle.grammar.specs.Fields.{Form, formIs, upper, words, isCall, isAt, isBid}
 use Rattle.grammar.specs.Turns as turns
+use Rattle.byte.specs.declared.Hex.{Hex}
 use Rattle.span.specs.declared.Span.{Span}
 use Rattle.span.specs.Places.{part}
 use Rattle.proposal.specs.declared.Proposal.{Proposal}
@@ -23,11 +24,16 @@ abbrev pub proposalIs : Bytes → Proposal → turns.Proposal
 proposalIs l p =
     record { form = formIs (p .form); type = p .kind; from = part l (p .from); at = part l (p .at); to = part l (p .to); bid = part l (p .bid); size = p .size }
 
+-- F> with a checksum, or with none.
+abbrev pub endIs : Hex → turns.TurnLine
+endIs (Hex.Value h) = turns.endsSummed h
+endIs Hex.Other = turns.endsBlock
+
 -- What each answer says in the words of the grammar, whose `turnLineNumber` gives 01's number.
 abbrev pub turnLineIs : Bytes → TurnLine → turns.TurnLine
 turnLineIs l TurnLine.FF = turns.saysFF
 turnLineIs l TurnLine.FQ = turns.saysFQ
-turnLineIs l TurnLine.End = turns.endsBlock
+turnLineIs l (TurnLine.End check) = endIs check
 turnLineIs l TurnLine.NotAllowed = turns.notAllowed
 turnLineIs l (TurnLine.Proposed p) = turns.proposes (proposalIs l p)
 
@@ -47,7 +53,7 @@ pub record ProposalLies (l : Bytes) (p : Proposal) : Type 0 where
 abbrev pub LiesIn : Bytes → TurnLine → Type 0
 LiesIn l TurnLine.FF = Unit {0}
 LiesIn l TurnLine.FQ = Unit {0}
-LiesIn l TurnLine.End = Unit {0}
+LiesIn l (TurnLine.End check) = Unit {0}
 LiesIn l TurnLine.NotAllowed = Unit {0}
 LiesIn l (TurnLine.Proposed p) = ProposalLies l p
 

@@ -1,4 +1,6 @@
-// The lines of a turn: FF, FQ, F> and proposals, whose fields are shown where they lie in the line.
+// The lines of a turn: FF, FQ, F> with or without a checksum, and proposals, whose fields are shown where they lie in the line.
+use byte::Hex;
+use byte::hex_pair;
 use byte::upper_of;
 use field::is_at;
 use field::is_bid;
@@ -11,7 +13,8 @@ ghost use mathlib.Core.Path.{_≡_};
 ghost use mathlib.Core.List.{map};
 ghost use Prim.Native.Nat.{_≤_};
 ghost use Rattle.grammar.specs.Fields.{upper};
-ghost use Rattle.grammar.specs.Turns.{formOf, typeOf, orNotAllowed, readProposal, readTurnLine};
+ghost use Rattle.grammar.specs.Turns.{formOf, typeOf, orNotAllowed, readProposal, readSummedEnd, readTurnLine};
+ghost use Rattle.byte.specs.Hex.{hexIs};
 ghost use Rattle.proposal.specs.Meaning.{isWord, turnLineIs, LiesIn, formBy, typeBy, SplitIs, SevenLie, fieldsHold, sevenBy};
 
 // A proposal as read: its form by 01's number, its type as the capital P or B, and its fields where they lie in the line.
@@ -25,11 +28,11 @@ pub struct Proposal {
     pub size: u32,
 }
 
-// What a line says in a turn; End is F>.
+// What a line says in a turn; End is F> with the block's checksum, or with none.
 pub enum TurnLine {
     FF,
     FQ,
-    End,
+    End(Hex),
     NotAllowed,
     Proposed(Proposal),
 }
@@ -55,6 +58,9 @@ enum Split {
 const NO_FORM: u8 = 3;
 
 const NO_TYPE: u8 = 0;
+
+// The length of F> with a checksum.
+const SUMMED_END: usize = 5;
 
 // The bytes are the word, in either case; the word is given in capitals.
 fn is_word(s: &[u8], word: &[u8]) -> bool
@@ -226,6 +232,19 @@ fn read_proposal(line: &[u8], framed: bool) -> TurnLine
     judged(line, framed, w)
 }
 
+// "F> HH": one space, two digits and nothing more; the number that these stand for.
+fn summed_end(line: &[u8]) -> Hex
+    ensures { λ r. ⌜ hexIs r ≡ readSummedEnd (now (line .entry)) ⌝ }
+{
+    if line.len() != SUMMED_END {
+        return Hex::Other;
+    }
+    if !is_word(&line[..3], b"F> ") {
+        return Hex::Other;
+    }
+    hex_pair(line[3], line[4])
+}
+
 // What a line, its spaces at the end removed, says in a turn; a proposal's fields lie in the line.
 pub fn read_turn_line(line: &[u8], framed: bool) -> TurnLine
     ensures { λ r. ⌜ (turnLineIs (now (line .entry)) r ≡ readTurnLine framed (now (line .entry))) × LiesIn (now (line .entry)) r ⌝ }
@@ -237,7 +256,11 @@ pub fn read_turn_line(line: &[u8], framed: bool) -> TurnLine
         return TurnLine::FQ;
     }
     if is_word(line, b"F>") {
-        return TurnLine::End;
+        return TurnLine::End(Hex::Other);
     }
-    read_proposal(line, framed)
+    let end = summed_end(line);
+    let Hex::Value(sum) = end else {
+        return read_proposal(line, framed);
+    };
+    TurnLine::End(Hex::Value(sum))
 }

@@ -20,7 +20,7 @@ use Rattle.numbers.specs.declared.Numbers.{Numbers}
 use Rattle.numbers.specs.Whole.{awaitOf, keepOf, deferredIn, headingIn, lineIn, blockIn, wholeOf}
 use Rattle.line_effect.specs.declared.Verdict.{Verdict}
 use Rattle.line_effect.specs.Judged.{Judged}
-use Rattle.line_effect.specs.Judge.{judgeOf}
+use Rattle.line_effect.specs.Judge.{lineSum, judgeOf}
 use Rattle.line_effect.specs.Verdict.{judgedIn, betweenIn, Judges}
 use Rattle.line_effect.proofs.Kept.{Kept, judge-kept}
 use Rattle.receive_defined.specs.Receiving.{settled, refusedOf, spokenOf, settleOf, lineMoved}
@@ -56,14 +56,14 @@ settle-frame s m e j afterCr table a b c = go (eqb (j .answer) 0) refl
 
 -- m: the arrays before the line's end, e: after the line was judged
 pub ends-in : (s : Numbers) (m e : Bytes) → length m ≡ arraysLen → length e ≡ arraysLen → (v : Verdict) (table known inbox : Bytes) (store : ℕ)
-    → Judges s m v e (λ w y k r. judgeOf (trim (take (s .line .len) (lineIn m))) w y k r table known inbox store)
+    → Judges s m v e (λ w y k r. judgeOf (trim (take (s .line .len) (lineIn m))) (lineSum (take (s .line .len) (lineIn m))) w y k r table known inbox store)
     → (a : ℕ) (u : Session) (tb : Bytes) → settled a u tb ≡ settleOf (wholeOf s e) (judgedIn v e) true table
     → settled a u tb ≡ lineMoved ends (wholeOf s m) CR table known inbox store
 unfolding wholeOf
 ends-in s m e n k v table known inbox store h a u tb f =
     let w : Await = awaitOf (s .now) (blockIn m) in
     let p : Keep = keepOf (s .keep) (deferredIn m) in
-    let q : Kept w p (judgedIn v e) = subst (Kept w p) (sym (h .0)) (judge-kept w (s .say) p (s .reader) table known inbox store (trim (take (s .line .len) (lineIn m)))) in
+    let q : Kept w p (judgedIn v e) = subst (Kept w p) (sym (h .0)) (judge-kept w (s .say) p (s .reader) (lineSum (take (s .line .len) (lineIn m))) table known inbox store (trim (take (s .line .len) (lineIn m)))) in
     f
     ∙ settle-frame s m e (judgedIn v e) true table (heading-in e ∙ ap (take 80) (h .1) ∙ sym (heading-in m)) (line-in e k ∙ ap (drop 80) (h .1) ∙ sym (line-in m n))
     (λ z. (ap (λ (x : Await). x .block) (q .same z .0), ap (λ (x : Keep). x .deferred) (q .same z .1)))

@@ -7,6 +7,7 @@ use Prim.Native.Nat.{ℕ, _≤_}
 use lib.Dec.{eqb}
 use lib.ListN.{length, take, drop}
 use Rattle.grammar.specs.Bytes.{Bytes, LF}
+use Rattle.phase.specs.Phase.{phaseTransfer}
 use Rattle.transfer_read.specs.Feed as transfer
 use Rattle.transfer_read.specs.Feed.{roomOf, feedOf}
 use Rattle.pending.specs.Pending.{waits}
@@ -34,7 +35,7 @@ transferPortionOf c bs = counted (fed c bs .fed .count) (transferLeft c (fed c b
 
 -- The byte is a transfer's.
 abbrev pub ofTransfer : Cs → ℕ → Bool
-ofTransfer c b = not (c .session .line .«after_cr» && eqb b LF) && (not (waits (c .session .say)) && eqb (c .session .now .phase) 5)
+ofTransfer c b = not (c .session .line .«after_cr» && eqb b LF) && (not (waits (c .session .say)) && eqb (c .session .now .phase) phaseTransfer)
 
 unfoldable pub portionOf : Bytes → Cs → Bytes → Run
 portionOf known c [] = run 0 0 c
@@ -44,4 +45,4 @@ portionOf known c (b ∷ bs) = cond (ofTransfer c b) (transferPortionOf c (b ∷
 pub record Roomy (c : Cs) : Type 0 where
   pub kept : c .session .keep .kept ≤ 64
   pub used : c .session .keep .used ≤ length (c .store)
-  pub body : c .session .now .phase ≡ 5 → c .session .reading .reader .body ≤ roomLeft c
+  pub body : c .session .now .phase ≡ phaseTransfer → c .session .reading .reader .body ≤ roomLeft c

@@ -6,15 +6,16 @@ use Prim.Native.Nat.{ℕ, suc, _+_, _*_}
 use lib.Dec.{eqb}
 use lib.ListN.{length, set, take, drop}
 use Rattle.grammar.specs.Bytes.{Bytes, LF}
-use Rattle.grammar.specs.Refusals.{badMemory, lineTooLong, badTransfer, badChecksum, storeFull, bytesWait, sessionEnded}
-use Rattle.grammar.specs.Lines.{LineByte, dropped, ends, grows, overruns, lineByte, trim}
+use Rattle.grammar.specs.Refusals.{badMemory, bytesWait, sessionEnded}
+use Rattle.grammar.specs.Lines.{LineByte, dropped, ends, grows, overruns, lineByte, lineByteNumber, trim}
 use Rattle.buffer.specs.Put.{putBytes}
 use Rattle.layout.specs.Layout.{byteAt, entryAt, entrySize, proposalSize, entryOut}
+use Rattle.phase.specs.Phase.{phaseTransfer, phaseOver, pieceNone, notOurTurn, ourTurn, ourTurnAfterFF, noProposal}
 use Rattle.transfer_step.specs.declared.Reader.{Reader}
 use Rattle.transfer_step.specs.declared.Stepped.{Stepped}
 use Rattle.transfer_step.specs.declared.Outcome.{Outcome}
 use Rattle.transfer_step.specs.declared.Outcome.the-variants.{More, Whole, Malformed, WrongSum, NoRoom}
-use Rattle.transfer_step.specs.Step.{stepOf}
+use Rattle.transfer_step.specs.Step.{outcomeNumber, stepOf}
 use Rattle.transfer_read.specs.Feed.{headingPut, storePut, roomOf}
 use Rattle.session_memory.specs.State.{at, held, loadOf, saveOf}
 use Rattle.session_memory.specs.Setters.{withFirst, withThen, withPos, withKept, withReader, withBytes, withAfterCr, withNow, withSay, withKeep, withReading, withLine}
@@ -23,7 +24,7 @@ use Rattle.session_memory.specs.declared.Say.{Say}
 use Rattle.session_memory.specs.Session.{Keep}
 use Rattle.session_memory.specs.Session.{Session}
 use Rattle.marking.specs.States.{markAll}
-use Rattle.line_effect.specs.Judge.{noMarks, judged, inPhase, toTransfer, nextAccepted, readerFor, judgeOf}
+use Rattle.line_effect.specs.Judge.{noMarks, judged, inPhase, toTransfer, nextAccepted, readerFor, lineSum, judgeOf}
 use Rattle.our_turn.specs.Turn.{speakOf}
 use Rattle.line_effect.specs.Judged.{Judged}
 use Rattle.pending.specs.Pending.{waits, overOf}
@@ -53,7 +54,7 @@ moved n c = record { answer = n; cs = c }
 -- "After a refusal nothing more is sent": the session is over, nothing waits, and what is kept stands
 unfoldable pub refusedOf : Session → Session
 refusedOf s =
-    withNow (inPhase 7 (s .now)) (withSay (withFirst 0 (withThen 0 (withPos 0 (s .say)))) (withLine (withAfterCr false (withBytes 0 (s .line .bytes) (s .line))) s))
+    withNow (inPhase phaseOver (s .now)) (withSay (withFirst pieceNone (withThen pieceNone (withPos 0 (s .say)))) (withLine (withAfterCr false (withBytes 0 (s .line .bytes) (s .line))) s))
 
 -- After a refusal with this number: the number leaves nothing behind.
 abbrev pub refusedFor : ℕ → Session → Session
@@ -70,8 +71,8 @@ settledOf s j afterCr w y =
 -- our turn, if it is
 abbrev pub spokenOf : Session → Judged → Bool → Bytes → Session
 spokenOf s j afterCr table =
-    cond (eqb (j .speaks) 0) (settledOf s j afterCr (j .now) (j .say))
-    (settledOf s j afterCr (speakOf (j .now) (j .say) (j .keep) table (eqb (j .speaks) 2) .now) (speakOf (j .now) (j .say) (j .keep) table (eqb (j .speaks) 2) .say))
+    cond (eqb (j .speaks) notOurTurn) (settledOf s j afterCr (j .now) (j .say))
+    (settledOf s j afterCr (speakOf (j .now) (j .say) (j .keep) table (eqb (j .speaks) ourTurnAfterFF) .now) (speakOf (j .now) (j .say) (j .keep) table (eqb (j .speaks) ourTurnAfterFF) .say))
 
 pub record Settled : Type 0 where
   pub answer : ℕ
@@ -96,9 +97,9 @@ longer s b = withLine (withAfterCr false (withBytes (s .line .len + 1) (set (s .
 abbrev pub lineMoved : LineByte → Session → ℕ → Bytes → Bytes → Bytes → ℕ → Settled
 lineMoved dropped s b table known inbox store = settled 0 s table
 lineMoved ends s b table known inbox store =
-    settleOf s (judgeOf (trim (take (s .line .len) (s .line .bytes))) (s .now) (s .say) (s .keep) (s .reading .reader) table known inbox store) true table
+    settleOf s (judgeOf (trim (take (s .line .len) (s .line .bytes))) (lineSum (take (s .line .len) (s .line .bytes))) (s .now) (s .say) (s .keep) (s .reading .reader) table known inbox store) true table
 lineMoved grows s b table known inbox store = settled 0 (longer s b) table
-lineMoved overruns s b table known inbox store = settled lineTooLong (refusedFor lineTooLong s) table
+lineMoved overruns s b table known inbox store = settled (lineByteNumber overruns) (refusedFor (lineByteNumber overruns) s) table
 
 unfoldable pub lineStepOf : Session → ℕ → Bytes → Bytes → Bytes → ℕ → Settled
 lineStepOf s b table known inbox store = lineMoved (lineByte false (s .line .len) b) s b table known inbox store
@@ -111,9 +112,9 @@ keptKeep s = withKept (s .keep .kept + 1) (s .keep .used + s .reading .reader .b
 -- the next accepted proposal's transfer, or our turn
 abbrev pub nextJudged : Session → ℕ → Judged
 nextJudged s i =
-    cond (eqb i 5)
-    (judged 0 1 noMarks (s .now) (s .say) (keptKeep s) (s .reading .reader))
-    (judged 0 0 noMarks (toTransfer i (s .now)) (s .say) (keptKeep s) (readerFor (s .now) i))
+    cond (eqb i noProposal)
+    (judged 0 ourTurn noMarks (s .now) (s .say) (keptKeep s) (s .reading .reader))
+    (judged 0 notOurTurn noMarks (toTransfer i (s .now)) (s .say) (keptKeep s) (readerFor (s .now) i))
 
 -- "A message is kept at its last byte.": its entry in the inbox
 unfoldable pub keptInbox : Session → Bytes → Bytes
@@ -137,9 +138,9 @@ reading s r heading = withReading (record { reader = r; heading = heading }) (wi
 abbrev pub transferMoved : Outcome → Session → Bytes → Bytes → Bytes → Moved
 transferMoved More s table inbox store = moved 0 (cs s table inbox store)
 transferMoved Whole s table inbox store = moved (keepOf s table .answer) (cs (keepOf s table .session) (keepOf s table .table) (keptInbox s inbox) store)
-transferMoved Malformed s table inbox store = moved badTransfer (cs (refusedFor badTransfer s) table inbox store)
-transferMoved WrongSum s table inbox store = moved badChecksum (cs (refusedFor badChecksum s) table inbox store)
-transferMoved NoRoom s table inbox store = moved storeFull (cs (refusedFor storeFull s) table inbox store)
+transferMoved Malformed s table inbox store = moved (outcomeNumber Malformed) (cs (refusedFor (outcomeNumber Malformed) s) table inbox store)
+transferMoved WrongSum s table inbox store = moved (outcomeNumber WrongSum) (cs (refusedFor (outcomeNumber WrongSum) s) table inbox store)
+transferMoved NoRoom s table inbox store = moved (outcomeNumber NoRoom) (cs (refusedFor (outcomeNumber NoRoom) s) table inbox store)
 
 -- The message under way lies in the store after the bytes that kept messages use.
 abbrev pub transferStep : Cs → ℕ → Stepped → Moved
@@ -167,7 +168,7 @@ unfoldable pub byteOf : Bytes → Cs → ℕ → Moved
 byteOf known c b =
     cond (c .session .line .«after_cr» && eqb b LF) (moved 0 (cs (lfDropped (c .session)) (c .table) (c .inbox) (c .store)))
     (cond (waits (c .session .say)) (moved bytesWait (cs (refusedFor bytesWait (c .session)) (c .table) (c .inbox) (c .store)))
-    (cond (eqb (c .session .now .phase) 5) (transferStepOf c b) (lineByteOf known c b)))
+    (cond (eqb (c .session .now .phase) phaseTransfer) (transferStepOf c b) (lineByteOf known c b)))
 
 -- ---------------------------------------------------------------- the call
 

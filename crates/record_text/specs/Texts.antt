@@ -1,15 +1,20 @@
 -- The texts of a record r of the table, as parts of the three lent stores.
 use mathlib.Core.Bool.{cond}
+use Prim.Native.Nat.{ℕ}
 use lib.Dec.{eqb}
 use Rattle.grammar.specs.Bytes.{Bytes}
 use Rattle.grammar.specs.Transfers.{partOf}
 use Rattle.layout.specs.Layout.{byteAt, le2At, le4At}
 use Rattle.places.specs.Places.{recordForm, recordTitle, recordTitleLength, recordName, recordNameLength, recordBody, recordBodyLength}
 
+-- "Each has a form (0 plain text, 1 packed message, 2 packed file)"
+abbrev pub fileForm : ℕ
+fileForm = 2
+
 -- "the title for a message or the file name for a file"
 unfoldable pub headingIn : Bytes → Bytes → Bytes → Bytes
 headingIn titles names r =
-    cond (eqb (byteAt r recordForm) 2) (partOf names (le4At r recordName) (byteAt r recordNameLength))
+    cond (eqb (byteAt r recordForm) fileForm) (partOf names (le4At r recordName) (byteAt r recordNameLength))
     (partOf titles (le4At r recordTitle) (byteAt r recordTitleLength))
 
 unfoldable pub bodyIn : Bytes → Bytes → Bytes

@@ -61,13 +61,13 @@ module _ (F : Fixed) (E : Shelf) (s : Session) (a : Bool) (i st : Bytes)
       settled-is F E s a i st (toTurn false w) y (sends (fiveOf []) fl k) r u (on-lists.newTurn false) m′ [] (no-entries (w .block)) h
       (ap (λ (l : Bytes). l ++ thenText (y .then) (w .ours) (fiveOf []) u (F .titles) (F .names) (F .bodies)) (first-nothing (y .first) (y .signs) (ready .first))
       ∙ then-nothing (y .then) (w .ours) (fiveOf []) u (F .titles) (F .names) (F .bodies) (ready .then))
-      (refl, (refl, no-proposals (w .block)))
+      (refl, (refl, no-proposals (w .block), refl))
   sending-law (j ∷ is) fl u m′ h =
       subst (λ (c : Bool). Represents F E (cs (left F E s a i st (toTurn false w) (cond c (saysThen 4 y) y) (sends (fiveOf (j ∷ is)) fl k) r) u i st)
       (settle.after F E s a i st (on-lists.newTurn false) m′ (transfersText (E .table) (j ∷ is))))
       (sym (lt-ltb 0 (suc (length is)) (omega arith)))
       (settled-is F E s a i st (toTurn false w) (saysThen 4 y) (sends (fiveOf (j ∷ is)) fl k) r u (on-lists.newTurn false) m′ (transfersText (E .table) (j ∷ is))
-      (no-entries (w .block)) h said (refl, (refl, no-proposals (w .block))))
+      (no-entries (w .block)) h said (refl, (refl, no-proposals (w .block), refl)))
     where
       said : firstText (y .first) (y .signs) ++ thenText 4 (w .ours) (fiveOf (j ∷ is)) u (F .titles) (F .names) (F .bodies) ≡ transfersText (E .table) (j ∷ is)
       said =

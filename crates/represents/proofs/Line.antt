@@ -4,18 +4,19 @@ use mathlib.Core.Path.{_≡_, refl, sym, ap, _∙_, subst}
 use mathlib.Core.Bool.{Bool, true, false, cond}
 use mathlib.Core.Option.{Option, none, some}
 use mathlib.Core.List.{List, [], _∷_, _++_, map, append-nil}
-use Prim.Native.Nat.{ℕ, zero, suc, _+_}
+use Prim.Native.Nat.{ℕ, zero, suc, _+_, _%_}
 use native.Mathlib.Omega.{arith}
 use lib.Dec.{eqb, ltb}
 use lib.ListN.{length, drop, length-map}
 use borrow.Author.Tests.{ne-eqb, ltb-true}
 use Rattle.grammar.specs.Bytes.{Bytes}
-use Rattle.grammar.specs.Refusals.{lineNotAllowed, noForwarding, proposalCount}
+use Rattle.grammar.specs.Refusals.{lineNotAllowed, noForwarding, proposalCount, wrongBlockSum}
 use Rattle.grammar.specs.Fields.{formIs}
 use Rattle.grammar.specs.Sid.{hasFeature, framed}
-use Rattle.grammar.specs.Turns.{Proposal, TurnLine, saysFF, saysFQ, endsBlock, notAllowed, proposes, withCr, fixedText, ourSid}
+use Rattle.grammar.specs.Turns.{Proposal, TurnLine, saysFF, saysFQ, endsBlock, notAllowed, proposes, endsSummed, withCr, fixedText, ourSid}
 use Rattle.grammar.specs.Answers.{Sign, fsLine, writeSign}
 use Rattle.grammar.specs.Scan.{scanFrom}
+use Rattle.grammar.specs.Transfers.{sum, sumRight}
 use Rattle.grammar.proofs.AsRead.{TurnOk}
 use Rattle.mail.specs.Mail.{Message, accepted}
 use Rattle.session.specs.Choices.{Shelf, answersTo, bodyBytes}
@@ -39,7 +40,7 @@ use Rattle.session_memory.specs.Session.{Session}
 use Rattle.session_memory.proofs.Laws.{held-five}
 use Rattle.entries.specs.Decoded.{proposalsOf}
 use Rattle.our_answer.specs.Answers.{answersOf}
-use Rattle.line_effect.specs.Judge.{noMarks, judged, wentOn, refusal, inPhase, toTurn, toTransfer, saysFirst, saysSigns, sidRead, plusFrom, nextAccepted, readerFor, endLine, withProposal, proposalLine, ffLine, fqLine, turnRead}
+use Rattle.line_effect.specs.Judge.{noMarks, judged, wentOn, refusal, inPhase, toTurn, toTransfer, saysFirst, saysSigns, sidRead, plusFrom, nextAccepted, readerFor, endLine, summedLine, lineSum, withProposal, proposalLine, ffLine, fqLine, turnRead}
 use Rattle.our_turn.specs.Turn.{speakOf}
 use Rattle.line_effect.specs.Judge as judge
 use Rattle.line_effect.specs.Judged.{Judged}
@@ -58,6 +59,15 @@ use Rattle.represents.proofs.Settle.{holds-turn, holds-mode, left, sett
 use Rattle.represents.proofs.Leads.{marking, Leads, goes-leads, goes-speaking}
 use Rattle.form_closed.specs.Facts.{FiveOk}
 use Rattle.form_closed.proofs.Laws.{five-of, signs-octets}
+
+-- THE SUM OF THE PROPOSAL LINES so far, and with one line more
+sum-append : (x y : Bytes) → sum (x ++ y) ≡ sum x + sum y
+sum-append [] y = omega arith
+sum-append (b ∷ x) y = omega (arith, sum-append x y)
+
+sum-on : (lines raw : Bytes) (n : ℕ) → n ≡ sum lines % 256 → (n + lineSum raw) % 256 ≡ sum (lines ++ withCr raw) % 256
+unfolding lineSum
+sum-on lines raw n e = let a = sum-append lines (withCr raw) in omega arith
 
 module _ (F : Fixed) (E : Shelf) (s : Session) (a : Bool) (i st : Bytes) where
   -- a transfer is awaited, none of its bytes is there
@@ -133,7 +143,7 @@ module _ (F : Fixed) (E : Shelf) (s : Session) (a : Bool) (i st : Bytes) where
         mode true = went-on (inPhase 2 w) (judge.inMode (framed fs) k) (on-lists.aLine on-lists.awaitsPrompt) (on-lists.withFramed (framed fs) m) b (holds-mode F E k t i st m h (framed fs)) refl refl (refl, tt)
         mode false =
             went-on (toTurn false w) (judge.inMode (framed fs) k) (on-lists.newTurn false) (on-lists.withFramed (framed fs) m) (no-entries (w .block))
-            (holds-mode F E k t i st m h (framed fs)) refl refl (refl, (refl, no-proposals (w .block)))
+            (holds-mode F E k t i st m h (framed fs)) refl refl (refl, (refl, no-proposals (w .block), refl))
 
         go : (c : Bool)
             → Lead (cond c (wentOn (judge.afterSid w) y (judge.inMode (framed fs) k) r) (refusal noForwarding w y k r))
@@ -151,45 +161,46 @@ module _ (F : Fixed) (E : Shelf) (s : Session) (a : Bool) (i st : Bytes) where
 
     -- ---------------------------------------------------------------- FF, FQ and proposals
 
-    pub ff-law : Lead (ffLine w y k r) (on-lists.turnJudged E saysFF (w .ff) (proposalsOf (w .block) (w .proposals)) m)
+    -- lines: the proposal lines so far; raw: this line
+    pub ff-law : (lines raw : Bytes) → Lead (ffLine w y k r) (on-lists.turnJudged E saysFF (w .ff) (proposalsOf (w .block) (w .proposals)) lines raw m)
     unfolding ffLine proposalsOf
-    ff-law = go (w .proposals) (w .ff)
+    ff-law lines raw = go (w .proposals) (w .ff)
       where
         go : (n : ℕ) (ff : Bool)
             → Lead (cond (eqb n 0) (cond ff (refusal lineNotAllowed w y k r) (judged 0 2 (judge.turnMarks k) w y (judge.settledKeep k) r)) (refusal lineNotAllowed w y k r))
-            (on-lists.turnJudged E saysFF ff (proposalsOf (w .block) n) m)
+            (on-lists.turnJudged E saysFF ff (proposalsOf (w .block) n) lines raw m)
         go zero true = (refl, refl)
         go zero false = speaks true (judge.turnMarks k) y (judge.settledKeep k) (on-lists.turnMarks m) [] (holds-turn F E k t i st m h) refl refl nothing
         go (suc n) ff = rw (ne-eqb (suc n) 0 (λ e. omega arith)) (refl, refl)
 
-    pub fq-law : Lead (fqLine w y k r) (on-lists.turnJudged E saysFQ (w .ff) (proposalsOf (w .block) (w .proposals)) m)
+    pub fq-law : (lines raw : Bytes) → Lead (fqLine w y k r) (on-lists.turnJudged E saysFQ (w .ff) (proposalsOf (w .block) (w .proposals)) lines raw m)
     unfolding fqLine proposalsOf
-    fq-law = go (w .proposals) (w .ff)
+    fq-law lines raw = go (w .proposals) (w .ff)
       where
         go : (n : ℕ) (ff : Bool)
             → Lead (cond (eqb n 0) (cond ff (wentOn (inPhase 7 w) y k r) (refusal lineNotAllowed w y k r)) (refusal lineNotAllowed w y k r))
-            (on-lists.turnJudged E saysFQ ff (proposalsOf (w .block) n) m)
+            (on-lists.turnJudged E saysFQ ff (proposalsOf (w .block) n) lines raw m)
         go zero true = went-on (inPhase 7 w) k on-lists.over m b h refl refl (omega arith, silent)
         go zero false = (refl, refl)
         go (suc n) ff = rw (ne-eqb (suc n) 0 (λ e. omega arith)) (refl, refl)
 
-    pub proposal-law : (q : Proposal) → Fits q → w .phase ≡ 3
-        → Lead (proposalLine q w y k r) (on-lists.turnJudged E (proposes q) (w .ff) (proposalsOf (w .block) (w .proposals)) m)
+    pub proposal-law : (q : Proposal) → Fits q → w .phase ≡ 3 → (lines raw : Bytes) → w .sum ≡ sum lines % 256
+        → Lead (proposalLine q (lineSum raw) w y k r) (on-lists.turnJudged E (proposes q) (w .ff) (proposalsOf (w .block) (w .proposals)) lines raw m)
     unfolding proposalLine
-    proposal-law q fits e =
+    proposal-law q fits e lines raw z =
         subst
-        (λ (n : ℕ). Lead (cond (ltb (w .proposals) 5) (wentOn (withProposal q w) y k r) (refusal proposalCount w y k r))
-        (cond (ltb n 5) (goesOn (on-lists.aLine (on-lists.awaitsTurn (w .ff) (proposalsOf (w .block) (w .proposals) ++ (q ∷ [])))) m []) (refuses proposalCount)))
+        (λ (n : ℕ). Lead (cond (ltb (w .proposals) 5) (wentOn (withProposal q (lineSum raw) w) y k r) (refusal proposalCount w y k r))
+        (cond (ltb n 5) (goesOn (on-lists.aLine (on-lists.awaitsTurn (w .ff) (proposalsOf (w .block) (w .proposals) ++ (q ∷ [])) (lines ++ withCr raw))) m []) (refuses proposalCount)))
         (sym (proposals-length (w .block) (w .proposals)))
         (go (ltb (w .proposals) 5) refl)
       where
         go : (c : Bool) → ltb (w .proposals) 5 ≡ c
-            → Lead (cond c (wentOn (withProposal q w) y k r) (refusal proposalCount w y k r))
-            (cond c (goesOn (on-lists.aLine (on-lists.awaitsTurn (w .ff) (proposalsOf (w .block) (w .proposals) ++ (q ∷ [])))) m []) (refuses proposalCount))
+            → Lead (cond c (wentOn (withProposal q (lineSum raw) w) y k r) (refusal proposalCount w y k r))
+            (cond c (goesOn (on-lists.aLine (on-lists.awaitsTurn (w .ff) (proposalsOf (w .block) (w .proposals) ++ (q ∷ [])) (lines ++ withCr raw))) m []) (refuses proposalCount))
         go true f =
             let l = ltb-true (w .proposals) 5 f in
-            went-on (withProposal q w) k (on-lists.aLine (on-lists.awaitsTurn (w .ff) (proposalsOf (w .block) (w .proposals) ++ (q ∷ [])))) m
-            (entries-more (w .block) (w .proposals) (ready .now .block) l q fits b) h refl refl (e, (refl, proposals-more (w .block) (w .proposals) (ready .now .block) l q fits))
+            went-on (withProposal q (lineSum raw) w) k (on-lists.aLine (on-lists.awaitsTurn (w .ff) (proposalsOf (w .block) (w .proposals) ++ (q ∷ [])) (lines ++ withCr raw))) m
+            (entries-more (w .block) (w .proposals) (ready .now .block) l q fits b) h refl refl (e, (refl, proposals-more (w .block) (w .proposals) (ready .now .block) l q fits, sum-on lines raw (w .sum) z))
         go false f = (refl, refl)
 
     -- ---------------------------------------------------------------- F>
@@ -256,26 +267,50 @@ module _ (F : Fixed) (E : Shelf) (s : Session) (a : Bool) (i st : Bytes) where
         (ap (λ (bs : List ℕ). accepted (signsIn bs) theirs) (held-five (map writeSign answers)) ∙ ap (λ (ss : List Sign). accepted ss theirs) (signs-back answers))
         (next-found (signs answers one-each) (w .block) (w .proposals) (signs-ok answers one-each) (length-map answers writeSign ∙ one-each) 0)))
 
-    pub end-law : Lead (endLine w y k r t (F .known) i (length st)) (on-lists.turnJudged E endsBlock (w .ff) (proposalsOf (w .block) (w .proposals)) m)
+    pub end-law : (lines raw : Bytes) → Lead (endLine w y k r t (F .known) i (length st)) (on-lists.turnJudged E endsBlock (w .ff) (proposalsOf (w .block) (w .proposals)) lines raw m)
     unfolding endLine
-    end-law = go (proposalsOf (w .block) (w .proposals)) (w .proposals) (sym (proposals-length (w .block) (w .proposals))) refl
+    end-law lines raw = go (proposalsOf (w .block) (w .proposals)) (w .proposals) (sym (proposals-length (w .block) (w .proposals))) refl
       where
         go : (ps : List Proposal) (n : ℕ) → n ≡ length ps → proposalsOf (w .block) (w .proposals) ≡ ps
             → Lead (cond (eqb n 0) (refusal proposalCount w y k r)
             (judge.answered (answersOf w k t (F .known) i (length st)) (nextAccepted (answersOf w k t (F .known) i (length st)) 0) w y k r))
-            (on-lists.turnJudged E endsBlock (w .ff) ps m)
+            (on-lists.turnJudged E endsBlock (w .ff) ps lines raw m)
         go [] n e f = rw e (refl, refl)
         go (p ∷ ps) n e f =
             rw (ne-eqb n 0 (λ z. omega arith))
             (subst (λ (qs : List Proposal). Lead (judge.answered (answersOf w k t (F .known) i (length st)) (nextAccepted (answersOf w k t (F .known) i (length st)) 0) w y k r)
             (on-lists.answered E qs (on-lists.turnMarks m))) f all-answered)
 
+    -- F> with the checksum h
+    summed-law : (h : ℕ) (lines raw : Bytes) → w .sum ≡ sum lines % 256
+        → Lead (summedLine h w y k r t (F .known) i (length st)) (on-lists.turnJudged E (endsSummed h) (w .ff) (proposalsOf (w .block) (w .proposals)) lines raw m)
+    unfolding summedLine
+    summed-law h lines raw z = go (proposalsOf (w .block) (w .proposals)) (w .proposals) (sym (proposals-length (w .block) (w .proposals))) refl
+      where
+        same : sumRight lines h ≡ eqb ((w .sum + h) % 256) 0
+        same = let q : (sum lines + h) % 256 ≡ (w .sum + h) % 256 = omega arith in rw q
+
+        tested : (c : Bool) (p : Proposal) (ps : List Proposal) → proposalsOf (w .block) (w .proposals) ≡ p ∷ ps
+            → Lead (cond c (endLine w y k r t (F .known) i (length st)) (refusal wrongBlockSum w y k r))
+            (cond c (on-lists.answered E (p ∷ ps) (on-lists.turnMarks m)) (refuses wrongBlockSum))
+        tested true p ps f =
+            subst (λ (qs : List Proposal). Lead (endLine w y k r t (F .known) i (length st)) (on-lists.turnJudged E endsBlock (w .ff) qs lines raw m)) f (end-law lines raw)
+        tested false p ps f = (refl, refl)
+
+        go : (ps : List Proposal) (n : ℕ) → n ≡ length ps → proposalsOf (w .block) (w .proposals) ≡ ps
+            → Lead (cond (eqb n 0) (refusal proposalCount w y k r)
+            (cond (eqb ((w .sum + h) % 256) 0) (endLine w y k r t (F .known) i (length st)) (refusal wrongBlockSum w y k r)))
+            (on-lists.turnJudged E (endsSummed h) (w .ff) ps lines raw m)
+        go [] n e f = rw e (refl, refl)
+        go (p ∷ ps) n e f = rw (ne-eqb n 0 (λ v. omega arith), same) (tested (eqb ((w .sum + h) % 256) 0) p ps f)
+
     -- ---------------------------------------------------------------- a line of the partner's turn
 
-    pub turn-law : w .phase ≡ 3 → (md : Bool) (l : TurnLine) → TurnOk md l
-        → Lead (turnRead l w y k r t (F .known) i (length st)) (on-lists.turnJudged E l (w .ff) (proposalsOf (w .block) (w .proposals)) m)
-    turn-law e md saysFF f = ff-law
-    turn-law e md saysFQ f = fq-law
-    turn-law e md endsBlock f = end-law
-    turn-law e md notAllowed f = (refl, refl)
-    turn-law e md (proposes q) f = proposal-law q (proper-fits md q f) e
+    pub turn-law : w .phase ≡ 3 → (lines raw : Bytes) → w .sum ≡ sum lines % 256 → (md : Bool) (l : TurnLine) → TurnOk md l
+        → Lead (turnRead l (lineSum raw) w y k r t (F .known) i (length st)) (on-lists.turnJudged E l (w .ff) (proposalsOf (w .block) (w .proposals)) lines raw m)
+    turn-law e lines raw z md saysFF f = ff-law lines raw
+    turn-law e lines raw z md saysFQ f = fq-law lines raw
+    turn-law e lines raw z md endsBlock f = end-law lines raw
+    turn-law e lines raw z md notAllowed f = (refl, refl)
+    turn-law e lines raw z md (proposes q) f = proposal-law q (proper-fits md q f) e lines raw z
+    turn-law e lines raw z md (endsSummed h) f = summed-law h lines raw z

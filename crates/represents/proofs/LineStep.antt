@@ -21,7 +21,7 @@ use Rattle.session.specs.Session as on-lists
 use Rattle.session.specs.Session.{Memory, Phase, Outcome, goesOn}
 use Rattle.session_memory.specs.Session.{Line}
 use Rattle.session_memory.specs.Session.{Session}
-use Rattle.line_effect.specs.Judge.{wentOn, judgeOf, lineIn, sidLine, textLine, turnLine}
+use Rattle.line_effect.specs.Judge.{lineSum, wentOn, judgeOf, lineIn, sidLine, textLine, turnLine}
 use Rattle.line_effect.specs.Judged.{Judged}
 use Rattle.waiting.specs.Waiting.{waitingOf}
 use Rattle.pending.specs.Pending.{waits}
@@ -41,7 +41,7 @@ pub line-below : (a : on-lists.Awaited) → lineNumber a < 5
 line-below (on-lists.awaitsSid true) = omega arith
 line-below (on-lists.awaitsSid false) = omega arith
 line-below on-lists.awaitsPrompt = omega arith
-line-below (on-lists.awaitsTurn ff ps) = omega arith
+line-below (on-lists.awaitsTurn ff ps lines) = omega arith
 line-below (on-lists.awaitsAnswer is) = omega arith
 
 -- the same session with another line
@@ -81,7 +81,7 @@ module _ (F : Fixed) (E : Shelf) {nt ni ns : ℕ} (c : Cs) (g : Good F nt ni ns 
     ln = trim raw
 
     abbrev judgedIn : ℕ → Judged
-    judgedIn p = lineIn p ln (s .now) (s .say) (s .keep) (s .reading .reader) (c .table) (F .known) (c .inbox) (length (c .store))
+    judgedIn p = lineIn p ln (lineSum raw) (s .now) (s .say) (s .keep) (s .reading .reader) (c .table) (F .known) (c .inbox) (length (c .store))
 
     read-law : (a : on-lists.Awaited) → Awaits c (on-lists.aLine a) → Lead (judgedIn (lineNumber a)) (on-lists.awaitedJudged E a m raw)
     unfolding sidLine textLine turnLine
@@ -91,13 +91,13 @@ module _ (F : Fixed) (E : Shelf) {nt ni ns : ℕ} (c : Cs) (g : Good F nt ni ns 
         sid-law F E s true (c .inbox) (c .store) (s .now) (s .say) (s .keep) (s .reading .reader) (c .table) m ready false (ap (λ (p : ℕ). eqb p 1) (a .0)) (readSid ln)
     read-law on-lists.awaitsPrompt a =
         text-law F E s true (c .inbox) (c .store) (s .now) (s .say) (s .keep) (s .reading .reader) (c .table) m ready (a .0) (isPrompt ln)
-    read-law (on-lists.awaitsTurn ff ps) a =
+    read-law (on-lists.awaitsTurn ff ps lines) a =
         subst (λ (o : Outcome). Lead (judgedIn 3) o) (same (h .holds .framed) (a .1 .0) (a .1 .1))
         (turn-law F E s true (c .inbox) (c .store) (s .now) (s .say) (s .keep) (s .reading .reader) (c .table) m ready (a .0)
-        (s .keep .framed) (readTurnLine (s .keep .framed) ln) (turn-read-ok (s .keep .framed) ln))
+        lines raw (a .1 .2) (s .keep .framed) (readTurnLine (s .keep .framed) ln) (turn-read-ok (s .keep .framed) ln))
       where
         same : {d e : Bool} {f g : Bool} {qs rs : List Proposal} → d ≡ e → f ≡ g → qs ≡ rs
-            → on-lists.turnJudged E (readTurnLine d ln) f qs m ≡ on-lists.turnJudged E (readTurnLine e ln) g rs m
+            → on-lists.turnJudged E (readTurnLine d ln) f qs lines raw m ≡ on-lists.turnJudged E (readTurnLine e ln) g rs lines raw m
         same p q r = rw (p, q, r)
     read-law (on-lists.awaitsAnswer is) a =
         subst (λ (js : List ℕ). Lead (judgedIn 4) (on-lists.answerJudged E js m (fsNumber level0 (length js) ln) (readFs level0 (length js) ln))) (a .1)
@@ -105,7 +105,7 @@ module _ (F : Fixed) (E : Shelf) {nt ni ns : ℕ} (c : Cs) (g : Good F nt ni ns 
 
     -- "A line that begins with `;` is ignored wherever a line is awaited"
     judge-law : (a : on-lists.Awaited) → Awaits c (on-lists.aLine a)
-        → Lead (judgeOf ln (s .now) (s .say) (s .keep) (s .reading .reader) (c .table) (F .known) (c .inbox) (length (c .store))) (on-lists.lineJudged E a m raw)
+        → Lead (judgeOf ln (lineSum raw) (s .now) (s .say) (s .keep) (s .reading .reader) (c .table) (F .known) (c .inbox) (length (c .store))) (on-lists.lineJudged E a m raw)
     unfolding judgeOf
     judge-law a w = go (isComment ln)
       where
@@ -148,7 +148,7 @@ module _ (F : Fixed) (E : Shelf) {nt ni ns : ℕ} (c : Cs) (g : Good F nt ni ns 
       (λ (w : Bytes). Moves (lineMoved ends s b (c .table) (F .known) (c .inbox) (length (c .store))) (on-lists.settled v true (on-lists.lineJudged E a m w)))
       (h .part)
       (settle-law F E s true (c .inbox) (c .store) (s .keep .kept) (s .keep .used) (c .table) v refl refl (λ n. refuse-law F E c v n h)
-      (judgeOf (trim (take (s .line .len) (s .line .bytes))) (s .now) (s .say) (s .keep) (s .reading .reader) (c .table) (F .known) (c .inbox) (length (c .store)))
+      (judgeOf (trim (take (s .line .len) (s .line .bytes))) (lineSum (take (s .line .len) (s .line .bytes))) (s .now) (s .say) (s .keep) (s .reading .reader) (c .table) (F .known) (c .inbox) (length (c .store)))
       (on-lists.lineJudged E a m (take (s .line .len) (s .line .bytes)))
       (judge-law (take (s .line .len) (s .line .bytes)) a (subst (Awaits c) x (h .awaits))))
   byte-moves b a x grows room =

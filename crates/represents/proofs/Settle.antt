@@ -120,7 +120,7 @@ module _ (F : Fixed) (E : Shelf) (s : Session) (a : Bool) (i st : Bytes) where
     speak-law : (ff : Bool) (is : List ℕ) → SpeaksAs (speaking (fiveOf is) ff w y) (on-lists.speaking E (firstText (y .first) (y .signs)) ff is m)
     unfolding thenText proposalsOf
     speak-law true [] = settled-is (inPhase 6 w) (saysThen 2 y) k r t on-lists.leaving m _ b h refl refl
-    speak-law false [] = settled-is (toTurn true w) (saysThen 1 y) k r t (on-lists.newTurn true) m _ (no-entries (w .block)) h refl (refl, (refl, refl))
+    speak-law false [] = settled-is (toTurn true w) (saysThen 1 y) k r t (on-lists.newTurn true) m _ (no-entries (w .block)) h refl (refl, (refl, refl, refl))
     speak-law ff (j ∷ is) =
         subst
         (λ (c : Bool). SpeaksAs (cond c (cond ff (spoken (inPhase 6 w) (saysThen 2 y)) (spoken (toTurn true w) (saysThen 1 y))) (spoken (toAnswer (fiveOf (j ∷ is)) w) (saysThen 3 y)))

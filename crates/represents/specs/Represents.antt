@@ -4,13 +4,13 @@
 use mathlib.Core.Path.{_≡_}
 use mathlib.Core.Bool.{false, cond}
 use mathlib.Core.List.{List, [], _∷_}
-use Prim.Native.Nat.{ℕ, zero, suc, _+_, _*_, _≤_, _<_}
+use Prim.Native.Nat.{ℕ, zero, suc, _+_, _*_, _%_, _≤_, _<_}
 use lib.Dec.{eqb}
 use lib.ListN.{length, take, drop}
 use Rattle.grammar.specs.Bytes.{Bytes}
 use Rattle.grammar.specs.Turns.{Proposal}
 use Rattle.grammar.specs.Answers.{Sign, accept, decline, defer, plusSign, minusSign}
-use Rattle.grammar.specs.Transfers.{partOf}
+use Rattle.grammar.specs.Transfers.{partOf, sum}
 use Rattle.mail.specs.Mail.{Message, accepted}
 use Rattle.session.specs.Choices.{Shelf, bodyBytes}
 use Rattle.session.specs.Session as on-lists
@@ -109,17 +109,17 @@ pub record Holds (F : Fixed) (E : Shelf) (k : Keep) (t i st : Bytes) (m : on-lis
 abbrev pub Says : Fixed → Cs → Bytes → Type 0
 Says F c out = drop (c .session .say .pos) (waitingOf (c .session) (c .table) (F .titles) (F .names) (F .bodies)) ≡ out
 
--- The number of the line that is awaited, and what is held with it.
+-- The number of the line that is awaited, and what is held with it: in the partner's turn its proposals, and the sum of their lines as received.
 abbrev pub lineNumber : on-lists.Awaited → ℕ
 lineNumber (on-lists.awaitsSid caller) = cond caller phaseCallerSid phaseCalledSid
 lineNumber on-lists.awaitsPrompt = phasePrompt
-lineNumber (on-lists.awaitsTurn ff ps) = phaseTurn
+lineNumber (on-lists.awaitsTurn ff ps raw) = phaseTurn
 lineNumber (on-lists.awaitsAnswer is) = phaseFs
 
 abbrev pub HeldFor : Await → on-lists.Awaited → Type 0
 HeldFor w (on-lists.awaitsSid caller) = Unit {0}
 HeldFor w on-lists.awaitsPrompt = Unit {0}
-HeldFor w (on-lists.awaitsTurn ff ps) = (w .ff ≡ ff) × (proposalsOf (w .block) (w .proposals) ≡ ps)
+HeldFor w (on-lists.awaitsTurn ff ps raw) = (w .ff ≡ ff) × (proposalsOf (w .block) (w .proposals) ≡ ps) × (w .sum ≡ sum raw % 256)
 HeldFor w (on-lists.awaitsAnswer is) = held (w .ours) ≡ is
 
 -- What is awaited.

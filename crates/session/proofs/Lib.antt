@@ -2,4 +2,5 @@
 pub mod Choices
 pub mod Sessions
 pub mod Again
+pub mod BlockSums
 pub mod Ways

@@ -8,12 +8,13 @@ use Prim.Native.Nat.{ℕ}
 use lib.Dec.{eqb, ltb}
 use lib.ListN.{length}
 use Rattle.grammar.specs.Bytes.{Bytes, CR, LF, null}
-use Rattle.grammar.specs.Refusals.{lineTooLong, notSid, noForwarding, lineNotAllowed, proposalCount, badTransfer, badChecksum, storeFull, bytesWait, sessionEnded}
+use Rattle.grammar.specs.Refusals.{lineTooLong, notSid, noForwarding, lineNotAllowed, proposalCount, badTransfer, badChecksum, storeFull, bytesWait, sessionEnded, wrongBlockSum}
 use Rattle.grammar.specs.Lines.{ends, grows, overruns, trim, isComment, isPrompt}
 use Rattle.grammar.specs.Sid.{readSid, hasFeature, framed}
-use Rattle.grammar.specs.Turns.{Proposal, TurnLine, saysFF, saysFQ, endsBlock, notAllowed, proposes, readTurnLine, fixedText, ourSid, withCr}
+use Rattle.grammar.specs.Turns.{Proposal, TurnLine, saysFF, saysFQ, endsBlock, notAllowed, proposes, endsSummed, readTurnLine, fixedText, ourSid, withCr}
 use Rattle.grammar.specs.Answers.{Sign, readFs, fsNumber, fsLine}
 use Rattle.grammar.specs.Scan.{Scan, Scanned, goes, got, malformed, wrongSum, noRoom, scanByte, scanFrom}
+use Rattle.grammar.specs.Transfers.{sumRight}
 use Rattle.mail.specs.Mail.{messageOf, transfersText, accepted}
 use Rattle.session.specs.Choices.{Shelf, chosen, answersTo}
 use Rattle.session.specs.Session.{Awaited, awaitsSid, awaitsPrompt, awaitsTurn, awaitsAnswer, Phase, aLine, newTurn, awaitsTransfer, leaving, over, Memory, Session, withFramed, withPhase, withPart, withAfterCr, between, Outcome, refuses, goesOn, speaking, ourTurn, turnMarks, answering, answered, turnJudged, answerMarks, answerJudged, afterSid, sidJudged, textJudged, awaitedJudged, lineJudged, Stepped, refused, moved, settled, lineMoved, isPlain, keptIn, nextTransfer, transferMoved, roomFor, phaseStep, freeStep, step, levelInForce}
@@ -54,17 +55,25 @@ next-transfer E (p ∷ ps) m = toTransfer [] p ps
 pub data Wrong (m : Memory) (ln : Bytes) : Awaited → ℕ → Type 0 where
   noSid : (c : Bool) → readSid (trim ln) ≡ none → Wrong m ln (awaitsSid c) notSid
   noF : (c : Bool) (fs : List ℕ) → readSid (trim ln) ≡ some fs → hasFeature 5 fs ≡ false → Wrong m ln (awaitsSid c) noForwarding
-  noTurnLine : (ff : Bool) (ps : List Proposal) → readTurnLine (m .framed) (trim ln) ≡ notAllowed → Wrong m ln (awaitsTurn ff ps) lineNotAllowed
-  ffAfterFf : readTurnLine (m .framed) (trim ln) ≡ saysFF → Wrong m ln (awaitsTurn true []) lineNotAllowed
-  ffInBlock : (ff : Bool) (p : Proposal) (ps : List Proposal) → readTurnLine (m .framed) (trim ln) ≡ saysFF
-      → Wrong m ln (awaitsTurn ff (p ∷ ps)) lineNotAllowed
-  fqFirst : readTurnLine (m .framed) (trim ln) ≡ saysFQ → Wrong m ln (awaitsTurn false []) lineNotAllowed
-  fqInBlock : (ff : Bool) (p : Proposal) (ps : List Proposal) → readTurnLine (m .framed) (trim ln) ≡ saysFQ
-      → Wrong m ln (awaitsTurn ff (p ∷ ps)) lineNotAllowed
-  emptyBlock : (ff : Bool) → readTurnLine (m .framed) (trim ln) ≡ endsBlock → Wrong m ln (awaitsTurn ff []) proposalCount
-  tooMany : (ff : Bool) (ps : List Proposal) (q : Proposal) → readTurnLine (m .framed) (trim ln) ≡ proposes q → ltb (length ps) 5 ≡ false
-      → Wrong m ln (awaitsTurn ff ps) proposalCount
+  noTurnLine : (ff : Bool) (ps : List Proposal) {raw : Bytes} → readTurnLine (m .framed) (trim ln) ≡ notAllowed → Wrong m ln (awaitsTurn ff ps raw) lineNotAllowed
+  ffAfterFf : {raw : Bytes} → readTurnLine (m .framed) (trim ln) ≡ saysFF → Wrong m ln (awaitsTurn true [] raw) lineNotAllowed
+  ffInBlock : (ff : Bool) (p : Proposal) (ps : List Proposal) {raw : Bytes} → readTurnLine (m .framed) (trim ln) ≡ saysFF
+      → Wrong m ln (awaitsTurn ff (p ∷ ps) raw) lineNotAllowed
+  fqFirst : {raw : Bytes} → readTurnLine (m .framed) (trim ln) ≡ saysFQ → Wrong m ln (awaitsTurn false [] raw) lineNotAllowed
+  fqInBlock : (ff : Bool) (p : Proposal) (ps : List Proposal) {raw : Bytes} → readTurnLine (m .framed) (trim ln) ≡ saysFQ
+      → Wrong m ln (awaitsTurn ff (p ∷ ps) raw) lineNotAllowed
+  emptyBlock : (ff : Bool) {raw : Bytes} → readTurnLine (m .framed) (trim ln) ≡ endsBlock → Wrong m ln (awaitsTurn ff [] raw) proposalCount
+  emptySummed : (ff : Bool) {raw : Bytes} (h : ℕ) → readTurnLine (m .framed) (trim ln) ≡ endsSummed h → Wrong m ln (awaitsTurn ff [] raw) proposalCount
+  tooMany : (ff : Bool) (ps : List Proposal) {raw : Bytes} (q : Proposal) → readTurnLine (m .framed) (trim ln) ≡ proposes q → ltb (length ps) 5 ≡ false
+      → Wrong m ln (awaitsTurn ff ps raw) proposalCount
+  wrongHex : (ff : Bool) (p : Proposal) (ps : List Proposal) {raw : Bytes} (h : ℕ) → readTurnLine (m .framed) (trim ln) ≡ endsSummed h
+      → sumRight raw h ≡ false → Wrong m ln (awaitsTurn ff (p ∷ ps) raw) wrongBlockSum
   noAnswer : (is : List ℕ) → readFs (levelInForce m) (length is) (trim ln) ≡ none → Wrong m ln (awaitsAnswer is) (fsNumber (levelInForce m) (length is) (trim ln))
+
+-- The end of a block after the proposal lines raw: bare, or with the right checksum.
+pub data EndsBlock (raw : Bytes) (t : TurnLine) : Type 0 where
+  bare : t ≡ endsBlock → EndsBlock raw t
+  summed : (h : ℕ) → t ≡ endsSummed h → sumRight raw h ≡ true → EndsBlock raw t
 
 -- What a line that is no comment comes to.
 pub data Judged (E : Shelf) (m : Memory) (ln : Bytes) : Awaited → Outcome → Type 0 where
@@ -73,12 +82,12 @@ pub data Judged (E : Shelf) (m : Memory) (ln : Bytes) : Awaited → Outcome → 
       → Judged E m ln (awaitsSid c) (goesOn (afterSid c) (withFramed (framed fs) m) [])
   hearsText : isPrompt (trim ln) ≡ false → Judged E m ln awaitsPrompt (goesOn (aLine awaitsPrompt) m [])
   hearsPrompt : isPrompt (trim ln) ≡ true → Judged E m ln awaitsPrompt (ourTurn E (withCr (fixedText ourSid)) false m)
-  hearsProposal : (ff : Bool) (ps : List Proposal) (q : Proposal) → readTurnLine (m .framed) (trim ln) ≡ proposes q → ltb (length ps) 5 ≡ true
-      → Judged E m ln (awaitsTurn ff ps) (goesOn (aLine (awaitsTurn ff (ps ++ (q ∷ [])))) m [])
-  hearsFF : readTurnLine (m .framed) (trim ln) ≡ saysFF → Judged E m ln (awaitsTurn false []) (ourTurn E [] true (turnMarks m))
-  hearsFQ : readTurnLine (m .framed) (trim ln) ≡ saysFQ → Judged E m ln (awaitsTurn true []) (goesOn over m [])
-  hearsEnd : (ff : Bool) (p : Proposal) (ps : List Proposal) → readTurnLine (m .framed) (trim ln) ≡ endsBlock
-      → Judged E m ln (awaitsTurn ff (p ∷ ps)) (answered E (p ∷ ps) (turnMarks m))
+  hearsProposal : (ff : Bool) (ps : List Proposal) {raw : Bytes} (q : Proposal) → readTurnLine (m .framed) (trim ln) ≡ proposes q
+      → ltb (length ps) 5 ≡ true → Judged E m ln (awaitsTurn ff ps raw) (goesOn (aLine (awaitsTurn ff (ps ++ (q ∷ [])) (raw ++ withCr ln))) m [])
+  hearsFF : {raw : Bytes} → readTurnLine (m .framed) (trim ln) ≡ saysFF → Judged E m ln (awaitsTurn false [] raw) (ourTurn E [] true (turnMarks m))
+  hearsFQ : {raw : Bytes} → readTurnLine (m .framed) (trim ln) ≡ saysFQ → Judged E m ln (awaitsTurn true [] raw) (goesOn over m [])
+  hearsEnd : (ff : Bool) (p : Proposal) (ps : List Proposal) {raw : Bytes} → EndsBlock raw (readTurnLine (m .framed) (trim ln))
+      → Judged E m ln (awaitsTurn ff (p ∷ ps) raw) (answered E (p ∷ ps) (turnMarks m))
   hearsFs : (is : List ℕ) (ss : List Sign) → readFs (levelInForce m) (length is) (trim ln) ≡ some ss
       → Judged E m ln (awaitsAnswer is) (goesOn (newTurn false) (answerMarks is ss m) (transfersText (E .table) (accepted ss is)))
 
@@ -95,20 +104,27 @@ module _ (E : Shelf) (m : Memory) (ln : Bytes) where
   text-way true e = hearsPrompt e
   text-way false e = hearsText e
 
-  turn-way : (t : TurnLine) (ff : Bool) (ps : List Proposal) → readTurnLine (m .framed) (trim ln) ≡ t → Judged E m ln (awaitsTurn ff ps) (turnJudged E t ff ps m)
-  turn-way saysFF true [] e = isWrong lineNotAllowed (ffAfterFf e)
-  turn-way saysFF false [] e = hearsFF e
-  turn-way saysFF ff (p ∷ ps) e = isWrong lineNotAllowed (ffInBlock ff p ps e)
-  turn-way saysFQ true [] e = hearsFQ e
-  turn-way saysFQ false [] e = isWrong lineNotAllowed (fqFirst e)
-  turn-way saysFQ ff (p ∷ ps) e = isWrong lineNotAllowed (fqInBlock ff p ps e)
-  turn-way endsBlock ff [] e = isWrong proposalCount (emptyBlock ff e)
-  turn-way endsBlock ff (p ∷ ps) e = hearsEnd ff p ps e
-  turn-way notAllowed ff ps e = isWrong lineNotAllowed (noTurnLine ff ps e)
-  turn-way (proposes q) ff ps e = go (ltb (length ps) 5) refl
+  turn-way : (t : TurnLine) (ff : Bool) (ps : List Proposal) (raw : Bytes) → readTurnLine (m .framed) (trim ln) ≡ t
+      → Judged E m ln (awaitsTurn ff ps raw) (turnJudged E t ff ps raw ln m)
+  turn-way saysFF true [] raw e = isWrong lineNotAllowed (ffAfterFf e)
+  turn-way saysFF false [] raw e = hearsFF e
+  turn-way saysFF ff (p ∷ ps) raw e = isWrong lineNotAllowed (ffInBlock ff p ps e)
+  turn-way saysFQ true [] raw e = hearsFQ e
+  turn-way saysFQ false [] raw e = isWrong lineNotAllowed (fqFirst e)
+  turn-way saysFQ ff (p ∷ ps) raw e = isWrong lineNotAllowed (fqInBlock ff p ps e)
+  turn-way endsBlock ff [] raw e = isWrong proposalCount (emptyBlock ff e)
+  turn-way endsBlock ff (p ∷ ps) raw e = hearsEnd ff p ps (bare e)
+  turn-way (endsSummed h) ff [] raw e = isWrong proposalCount (emptySummed ff h e)
+  turn-way (endsSummed h) ff (p ∷ ps) raw e = go (sumRight raw h) refl
+    where
+      go : (c : Bool) → sumRight raw h ≡ c → Judged E m ln (awaitsTurn ff (p ∷ ps) raw) (cond c (answered E (p ∷ ps) (turnMarks m)) (refuses wrongBlockSum))
+      go true f = hearsEnd ff p ps (summed h e f)
+      go false f = isWrong wrongBlockSum (wrongHex ff p ps h e f)
+  turn-way notAllowed ff ps raw e = isWrong lineNotAllowed (noTurnLine ff ps e)
+  turn-way (proposes q) ff ps raw e = go (ltb (length ps) 5) refl
     where
       go : (c : Bool) → ltb (length ps) 5 ≡ c
-          → Judged E m ln (awaitsTurn ff ps) (cond c (goesOn (aLine (awaitsTurn ff (ps ++ (q ∷ [])))) m []) (refuses proposalCount))
+          → Judged E m ln (awaitsTurn ff ps raw) (cond c (goesOn (aLine (awaitsTurn ff (ps ++ (q ∷ [])) (raw ++ withCr ln))) m []) (refuses proposalCount))
       go true f = hearsProposal ff ps q e f
       go false f = isWrong proposalCount (tooMany ff ps q e f)
 
@@ -121,7 +137,7 @@ module _ (E : Shelf) (m : Memory) (ln : Bytes) where
   pub judged : (a : Awaited) → Judged E m ln a (awaitedJudged E a m ln)
   judged (awaitsSid c) = sid-way c (readSid (trim ln)) refl
   judged awaitsPrompt = text-way (isPrompt (trim ln)) refl
-  judged (awaitsTurn ff ps) = turn-way (readTurnLine (m .framed) (trim ln)) ff ps refl
+  judged (awaitsTurn ff ps raw) = turn-way (readTurnLine (m .framed) (trim ln)) ff ps raw refl
   judged (awaitsAnswer is) = answer-way is (readFs (levelInForce m) (length is) (trim ln)) refl
 
 -- ---------------------------------------------------------------- a byte

@@ -4,3 +4,4 @@ pub mod Session
 pub mod Calls
 pub mod Sessions
 pub mod Again
+pub mod BlockSums

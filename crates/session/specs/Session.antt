@@ -8,13 +8,14 @@ use Prim.Native.Nat.{ℕ, _-_, min}
 use lib.Dec.{eqb, ltb}
 use lib.ListN.{length, set, replicate}
 use Rattle.grammar.specs.Bytes.{Bytes, LF, null}
-use Rattle.grammar.specs.Refusals.{lineTooLong, notSid, noForwarding, lineNotAllowed, proposalCount, badTransfer, badChecksum, storeFull, bytesWait, sessionEnded}
+use Rattle.grammar.specs.Refusals.{notSid, noForwarding, lineNotAllowed, proposalCount, bytesWait, sessionEnded, wrongBlockSum}
 use Rattle.grammar.specs.Fields.{Form, plain, message, file, bodyLimit}
-use Rattle.grammar.specs.Lines.{LineByte, dropped, ends, grows, overruns, lineByte, trim, isComment, isPrompt}
+use Rattle.grammar.specs.Lines.{LineByte, dropped, ends, grows, overruns, lineByte, lineByteNumber, trim, isComment, isPrompt}
 use Rattle.grammar.specs.Sid.{readSid, hasFeature, framed, letterF}
-use Rattle.grammar.specs.Turns.{Proposal, TurnLine, saysFF, saysFQ, endsBlock, notAllowed, proposes, readTurnLine, fixedText, ourSid, ourPrompt, ourFF, ourFQ, withCr, blockLimit}
+use Rattle.grammar.specs.Turns.{Proposal, TurnLine, saysFF, saysFQ, endsBlock, notAllowed, proposes, endsSummed, readTurnLine, turnLineNumber, fixedText, ourSid, ourPrompt, ourFF, ourFQ, withCr, blockLimit}
 use Rattle.grammar.specs.Answers.{Sign, accept, decline, defer, readFs, fsNumber, fsLine, Level, level0}
-use Rattle.grammar.specs.Scan.{Scan, Scanned, goes, got, malformed, wrongSum, noRoom, scanFrom, scanByte}
+use Rattle.grammar.specs.Scan.{Scan, Scanned, goes, got, malformed, wrongSum, noRoom, scanFrom, scanByte, scannedNumber}
+use Rattle.grammar.specs.Transfers.{sumRight}
 use Rattle.mail.specs.Mail.{Message, messageOf, proposalOf, recordAt, turnText, transfersText, accepted, marked, declined, recordLimit}
 use Rattle.session.specs.Choices.{Shelf, chosen, answersTo, bodyBytes}
 
@@ -22,11 +23,12 @@ use Rattle.session.specs.Choices.{Shelf, chosen, answersTo, bodyBytes}
 
 -- Which line is awaited of the partner.
 -- awaitsSid: its SID (true: we are the caller). awaitsPrompt: text lines up to the prompt. awaitsTurn: the next line of its turn; whether
--- our turn just now was FF, and its proposals so far. awaitsAnswer: the FS line on our records at these places.
+-- our turn just now was FF, its proposals so far, and their lines as received, each with its CR. awaitsAnswer: the FS line on our records
+-- at these places.
 pub data Awaited : Type 0 where
   awaitsSid : Bool → Awaited
   awaitsPrompt : Awaited
-  awaitsTurn : Bool → List Proposal → Awaited
+  awaitsTurn : Bool → List Proposal → Bytes → Awaited
   awaitsAnswer : List ℕ → Awaited
 
 -- aLine: a line is awaited. awaitsTransfer: the transfer of this proposal, then those of these, and where its reading stands. leaving: nothing
@@ -38,7 +40,7 @@ pub data Phase : Type 0 where
 
 -- The partner's turn begins; true: our turn just now was FF
 abbrev pub newTurn : Bool → Phase
-newTurn ff = aLine (awaitsTurn ff [])
+newTurn ff = aLine (awaitsTurn ff [] [])
 
 -- The mode; each record's state; the places of the records that the partner accepted and whose state is not set yet; the messages kept;
 -- a flag for each record that a table may have, 1 where a record was deferred in this session.
@@ -123,16 +125,21 @@ answering E ss (p ∷ ps) m = goesOn (awaitsTransfer p ps (scanFrom (p .form))) 
 abbrev pub answered : Shelf → List Proposal → Memory → Outcome
 answered E ps m = answering E (answersTo E (m .inbox) ps) (accepted (answersTo E (m .inbox) ps) ps) m
 
--- "FQ is allowed only in answer to our FF. FF in answer to our FF gets 5."; "sixth proposal, or F> with none" gets 6
-abbrev pub turnJudged : Shelf → TurnLine → Bool → List Proposal → Memory → Outcome
-turnJudged E saysFF ff [] m = cond ff (refuses lineNotAllowed) (ourTurn E [] true (turnMarks m))
-turnJudged E saysFF ff (p ∷ ps) m = refuses lineNotAllowed
-turnJudged E saysFQ ff [] m = cond ff (goesOn over m []) (refuses lineNotAllowed)
-turnJudged E saysFQ ff (p ∷ ps) m = refuses lineNotAllowed
-turnJudged E endsBlock ff [] m = refuses proposalCount
-turnJudged E endsBlock ff (p ∷ ps) m = answered E (p ∷ ps) (turnMarks m)
-turnJudged E notAllowed ff ps m = refuses lineNotAllowed
-turnJudged E (proposes q) ff ps m = cond (ltb (length ps) blockLimit) (goesOn (aLine (awaitsTurn ff (ps ++ (q ∷ [])))) m []) (refuses proposalCount)
+-- "FQ is allowed only in answer to our FF. FF in answer to our FF gets 5."; "sixth proposal, or F> with none" gets 6. "The sum of all bytes of
+-- the block's proposal lines as received, their CR included, .. plus HH must be 0 modulo 256." (02, Q-5): 13, "tested after 5 and 6 and before
+-- any answer is formed". raw: those lines; ln: this line as it came
+abbrev pub turnJudged : Shelf → TurnLine → Bool → List Proposal → Bytes → Bytes → Memory → Outcome
+turnJudged E saysFF ff [] raw ln m = cond ff (refuses lineNotAllowed) (ourTurn E [] true (turnMarks m))
+turnJudged E saysFF ff (p ∷ ps) raw ln m = refuses lineNotAllowed
+turnJudged E saysFQ ff [] raw ln m = cond ff (goesOn over m []) (refuses lineNotAllowed)
+turnJudged E saysFQ ff (p ∷ ps) raw ln m = refuses lineNotAllowed
+turnJudged E endsBlock ff [] raw ln m = refuses proposalCount
+turnJudged E endsBlock ff (p ∷ ps) raw ln m = answered E (p ∷ ps) (turnMarks m)
+turnJudged E (endsSummed h) ff [] raw ln m = refuses proposalCount
+turnJudged E (endsSummed h) ff (p ∷ ps) raw ln m = cond (sumRight raw h) (answered E (p ∷ ps) (turnMarks m)) (refuses wrongBlockSum)
+turnJudged E notAllowed ff ps raw ln m = refuses (turnLineNumber notAllowed)
+turnJudged E (proposes q) ff ps raw ln m =
+    cond (ltb (length ps) blockLimit) (goesOn (aLine (awaitsTurn ff (ps ++ (q ∷ [])) (raw ++ withCr ln))) m []) (refuses proposalCount)
 
 -- ---------------------------------------------------------------- the partner's FS line
 
@@ -177,7 +184,7 @@ textJudged E false m = goesOn (aLine awaitsPrompt) m []
 abbrev pub awaitedJudged : Shelf → Awaited → Memory → Bytes → Outcome
 awaitedJudged E (awaitsSid c) m ln = sidJudged c m (readSid (trim ln))
 awaitedJudged E awaitsPrompt m ln = textJudged E (isPrompt (trim ln)) m
-awaitedJudged E (awaitsTurn ff ps) m ln = turnJudged E (readTurnLine (m .framed) (trim ln)) ff ps m
+awaitedJudged E (awaitsTurn ff ps raw) m ln = turnJudged E (readTurnLine (m .framed) (trim ln)) ff ps raw ln m
 awaitedJudged E (awaitsAnswer is) m ln = answerJudged E is m (fsNumber (levelInForce m) (length is) (trim ln)) (readFs (levelInForce m) (length is) (trim ln))
 
 -- "A line that begins with `;` is ignored wherever a line is awaited"
@@ -207,7 +214,7 @@ abbrev pub lineMoved : Shelf → Awaited → Session → ℕ → LineByte → St
 lineMoved E a s b dropped = moved s
 lineMoved E a s b ends = settled s true (lineJudged E a (s .memory) (s .part))
 lineMoved E a s b grows = moved (withPart (s .part ++ (b ∷ [])) (withAfterCr false s))
-lineMoved E a s b overruns = refused s lineTooLong
+lineMoved E a s b overruns = refused s (lineByteNumber overruns)
 
 abbrev pub isPlain : Form → Bool
 isPlain plain = true
@@ -227,9 +234,9 @@ abbrev pub transferMoved : Shelf → Proposal → List Proposal → Session → 
 transferMoved E p ps s (goes sc) = moved (withPhase (awaitsTransfer p ps sc) (withAfterCr false s))
 transferMoved E p ps s (got h x) =
     settled s (isPlain (p .form)) (nextTransfer E ps (keptIn (s .memory) (messageOf p (record { heading = h; body = x }))))
-transferMoved E p ps s malformed = refused s badTransfer
-transferMoved E p ps s wrongSum = refused s badChecksum
-transferMoved E p ps s noRoom = refused s storeFull
+transferMoved E p ps s malformed = refused s (scannedNumber malformed)
+transferMoved E p ps s wrongSum = refused s (scannedNumber wrongSum)
+transferMoved E p ps s noRoom = refused s (scannedNumber noRoom)
 
 -- "body byte without room, the 65,536th included": what the store has left for the message under way
 abbrev pub roomFor : Shelf → Memory → ℕ

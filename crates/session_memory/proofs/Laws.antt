@@ -26,7 +26,7 @@ use Rattle.session_memory.specs.Session.{Reading}
 use Rattle.session_memory.specs.Session.{Line}
 use Rattle.session_memory.specs.Session.{Session}
 use Rattle.session_memory.specs.declared.Sizes.{Sizes}
-use Rattle.session_memory.specs.State.{at, held, fiveOf, flag, fiveAt, arrayAt, loadAwait, loadSay, loadKeep, loadReading, loadLine, loadOf, loadSizes, smallOut, numbersOut, arraysOut, numberPart, saveOf, sizesOut, saveSizes}
+use Rattle.session_memory.specs.State.{at, held, fiveOf, flag, fiveAt, arrayAt, loadAwait, loadSay, loadKeep, loadReading, loadLine, loadOf, loadSizes, smallOut, numbersOut, tailOut, arraysOut, numberPart, saveOf, sizesOut, saveSizes}
 
 -- ---------------------------------------------------------------- a state in shape: arrays of their sizes, numbers that fit their bytes
 
@@ -93,10 +93,10 @@ five-length xs h = simp (length-append, length-replicate) (omega arith)
 pub same-five : {a b : ℕ} {l m : Bytes} → a ≡ b → l ≡ m → _≡_ {A = Five} (record { count = a; items = l }) (record { count = b; items = m })
 same-five e f = rw (e, f)
 
-pub same-await : {a b c d e f : ℕ} {x y : Bool} {g h : Five} {l m : Bytes} → a ≡ b → x ≡ y → c ≡ d → e ≡ f → g ≡ h → l ≡ m
-    → _≡_ {A = Await} (record { phase = a; ff = x; current = c; proposals = e; ours = g; block = l })
-    (record { phase = b; ff = y; current = d; proposals = f; ours = h; block = m })
-same-await e₁ e₂ e₃ e₄ e₅ e₆ = rw (e₁, e₂, e₃, e₄, e₅, e₆)
+pub same-await : {a b c d e f i j : ℕ} {x y : Bool} {g h : Five} {l m : Bytes} → a ≡ b → x ≡ y → c ≡ d → e ≡ f → g ≡ h → i ≡ j → l ≡ m
+    → _≡_ {A = Await} (record { phase = a; ff = x; current = c; proposals = e; ours = g; sum = i; block = l })
+    (record { phase = b; ff = y; current = d; proposals = f; ours = h; sum = j; block = m })
+same-await e₁ e₂ e₃ e₄ e₅ e₆ e₇ = rw (e₁, e₂, e₃, e₄, e₅, e₆, e₇)
 
 pub same-say : {a b c d e f : ℕ} {g h : Five} → a ≡ b → c ≡ d → e ≡ f → g ≡ h
     → _≡_ {A = Say} (record { first = a; then = c; pos = e; signs = g }) (record { first = b; then = d; pos = f; signs = h })
@@ -137,7 +137,7 @@ five-items (a ∷ b ∷ c ∷ d ∷ e ∷ []) h = refl
 five-items (a ∷ b ∷ c ∷ d ∷ e ∷ f ∷ l) h = absurd (omega arith)
 
 part-length : (s : Session) → length (numberPart s) ≡ numbersLen
-unfolding smallOut numbersOut
+unfolding smallOut numbersOut tailOut
 part-length s = refl
 
 arrays-length : (s : Session) → Shaped s → length (arraysOut s) ≡ arraysLen
@@ -203,10 +203,10 @@ module _ (f g t : Bytes) (n : length f ≡ numbersStart) (k : length g ≡ freeL
       ∙ array-in blockLen (s .now .block) 0 (omega (arith, h .now .block)) ∙ take-all blockLen (s .now .block) (omega (arith, h .now .block))
 
   await-back : loadAwait (f ++ rest) ≡ s .now
-  unfolding loadAwait smallOut rest
+  unfolding loadAwait smallOut numbersOut tailOut rest
   await-back =
       same-await (byte 0) (ap (λ (x : ℕ). eqb x 1) (byte 1) ∙ flag-back (s .now .ff)) (byte 7) (byte 8)
-      (five 9 (s .now .ours) (omega arith) (h .now .ours) refl refl) block-back
+      (five 9 (s .now .ours) (omega arith) (h .now .ours) refl refl) (byte 56) block-back
 
   say-back : loadSay (f ++ rest) ≡ s .say
   unfolding loadSay smallOut numbersOut rest

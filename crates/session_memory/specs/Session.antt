@@ -8,13 +8,14 @@ use Rattle.session_memory.specs.declared.Five.{Five}
 use Rattle.session_memory.specs.declared.Say.{Say}
 
 -- What is awaited. phase: crates/phase; ff: our turn just now was FF; ours: the records that we proposed; proposals: how many of the partner's are in
--- block; current: the one whose transfer is under way.
+-- block; sum: of their lines as received, modulo 256; current: the one whose transfer is under way.
 pub record Await : Type 0 where
   pub phase : ℕ
   pub ff : Bool
   pub current : ℕ
   pub proposals : ℕ
   pub ours : Five
+  pub sum : ℕ
   pub block : Bytes
 
 -- The mode, the messages kept and the store bytes that they use, the records being sent, a flag for each record deferred.

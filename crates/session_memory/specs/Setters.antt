@@ -14,20 +14,24 @@ use Rattle.session_memory.specs.Session.{Session}
 -- ---------------------------------------------------------------- what is awaited
 
 abbrev pub withPhase : ℕ → Await → Await
-withPhase x w = record { phase = x; ff = w .ff; current = w .current; proposals = w .proposals; ours = w .ours; block = w .block }
+withPhase x w = record { phase = x; ff = w .ff; current = w .current; proposals = w .proposals; ours = w .ours; sum = w .sum; block = w .block }
 
 abbrev pub withFf : Bool → Await → Await
-withFf x w = record { phase = w .phase; ff = x; current = w .current; proposals = w .proposals; ours = w .ours; block = w .block }
+withFf x w = record { phase = w .phase; ff = x; current = w .current; proposals = w .proposals; ours = w .ours; sum = w .sum; block = w .block }
 
 abbrev pub withCurrent : ℕ → Await → Await
-withCurrent x w = record { phase = w .phase; ff = w .ff; current = x; proposals = w .proposals; ours = w .ours; block = w .block }
+withCurrent x w = record { phase = w .phase; ff = w .ff; current = x; proposals = w .proposals; ours = w .ours; sum = w .sum; block = w .block }
 
 -- how many there are, and where they stand
 abbrev pub withProposals : ℕ → Bytes → Await → Await
-withProposals x b w = record { phase = w .phase; ff = w .ff; current = w .current; proposals = x; ours = w .ours; block = b }
+withProposals x b w = record { phase = w .phase; ff = w .ff; current = w .current; proposals = x; ours = w .ours; sum = w .sum; block = b }
 
 abbrev pub withOurs : Five → Await → Await
-withOurs x w = record { phase = w .phase; ff = w .ff; current = w .current; proposals = w .proposals; ours = x; block = w .block }
+withOurs x w = record { phase = w .phase; ff = w .ff; current = w .current; proposals = w .proposals; ours = x; sum = w .sum; block = w .block }
+
+-- the sum of the lines of the partner's proposals
+abbrev pub withSum : ℕ → Await → Await
+withSum x w = record { phase = w .phase; ff = w .ff; current = w .current; proposals = w .proposals; ours = w .ours; sum = x; block = w .block }
 
 -- ---------------------------------------------------------------- what waits for give
 

@@ -10,7 +10,7 @@ use Rattle.grammar.specs.Ascii.{text}
 use Rattle.grammar.specs.Transfers.{partOf}
 use Rattle.buffer.specs.Put.{putBytes}
 use Rattle.buffer.specs.declared.Cursor.{Cursor}
-use Rattle.places.specs.Places.{markAt, sizeTable, sizeTitles, sizeNames, sizeBodies, sizeKnown, sizeInbox, sizeStore, numbersStart, phaseAt, ffAt, framedAt, afterCrAt, firstAt, thenAt, keptAt, currentAt, proposalsAt, oursAt, sendingAt, signsAt, placeAt, lengthAt, headAt, offsetAt, sumAt, lineLengthAt, leftAt, bodyAt, posAt, usedAt, arraysAt, deferredLen, headingLen, lineLen, blockLen, deferredAt, headingAt, lineAt, blockAt, sessionLen}
+use Rattle.places.specs.Places.{markAt, sizeTable, sizeTitles, sizeNames, sizeBodies, sizeKnown, sizeInbox, sizeStore, numbersStart, phaseAt, ffAt, framedAt, afterCrAt, firstAt, thenAt, keptAt, currentAt, proposalsAt, oursAt, sendingAt, signsAt, placeAt, lengthAt, headAt, offsetAt, sumAt, lineLengthAt, leftAt, bodyAt, posAt, usedAt, blockSumAt, arraysAt, deferredLen, headingLen, lineLen, blockLen, deferredAt, headingAt, lineAt, blockAt, sessionLen}
 use Rattle.layout.specs.Layout.{byteAt, le2At, le4At, le8At, le2, le4, le8}
 use Rattle.transfer_step.specs.Step.{startOf}
 use Rattle.session_memory.specs.declared.Five.{Five}
@@ -55,7 +55,7 @@ fiveAt sm a = record { count = byteAt sm a; items = arrayAt 5 sm (a + 1) }
 
 unfoldable pub loadAwait : Bytes → Await
 loadAwait sm =
-    record { phase = byteAt sm phaseAt; ff = eqb (byteAt sm ffAt) 1; current = byteAt sm currentAt; proposals = byteAt sm proposalsAt; ours = fiveAt sm oursAt; block = arrayAt blockLen sm (arraysAt + blockAt) }
+    record { phase = byteAt sm phaseAt; ff = eqb (byteAt sm ffAt) 1; current = byteAt sm currentAt; proposals = byteAt sm proposalsAt; ours = fiveAt sm oursAt; sum = byteAt sm blockSumAt; block = arrayAt blockLen sm (arraysAt + blockAt) }
 
 unfoldable pub loadSay : Bytes → Say
 loadSay sm = record { first = byteAt sm firstAt; then = byteAt sm thenAt; pos = le8At sm posAt; signs = fiveAt sm signsAt }
@@ -113,12 +113,16 @@ unfoldable pub numbersOut : Session → Bytes
 numbersOut s =
     le2 (s .line .len) ++ (le2 (s .reading .reader .left) ++ (le4 (s .reading .reader .body) ++ (le8 (s .say .pos) ++ le8 (s .keep .used))))
 
+-- The tail: numbers that came later, in the order of their places.
+unfoldable pub tailOut : Session → Bytes
+tailOut s = s .now .sum ∷ []
+
 unfoldable pub arraysOut : Session → Bytes
 arraysOut s = s .keep .deferred ++ (s .reading .heading ++ (s .line .bytes ++ s .now .block))
 
 -- The numbers, one after the other.
 abbrev pub numberPart : Session → Bytes
-numberPart s = smallOut s ++ numbersOut s
+numberPart s = smallOut s ++ (numbersOut s ++ tailOut s)
 
 -- Session memory after the state is saved: its numbers, and its arrays. The mark and the sizes stay, and so does every free byte.
 unfoldable pub saveOf : Bytes → Session → Bytes
@@ -135,7 +139,7 @@ saveSizes sm z = putBytes sm (at markAt) (sizesOut z)
 unfoldable pub freshOf : Bool → Session
 freshOf caller =
     record {
-      now = record { phase = flag caller; ff = false; current = 0; proposals = 0; ours = noFive; block = replicate blockLen 0 };
+      now = record { phase = flag caller; ff = false; current = 0; proposals = 0; ours = noFive; sum = 0; block = replicate blockLen 0 };
       say = record { first = cond caller 0 1; then = 0; pos = 0; signs = noFive };
       keep = record { framed = false; kept = 0; used = 0; sending = noFive; deferred = replicate deferredLen 0 };
       reading = record { reader = startOf 0; heading = replicate headingLen 0 };

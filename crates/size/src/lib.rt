@@ -4,7 +4,7 @@ use field::is_field;
 ghost use mathlib.Core.Path.{_≡_};
 ghost use mathlib.Core.Bool.{true};
 ghost use Rattle.grammar.specs.Fields.{isSize, readFrom, readSize};
-ghost use Rattle.size.specs.Meaning.{sizeIs};
+ghost use Rattle.size.specs.Meaning.{sizeIs, sizeNumber, fieldNumber};
 
 // The size that a field says, or that it says none.
 pub enum Size {
@@ -35,7 +35,7 @@ fn number(s: &[u8]) -> u32
 
 // An announced size.
 pub fn read_size(s: &[u8]) -> Size
-    ensures { λ r. ⌜ sizeIs r ≡ readSize (now (s .entry)) ⌝ }
+    ensures { λ r. ⌜ (sizeIs r ≡ readSize (now (s .entry))) × (sizeNumber r ≡ fieldNumber (now (s .entry))) ⌝ }
 {
     if !is_field(s, Class::Digit, 9) {
         return Size::Bad;

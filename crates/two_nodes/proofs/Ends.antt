@@ -22,7 +22,7 @@ use Rattle.grammar.proofs.Basics.{no-both, by-cond, or2}
 use Rattle.mail.specs.Mail.{messageOf, accepted}
 use Rattle.session.specs.Choices.{Shelf, chosen, answersTo}
 use Rattle.session.specs.Session.{Awaited, Phase, over, Memory, Session, Outcome, refuses, goesOn, speaking, turnMarks, answering, levelInForce, Stepped, settled, isPlain, keptIn, nextTransfer, step, ended, endedIn, opened}
-use Rattle.session.proofs.Ways.{Wrong, noSid, noF, noTurnLine, ffAfterFf, ffInBlock, fqFirst, fqInBlock, emptyBlock, tooMany, noAnswer, Judged, isWrong, hearsSid, hearsText, hearsPrompt, hearsProposal, hearsFF, hearsFQ, hearsEnd, hearsFs, Why, waits, hasLeft, isOver, tooLong, unread, unsummed, unkept, Way, isRefused, dropsLf, growsLine, ignoresLine, hearsLine, readsOn, readsLast, way}
+use Rattle.session.proofs.Ways.{Wrong, noSid, noF, noTurnLine, ffAfterFf, ffInBlock, fqFirst, fqInBlock, emptyBlock, emptySummed, tooMany, wrongHex, noAnswer, Judged, isWrong, hearsSid, hearsText, hearsPrompt, hearsProposal, hearsFF, hearsFQ, hearsEnd, hearsFs, Why, waits, hasLeft, isOver, tooLong, unread, unsummed, unkept, Way, isRefused, dropsLf, growsLine, ignoresLine, hearsLine, readsOn, readsLast, way}
 use Rattle.demand3.specs.Demand.{Call, receiving, giving, refusedCall, run}
 use Rattle.two_nodes.specs.Session.{End, ran, FqArrives}
 use Rattle.session.specs.Calls.{Received, oneMore, stoppedAt, stops, receiveOn, receive, give, handedOut}
@@ -71,7 +71,9 @@ module _ (E : Shelf) where
   wrong-numbered m ln n (fqFirst e) h = omega arith
   wrong-numbered m ln n (fqInBlock ff p ps e) h = omega arith
   wrong-numbered m ln n (emptyBlock ff e) h = omega arith
+  wrong-numbered m ln n (emptySummed ff c e) h = omega arith
   wrong-numbered m ln n (tooMany ff ps q e f) h = omega arith
+  wrong-numbered m ln n (wrongHex ff p ps c e f) h = omega arith
   wrong-numbered m ln n (noAnswer is e) h = answer-numbered (levelInForce m) (length is) (trim ln) e h
 
   line-ends : (m : Memory) (ln : Bytes) {a : Awaited} (o : Outcome) → Judged E m ln a o → Ending o

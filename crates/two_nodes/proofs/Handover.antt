@@ -28,7 +28,7 @@ use Rattle.session.proofs.Choices.{Places, chosen-places, one-sign-each}
 use Rattle.log.proofs.Spoken.{Fit, AllFit}
 use Rattle.demand2.specs.Refusals.{WholeLine}
 use Rattle.demand2.specs.Marks.{isSign, withSign}
-use Rattle.demand2.specs.Events.{messageFrom, withMessage, endsWithCr, proposed, blockText, transfersSaid, turnSaid, turnAwaits, weSpeak, transfersOr, Event, sidOfCaller, sidOfCalled, prompt, proposal, ffTurn, fqTurn, blockEnd, fsLineComes}
+use Rattle.demand2.specs.Events.{messageFrom, withMessage, endsWithCr, proposed, blockText, transfersSaid, turnSaid, turnAwaits, weSpeak, transfersOr, EndsBlock, bare, Event, sidOfCaller, sidOfCalled, prompt, proposal, ffTurn, fqTurn, blockEnd, fsLineComes}
 use Rattle.demand2.specs.Units.{lineBegun}
 use Rattle.demand2.specs.OurTurn.{rising, OurBlock}
 use Rattle.demand2.proofs.Marks.{accepted-is, answer-marks, turn-marks}
@@ -185,11 +185,11 @@ module _ (E F : Shelf) (SE : Sound E) (SF : Sound F) (s t : List ℕ) (p : Phase
 
   -- FF
   ff-heard : (n : Memory) (cr : Bool) → p ≡ newTurn true → proposed E m ≡ [] → m .framed ≡ true → n .framed ≡ true → m .sending ≡ []
-      → AllHas (F .table) (m .inbox) (n .sending) → P n → Hears F P Q (begun (awaitsTurn false []) n cr []) (withCr (fixedText ourFF))
+      → AllHas (F .table) (m .inbox) (n .sending) → P n → Hears F P Q (begun (awaitsTurn false [] []) n cr []) (withCr (fixedText ourFF))
   ff-heard n cr e z fm fn sm a c =
-      hears-line F P Q (awaitsTurn false []) n c (fixedText ourFF) cr [] (good-line (fixedLine ourFF) tt) refl
-      (λ d w. on (begun (awaitsTurn false []) n d (fixedText ourFF)) (weSpeak F true true [] (turnMarks n)) CR []
-      (happens F [] (begun (awaitsTurn false []) n d (fixedText ourFF)) CR tt (weSpeak F true true [] (turnMarks n))
+      hears-line F P Q (awaitsTurn false [] []) n c (fixedText ourFF) cr [] (good-line (fixedLine ourFF) tt) refl
+      (λ d w. on (begun (awaitsTurn false [] []) n d (fixedText ourFF)) (weSpeak F true true [] (turnMarks n)) CR []
+      (happens F [] (begun (awaitsTurn false [] []) n d (fixedText ourFF)) CR tt (weSpeak F true true [] (turnMarks n))
       (ffTurn (fixedText ourFF) (record { whole = w; awaited = refl }) (ff-read (n .framed)) (turnMarks n) (turn-marks n)))
       (inl
       (record {
@@ -201,11 +201,11 @@ module _ (E F : Shelf) (SE : Sound E) (SF : Sound F) (s t : List ℕ) (p : Phase
 
   -- FQ
   fq-heard : (n : Memory) (cr : Bool) → proposed E m ≡ [] → proposed F n ≡ [] → m .framed ≡ true → n .framed ≡ true → P n
-      → Hears F P Q (begun (awaitsTurn true []) n cr []) (withCr (fixedText ourFQ))
+      → Hears F P Q (begun (awaitsTurn true [] []) n cr []) (withCr (fixedText ourFQ))
   fq-heard n cr z y fm fn c =
-      hears-line F P Q (awaitsTurn true []) n c (fixedText ourFQ) cr [] (good-line (fixedLine ourFQ) tt) refl
-      (λ d w. on (begun (awaitsTurn true []) n d (fixedText ourFQ)) (between over true [] n) CR []
-      (happens F [] (begun (awaitsTurn true []) n d (fixedText ourFQ)) CR tt (between over true [] n)
+      hears-line F P Q (awaitsTurn true [] []) n c (fixedText ourFQ) cr [] (good-line (fixedLine ourFQ) tt) refl
+      (λ d w. on (begun (awaitsTurn true [] []) n d (fixedText ourFQ)) (between over true [] n) CR []
+      (happens F [] (begun (awaitsTurn true [] []) n d (fixedText ourFQ)) CR tt (between over true [] n)
       (fqTurn (fixedText ourFQ) (record { whole = w; awaited = refl }) (fq-read (n .framed))))
       (inr (record { phase = refl; silent = refl; claims = c; framedHere = fn; framedThere = fm; noneHere = y; noneThere = z })))
 
@@ -233,32 +233,32 @@ module _ (E F : Shelf) (SE : Sound E) (SF : Sound F) (s t : List ℕ) (p : Phase
 
     module _ (ff : Bool) (n : Memory) (fn : n .framed ≡ true) (a : AllHas (F .table) (m .inbox) (n .sending)) (c : P n) where
       -- F>
-      end-heard : (cr : Bool) → Hears F P Q (begun (awaitsTurn ff block) n cr []) (withCr (fixedText ourEnd))
-      end-heard cr =
-          hears-line F P Q (awaitsTurn ff block) n c (fixedText ourEnd) cr [] (good-line (fixedLine ourEnd) tt) refl
-          (λ d w. on (begun (awaitsTurn ff block) n d (fixedText ourEnd)) (transfersOr F true (withCr (fsLine (answersTo F (n .inbox) block))) (withSign accept block (answersTo F (n .inbox) block)) (turnMarks n)) CR []
-          (happens F [] (begun (awaitsTurn ff block) n d (fixedText ourEnd)) CR tt _
-          (blockEnd (fixedText ourEnd) ff (proposalOf (recordAt (E .table) i)) (proposalsAt (E .table) is) (record { whole = w; awaited = refl }) (end-read (n .framed)) (turnMarks n) (turn-marks n)))
+      end-heard : (raw : Bytes) (cr : Bool) → Hears F P Q (begun (awaitsTurn ff block raw) n cr []) (withCr (fixedText ourEnd))
+      end-heard raw cr =
+          hears-line F P Q (awaitsTurn ff block raw) n c (fixedText ourEnd) cr [] (good-line (fixedLine ourEnd) tt) refl
+          (λ d w. on (begun (awaitsTurn ff block raw) n d (fixedText ourEnd)) (transfersOr F true (withCr (fsLine (answersTo F (n .inbox) block))) (withSign accept block (answersTo F (n .inbox) block)) (turnMarks n)) CR []
+          (happens F [] (begun (awaitsTurn ff block raw) n d (fixedText ourEnd)) CR tt _
+          (blockEnd (fixedText ourEnd) ff (proposalOf (recordAt (E .table) i)) (proposalsAt (E .table) is) (record { whole = w; awaited = refl }) (subst (EndsBlock raw) (sym (end-read (n .framed))) bare) (turnMarks n) (turn-marks n)))
           (inl (fs-handed (turnMarks n) fn refl (marks-claims n a c) (withSign accept block (answersTo F (n .inbox) block)) refl)))
 
       -- the proposals at js, and F>
-      block-heard : (js : List ℕ) (ps : List Proposal) (cr : Bool) → AllFit true (proposalsAt (E .table) js) → length ps + length js ≤ 5
-          → ps ++ proposalsAt (E .table) js ≡ block → Hears F P Q (begun (awaitsTurn ff ps) n cr []) (blockText (E .table) js)
-      block-heard [] ps cr f l k =
-          subst (λ (x : List Proposal). Hears F P Q (begun (awaitsTurn ff x) n cr []) (withCr (fixedText ourEnd))) (sym (sym (append-nil ps) ∙ k)) (end-heard cr)
-      block-heard (j ∷ js) ps cr f l k =
+      block-heard : (js : List ℕ) (ps : List Proposal) (raw : Bytes) (cr : Bool) → AllFit true (proposalsAt (E .table) js) → length ps + length js ≤ 5
+          → ps ++ proposalsAt (E .table) js ≡ block → Hears F P Q (begun (awaitsTurn ff ps raw) n cr []) (blockText (E .table) js)
+      block-heard [] ps raw cr f l k =
+          subst (λ (x : List Proposal). Hears F P Q (begun (awaitsTurn ff x raw) n cr []) (withCr (fixedText ourEnd))) (sym (sym (append-nil ps) ∙ k)) (end-heard raw cr)
+      block-heard (j ∷ js) ps raw cr f l k =
           let r : Proposal = proposalOf (recordAt (E .table) j) in
           let z = length-append ps (r ∷ []) in
-          hears-line F P Q (awaitsTurn ff ps) n c (proposalLine r) cr (blockText (E .table) js) (good-line (ourProposal r) (f .0 .0)) (proposal-head r)
-          (λ d w. on (begun (awaitsTurn ff ps) n d (proposalLine r)) (between (aLine (awaitsTurn ff (ps ++ (r ∷ [])))) true [] n) CR (blockText (E .table) js)
-          (happens F [] (begun (awaitsTurn ff ps) n d (proposalLine r)) CR tt (between (aLine (awaitsTurn ff (ps ++ (r ∷ [])))) true [] n)
+          hears-line F P Q (awaitsTurn ff ps raw) n c (proposalLine r) cr (blockText (E .table) js) (good-line (ourProposal r) (f .0 .0)) (proposal-head r)
+          (λ d w. on (begun (awaitsTurn ff ps raw) n d (proposalLine r)) (between (aLine (awaitsTurn ff (ps ++ (r ∷ [])) (raw ++ withCr (proposalLine r)))) true [] n) CR (blockText (E .table) js)
+          (happens F [] (begun (awaitsTurn ff ps raw) n d (proposalLine r)) CR tt (between (aLine (awaitsTurn ff (ps ++ (r ∷ [])) (raw ++ withCr (proposalLine r)))) true [] n)
           (proposal (proposalLine r) ff ps (record { whole = w; awaited = refl }) r (ap (λ (x : Bool). readTurnLine x (proposalLine r)) fn ∙ proposal-read true r (f .0 .0) (f .0 .1)) (omega arith)))
-          (block-heard js (ps ++ (r ∷ [])) true (f .1) (omega arith) (append-assoc ps (r ∷ []) (proposalsAt (E .table) js) ∙ k)))
+          (block-heard js (ps ++ (r ∷ [])) (raw ++ withCr (proposalLine r)) true (f .1) (omega arith) (append-assoc ps (r ∷ []) (proposalsAt (E .table) js) ∙ k)))
 
   -- A TURN
   turn-heard : (ff : Bool) (n : Memory) (cr : Bool) → p ≡ turnAwaits ff (proposed E m) → m .framed ≡ true → n .framed ≡ true → m .sending ≡ []
       → AllHas (F .table) (m .inbox) (n .sending) → (ff ≡ true → proposed F n ≡ []) → P n
-      → Hears F P Q (begun (awaitsTurn ff []) n cr []) (turnSaid E ff (proposed E m))
+      → Hears F P Q (begun (awaitsTurn ff [] []) n cr []) (turnSaid E ff (proposed E m))
   turn-heard ff n cr e fm fn sm a z c = go ff (proposed E m) refl e z
     where
       S : Rattle.demand3.proofs.Choice.Sound E
@@ -271,11 +271,11 @@ module _ (E F : Shelf) (SE : Sound E) (SF : Sound F) (s t : List ℕ) (p : Phase
       few is d = subst (λ (l : List ℕ). length l ≤ 5) d (S .few m)
 
       go : (ff : Bool) (is : List ℕ) → proposed E m ≡ is → p ≡ turnAwaits ff is → (ff ≡ true → proposed F n ≡ [])
-          → Hears F P Q (begun (awaitsTurn ff []) n cr []) (turnSaid E ff is)
+          → Hears F P Q (begun (awaitsTurn ff [] []) n cr []) (turnSaid E ff is)
       go true [] d e z = fq-heard n cr d (z refl) fm fn c
       go false [] d e z = ff-heard n cr e d fm fn sm a c
-      go true (i ∷ is) d e z = let l = few (i ∷ is) d in block-heard i is (sym d) e fm sm true n fn a c (i ∷ is) [] cr (fits (i ∷ is) d) (omega arith) refl
-      go false (i ∷ is) d e z = let l = few (i ∷ is) d in block-heard i is (sym d) e fm sm false n fn a c (i ∷ is) [] cr (fits (i ∷ is) d) (omega arith) refl
+      go true (i ∷ is) d e z = let l = few (i ∷ is) d in block-heard i is (sym d) e fm sm true n fn a c (i ∷ is) [] [] cr (fits (i ∷ is) d) (omega arith) refl
+      go false (i ∷ is) d e z = let l = few (i ∷ is) d in block-heard i is (sym d) e fm sm false n fn a c (i ∷ is) [] [] cr (fits (i ∷ is) d) (omega arith) refl
 
   -- AN FS LINE on our records at i and is
   module _ (i : ℕ) (is : List ℕ) (n : Memory) (own : i ∷ is ≡ proposed F n) (fm : m .framed ≡ true) (fn : n .framed ≡ true) (sm : m .sending ≡ []) (sn : n .sending ≡ []) (c : P n) where
@@ -322,7 +322,7 @@ module _ (E F : Shelf) (SE : Sound E) (SF : Sound F) (s t : List ℕ) (p : Phase
     sent = ap (λ (l : List ℕ). l ++ accepted ss (i ∷ is)) sn ∙ accepted-is (i ∷ is) ss
 
     heard-fs : (d : Bool) → WholeLine (begun (awaitsAnswer (i ∷ is)) n d (fsLine ss)) CR (fsLine ss)
-        → step F (begun (awaitsAnswer (i ∷ is)) n d (fsLine ss)) CR ≡ moved (between (aLine (awaitsTurn false [])) true (transfersSaid (F .table) (withSign accept (i ∷ is) ss)) after)
+        → step F (begun (awaitsAnswer (i ∷ is)) n d (fsLine ss)) CR ≡ moved (between (aLine (awaitsTurn false [] [])) true (transfersSaid (F .table) (withSign accept (i ∷ is) ss)) after)
     heard-fs d w =
         happens F [] (begun (awaitsAnswer (i ∷ is)) n d (fsLine ss)) CR tt _ (fsLineComes (fsLine ss) (i ∷ is) w refl ss read after (answer-marks (i ∷ is) ss n))
 
@@ -332,14 +332,14 @@ module _ (E F : Shelf) (SE : Sound E) (SF : Sound F) (s t : List ℕ) (p : Phase
     fs-heard [] k o cr e =
         subst (Hears F P Q (begun (awaitsAnswer (i ∷ is)) n cr [])) (sym (ap (λ (u : Session). u .out) e))
         (hears-line F P Q (awaitsAnswer (i ∷ is)) n c (fsLine ss) cr (turnSaid E false (proposed E m)) good (fs-head ss)
-        (λ d w. on (begun (awaitsAnswer (i ∷ is)) n d (fsLine ss)) (begun (awaitsTurn false []) after true []) CR (turnSaid E false (proposed E m))
-        (heard-fs d w ∙ ap (λ (l : List ℕ). moved (between (aLine (awaitsTurn false [])) true (transfersSaid (F .table) l) after)) k)
+        (λ d w. on (begun (awaitsAnswer (i ∷ is)) n d (fsLine ss)) (begun (awaitsTurn false [] []) after true []) CR (turnSaid E false (proposed E m))
+        (heard-fs d w ∙ ap (λ (l : List ℕ). moved (between (aLine (awaitsTurn false [] [])) true (transfersSaid (F .table) l) after)) k)
         (turn-heard false after true (ap (λ (u : Session). u .phase) e) fm fn sm (subst (AllHas (F .table) (m .inbox)) (sym (sent ∙ k)) tt) (λ x. absurd (no-both false x refl)) claims)))
     fs-heard (j ∷ js) k o cr e =
         subst (Hears F P Q (begun (awaitsAnswer (i ∷ is)) n cr [])) (append-nil fs ∙ sym (ap (λ (u : Session). u .out) e))
         (hears-line F P Q (awaitsAnswer (i ∷ is)) n c (fsLine ss) cr [] good (fs-head ss)
-        (λ d w. on (begun (awaitsAnswer (i ∷ is)) n d (fsLine ss)) (between (aLine (awaitsTurn false [])) true (transfersSaid (F .table) (j ∷ js)) after) CR []
-        (heard-fs d w ∙ ap (λ (l : List ℕ). moved (between (aLine (awaitsTurn false [])) true (transfersSaid (F .table) l) after)) k)
+        (λ d w. on (begun (awaitsAnswer (i ∷ is)) n d (fsLine ss)) (between (aLine (awaitsTurn false [] [])) true (transfersSaid (F .table) (j ∷ js)) after) CR []
+        (heard-fs d w ∙ ap (λ (l : List ℕ). moved (between (aLine (awaitsTurn false [] [])) true (transfersSaid (F .table) l) after)) k)
         (inl
         (record {
           fresh = refl;
@@ -403,7 +403,7 @@ module _ (E F : Shelf) (SE : Sound E) (SF : Sound F) (s t : List ℕ) (p : Phase
   sid-heard n cr e fm sm sn c =
       let fs = sid-features in
       hears-line F P Q (awaitsSid false) n c (fixedText ourSid) cr (turnSaid E false (proposed E m)) (good-line (fixedLine ourSid) tt) refl
-      (λ d w. on (begun (awaitsSid false) n d (fixedText ourSid)) (begun (awaitsTurn false []) (withFramed (framed (fs .0)) n) true []) CR (turnSaid E false (proposed E m))
+      (λ d w. on (begun (awaitsSid false) n d (fixedText ourSid)) (begun (awaitsTurn false [] []) (withFramed (framed (fs .0)) n) true []) CR (turnSaid E false (proposed E m))
       (happens F [] (begun (awaitsSid false) n d (fixedText ourSid)) CR tt _ (sidOfCaller (fixedText ourSid) w refl (fs .0) (fs .1) (fs .2)))
       (turn-heard false (withFramed (framed (fs .0)) n) true e fm (fs .3) sm (subst (AllHas (F .table) (m .inbox)) (sym sn) tt) (λ x. absurd (no-both false x refl)) (same-claims n (framed (fs .0)) c)))
 

@@ -18,6 +18,7 @@ use Rattle.session.specs.Calls.{Received, receive, give}
 use Rattle.grammar.specs.Refusals.{sessionEnded}
 use Rattle.demand2.specs.OurTurn.{mayPropose}
 use Rattle.session_memory.specs.State.{loadOf}
+use Rattle.give.specs.declared.Reply.{Reply}
 use Rattle.log.specs.Log.{Event}
 use Rattle.demand3.specs.Demand as on-lists-run
 use Rattle.entries.specs.Decoded.{recordsOf, knownBids, placeCount, recordCount, entries}
@@ -191,7 +192,7 @@ answers-are : (x : Box) (cs : CallsOn (x .memory)) (b : Buffer)
     → received (fixedIn (x .memory)) (finally (x .role) (x .memory) cs) (b .bytes) .reply .answer ≡ receive (shelfIn (x .memory)) (sessionOf x cs) (b .bytes) .answer
 answers-are x cs b =
     let d = demand-2-lent (x .role) (x .memory) (x .opens) cs in
-    d .answers b ∙ ap (λ (s : Session). receive (shelfIn (x .memory)) s (b .bytes) .answer) (d .same)
+    ap (λ (y : Reply). y .answer) (d .receives b) ∙ ap (λ (s : Session). receive (shelfIn (x .memory)) s (b .bytes) .answer) (d .same)
 
 nothing : Buffer
 nothing = record { bytes = []; octets = refl; short = omega arith }

@@ -23,6 +23,7 @@ use Rattle.our_line.specs.Lines.{fsText}
 use Rattle.session_memory.specs.State.{held}
 use Rattle.session_memory.specs.declared.Five.{Five}
 use Rattle.session_memory.specs.Session.{Session}
+use Rattle.places.specs.Places.{recordTitle, recordTitleLength, recordName, recordNameLength, recordBody, recordBodyLength}
 use Rattle.waiting.specs.Waiting.{proposalAt, firstText, blockText, sendingText, thenText, waitingOf}
 
 -- ---------------------------------------------------------------- parts, fields and lists of five
@@ -71,9 +72,9 @@ record-short table titles names bodies o i =
     let c : Bytes = entryAt recordSize table i in
     let r : Record = recordOf titles names bodies c in
     let b : (j : ℕ) → byteAt c j < 256 = part-octets table o (i * 89) 89 in
-    let t : length (r .title) ≤ 255 = omega (arith, part-short titles (le4At c 73) (byteAt c 77), b 77) in
-    let n : length (r .name) ≤ 255 = omega (arith, part-short names (le4At c 78) (byteAt c 82), b 82) in
-    let x : length (r .body) ≤ 65535 = omega (arith, part-short bodies (le4At c 83) (le2At c 87), le2-small c b 87) in
+    let t : length (r .title) ≤ 255 = omega (arith, part-short titles (le4At c recordTitle) (byteAt c recordTitleLength), b recordTitleLength) in
+    let n : length (r .name) ≤ 255 = omega (arith, part-short names (le4At c recordName) (byteAt c recordNameLength), b recordNameLength) in
+    let x : length (r .body) ≤ 65535 = omega (arith, part-short bodies (le4At c recordBody) (le2At c recordBodyLength), le2-small c b recordBodyLength) in
     transfer-short (r .form) (headingFor (r .form) r) (r .body) (heading-short (r .form) r t n) x
 
 -- ---------------------------------------------------------------- all that waits

@@ -9,6 +9,9 @@ use Rattle.grammar.specs.Turns.{fixedText, withCr, ourSid, ourPrompt, ourFF, ou
 use Rattle.mail.specs.Mail as mail
 use Rattle.mail.specs.Mail.{turnText}
 use Rattle.layout.specs.Layout.{entryAt, recordSize, recordOf}
+use Rattle.phase.specs.Phase.{pieceNone, pieceSidAndPrompt, pieceSid, pieceFF, pieceFQ, pieceBlock}
+use Rattle.places.specs.Places.{recordTitle, recordName}
+use Rattle.record_text.specs.Texts.{fileForm}
 use Rattle.our_line.specs.Lines.{fsText}
 use Rattle.session_memory.specs.State.{held}
 use Rattle.session_memory.specs.declared.Five.{Five}
@@ -20,14 +23,14 @@ proposalAt table i = mail.proposalOf (recordOf [] [] [] (entryAt recordSize tabl
 
 -- Where a record of this form tells the start of its heading; its length stands four bytes further. The name's for a file, else the title's.
 abbrev pub headingPlace : ℕ → ℕ
-headingPlace form = cond (eqb form 2) 78 73
+headingPlace form = cond (eqb form fileForm) recordName recordTitle
 
--- first: 0 nothing, 1 our SID and the prompt, 2 our SID, any other: the FS line of our signs
+-- What is said first; any number without a name of its own: the FS line of our signs
 unfoldable pub firstText : ℕ → Five → Bytes
 firstText first signs =
-    cond (eqb first 0) []
-    (cond (eqb first 1) (withCr (fixedText ourSid) ++ withCr (fixedText ourPrompt))
-    (cond (eqb first 2) (withCr (fixedText ourSid))
+    cond (eqb first pieceNone) []
+    (cond (eqb first pieceSidAndPrompt) (withCr (fixedText ourSid) ++ withCr (fixedText ourPrompt))
+    (cond (eqb first pieceSid) (withCr (fixedText ourSid))
     (fsText (held signs))))
 
 -- "one to five proposals and `F>`"
@@ -40,13 +43,13 @@ sendingText table titles names bodies [] = []
 sendingText table titles names bodies (i ∷ is) =
     mail.transferOf (recordOf titles names bodies (entryAt recordSize table i)) ++ sendingText table titles names bodies is
 
--- then: 0 nothing, 1 FF, 2 FQ, 3 our block, any other: the transfers of the records being sent
+-- What is said after it; any number without a name of its own: the transfers of the records being sent
 unfoldable pub thenText : ℕ → Five → Five → Bytes → Bytes → Bytes → Bytes → Bytes
 thenText then ours sending table titles names bodies =
-    cond (eqb then 0) []
-    (cond (eqb then 1) (withCr (fixedText ourFF))
-    (cond (eqb then 2) (withCr (fixedText ourFQ))
-    (cond (eqb then 3) (blockText table (held ours))
+    cond (eqb then pieceNone) []
+    (cond (eqb then pieceFF) (withCr (fixedText ourFF))
+    (cond (eqb then pieceFQ) (withCr (fixedText ourFQ))
+    (cond (eqb then pieceBlock) (blockText table (held ours))
     (sendingText table titles names bodies (held sending)))))
 
 -- All that waits, given bytes included.

@@ -13,6 +13,7 @@ use Rattle.grammar.specs.Sid.{sidNumber}
 use Rattle.grammar.specs.Turns.{TurnLine}
 use Rattle.sid.specs.declared.Sid.{Sid}
 use Rattle.sid.specs.Meaning.{featuresOf, sidOf}
+use Rattle.byte.specs.declared.Hex.{Hex}
 use Rattle.proposal.specs.declared.TurnLine as told
 use Rattle.proposal.specs.Meaning.{turnLineIs, LiesIn}
 use Rattle.words_read.specs.Numbers.{sidLevels, turnLineCode, NumbersOf, toldNumbers, toldCode}
@@ -42,14 +43,16 @@ form-number (suc (suc (suc n))) h = let z : ⊥ = omega arith in absurd z
 code-of : (l : Bytes) (t : told.TurnLine) → toldCode t ≡ turnLineCode (turnLineIs l t)
 code-of l told.TurnLine.FF = refl
 code-of l told.TurnLine.FQ = refl
-code-of l told.TurnLine.End = refl
+code-of l (told.TurnLine.End (Hex.Value h)) = refl
+code-of l (told.TurnLine.End Hex.Other) = refl
 code-of l told.TurnLine.NotAllowed = refl
 code-of l (told.TurnLine.Proposed p) = refl
 
 numbers-of : (l : Bytes) (t : told.TurnLine) → LiesIn l t → NumbersOf l (turnLineIs l t) (toldNumbers t)
 numbers-of l told.TurnLine.FF h = refl
 numbers-of l told.TurnLine.FQ h = refl
-numbers-of l told.TurnLine.End h = refl
+numbers-of l (told.TurnLine.End (Hex.Value n)) h = refl
+numbers-of l (told.TurnLine.End Hex.Other) h = refl
 numbers-of l told.TurnLine.NotAllowed h = refl
 numbers-of l (told.TurnLine.Proposed p) h =
     record {

@@ -10,7 +10,8 @@ use Rattle.grammar.specs.Bytes.{Bytes}
 use Rattle.grammar.specs.Fields.{formNumber}
 use Rattle.grammar.specs.Lines.{LineByte, dropped, ends, grows, overruns}
 use Rattle.grammar.specs.Sid.{noFeatures}
-use Rattle.grammar.specs.Turns.{Proposal, TurnLine, saysFF, saysFQ, endsBlock, notAllowed, proposes, turnLineNumber}
+use Rattle.grammar.specs.Turns.{Proposal, TurnLine, saysFF, saysFQ, endsBlock, notAllowed, proposes, endsSummed, turnLineNumber}
+use Rattle.byte.specs.declared.Hex.{Hex}
 use Rattle.span.specs.declared.Span.{Span}
 use Rattle.span.specs.Places.{part}
 use Rattle.proposal.specs.declared.Proposal as code
@@ -33,12 +34,13 @@ abbrev pub sidLevels : Option (List ℕ) → List ℕ
 sidLevels none = noFeatures
 sidLevels (some fs) = fs
 
--- What a line says in a turn: 0 FF, 1 FQ, 2 F>, 3 a proposal; 01's number of a line that is not allowed.
+-- What a line says in a turn: 0 FF, 1 FQ, 2 F>, 3 a proposal, 4 F> with a checksum; 01's number of a line that is not allowed.
 abbrev pub turnLineCode : TurnLine → ℕ
 turnLineCode saysFF = 0
 turnLineCode saysFQ = 1
 turnLineCode endsBlock = 2
 turnLineCode (proposes p) = 3
+turnLineCode (endsSummed h) = 4
 turnLineCode notAllowed = turnLineNumber notAllowed
 
 -- The eleven numbers of a proposal: form, type, start and end of from, at, to and BID, and size.
@@ -65,29 +67,42 @@ pub record Numbers (l : Bytes) (p : Proposal) (out : List ℕ) : Type 0 where
 abbrev pub zeros : List ℕ
 zeros = replicate 11 0
 
--- The eleven numbers of what a line says: those of a proposal, else zeros.
+-- A checksum behind F>, and zeros.
+abbrev pub summedNumbers : ℕ → List ℕ
+summedNumbers h = h ∷ replicate 10 0
+
+-- The eleven numbers of what a line says: those of a proposal, a checksum, else zeros.
 abbrev pub NumbersOf : Bytes → TurnLine → List ℕ → Type 0
 NumbersOf l saysFF out = out ≡ zeros
 NumbersOf l saysFQ out = out ≡ zeros
 NumbersOf l endsBlock out = out ≡ zeros
 NumbersOf l notAllowed out = out ≡ zeros
 NumbersOf l (proposes p) out = Numbers l p out
+NumbersOf l (endsSummed h) out = out ≡ summedNumbers h
 
 -- ---------------------------------------------------------------- on the way there: the same of the code's own answer
 
 abbrev pub proposalNumbers : code.Proposal → List ℕ
 proposalNumbers p = eleven (p .form) (p .kind) (p .from) (p .at) (p .to) (p .bid) (p .size)
 
+abbrev pub endNumbers : Hex → List ℕ
+endNumbers (Hex.Value h) = summedNumbers h
+endNumbers Hex.Other = zeros
+
+abbrev pub endCode : Hex → ℕ
+endCode (Hex.Value h) = 4
+endCode Hex.Other = 2
+
 abbrev pub toldNumbers : told.TurnLine → List ℕ
 toldNumbers told.TurnLine.FF = zeros
 toldNumbers told.TurnLine.FQ = zeros
-toldNumbers told.TurnLine.End = zeros
+toldNumbers (told.TurnLine.End check) = endNumbers check
 toldNumbers told.TurnLine.NotAllowed = zeros
 toldNumbers (told.TurnLine.Proposed p) = proposalNumbers p
 
 abbrev pub toldCode : told.TurnLine → ℕ
 toldCode told.TurnLine.FF = 0
 toldCode told.TurnLine.FQ = 1
-toldCode told.TurnLine.End = 2
+toldCode (told.TurnLine.End check) = endCode check
 toldCode (told.TurnLine.Proposed p) = 3
 toldCode told.TurnLine.NotAllowed = 5

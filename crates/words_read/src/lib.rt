@@ -1,5 +1,6 @@
 // The readers of the protocol's words for callers from C and Rust, in numbers and byte slices. They serve tests and benchmarks; the
 // product's own calls are in the crate fringemole.
+use byte::Hex;
 use line::LineByte;
 use proposal::Proposal;
 use proposal::TurnLine;
@@ -10,7 +11,7 @@ ghost use Rattle.grammar.specs.Sid.{readSid, sidNumber};
 ghost use Rattle.grammar.specs.Turns.{readTurnLine};
 ghost use Rattle.line.specs.Byte.{lineByteIs};
 ghost use Rattle.fs_line.specs.Answers.{answerNumber, answerSigns};
-ghost use Rattle.words_read.specs.Numbers.{holds, lineByteCode, sidLevels, turnLineCode, NumbersOf, proposalNumbers, toldNumbers, toldCode};
+ghost use Rattle.words_read.specs.Numbers.{holds, lineByteCode, sidLevels, turnLineCode, NumbersOf, proposalNumbers, endNumbers, endCode, toldNumbers, toldCode};
 
 // How many bytes of a line are judged: all but the spaces at its end.
 #[no_mangle]
@@ -71,14 +72,34 @@ fn proposal_numbers(p: Proposal) -> [u64; 11]
     ]
 }
 
-// The numbers of a proposal; zeros for any other line.
+// F>: its checksum stands first.
+fn end_numbers(check: Hex) -> [u64; 11]
+    ensures { λ r. ⌜ r ≡ endNumbers check ⌝ }
+{
+    match check {
+        Hex::Value(h) => [h as u64, 0, 0, 0, 0, 0, 0, 0, 0, 0, 0],
+        Hex::Other => [0u64; 11],
+    }
+}
+
+// The number of F>, with a checksum or with none.
+fn end_code(check: Hex) -> u8
+    ensures { λ r. ⌜ r ≡ endCode check ⌝ }
+{
+    match check {
+        Hex::Value(_h) => 4,
+        Hex::Other => 2,
+    }
+}
+
+// The numbers of a proposal, or the checksum behind F>; zeros for any other line.
 fn told_numbers(told: TurnLine) -> [u64; 11]
     ensures { λ r. ⌜ r ≡ toldNumbers told ⌝ }
 {
     match told {
         TurnLine::FF => [0u64; 11],
         TurnLine::FQ => [0u64; 11],
-        TurnLine::End => [0u64; 11],
+        TurnLine::End(check) => end_numbers(check),
         TurnLine::NotAllowed => [0u64; 11],
         TurnLine::Proposed(p) => proposal_numbers(p),
     }
@@ -91,13 +112,13 @@ fn told_code(told: TurnLine) -> u8
     match told {
         TurnLine::FF => 0,
         TurnLine::FQ => 1,
-        TurnLine::End => 2,
+        TurnLine::End(check) => end_code(check),
         TurnLine::Proposed(_p) => 3,
         TurnLine::NotAllowed => 5,
     }
 }
 
-// What a line, its spaces at the end removed, says in a turn, and a proposal's numbers. framed: 0 plain mode, else framed mode.
+// What a line, its spaces at the end removed, says in a turn, and a proposal's numbers or a block's checksum. framed: 0 plain mode, else framed mode.
 #[no_mangle]
 pub extern "C" fn words_read_turn_line(line: &[u8], framed: u8, out: &mut [u64; 11]) -> u8
     ensures { λ r. ⌜ (r ≡ turnLineCode (readTurnLine (holds framed) (now (line .entry)))) × NumbersOf (now (line .entry)) (readTurnLine (holds framed) (now (line .entry))) (now (out .exit)) ⌝ }

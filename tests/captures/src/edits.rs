@@ -1,5 +1,6 @@
-//! Three edits of what a mailbox said, each for a point where the captures leave
-//! 01, so that the rest of the session is tried too.
+//! Two edits of what a mailbox said, each for a point where the captures leave
+//! what our node takes, so that the rest of the session is tried too; and one that a
+//! checksum must find.
 
 use crate::capture::{replaced, Capture, Said};
 use second::sid::{self, Feature};
@@ -7,8 +8,7 @@ use second::sid::{self, Feature};
 /// An edit, with what the outcome file calls it.
 pub type Edit = (&'static str, fn(&Capture) -> Option<Capture>);
 
-pub const ALL: [Edit; 3] =
-    [("B out of its SID", plain), ("bare F>", bare), ("offset 000000", zeros)];
+pub const ALL: [Edit; 2] = [("B out of its SID", plain), ("offset 000000", zeros)];
 
 /// The stand-in had no B in its SID, so the mailbox spoke plain; our node has B.
 /// So B goes from the mailbox's SID, which is then what `fbbcomp = NO` makes it.
@@ -27,19 +27,30 @@ fn plain(capture: &Capture) -> Option<Capture> {
     Some(changed(capture, |bytes| replaced(bytes, &sid, &without)))
 }
 
-/// The mailbox ends each block with `F> HH` (Q-5); here with a bare `F>`.
-fn bare(capture: &Capture) -> Option<Capture> {
+/// The link changes one letter of a BID: the last of the first proposal in each of the
+/// mailbox's turns.
+pub fn letter(capture: &Capture) -> Option<Capture> {
     let edited = changed(capture, |bytes| {
-        let text = bytes.strip_suffix(b"\n").unwrap_or(bytes);
-        let line = text.strip_suffix(b"\r")?.len().checked_sub(5)?;
-        if !text[line..].starts_with(b"F> ")
-            || line > 0 && text[line - 1] != b'\r' && text[line - 1] != b'\n'
-        {
-            return None;
-        }
-        Some([&bytes[..line + 2], &bytes[line + 5..]].concat())
+        let lines = bytes.split_inclusive(|&byte| byte == b'\r');
+        let starts = lines.scan(0, |at, line| Some(std::mem::replace(at, *at + line.len())));
+        let starts: Vec<usize> = starts.map(|at| at + lf(bytes, at)).collect();
+        let line = *starts.iter().find(|&&at| is_proposal(&bytes[at..]))?;
+        let size = line + bytes[line..].iter().position(|&byte| byte == b'\r')?;
+        let bid_end = bytes[..size].iter().rposition(|&byte| byte == b' ')?;
+        let mut bytes = bytes.to_vec();
+        bytes[bid_end - 1] ^= 1;
+        Some(bytes)
     });
     (edited.script != capture.script).then_some(edited)
+}
+
+/// Whether an LF stands there.
+fn lf(bytes: &[u8], at: usize) -> usize {
+    usize::from(bytes.get(at) == Some(&b'\n'))
+}
+
+fn is_proposal(line: &[u8]) -> bool {
+    line.starts_with(b"FA ") || line.starts_with(b"FB ")
 }
 
 /// The mailbox pads the offset of a framed header with blanks; here with zeros.
@@ -82,13 +93,15 @@ mod tests {
     }
 
     #[test]
-    fn the_checksum_goes_at_a_blocks_end_only() {
-        let edited = |peer| bare(&capture(peer, b"")).map(|c| c.bytes(false));
-        assert_eq!(edited(b"FB x\rF> 1A\r"), Some(b"FB x\rF>\r".to_vec()));
-        assert_eq!(edited(b"FB x\r\nF> 1A\r\n"), Some(b"FB x\r\nF>\r\n".to_vec()));
-        assert_eq!(edited(b"F> 1A\rmore\r"), None);
-        assert_eq!(edited(b"BBSF> 1A\r"), None);
+    fn a_letter_changes_in_each_turn() {
+        let edited = |peer| letter(&capture(peer, b"")).map(|c| c.bytes(false));
+        assert_eq!(
+            edited(b"FF\r\nFB P A B C 1_A 5\r\nFB P A B C 2_A 5\r\nF> 1A\r"),
+            Some(b"FF\r\nFB P A B C 1_@ 5\r\nFB P A B C 2_A 5\r\nF> 1A\r".to_vec())
+        );
+        assert_eq!(edited(b"FA P A B C 1_B 5\r"), Some(b"FA P A B C 1_C 5\r".to_vec()));
         assert_eq!(edited(b"FF\r"), None);
+        assert_eq!(edited(b"XFB P A B C 1_A 5\r"), None);
     }
 
     #[test]

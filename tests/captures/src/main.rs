@@ -36,7 +36,8 @@ fn load() -> Result<Vec<Capture>, String> {
     paths.iter().map(|path| Capture::load(path)).collect()
 }
 
-/// The capture, and then with one more of 01's open points edited each time.
+/// The capture, and then with one more of 01's open points edited each time; last, all of
+/// them with another letter in a BID.
 fn variants(capture: &Capture) -> Vec<(String, Capture)> {
     let mut variants = vec![("as captured".to_owned(), capture.clone())];
     let (mut names, mut edited) = (Vec::new(), capture.clone());
@@ -46,6 +47,10 @@ fn variants(capture: &Capture) -> Vec<(String, Capture)> {
             edited = more;
             variants.push((names.join(", "), edited.clone()));
         }
+    }
+    if let Some(changed) = edits::letter(&edited) {
+        names.push("another letter in a BID");
+        variants.push((names.join(", "), changed));
     }
     variants
 }

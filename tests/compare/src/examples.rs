@@ -82,6 +82,7 @@ impl Words for Second {
             Ok(TurnLine::Quit) => 1,
             Ok(TurnLine::BlockEnd) => 2,
             Ok(TurnLine::Proposal(_)) => 3,
+            Ok(TurnLine::SummedEnd(_)) => 4,
             Err(refusal) => refusal.number(),
         }
     }

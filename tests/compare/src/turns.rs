@@ -1,4 +1,4 @@
-//! Turn lines: FF, FQ, `F>` and proposals, in both modes.
+//! Turn lines: FF, FQ, `F>`, `F> HH` and proposals, in both modes.
 
 use crate::report::{same, Checked, Input};
 use crate::run::Run;
@@ -31,6 +31,13 @@ fn numbers(line: &[u8], p: &Proposal<'_>) -> [u64; 11] {
     out
 }
 
+/// A line's only number.
+fn first(number: u8) -> [u64; 11] {
+    let mut out = [0; 11];
+    out[0] = number.into();
+    out
+}
+
 fn second_answer(line: &[u8], framed: u8, mark: u64) -> Answer {
     let mode = match framed {
         0 => Mode::Plain,
@@ -41,6 +48,7 @@ fn second_answer(line: &[u8], framed: u8, mark: u64) -> Answer {
         Ok(TurnLine::Quit) => (1, [0; 11]),
         Ok(TurnLine::BlockEnd) => (2, [0; 11]),
         Ok(TurnLine::Proposal(p)) => (3, numbers(line, &p)),
+        Ok(TurnLine::SummedEnd(checksum)) => (4, first(checksum)),
         Err(refusal) => (refusal.number(), [0; 11]),
     };
     let mut marked = [mark; 13];
@@ -77,16 +85,21 @@ fn check_both(run: &mut Run, line: &[u8]) -> Checked {
     check(run, line, 1)
 }
 
-/// Every line of two bytes, every byte at every place of an example, every
-/// field at every length, every number of spaces and of fields.
+/// Every line of two bytes, alone and behind `F> `, every byte at every place of an
+/// example, every field at every length, every number of spaces and of fields.
 pub fn limits(run: &mut Run) -> Checked {
     for first in 0..=255 {
         for second in 0..=255 {
             check_both(run, &[first, second])?;
+            check_both(run, &[b'F', b'>', b' ', first, second])?;
         }
         check_both(run, &[first])?;
         check_both(run, &[b'F', b'F', first])?;
         check_both(run, &[first, b'F', b'F'])?;
+        check_both(run, &[b'F', b'>', first, b'0', b'F'])?;
+        check_both(run, &[b'F', first, b' ', b'0', b'F'])?;
+        check_both(run, &[first, b'>', b' ', b'0', b'F'])?;
+        check_both(run, &[b'F', b'>', b' ', b'0', b'F', first])?;
         check(run, EXAMPLE, first)?;
     }
     for place in 0..EXAMPLE.len() {

@@ -11,6 +11,7 @@ use crate::tally::Tally;
 use inputs::random::Random;
 use inputs::{byte, damaged, fs_line, line, proposal_fields, short_turn_line, sid, spaced};
 use second::layout::{RECORD_BYTES, SESSION_FREE};
+use second::refusal::ANSWERS;
 use second::session::Reply;
 use std::fmt::{self, Display};
 
@@ -134,7 +135,7 @@ impl Alone<'_> {
     fn session_field(&mut self) -> (usize, Vec<u8>) {
         let small = self.random.pick(&[0, 0, 1, 2, 3, 4, 5, 6, 7, 63, 64, 80, 81, 88, 255]);
         let large = self.random.pick(&[0, 1, 255, 256, 257, 65_535, 65_536, usize::MAX]);
-        match self.random.below(11) {
+        match self.random.below(12) {
             0 => {
                 let at = self.random.pick(&[form::LINE_BYTES, form::BLOCK_LEFT]);
                 (at, large.to_le_bytes()[..2].to_vec())
@@ -147,6 +148,7 @@ impl Alone<'_> {
             6 => (form::SIGNS + self.random.within(1, 5), vec![self.random.pick(b"+++-=")]),
             7 => (form::GIVEN, self.near(form::waiting(&self.memory).len()).to_vec()),
             8 => (form::BODY_BYTES, self.near(form::room(&self.memory))[..4].to_vec()),
+            9 => (form::BLOCK_SUM, vec![self.random.byte()]),
             _ => (self.random.within(form::AWAITED, form::SUM), vec![small]),
         }
     }
@@ -168,7 +170,8 @@ impl Alone<'_> {
             3 if random.once_in(2) => short_turn_line(random),
             3 => {
                 let fields = proposal_fields(random);
-                [spaced(random, &fields), b"\rF>".to_vec()].concat()
+                let end = random.pick(&[&b"\rF>"[..], b"\rF> 5A"]);
+                [spaced(random, &fields), end.to_vec()].concat()
             }
             4 => fs_line(random, proposed.into()),
             5 if framed => b"\x01\x05HI\x000\x00\x02\x02AB\x04\x7D".to_vec(),
@@ -265,7 +268,7 @@ impl Alone<'_> {
     fn check_reply(&self, reply: Reply, failed: Option<usize>, most: usize) -> Checked {
         let one = reply.answer == 1;
         let (place, most) = if one { (255, 0) } else { (0, most) };
-        if reply.answer > 12 || reply.place != place || reply.count > most {
+        if usize::from(reply.answer) >= ANSWERS || reply.place != place || reply.count > most {
             return self.differs("no such reply");
         }
         if one && self.intact {

@@ -28,6 +28,7 @@ pub const BLOCK_LEFT: usize = 94;
 pub const BODY_BYTES: usize = 96;
 pub const GIVEN: usize = 100;
 pub const USED: usize = 108;
+pub const BLOCK_SUM: usize = 116;
 pub const DEFERRED: usize = 160;
 pub const BLOCK: usize = 560;
 pub const BLOCK_END: usize = 920;

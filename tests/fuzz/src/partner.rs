@@ -5,10 +5,12 @@
 use inputs::random::Random;
 use inputs::{at, bid, body_of, call, either_case, fs_line, heading, line, respelt, spaced};
 use second::host::Buffers;
+use second::line::with_cr;
 use second::memory::Memory;
 use second::record::Form;
 use second::session::{Offer, Phase, Role, Session};
 use second::sid::Mode;
+use second::transfer::checksum;
 
 /// The longest body that is sent unless `long` says otherwise.
 const SHORT_BODY: usize = 1_000;
@@ -28,6 +30,8 @@ pub struct Partner {
     ff: usize,
     /// Which signs it likes to give.
     signs: &'static [u8],
+    /// Ends its blocks with a bare `F>` once in so many, else with `F> HH`.
+    bare: usize,
     /// Sends the longest bodies.
     long: bool,
     /// Numbers the BIDs that it makes up.
@@ -51,6 +55,7 @@ impl Partner {
             lf: random.pick(&[None, None, Some(1), Some(3)]),
             chatter: random.pick(&[4, 20, 20, 1_000]),
             signs: random.pick(&[&b"+"[..], b"+-=", b"++-=", b"+++-", b"-", b"="]),
+            bare: random.pick(&[1, 2, usize::MAX]),
             long: host.store.len() > 65_000 && random.once_in(2),
             fresh: 0,
             respelt: [0; 4],
@@ -110,18 +115,21 @@ impl Partner {
         out
     }
 
-    /// A line with what may stand around it.
-    fn line(&self, random: &mut Random, out: &mut Vec<u8>, text: &[u8]) {
+    /// A line with what may stand around it; says what of that is the line itself, its
+    /// CR included.
+    fn line(&self, random: &mut Random, out: &mut Vec<u8>, text: &[u8]) -> Vec<u8> {
         if random.once_in(self.chatter) {
             out.extend(b"; ");
             out.extend(call(random));
             self.end_line(random, out);
         }
-        out.extend_from_slice(text);
+        let mut line = text.to_vec();
         if random.once_in(self.chatter) {
-            out.extend(vec![b' '; random.within(1, 5)]);
+            line.extend(vec![b' '; random.within(1, 5)]);
         }
+        out.extend_from_slice(&line);
         self.end_line(random, out);
+        with_cr(&line)
     }
 
     fn end_line(&self, random: &mut Random, out: &mut Vec<u8>) {
@@ -185,20 +193,42 @@ impl Partner {
             let quit = session.our_turn_was_ff() != self.slips(random, 50);
             let letter = if quit { b'Q' } else { b'F' };
             let text = [either_case(random, b'F'), either_case(random, letter)];
-            return self.line(random, out, &text);
+            self.line(random, out, &text);
+            return;
         }
         let count = if self.slips(random, 40) { 6 } else { random.within(1, 5) };
-        let mut bids = Vec::new();
+        let (mut bids, mut lines) = (Vec::new(), Vec::new());
         for place in 1..=count {
             let mut text = self.proposal(random, session, memory, &mut bids);
             // 5 goes before 6: a sixth proposal that is none.
             if self.slips(random, if place == 6 { 2 } else { 200 }) {
                 text.truncate(random.below(text.len()));
             }
-            self.line(random, out, &text);
+            lines.extend(self.line(random, out, &text));
         }
-        let text = [either_case(random, b'F'), b'>'];
+        let text = self.block_end(random, &lines);
         self.line(random, out, &text);
+    }
+
+    /// `F>`, or `F> HH` with the checksum of these lines in digits of either case. A slip
+    /// makes it that of a byte more or less, or gives it another form.
+    fn block_end(&self, random: &mut Random, lines: &[u8]) -> Vec<u8> {
+        let mut text = vec![either_case(random, b'F'), b'>'];
+        if random.once_in(self.bare) {
+            return text;
+        }
+        let off = if self.slips(random, 8) { random.pick(b"\r\n ;\x01\xFF\x80") } else { 0 };
+        let digits = format!("{:02X}", checksum(lines).wrapping_add(off));
+        text.push(b' ');
+        text.extend(digits.bytes().map(|digit| either_case(random, digit)));
+        if self.slips(random, 30) {
+            match random.below(3) {
+                0 => text.truncate(4),
+                1 => text.insert(2, b' '),
+                _ => text.push(random.pick(b"0;gG")),
+            }
+        }
+        text
     }
 
     fn proposal(

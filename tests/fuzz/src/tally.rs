@@ -7,6 +7,7 @@ use second::field::BODY_LIMIT;
 use second::fs::Sign;
 use second::log::Side;
 use second::memory::{State, MESSAGE_LIMIT};
+use second::refusal::ANSWERS;
 use second::session::{Inside, Lent, Phase, Reply, Role};
 use second::sid::Mode;
 use std::fmt::{self, Display};
@@ -25,7 +26,7 @@ pub struct Tally {
     pub sessions: u64,
     /// Answers of open, receive and give, by number.
     opens: [u64; 2],
-    receives: [u64; 13],
+    receives: [u64; ANSWERS],
     gives: [u64; 2],
     /// Opens refused for a record, and for role, sizes or known BIDs.
     places: [u64; 2],
@@ -46,6 +47,8 @@ pub struct Tally {
     records: [u64; 3],
     /// Our signs: `+`, `-`, `=`.
     signs: [u64; 3],
+    /// The partner's blocks taken: ended with `F>`, with `F> HH`.
+    blocks: [u64; 2],
     /// Sessions that ended by FQ: ours, the partner's.
     quits: [u64; 2],
     /// Sessions with a whole turn: called plain, called framed, caller plain,
@@ -107,6 +110,9 @@ impl Tally {
         self.full += u64::from(session.kept() == MESSAGE_LIMIT);
         self.phases[phase(session.phase())] += 1;
         self.turns[bucket(session.turns())] += 1;
+        for (times, more) in self.blocks.iter_mut().zip(session.blocks()) {
+            *times += more as u64;
+        }
         for sign in session.signs_given() {
             self.signs[place(&[Sign::Accept, Sign::Decline, Sign::Defer], sign)] += 1;
         }
@@ -164,6 +170,7 @@ impl Tally {
             ("our records", named(&["forwarded", "declined", "deferred"], &self.records)),
             ("the longest bodies", named(&LONGEST, &self.longest)),
             ("our signs", named(&["+", "-", "="], &self.signs)),
+            ("the partner's blocks", named(&["bare", "with their checksum"], &self.blocks)),
             ("ended by FQ", named(&["ours", "the partner's"], &self.quits)),
             ("with a turn", named(&KINDS, &self.kinds)),
             ("awaited at the end", named(&PHASES, &self.phases)),

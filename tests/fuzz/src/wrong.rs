@@ -36,8 +36,9 @@ fn long_line(random: &mut Random, right: &[u8]) -> Vec<u8> {
 
 /// Another unit, without its last CR.
 fn other(random: &mut Random) -> Vec<u8> {
-    match random.below(12) {
+    match random.below(13) {
         0 => b"F>".to_vec(),
+        12 => b"F> 00".to_vec(),
         1 => b"FF".to_vec(),
         2 => b"FQ".to_vec(),
         3 => {
@@ -65,6 +66,6 @@ fn many_proposals(random: &mut Random) -> Vec<u8> {
         out.extend(spaced(random, &fields));
         out.push(b'\r');
     }
-    out.extend(random.pick(&[&b"F>"[..], b"FF", b"FB P A", b"FQ", b"FA P A B C D 1"]));
+    out.extend(random.pick(&[&b"F>"[..], b"F> 5A", b"FF", b"FB P A", b"FQ", b"FA P A B C D 1"]));
     out
 }

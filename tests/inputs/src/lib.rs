@@ -209,10 +209,16 @@ pub fn spaced(random: &mut Random, fields: &[Vec<u8>]) -> Vec<u8> {
     line
 }
 
-/// FF, FQ or `F>`, in either case.
+/// FF, FQ, `F>` or `F> HH`, in either case.
 pub fn short_turn_line(random: &mut Random) -> Vec<u8> {
-    let letter = random.pick(b"FQ>");
-    vec![either_case(random, b'F'), either_case(random, letter)]
+    let letter = random.pick(b"FQ>>");
+    let mut line = vec![either_case(random, b'F'), either_case(random, letter)];
+    if letter == b'>' && random.once_in(2) {
+        let digits = format!("{:02X}", random.byte());
+        line.push(b' ');
+        line.extend(digits.bytes().map(|digit| either_case(random, digit)));
+    }
+    line
 }
 
 /// An FS line with so many signs.

@@ -1,5 +1,5 @@
-//! The papers' own sessions, as they look on the air, with what must stand at
-//! their end. The unit tests play them; the fuzzer cuts them at every byte.
+//! The papers' own sessions, and the requests', as they look on the air, with what
+//! must stand at their end. The unit tests play them; the fuzzer cuts them at every byte.
 
 use crate::host::{Buffers, Letter};
 use crate::memory::State;
@@ -7,6 +7,7 @@ use crate::memory::State;
 mod paper002;
 mod paper003;
 mod paper01;
+mod request5;
 
 /// What one side says, whole, while the other listens.
 #[derive(Clone, Debug, PartialEq, Eq)]
@@ -172,5 +173,5 @@ fn both_roles(examples: Vec<Example>) -> Vec<Example> {
 
 /// Every session, the shortest papers first.
 pub fn all() -> Vec<Example> {
-    [paper01::all(), paper002::all(), paper003::all()].concat()
+    [paper01::all(), paper002::all(), paper003::all(), request5::all()].concat()
 }

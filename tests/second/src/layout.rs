@@ -21,7 +21,7 @@ pub const MESSAGE_BYTES: usize = 155;
 /// "A host needs one number of it: the count of messages kept, at 66."
 pub const SESSION_KEPT: usize = 66;
 /// "Bytes 116 to 159 and 920 to 1,023 are free: no call reads or writes them".
-pub const SESSION_FREE: [Range<usize>; 2] = [116..160, 920..SESSION_BYTES];
+pub const SESSION_FREE: [Range<usize>; 2] = [117..160, 920..SESSION_BYTES];
 
 /// An entry being written.
 #[derive(Default)]

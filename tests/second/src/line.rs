@@ -40,6 +40,11 @@ pub fn trimmed(line: &[u8]) -> &[u8] {
     &line[..end.map_or(0, |last| last + 1)]
 }
 
+/// A line's bytes with the CR that ended it.
+pub fn with_cr(line: &[u8]) -> Vec<u8> {
+    [line, &[CR]].concat()
+}
+
 /// "A line that begins with `;` is ignored wherever a line is awaited".
 pub fn is_comment(line: &[u8]) -> bool {
     line.starts_with(b";")

@@ -9,9 +9,9 @@
 //! neither room nor our signs.
 
 use crate::fs::{self, Sign};
-use crate::line::is_prompt;
+use crate::line::{is_prompt, trimmed, with_cr};
 use crate::memory::{Envelope, Record, State, Stores};
-use crate::proposal::{self, Proposal, TurnLine, BLOCK_LIMIT};
+use crate::proposal::{self, is_checksum_of, Proposal, TurnLine, BLOCK_LIMIT};
 use crate::sid::{self, Mode};
 use crate::transfer::writer::{write_framed, write_plain};
 
@@ -108,15 +108,25 @@ impl<'a> Reading<'a> {
         Some(Side::Partner)
     }
 
-    /// Cuts the next whole turn: "`FF`, or one to five proposals and `F>`".
+    /// Cuts the next whole turn: "`FF`, or one to five proposals and `F>`". "A turn
+    /// with a wrong checksum is no valid turn. We go on writing the bare form."
     fn turn(&mut self, side: Side) -> Option<Turn<'a>> {
         let mut proposals = Vec::new();
+        let mut received = Vec::new();
         loop {
-            match proposal::read(self.link.line(side)?, self.mode).ok()? {
+            let line = self.link.received_line(side)?;
+            match proposal::read(trimmed(line), self.mode).ok()? {
                 TurnLine::Nothing if proposals.is_empty() => return Some(Turn::Nothing),
                 TurnLine::Quit if proposals.is_empty() => return Some(Turn::Quit),
-                TurnLine::Proposal(next) if proposals.len() < BLOCK_LIMIT => proposals.push(next),
+                TurnLine::Proposal(next) if proposals.len() < BLOCK_LIMIT => {
+                    proposals.push(next);
+                    received.push(line);
+                }
                 TurnLine::BlockEnd if !proposals.is_empty() => return Some(Turn::Block(proposals)),
+                TurnLine::SummedEnd(hh) if !proposals.is_empty() && side == Side::Partner => {
+                    let lines: Vec<u8> = received.iter().flat_map(|line| with_cr(line)).collect();
+                    return is_checksum_of(&lines, hh).then_some(Turn::Block(proposals));
+                }
                 _ => return None,
             }
         }

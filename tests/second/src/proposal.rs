@@ -1,10 +1,11 @@
-//! Turn lines: proposals, `F>`, `FF` and `FQ`.
+//! Turn lines: proposals, `F>`, `F> HH`, `FF` and `FQ`.
 
 use crate::field::{decimal, is_at, is_bid, is_call};
 use crate::line::CR;
 use crate::record::{Form, Kind};
 use crate::refusal::Refusal;
 use crate::sid::Mode;
+use crate::transfer;
 
 /// "one to five proposals"
 pub const BLOCK_LIMIT: usize = 5;
@@ -33,20 +34,39 @@ pub enum TurnLine<'a> {
     Quit,
     /// `F>`: the block of proposals ends.
     BlockEnd,
+    /// `F> HH`: it ends, and its lines should have this checksum.
+    SummedEnd(u8),
     Proposal(Proposal<'a>),
 }
 
 /// Reads a trimmed line of a turn. Whether FF, FQ or one more proposal is
 /// allowed just now is the session's business.
 ///
-/// DECISIONS 14: with anything more on the line, FF, FQ and `F>` get 5.
+/// DECISIONS 14: with anything more on the line, FF, FQ and `F>` get 5; only the
+/// checksum may stand there, "`F> HH`, two hexadecimal digits in either case".
+/// DECISIONS 76: the space is one, as it is written.
 pub fn read(line: &[u8], mode: Mode) -> Result<TurnLine<'_>, Refusal> {
     match line {
         [b'F' | b'f', b'F' | b'f'] => Ok(TurnLine::Nothing),
         [b'F' | b'f', b'Q' | b'q'] => Ok(TurnLine::Quit),
         [b'F' | b'f', b'>'] => Ok(TurnLine::BlockEnd),
+        &[b'F' | b'f', b'>', b' ', high, low] => {
+            read_checksum(high, low).map(TurnLine::SummedEnd).ok_or(Refusal::NotAllowed)
+        }
         _ => read_proposal(line, mode).map(TurnLine::Proposal).ok_or(Refusal::NotAllowed),
     }
+}
+
+/// The number that two hexadecimal digits show.
+fn read_checksum(high: u8, low: u8) -> Option<u8> {
+    let digit = |byte: u8| char::from(byte).to_digit(16);
+    Some((digit(high)? * 16 + digit(low)?) as u8)
+}
+
+/// "The sum of all bytes of the block's proposal lines as received, their CR
+/// included, [...] plus HH must be 0 modulo 256."
+pub fn is_checksum_of(proposal_lines: &[u8], checksum: u8) -> bool {
+    transfer::checksum(proposal_lines) == checksum
 }
 
 /// "Seven fields, one or more spaces between".
@@ -102,6 +122,8 @@ pub fn write(line: &TurnLine<'_>) -> Vec<u8> {
         TurnLine::Nothing => b"FF\r".to_vec(),
         TurnLine::Quit => b"FQ\r".to_vec(),
         TurnLine::BlockEnd => b"F>\r".to_vec(),
+        // Written by partners alone: "We go on writing the bare form."
+        TurnLine::SummedEnd(checksum) => format!("F> {checksum:02X}\r").into_bytes(),
         TurnLine::Proposal(p) => {
             write_fields(p.form, p.kind.byte(), [p.from, p.at, p.to, p.bid], p.size)
         }
@@ -195,7 +217,24 @@ mod tests {
             b" FF",
             b"FQ x",
             b"F >",
-            b"F> 12",
+            b"F>12",
+            b"F>  12",
+            b"F>\t12",
+            b"F> 1",
+            b"F> 123",
+            b"F> 12 ",
+            b"F> 12 3",
+            b"F> 0G",
+            b"F> G0",
+            b"F> g0",
+            b"F> -1",
+            b"F> +1",
+            b"F> 0x",
+            b"F> \xB2\xB3",
+            b"F>>12",
+            b" F> 12",
+            b"FF 12",
+            b"FQ 12",
             b"FS +",
             b" FB P F6FBB FC1GHV FC1MVP 24657_F6FBB 1345",
             b"FB P F6FBB FC1GHV FC1MVP 24657_F6FBB 1345 ",
@@ -206,6 +245,38 @@ mod tests {
         ] {
             assert!(refused(line), "{line:?}");
         }
+    }
+
+    /// "two hexadecimal digits in either case"
+    #[test]
+    fn a_block_may_end_with_its_checksum() {
+        for mode in [Mode::Plain, Mode::Framed] {
+            for checksum in 0..=255 {
+                let upper = format!("F> {checksum:02X}").into_bytes();
+                let lower = upper.to_ascii_lowercase();
+                assert_eq!(read(&upper, mode), Ok(TurnLine::SummedEnd(checksum)));
+                assert_eq!(read(&lower, mode), Ok(TurnLine::SummedEnd(checksum)));
+                assert_eq!(write(&TurnLine::SummedEnd(checksum)), [&upper[..], b"\r"].concat());
+            }
+            assert_eq!(read(b"f> aF", mode), Ok(TurnLine::SummedEnd(0xAF)));
+        }
+    }
+
+    #[test]
+    fn the_sum_of_the_lines_and_hh_is_0_modulo_256() {
+        assert!(is_checksum_of(b"", 0));
+        assert!(is_checksum_of(b"\r", 0xF3));
+        // 70 + 66 + 13 = 149, and 256 - 149 = 0x6B.
+        assert!(is_checksum_of(b"FB\r", 0x6B));
+        assert!(!is_checksum_of(b"FB\r", 0x6C));
+        assert!(!is_checksum_of(b"FB\r", 149));
+        for wrong in 1..=255 {
+            assert!(!is_checksum_of(b"", wrong));
+        }
+        // A real LinFBB's block: tests/peers/captures.
+        let real = b"FB P F0AAA N0DE.TST.FRA.EU N0DE 1_F0SRC 19\r";
+        let sum: u32 = real.iter().map(|&byte| u32::from(byte)).sum();
+        assert!(is_checksum_of(real, (256 - sum % 256) as u8));
     }
 
     /// A proposal with fields of these lengths: from, at, to, BID, size digits.

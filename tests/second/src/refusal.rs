@@ -1,6 +1,7 @@
 //! "The numbers given back", but 0, which is no refusal.
 //!
-//! Words alone can earn 2 to 5 and 7 to 10; the others need a session.
+//! Words alone can earn 2 to 5 and 7 to 10; the others need a session. 13 is
+//! request Q-5's.
 
 /// Why a call or a word is refused. The value is 01's number.
 #[derive(Clone, Copy, Debug, PartialEq, Eq)]
@@ -30,7 +31,12 @@ pub enum Refusal {
     BytesWait = 11,
     /// "receive on an ended session"
     Ended = 12,
+    /// "wrong proposal checksum"
+    WrongBlockSum = 13,
 }
+
+/// Answers go from 0 to the greatest number.
+pub const ANSWERS: usize = Refusal::WrongBlockSum as usize + 1;
 
 impl Refusal {
     /// The number in 01's table.
@@ -58,7 +64,9 @@ mod tests {
             NoRoom,
             BytesWait,
             Ended,
+            WrongBlockSum,
         ];
-        assert_eq!(all.map(|r| r.number()), [1, 2, 3, 4, 5, 6, 7, 8, 9, 10, 11, 12]);
+        assert_eq!(all.map(|r| r.number()), [1, 2, 3, 4, 5, 6, 7, 8, 9, 10, 11, 12, 13]);
+        assert_eq!(super::ANSWERS, all.len() + 1);
     }
 }

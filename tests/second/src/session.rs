@@ -69,8 +69,9 @@ pub enum Phase {
     Sid,
     /// At the calling end, the line that ends its greeting.
     Prompt,
-    /// Its turn, of which these proposals are there.
-    Turn { block: Vec<Offer> },
+    /// Its turn, of which these proposals are there: as read, and their lines "as
+    /// received, their CR included".
+    Turn { block: Vec<Offer>, lines: Vec<u8> },
     /// The FS line to the records at these places.
     Answer { proposed: Vec<usize> },
     /// The transfers of these proposals, the first of them under way.
@@ -79,6 +80,13 @@ pub enum Phase {
     Quit,
     /// Nothing: the session has ended.
     Over,
+}
+
+impl Phase {
+    /// The partner's turn, of which nothing is there.
+    fn new_turn() -> Phase {
+        Phase::Turn { block: Vec::new(), lines: Vec::new() }
+    }
 }
 
 /// What a dropped link would cut in two.
@@ -118,8 +126,10 @@ pub struct Session {
     /// Messages kept, and the store bytes that they use.
     kept: usize,
     used: usize,
-    /// Whole turns of either side, and our signs: nothing turns on them.
+    /// Whole turns of either side, blocks of the partner's that ended bare and with their
+    /// checksum, and our signs: nothing turns on them.
     turns: usize,
+    blocks: [usize; 2],
     signs: Vec<Sign>,
 }
 
@@ -164,6 +174,11 @@ impl Session {
     /// Whole turns of either side so far; FQ is none.
     pub fn turns(&self) -> usize {
         self.turns
+    }
+
+    /// Blocks of the partner's that ended with a bare `F>`, and with their checksum.
+    pub fn blocks(&self) -> [usize; 2] {
+        self.blocks
     }
 
     /// All signs that we gave.

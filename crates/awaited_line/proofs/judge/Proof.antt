@@ -22,7 +22,7 @@ returns : tie.Need-returns
 unfolding judgeOf
 returns c =
     let a = c .before .before .before .before .before .before .before .before .args in
-    let f = judging (a .line .now) (a .table .now) (a .known .now) (a .inbox .now) (a .store) in
+    let f = judging (a .line .now) (a .sum) (a .table .now) (a .known .now) (a .inbox .now) (a .store) in
     as-it-was (a .s) (a .mem .now) (c .before .before .before .before .before .before .before .before .pre) (c .went .result) f (λ block deferred. rw (sym (c .before .before .is-comment .ensures) ∙ c .before .if1 .taken) (c .went .ensures block deferred))
 
 sid-line-requires : tie.Need-sid-line-requires
@@ -61,23 +61,23 @@ refusal-requires c κs = search needs
 returns-2 : tie.Need-returns-2
 returns-2 c =
     let a = c .before .before .before .before .before .before .before .before .before .args in
-    let f = judging (a .line .now) (a .table .now) (a .known .now) (a .inbox .now) (a .store) in
+    let f = judging (a .line .now) (a .sum) (a .table .now) (a .known .now) (a .inbox .now) (a .store) in
     as-it-was (a .s) (a .mem .now) (c .before .before .before .before .before .before .before .before .before .pre) (c .sid-line .result) f
-    (λ block deferred. line-in (awaitOf (a .s .now) block) (a .s .say) (keepOf (a .s .keep) deferred) (a .s .reader) (a .line .now) (a .table .now) (a .known .now) (a .inbox .now) (a .store) _ phaseCalledSid _ (c .before .match .keys1) (c .before .before .before .is-comment .ensures) (c .before .before .if1 .left) (c .sid-line .ensures block deferred))
+    (λ block deferred. line-in (awaitOf (a .s .now) block) (a .s .say) (keepOf (a .s .keep) deferred) (a .s .reader) (a .line .now) (a .sum) (a .table .now) (a .known .now) (a .inbox .now) (a .store) _ phaseCalledSid _ (c .before .match .keys1) (c .before .before .before .is-comment .ensures) (c .before .before .if1 .left) (c .sid-line .ensures block deferred))
 
 returns-3 : tie.Need-returns-3
 returns-3 c =
     let a = c .before .before .before .before .before .before .before .before .before .args in
-    let f = judging (a .line .now) (a .table .now) (a .known .now) (a .inbox .now) (a .store) in
+    let f = judging (a .line .now) (a .sum) (a .table .now) (a .known .now) (a .inbox .now) (a .store) in
     as-it-was (a .s) (a .mem .now) (c .before .before .before .before .before .before .before .before .before .pre) (c .sid-line2 .result) f
-    (λ block deferred. line-in (awaitOf (a .s .now) block) (a .s .say) (keepOf (a .s .keep) deferred) (a .s .reader) (a .line .now) (a .table .now) (a .known .now) (a .inbox .now) (a .store) _ phaseCallerSid _ (c .before .match .keys2) (c .before .before .before .is-comment .ensures) (c .before .before .if1 .left) (c .sid-line2 .ensures block deferred))
+    (λ block deferred. line-in (awaitOf (a .s .now) block) (a .s .say) (keepOf (a .s .keep) deferred) (a .s .reader) (a .line .now) (a .sum) (a .table .now) (a .known .now) (a .inbox .now) (a .store) _ phaseCallerSid _ (c .before .match .keys2) (c .before .before .before .is-comment .ensures) (c .before .before .if1 .left) (c .sid-line2 .ensures block deferred))
 
 returns-4 : tie.Need-returns-4
 returns-4 c =
     let a = c .before .before .before .before .before .before .before .before .before .args in
-    let f = judging (a .line .now) (a .table .now) (a .known .now) (a .inbox .now) (a .store) in
+    let f = judging (a .line .now) (a .sum) (a .table .now) (a .known .now) (a .inbox .now) (a .store) in
     as-it-was (a .s) (a .mem .now) (c .before .before .before .before .before .before .before .before .before .pre) (c .text-line .result) f
-    (λ block deferred. line-in (awaitOf (a .s .now) block) (a .s .say) (keepOf (a .s .keep) deferred) (a .s .reader) (a .line .now) (a .table .now) (a .known .now) (a .inbox .now) (a .store) _ phasePrompt _ (c .before .match .keys3) (c .before .before .before .is-comment .ensures) (c .before .before .if1 .left) (c .text-line .ensures block deferred))
+    (λ block deferred. line-in (awaitOf (a .s .now) block) (a .s .say) (keepOf (a .s .keep) deferred) (a .s .reader) (a .line .now) (a .sum) (a .table .now) (a .known .now) (a .inbox .now) (a .store) _ phasePrompt _ (c .before .match .keys3) (c .before .before .before .is-comment .ensures) (c .before .before .if1 .left) (c .text-line .ensures block deferred))
 
 same-length : tie.Need-same-length
 same-length c = search needs
@@ -85,9 +85,9 @@ same-length c = search needs
 returns-5 : tie.Need-returns-5
 returns-5 c =
     let a = c .before .before .before .before .before .before .before .before .before .before .before .before .args in
-    let f = judging (a .line .now) (a .table .now) (a .known .now) (a .inbox .now) (a .store) in
+    let f = judging (a .line .now) (a .sum) (a .table .now) (a .known .now) (a .inbox .now) (a .store) in
     on-block (a .s) (a .mem .now) (c .before .before .before .before .before .before .before .before .before .before .before .before .pre) (c .before .before .turn-line .result) f _ (c .before .mem .given .0)
-    (λ deferred. line-in (awaitOf (a .s .now) _) (a .s .say) (keepOf (a .s .keep) deferred) (a .s .reader) (a .line .now) (a .table .now) (a .known .now) (a .inbox .now) (a .store) _ phaseTurn _ (c .before .before .before .before .match .keys4) (c .before .before .before .before .before .before .is-comment .ensures) (c .before .before .before .before .before .if1 .left) (c .before .before .turn-line .ensures deferred))
+    (λ deferred. line-in (awaitOf (a .s .now) _) (a .s .say) (keepOf (a .s .keep) deferred) (a .s .reader) (a .line .now) (a .sum) (a .table .now) (a .known .now) (a .inbox .now) (a .store) _ phaseTurn _ (c .before .before .before .before .match .keys4) (c .before .before .before .before .before .before .is-comment .ensures) (c .before .before .before .before .before .if1 .left) (c .before .before .turn-line .ensures deferred))
 
 same-length-2 : tie.Need-same-length-2
 same-length-2 c = search needs
@@ -95,16 +95,16 @@ same-length-2 c = search needs
 returns-6 : tie.Need-returns-6
 returns-6 c =
     let a = c .before .before .before .before .before .before .before .before .before .before .before .before .args in
-    let f = judging (a .line .now) (a .table .now) (a .known .now) (a .inbox .now) (a .store) in
+    let f = judging (a .line .now) (a .sum) (a .table .now) (a .known .now) (a .inbox .now) (a .store) in
     on-deferred (a .s) (a .mem .now) (c .before .before .before .before .before .before .before .before .before .before .before .before .pre) (c .before .before .answer-line .result) f _ (c .before .mem2 .given .0)
-    (λ block. line-in (awaitOf (a .s .now) block) (a .s .say) (keepOf (a .s .keep) _) (a .s .reader) (a .line .now) (a .table .now) (a .known .now) (a .inbox .now) (a .store) _ phaseFs _ (c .before .before .before .before .match .keys5) (c .before .before .before .before .before .before .is-comment .ensures) (c .before .before .before .before .before .if1 .left) (c .before .before .answer-line .ensures block))
+    (λ block. line-in (awaitOf (a .s .now) block) (a .s .say) (keepOf (a .s .keep) _) (a .s .reader) (a .line .now) (a .sum) (a .table .now) (a .known .now) (a .inbox .now) (a .store) _ phaseFs _ (c .before .before .before .before .match .keys5) (c .before .before .before .before .before .before .is-comment .ensures) (c .before .before .before .before .before .if1 .left) (c .before .before .answer-line .ensures block))
 
 returns-7 : tie.Need-returns-7
 returns-7 c =
     let a = c .before .before .before .before .before .before .before .before .before .args in
-    let f = judging (a .line .now) (a .table .now) (a .known .now) (a .inbox .now) (a .store) in
+    let f = judging (a .line .now) (a .sum) (a .table .now) (a .known .now) (a .inbox .now) (a .store) in
     as-it-was (a .s) (a .mem .now) (c .before .before .before .before .before .before .before .before .before .pre) (c .refusal .result) f
-    (λ block deferred. line-in (awaitOf (a .s .now) block) (a .s .say) (keepOf (a .s .keep) deferred) (a .s .reader) (a .line .now) (a .table .now) (a .known .now) (a .inbox .now) (a .store) _ (a .s .now .phase) _ refl (c .before .before .before .is-comment .ensures) (c .before .before .if1 .left) (rw (ne-eqb _ _ (c .before .match .rest .0 .0 .0 .0 .1), ne-eqb _ _ (c .before .match .rest .0 .0 .0 .1), ne-eqb _ _ (c .before .match .rest .0 .0 .1), ne-eqb _ _ (c .before .match .rest .0 .1), ne-eqb _ _ (c .before .match .rest .1)) (c .refusal .ensures block deferred)))
+    (λ block deferred. line-in (awaitOf (a .s .now) block) (a .s .say) (keepOf (a .s .keep) deferred) (a .s .reader) (a .line .now) (a .sum) (a .table .now) (a .known .now) (a .inbox .now) (a .store) _ (a .s .now .phase) _ refl (c .before .before .before .is-comment .ensures) (c .before .before .if1 .left) (rw (ne-eqb _ _ (c .before .match .rest .0 .0 .0 .0 .1), ne-eqb _ _ (c .before .match .rest .0 .0 .0 .1), ne-eqb _ _ (c .before .match .rest .0 .0 .1), ne-eqb _ _ (c .before .match .rest .0 .1), ne-eqb _ _ (c .before .match .rest .1)) (c .refusal .ensures block deferred)))
 
 pub judge-spec : {M : Type 1} → statement M
 judge-spec =

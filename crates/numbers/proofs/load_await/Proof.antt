@@ -22,11 +22,14 @@ byte-requires-4 c κs = search needs
 five-requires : tie.Need-five-requires
 five-requires c κs = search needs
 
+byte-requires-5 : tie.Need-byte-requires-5
+byte-requires-5 c κs = search needs
+
 returns : tie.Need-returns
 unfolding awaitNumbers
-returns c = same-numbers-await (c .before .before .before .before .byte .ensures) (ap (λ (x : ℕ). eqb x 1) (c .before .before .before .byte2 .ensures)) (c .before .before .byte3 .ensures) (c .before .byte4 .ensures) (c .five .ensures)
+returns c = same-numbers-await (c .before .before .before .before .before .byte .ensures) (ap (λ (x : ℕ). eqb x 1) (c .before .before .before .before .byte2 .ensures)) (c .before .before .before .byte3 .ensures) (c .before .before .byte4 .ensures) (c .before .five .ensures) (c .byte5 .ensures)
 
 pub load-await-spec : {M : Type 1} → statement M
 load-await-spec =
     tie.close
-    (tie.spec byte-requires byte-requires-2 byte-requires-3 byte-requires-4 five-requires returns)
+    (tie.spec byte-requires byte-requires-2 byte-requires-3 byte-requires-4 five-requires byte-requires-5 returns)

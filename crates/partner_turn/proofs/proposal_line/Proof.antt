@@ -29,6 +29,9 @@ with-proposal-requires c κs = search needs
 add-awaited : tie.Need-add-awaited
 add-awaited c = search needs
 
+wrapping-add-u8-requires : tie.Need-wrapping-add-u8-requires
+wrapping-add-u8-requires c κs = search needs
+
 went-requires : tie.Need-went-requires
 went-requires c κs = search needs
 
@@ -37,8 +40,8 @@ same-length c = search needs
 
 returns-2 : tie.Need-returns-2
 returns-2 c = λ deferred.
-    let a = c .before .before .before .before .before .before .before .before .before .before .before .before .args in
-    proposed (awaitOf (a .s .now) (a .block .now)) (a .s .say) (keepOf (a .s .keep) deferred) (a .s .reader) (a .line .now) (a .p) _ _ (c .before .before .before .before .before .before .before .before .before .before .before .before .pre .form) (c .before .before .before .before .before .before .before .before .if1 .left) (c .before .before .before .before .before .with-proposal .ensures) (c .went .ensures _ deferred)
+    let a = c .before .before .before .before .before .before .before .before .before .before .before .before .before .args in
+    proposed (awaitOf (a .s .now) (a .block .now)) (a .s .say) (keepOf (a .s .keep) deferred) (a .s .reader) (a .line .now) (a .sum) _ (a .p) _ _ (c .before .before .before .before .before .before .before .before .before .before .before .before .before .pre .form) (c .before .before .before .before .before .before .before .before .before .if1 .left) (c .before .wrapping-add-u8 .ensures) (c .before .before .before .before .before .before .with-proposal .ensures) (c .went .ensures _ deferred)
 
 pub proposal-line-spec : {M : Type 1} → statement M
 proposal-line-spec =
@@ -51,6 +54,7 @@ proposal-line-spec =
     mul-with-proposal
     with-proposal-requires
     add-awaited
+    wrapping-add-u8-requires
     went-requires
     same-length
     returns-2)

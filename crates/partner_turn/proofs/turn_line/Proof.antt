@@ -22,46 +22,46 @@ enum-told-2 c = search needs
 fq-line-requires : tie.Need-fq-line-requires
 fq-line-requires c κs = search needs
 
-enum-told-3 : tie.Need-enum-told-3
-enum-told-3 c = search needs
+enum-known-r : tie.Need-enum-known-r
+enum-known-r c = search needs
 
 end-line-requires : tie.Need-end-line-requires
 end-line-requires c κs = search needs
 
-enum-told-4 : tie.Need-enum-told-4
-enum-told-4 c = search needs
+enum-told-3 : tie.Need-enum-told-3
+enum-told-3 c = search needs
 
 refusal-requires : tie.Need-refusal-requires
 refusal-requires c κs = search needs
 
-enum-known-r : tie.Need-enum-known-r
-enum-known-r c = search needs
+enum-known-r-2 : tie.Need-enum-known-r-2
+enum-known-r-2 c = search needs
 
 proposal-line-requires : tie.Need-proposal-line-requires
-proposal-line-requires c κs = lies-as (c .before .before .before .before .before .before .before .before .before .before .args .line .now) _ _ (c .before .before .r .given .1) (c .before .before .before .before .read-turn-line .ensures .1)
+proposal-line-requires c κs = lies-as (c .before .before .before .before .before .before .before .before .before .before .args .line .now) _ _ (c .before .before .r2 .given .1) (c .before .before .before .before .read-turn-line .ensures .1)
 
 returns : tie.Need-returns
 returns c = λ deferred.
     let a = c .before .before .before .before .before .before .before .before .before .args in
-    turn-by (awaitOf (a .s .now) (a .block .now)) (a .s .say) (keepOf (a .s .keep) deferred) (a .s .reader) (a .line .now) (a .table .now) (a .known .now) (a .inbox .now) (a .store) _ _ TurnLine.FF (c .before .enum-told .given .1) (c .before .before .before .read-turn-line .ensures .0) (c .ff-line .ensures (a .block .now) deferred)
+    turn-by (awaitOf (a .s .now) (a .block .now)) (a .s .say) (keepOf (a .s .keep) deferred) (a .s .reader) (a .line .now) (a .sum) (a .table .now) (a .known .now) (a .inbox .now) (a .store) _ _ TurnLine.FF (c .before .enum-told .given .1) (c .before .before .before .read-turn-line .ensures .0) (c .ff-line .ensures (a .block .now) deferred)
 
 returns-2 : tie.Need-returns-2
 returns-2 c = λ deferred.
     let a = c .before .before .before .before .before .before .before .before .before .args in
-    turn-by (awaitOf (a .s .now) (a .block .now)) (a .s .say) (keepOf (a .s .keep) deferred) (a .s .reader) (a .line .now) (a .table .now) (a .known .now) (a .inbox .now) (a .store) _ _ TurnLine.FQ (c .before .enum-told2 .given .1) (c .before .before .before .read-turn-line .ensures .0) (c .fq-line .ensures (a .block .now) deferred)
+    turn-by (awaitOf (a .s .now) (a .block .now)) (a .s .say) (keepOf (a .s .keep) deferred) (a .s .reader) (a .line .now) (a .sum) (a .table .now) (a .known .now) (a .inbox .now) (a .store) _ _ TurnLine.FQ (c .before .enum-told2 .given .1) (c .before .before .before .read-turn-line .ensures .0) (c .fq-line .ensures (a .block .now) deferred)
 
 same-length : tie.Need-same-length
 same-length c = search needs
 
 returns-3 : tie.Need-returns-3
 returns-3 c = λ deferred.
-    let a = c .before .before .before .before .before .before .before .before .before .before .args in
-    turn-by (awaitOf (a .s .now) (a .block .now)) (a .s .say) (keepOf (a .s .keep) deferred) (a .s .reader) (a .line .now) (a .table .now) (a .known .now) (a .inbox .now) (a .store) _ _ TurnLine.End (c .before .before .enum-told3 .given .1) (c .before .before .before .before .read-turn-line .ensures .0) (c .end-line .ensures deferred)
+    let a = c .before .before .before .before .before .before .before .before .before .before .before .args in
+    turn-by (awaitOf (a .s .now) (a .block .now)) (a .s .say) (keepOf (a .s .keep) deferred) (a .s .reader) (a .line .now) (a .sum) (a .table .now) (a .known .now) (a .inbox .now) (a .store) _ _ _ (c .before .before .before .r .given .1) (c .before .before .before .before .before .read-turn-line .ensures .0) (c .end-line .ensures deferred (a .sum))
 
 returns-4 : tie.Need-returns-4
 returns-4 c = λ deferred.
     let a = c .before .before .before .before .before .before .before .before .before .args in
-    turn-by (awaitOf (a .s .now) (a .block .now)) (a .s .say) (keepOf (a .s .keep) deferred) (a .s .reader) (a .line .now) (a .table .now) (a .known .now) (a .inbox .now) (a .store) _ _ TurnLine.NotAllowed (c .before .enum-told4 .given .1) (c .before .before .before .read-turn-line .ensures .0) (c .refusal .ensures (a .block .now) deferred)
+    turn-by (awaitOf (a .s .now) (a .block .now)) (a .s .say) (keepOf (a .s .keep) deferred) (a .s .reader) (a .line .now) (a .sum) (a .table .now) (a .known .now) (a .inbox .now) (a .store) _ _ TurnLine.NotAllowed (c .before .enum-told3 .given .1) (c .before .before .before .read-turn-line .ensures .0) (c .refusal .ensures (a .block .now) deferred)
 
 same-length-2 : tie.Need-same-length-2
 same-length-2 c = search needs
@@ -69,7 +69,7 @@ same-length-2 c = search needs
 returns-5 : tie.Need-returns-5
 returns-5 c = λ deferred.
     let a = c .before .before .before .before .before .before .before .before .before .before .before .before .before .args in
-    turn-by (awaitOf (a .s .now) (a .block .now)) (a .s .say) (keepOf (a .s .keep) deferred) (a .s .reader) (a .line .now) (a .table .now) (a .known .now) (a .inbox .now) (a .store) _ _ _ (c .before .before .before .before .before .r .given .1) (c .before .before .before .before .before .before .before .read-turn-line .ensures .0) (c .before .before .proposal-line .ensures deferred)
+    turn-by (awaitOf (a .s .now) (a .block .now)) (a .s .say) (keepOf (a .s .keep) deferred) (a .s .reader) (a .line .now) (a .sum) (a .table .now) (a .known .now) (a .inbox .now) (a .store) _ _ _ (c .before .before .before .before .before .r2 .given .1) (c .before .before .before .before .before .before .before .read-turn-line .ensures .0) (c .before .before .proposal-line .ensures deferred)
 
 pub turn-line-spec : {M : Type 1} → statement M
 turn-line-spec =
@@ -80,11 +80,11 @@ turn-line-spec =
     ff-line-requires
     enum-told-2
     fq-line-requires
-    enum-told-3
-    end-line-requires
-    enum-told-4
-    refusal-requires
     enum-known-r
+    end-line-requires
+    enum-told-3
+    refusal-requires
+    enum-known-r-2
     proposal-line-requires
     returns
     returns-2

@@ -60,14 +60,14 @@ enum-told : tie.Need-enum-told
 enum-told c = search needs
 
 returns-4 : tie.Need-returns-4
-returns-4 c = (no-size _ _ _ _ (c .before .before .before .before .before .before .before .before .before .before .form-of .ensures .0) (c .before .before .before .before .before .before .before .before .before .if1 .left) _ (c .before .before .before .before .before .before .before .type-of .ensures) (c .before .before .before .before .before .before .if2 .left) _ (c .before .before .before .before .before .fields-hold .ensures) (c .before .before .before .before .if3 .left) _ (c .before .before .read-size .ensures) (c .enum-told .given .1), tt)
+returns-4 c = (no-size _ _ _ _ (c .before .before .before .before .before .before .before .before .before .before .form-of .ensures .0) (c .before .before .before .before .before .before .before .before .before .if1 .left) _ (c .before .before .before .before .before .before .before .type-of .ensures) (c .before .before .before .before .before .before .if2 .left) _ (c .before .before .before .before .before .fields-hold .ensures) (c .before .before .before .before .if3 .left) _ (c .before .before .read-size .ensures .0) (c .enum-told .given .1), tt)
 
 returns-5 : tie.Need-returns-5
 returns-5 c =
     let lie = c .before .before .before .before .before .before .before .before .before .before .before .before .before .before .before .before .before .before .pre in
     let most = c .before .before .before .before .before .before .before .before .before .before .before .before .before .before .before .form-of .ensures .1 in
     let not-three = c .before .before .before .before .before .before .before .before .before .before .before .before .before .before .if1 .left in (
-      proposed _ _ _ _ (c .before .before .before .before .before .before .before .before .before .before .before .before .before .before .before .form-of .ensures .0) not-three _ (c .before .before .before .before .before .before .before .before .before .before .before .before .type-of .ensures) (c .before .before .before .before .before .before .before .before .before .before .before .if2 .left) _ (c .before .before .before .before .before .before .before .before .before .before .fields-hold .ensures) (c .before .before .before .before .before .before .before .before .before .if3 .left) _ (c .before .before .before .before .before .before .before .read-size .ensures) _ (c .before .before .before .before .before .read .given .1),
+      proposed _ _ _ _ (c .before .before .before .before .before .before .before .before .before .before .before .before .before .before .before .form-of .ensures .0) not-three _ (c .before .before .before .before .before .before .before .before .before .before .before .before .type-of .ensures) (c .before .before .before .before .before .before .before .before .before .before .before .if2 .left) _ (c .before .before .before .before .before .before .before .before .before .before .fields-hold .ensures) (c .before .before .before .before .before .before .before .before .before .if3 .left) _ (c .before .before .before .before .before .before .before .read-size .ensures .0) _ (c .before .before .before .before .before .read .given .1),
       record { form = omega (arith, most, not-three); from = lie .from; at = lie .at; to = lie .to; bid = lie .bid },
     )
 

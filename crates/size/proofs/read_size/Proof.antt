@@ -9,13 +9,17 @@ is-field-requires : tie.Need-is-field-requires
 is-field-requires c κs = search needs
 
 returns : tie.Need-returns
-returns c = rw (sym (size-is (c .before .before .before .args .s .now)) ∙ sym (c .before .is-field .ensures) ∙ not-true _ (c .if1 .taken))
+returns c =
+    let e = sym (size-is (c .before .before .before .args .s .now)) ∙ sym (c .before .is-field .ensures) ∙ not-true _ (c .if1 .taken) in
+    (rw e, rw e)
 
 number-requires : tie.Need-number-requires
 number-requires c κs = sym (size-is _) ∙ sym (c .before .is-field .ensures) ∙ not-false _ (c .if1 .left)
 
 returns-2 : tie.Need-returns-2
-returns-2 c = rw (sym (size-is (c .before .before .before .before .args .s .now)) ∙ sym (c .before .before .is-field .ensures) ∙ not-false _ (c .before .if1 .left), c .number .ensures)
+returns-2 c =
+    let e = sym (size-is (c .before .before .before .before .args .s .now)) ∙ sym (c .before .before .is-field .ensures) ∙ not-false _ (c .before .if1 .left) in
+    (rw (e, c .number .ensures), rw e)
 
 pub read-size-spec : {M : Type 1} → statement M
 read-size-spec = tie.close (tie.spec is-field-requires returns number-requires returns-2)

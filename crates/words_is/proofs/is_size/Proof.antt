@@ -18,10 +18,10 @@ enum-told : tie.Need-enum-told
 enum-told c = search needs
 
 returns : tie.Need-returns
-returns c = ap (λ (z : Size). isSome (sizeIs z)) (sym (c .before .size .given .1)) ∙ size-read _ (c .before .before .before .read-size .ensures)
+returns c = ap (λ (z : Size). isSome (sizeIs z)) (sym (c .before .size .given .1)) ∙ size-read _ (c .before .before .before .read-size .ensures .0)
 
 returns-2 : tie.Need-returns-2
-returns-2 c = ap (λ (z : Size). isSome (sizeIs z)) (sym (c .enum-told .given .1)) ∙ size-read _ (c .before .before .read-size .ensures)
+returns-2 c = ap (λ (z : Size). isSome (sizeIs z)) (sym (c .enum-told .given .1)) ∙ size-read _ (c .before .before .read-size .ensures .0)
 
 pub is-size-spec : {M : Type 1} → statement M
 is-size-spec = tie.close (tie.spec read-size-requires enum-known-size enum-told returns returns-2)

@@ -56,15 +56,20 @@ impl<'a> Link<'a> {
         }
     }
 
-    /// The next line, trimmed, without its CR. Lines that begin with `;` are
-    /// passed over.
+    /// The next line, trimmed, without its CR.
     pub(super) fn line(&mut self, side: Side) -> Option<&'a [u8]> {
+        self.received_line(side).map(trimmed)
+    }
+
+    /// The next line as it went over the link, without its CR. Lines that begin
+    /// with `;` are passed over.
+    pub(super) fn received_line(&mut self, side: Side) -> Option<&'a [u8]> {
         loop {
             let length = self.rest(side).iter().position(|&byte| byte == CR)?;
             if length > LINE_LIMIT {
                 return None;
             }
-            let line = trimmed(&self.cut(side, length + 1)?[..length]);
+            let line = &self.cut(side, length + 1)?[..length];
             if side == Side::Partner {
                 self.drop_lf();
             }

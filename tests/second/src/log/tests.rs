@@ -98,6 +98,60 @@ fn what_the_rules_forbid_ends_the_log() {
     assert_eq!(kept(&[Us(GREETING), Them(&offer), fs, Them(&fits)]), 1);
 }
 
+/// "A turn with a wrong checksum is no valid turn. We go on writing the bare form."
+#[test]
+fn a_block_may_end_with_its_checksum() {
+    // 70 + 66 + 32 + 80 + 32 + 65 + 32 + 66 + 32 + 67 + 32 + 49 + 32 + 49 + 13 = 717,
+    // and 3 * 256 - 717 = 0x33; each space more takes 0x20.
+    let one = &b"FB P A B C 1 1\r"[..];
+    let turn = |lines: &[u8], end: &str| {
+        let said = [lines, end.as_bytes()].concat();
+        states(&[Them(b"FS ++\r"), Us(TRANSFERS), Them(&said)])
+    };
+    assert_eq!(turn(one, "F> 33\r"), [Forwarded; 2]);
+    assert_eq!(turn(one, "F> 34\r"), [Waiting; 2]);
+    assert_eq!(turn(one, "F> 33"), [Waiting; 2]);
+    assert_eq!(turn(one, "F> 33  \r"), [Forwarded; 2]);
+    assert_eq!(turn(one, "F>  33\r"), [Waiting; 2]);
+    assert_eq!(turn(one, "F> 333\r"), [Waiting; 2]);
+    assert_eq!(turn(b"FB P A B  C 1 1\r", "F> 13\r"), [Forwarded; 2]);
+    assert_eq!(turn(b"FB P A B  C 1 1\r", "F> 33\r"), [Waiting; 2]);
+    assert_eq!(turn(b"FB P A B C 1 1 \r", "F> 13\r"), [Forwarded; 2]);
+    assert_eq!(turn(b"; x\r\nFB P A B C 1 1\r\n; y\r", "f> 33\r"), [Forwarded; 2]);
+    assert_eq!(turn(b"", "F> 00\r"), [Waiting; 2]);
+    assert_eq!(turn(&one.repeat(2), "F> 66\r"), [Forwarded; 2]);
+    assert_eq!(turn(&one.repeat(6), "F> 32\r"), [Waiting; 2]);
+    // What the partner owes after a block with a wrong checksum is never kept.
+    let kept = |end: &[u8]| {
+        let offer = [b"[TST-1-F$]\r", one, end].concat();
+        let pieces = [Us(GREETING), Them(&offer), Us(b"FS +\r"), Them(b"T\ra\x1A\r")];
+        log(&pieces).kept.len()
+    };
+    assert_eq!(kept(b"F> 33\r"), 1);
+    assert_eq!(kept(b"F> 32\r"), 0);
+}
+
+/// A block of ours that ends with a checksum, though a right one, is forbidden.
+#[test]
+fn ours_is_the_bare_form() {
+    let lines = &PROPOSALS[..PROPOSALS.len() - 3];
+    let sum: usize = lines.iter().map(|&byte| usize::from(byte)).sum();
+    let said = [lines, format!("F> {:02X}\r", (256 - sum % 256) % 256).as_bytes()].concat();
+    let session = |ours: &[u8]| {
+        log(&[
+            Us(GREETING),
+            Them(b"[TST-1-F$]\rFF\r"),
+            Us(ours),
+            Them(b"FS ++\r"),
+            Us(TRANSFERS),
+            Them(b"FF\r"),
+        ])
+        .states
+    };
+    assert_eq!(session(PROPOSALS), [Forwarded; 2]);
+    assert_eq!(session(&said), [Waiting; 2]);
+}
+
 #[test]
 fn a_line_has_256_bytes_at_most() {
     for (spaces, whole) in [(254, true), (255, false)] {

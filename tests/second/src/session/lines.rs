@@ -2,9 +2,9 @@
 
 use super::{Offer, Phase, Role, Session};
 use crate::fs::{self, Sign};
-use crate::line::{is_comment, is_prompt};
+use crate::line::{is_comment, is_prompt, trimmed, with_cr};
 use crate::memory::{Envelope, Memory, State};
-use crate::proposal::{self, TurnLine, BLOCK_LIMIT};
+use crate::proposal::{self, is_checksum_of, TurnLine, BLOCK_LIMIT};
 use crate::refusal::Refusal;
 use crate::sid;
 use crate::transfer::writer::{write_framed, write_plain};
@@ -12,9 +12,11 @@ use crate::transfer::writer::{write_framed, write_plain};
 type Judged = Result<(), Refusal>;
 
 impl Session {
-    /// Judges a trimmed line where a line is awaited. "A line that begins with
-    /// `;` is ignored wherever a line is awaited".
-    pub(super) fn judge(&mut self, memory: &mut Memory, line: &[u8]) -> Judged {
+    /// Judges a line, as received, where a line is awaited. "Spaces at the end are
+    /// removed before a line is judged." "A line that begins with `;` is ignored
+    /// wherever a line is awaited".
+    pub(super) fn judge(&mut self, memory: &mut Memory, received: &[u8]) -> Judged {
+        let line = trimmed(received);
         if is_comment(line) {
             return Ok(());
         }
@@ -24,7 +26,7 @@ impl Session {
                 self.judge_greeting(memory, line);
                 Ok(())
             }
-            Phase::Turn { .. } => self.judge_turn_line(memory, line),
+            Phase::Turn { .. } => self.judge_turn_line(memory, received),
             Phase::Answer { proposed } => {
                 let proposed = std::mem::take(proposed);
                 self.judge_fs(memory, line, &proposed)
@@ -40,7 +42,7 @@ impl Session {
     fn judge_sid(&mut self, line: &[u8]) -> Judged {
         self.mode = sid::judge(line)?.mode();
         self.phase = match self.role {
-            Role::Called => Phase::Turn { block: Vec::new() },
+            Role::Called => Phase::new_turn(),
             Role::Caller => Phase::Prompt,
         };
         Ok(())
@@ -57,13 +59,14 @@ impl Session {
 
     /// "A turn is `FF`, or one to five proposals and `F>`." "FQ is allowed only
     /// in answer to our FF. FF in answer to our FF gets 5." "A malformed or
-    /// forbidden line gets 5 before 6 is thought of."
-    fn judge_turn_line(&mut self, memory: &mut Memory, line: &[u8]) -> Judged {
-        let block = match &mut self.phase {
-            Phase::Turn { block } => block,
+    /// forbidden line gets 5 before 6 is thought of." 13 is "tested after 5 and 6
+    /// and before any answer is formed".
+    fn judge_turn_line(&mut self, memory: &mut Memory, received: &[u8]) -> Judged {
+        let (block, lines) = match &mut self.phase {
+            Phase::Turn { block, lines } => (block, lines),
             _ => unreachable!("a turn is awaited"),
         };
-        match proposal::read(line, self.mode)? {
+        match proposal::read(trimmed(received), self.mode)? {
             TurnLine::Nothing if block.is_empty() && !self.our_ff => {
                 self.mark_sent(memory);
                 self.say_turn(memory, true);
@@ -74,10 +77,17 @@ impl Session {
                 return Err(Refusal::ProposalCount)
             }
             TurnLine::Proposal(p) => {
-                block.push(Offer { envelope: Envelope::from(&p), size: p.size })
+                block.push(Offer { envelope: Envelope::from(&p), size: p.size });
+                lines.extend(with_cr(received));
             }
-            TurnLine::BlockEnd if block.is_empty() => return Err(Refusal::ProposalCount),
-            TurnLine::BlockEnd => {
+            TurnLine::BlockEnd | TurnLine::SummedEnd(_) if block.is_empty() => {
+                return Err(Refusal::ProposalCount)
+            }
+            TurnLine::SummedEnd(checksum) if !is_checksum_of(lines, checksum) => {
+                return Err(Refusal::WrongBlockSum)
+            }
+            end @ (TurnLine::BlockEnd | TurnLine::SummedEnd(_)) => {
+                self.blocks[usize::from(end != TurnLine::BlockEnd)] += 1;
                 let block = std::mem::take(block);
                 self.mark_sent(memory);
                 self.answer(memory, block);
@@ -107,7 +117,7 @@ impl Session {
             }
         }
         // "The right to propose passes to whoever sent the FS."
-        self.phase = Phase::Turn { block: Vec::new() };
+        self.phase = Phase::new_turn();
         Ok(())
     }
 

@@ -112,6 +112,7 @@ fn start(role: Role, sizes: Sizes) -> Session {
         kept: 0,
         used: 0,
         turns: 0,
+        blocks: [0; 2],
         signs: Vec::new(),
     }
 }

@@ -18,7 +18,7 @@ impl Session {
         }
         let (last, phase) = match (proposed.is_empty(), partner_ff) {
             (false, _) => (TurnLine::BlockEnd, Phase::Answer { proposed }),
-            (true, false) => (TurnLine::Nothing, Phase::Turn { block: Vec::new() }),
+            (true, false) => (TurnLine::Nothing, Phase::new_turn()),
             (true, true) => (TurnLine::Quit, Phase::Quit),
         };
         self.say(&proposal::write(&last));

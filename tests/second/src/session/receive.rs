@@ -48,8 +48,7 @@ impl Session {
         }
     }
 
-    /// "A line ends with CR." "Spaces at the end are removed before a line is
-    /// judged." DECISIONS 11: a line is refused at its CR, or for its length.
+    /// "A line ends with CR." DECISIONS 11: a line is refused at its CR, or for its length.
     fn take_line_byte(&mut self, memory: &mut Memory, byte: u8) -> Result<(), Refusal> {
         match line::step(false, self.line.len(), byte)? {
             Step::Dropped => Ok(()),
@@ -60,7 +59,7 @@ impl Session {
             Step::End => {
                 self.after_cr = true;
                 let line = std::mem::take(&mut self.line);
-                self.judge(memory, line::trimmed(&line))
+                self.judge(memory, &line)
             }
         }
     }

@@ -7,4 +7,5 @@ mod papers;
 mod received;
 mod refusals;
 mod slips;
+mod sums;
 mod turns;

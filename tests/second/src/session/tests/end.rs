@@ -10,6 +10,7 @@ pub const CALLED: u8 = 0;
 pub const CALLER: u8 = 1;
 
 /// Our end, its memory, and all that went over the link.
+#[derive(Clone)]
 pub struct End {
     pub session: Session,
     pub memory: Memory,

@@ -1,5 +1,5 @@
 //! Refusals 2 to 12, each in its situation and in its order. (1 is in
-//! `opening`.)
+//! `opening`, 13 in `sums`.)
 
 use super::end::{packed_table, plain_table, proposals, End, CALLED, CALLER};
 use crate::host::Buffers;

@@ -72,7 +72,7 @@ fn a_turn_before_our_last_byte_marks_nothing() {
 }
 
 /// A turn that isn't valid marks nothing: a wrong line, `F>` alone, a sixth
-/// proposal.
+/// proposal, a wrong checksum.
 #[test]
 fn a_turn_that_is_not_whole_and_valid_marks_nothing() {
     let proposal = b"FB P THEM US ME 1_THEM 5\r";
@@ -83,6 +83,7 @@ fn a_turn_that_is_not_whole_and_valid_marks_nothing() {
         (proposal.repeat(6), 6),
         ([&proposal[..], b"FF\r"].concat(), 5),
         ([&proposal[..], b"FQ\r"].concat(), 5),
+        ([&proposal[..], b"F> 01\r"].concat(), 13),
     ] {
         let mut end = sent(all);
         end.refuses(&turn, answer);

@@ -1,0 +1,60 @@
+-- DEMAND 2, THE NUMBERS OF 01 by which lines, bodies, blocks and marks are judged, said here once for all of demand 2 and shared with no other
+-- definition. That the session's model has the same is `limits-are` of proofs/Limits.
+use mathlib.Core.Path.{_≡_}
+use Prim.Native.Nat.{ℕ}
+use Rattle.grammar.specs.Lines as lines
+use Rattle.grammar.specs.Fields as fields
+use Rattle.grammar.specs.Turns as turns
+use Rattle.grammar.specs.Sid as sid
+use Rattle.grammar.specs.Answers.{Level, level0}
+use Rattle.mail.specs.Mail as mail
+use Rattle.phase.specs.Phase as phase
+use Rattle.session.specs.Session as model
+use Rattle.session.specs.Session.{Memory}
+
+-- "a 257th byte of a line comes before CR": a line has at most
+abbrev pub lineLimit : ℕ
+lineLimit = 256
+
+-- "A body has at most 65,535 bytes"
+abbrev pub bodyLimit : ℕ
+bodyLimit = 65535
+
+-- "one to five proposals"
+abbrev pub blockLimit : ℕ
+blockLimit = 5
+
+-- "the announced sizes so far are below 10,240"
+abbrev pub announcedLimit : ℕ
+announcedLimit = 10240
+
+-- "Table: 0 to 64 records."
+abbrev pub recordLimit : ℕ
+recordLimit = 64
+
+-- "Letters have fixed places A = 0 to Z = 25": that of F
+abbrev pub letterF : ℕ
+letterF = 5
+
+-- "a state (0 waiting, 1 forwarded, 2 declined)"
+abbrev pub stateForwarded : ℕ
+stateForwarded = 1
+
+abbrev pub stateDeclined : ℕ
+stateDeclined = 2
+
+-- "FS, one space, one sign a proposal: `+` accept, `-` decline, `=` defer.": no other sign is known in any session
+abbrev pub levelInForce : Memory → Level
+levelInForce m = level0
+
+-- The session's model, and the grammar that it reads by, have these numbers.
+pub record LimitsAre : Type 0 where
+  pub line : lines.lineLimit ≡ lineLimit
+  pub body : fields.bodyLimit ≡ bodyLimit
+  pub block : turns.blockLimit ≡ blockLimit
+  pub announced : turns.announcedLimit ≡ announcedLimit
+  pub records : mail.recordLimit ≡ recordLimit
+  pub f : sid.letterF ≡ letterF
+  pub forwarded : phase.stateForwarded ≡ stateForwarded
+  pub declined : phase.stateDeclined ≡ stateDeclined
+  pub level : (m : Memory) → model.levelInForce m ≡ levelInForce m

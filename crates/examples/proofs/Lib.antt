@@ -1,2 +1,0 @@
--- Laws of the examples' line reading.
-pub mod Laws

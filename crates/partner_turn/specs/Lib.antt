@@ -1,0 +1,2 @@
+-- What the checksum behind F> decides.
+pub mod Check
