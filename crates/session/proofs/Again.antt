@@ -18,5 +18,5 @@ unfolding isAt isBid isCall isSize readFrom hexDigit twoHex words writeNum sameB
 declined-again = refl
 
 pub declined-in-other-case : leftOf (played shelf (opened (inOtherCase .caller) waiting) (inOtherCase .moves)) ≡ inOtherCase .left
-unfolding isAt isBid isCall isSize readFrom words writeNum sameBid trim isComment isPrompt readSid readProposal readTurnLine proposalLine readFs fsLine parse readTransfer writeTransfer turnText transfersText chosen answersTo receive give
+unfolding isAt isBid isCall isSize readFrom hexDigit twoHex words writeNum sameBid trim isComment isPrompt readSid readProposal readSummedEnd readTurnLine proposalLine readFs fsLine parse readTransfer writeTransfer turnText transfersText chosen answersTo receive give
 declined-in-other-case = refl

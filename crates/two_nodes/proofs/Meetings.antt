@@ -67,11 +67,11 @@ both-there = refl
 
 -- and so they are where one is spelt in small letters
 pub spelt-here : seen waits (here waits bothHaveIt) ≡ see (greeted ++ (text "FS -\r" ++ (text "FA P A B C x1 2\rF>\r" ++ text "FQ\r"))) (proposes ++ text "FS -\rFF\r") (2 ∷ []) waits []
-unfolding isAt isBid isCall isSize readFrom words writeNum sameBid trim isComment isPrompt readSid readProposal readTurnLine proposalLine readFs fsLine parse readTransfer writeTransfer turnText transfersText chosen answersTo receive give
+unfolding isAt isBid isCall isSize readFrom hexDigit twoHex words writeNum sameBid trim isComment isPrompt readSid readProposal readSummedEnd readTurnLine proposalLine readFs fsLine parse readTransfer writeTransfer turnText transfersText chosen answersTo receive give
 spelt-here = refl
 
 pub spelt-there : seen smallTwin (there smallTwin bothHaveIt) ≡ see (proposes ++ text "FS -\rFF\r") (greeted ++ (text "FS -\r" ++ (text "FA P A B C x1 2\rF>\r" ++ text "FQ\r"))) (2 ∷ []) smallTwin []
-unfolding isAt isBid isCall isSize readFrom words writeNum sameBid trim isComment isPrompt readSid readProposal readTurnLine proposalLine readFs fsLine parse readTransfer writeTransfer turnText transfersText chosen answersTo receive give
+unfolding isAt isBid isCall isSize readFrom hexDigit twoHex words writeNum sameBid trim isComment isPrompt readSid readProposal readSummedEnd readTurnLine proposalLine readFs fsLine parse readTransfer writeTransfer turnText transfersText chosen answersTo receive give
 spelt-there = refl
 
 -- the called end's mail goes
