@@ -11,9 +11,9 @@ use lib.Dec.{eqb, leb}
 use lib.ListN.{length, getD, take, drop, length-drop}
 use lib.Seq.{length-take-le}
 use borrow.Author.Tests.{leb-true, le-leb, eqb-true, eqb-false, eq-eqb, ne-eqb, not-true}
+use Rattle.grammar.specs.Bids.{OneBid}
 use Rattle.grammar.specs.Bytes.{Bytes, CTRLZ}
 use Rattle.grammar.specs.Fields.{Form, plain, message, file, formIs, formNumber, isCall, isAt, isBid, isHeading, isBody, bodyFair, notCtrlZ, sameBid}
-use Rattle.grammar.specs.Bids.{OneBid}
 use Rattle.grammar.specs.Turns.{isType}
 use Rattle.grammar.specs.Transfers.{partOf}
 use Rattle.grammar.proofs.Basics.{and2, both, no-both, not-so, or2, or-left, or-right}

@@ -10,11 +10,11 @@ use lib.Dec.{eqb, ltb, leb}
 use lib.ListN.{length, getD}
 use borrow.Author.Tests.{leb-true, le-leb, ltb-true, ltb-false, lt-ltb, le-ltb, eqb-true, eqb-false, ne-eqb}
 use Rattle.grammar.specs.Bytes.{Bytes, all}
+use Rattle.grammar.specs.Bids.{OneBid}
+use Rattle.grammar.proofs.Bids.{one-bid, bid-one}
 use Rattle.grammar.specs.Fields.{field, callByte, bidByte, headingByte, isCall, isBid, isAt, isHeading, parts, allCalls, afterDot, sameBid}
 use Rattle.grammar.proofs.Basics.{and2, both, no-both, field-is, field-of, Lacks, all-lacks}
-use Rattle.grammar.specs.Bids.{OneBid}
 use Rattle.grammar.proofs.Fields.{call-field}
-use Rattle.grammar.proofs.Bids.{one-bid, bid-one}
 use Rattle.byte.proofs.Laws.{all-get}
 use Rattle.open_accepts.specs.Words.{Between, CallByte, BidByte, HeadingByte, Text, Callsign, Bid, Heading, joined, afterPoint, AllParts, At}
 

@@ -1,4 +1,5 @@
--- 01, "Fields", as facts about bytes: what a callsign, an at field, a BID, a title or name and a body are. Nothing here is a test; that the tests of the grammar decide these facts is proved in proofs/Words.
+-- 01, "Fields", as facts about bytes: what a callsign, an at field, a BID, a title or name and a body are. When two BIDs are one stands in the
+-- grammar's Bids. Nothing here is a test; that the tests of the grammar decide these facts is proved in proofs/Words.
 use mathlib.Core.Path.{_≡_}
 use mathlib.Core.List.{List, [], _∷_, _++_}
 use mathlib.Core.Logic.{_≢_}
