@@ -170,7 +170,8 @@ class Partner:
         """Exactly these bytes come next."""
         while len(self.early) < len(data) and data.startswith(self.early):
             more = self.read()
-            assert more, "the node hung up after %r, %r was due" % (self.early, data) + last_words(self.process)
+            if not more:
+                raise HungUp("the node hung up after %r, %r was due" % (self.early, data), self.process)
             self.early += more
         assert self.early.startswith(data), "heard %r, %r was due" % (self.early[:200], data[:200])
         self.early = self.early[len(data):]
@@ -253,6 +254,17 @@ def last_words(process):
         return "; it ended with %d and said %r" % (process.wait(1), process.stderr and process.stderr.read())
     except subprocess.TimeoutExpired:
         return ""
+
+
+class HungUp(AssertionError):
+    """Told with the node's last words, which are read only then: a test that expects it to hang up may read them itself."""
+
+    def __init__(self, what, process):
+        super().__init__(what)
+        self.process = process
+
+    def __str__(self):
+        return super().__str__() + last_words(self.process)
 
 
 def next_line(process):
