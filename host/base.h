@@ -52,7 +52,10 @@ bool base_release(struct base *base, struct part bid, bool *found);
 
 /* Whether this BID is known; -1 if the base can't say. */
 int base_knows(struct base *base, struct part bid);
-/* Whether just this message is in one of the boxes, its announced size and state aside; -1 if the base can't say. */
+/* How the base spells a BID that it knows, added to a store: as it is here, if it has that spelling too. */
+bool base_spelling(struct base *base, struct part bid, struct bytes *spelling);
+/* Whether just this message is in one of the boxes, its announced size, its state and the spelling of its BID aside; -1 if the base can't
+ * say. */
 int base_has(struct base *base, const struct message *message);
 /* The number that the next message of the outbox gets. */
 bool base_next(struct base *base, long long *number);

@@ -67,6 +67,11 @@ bool part_is(struct part part, const char *text)
     return part.n == strlen(text) && memcmp(part.at, text, part.n) == 0;
 }
 
+bool part_same(struct part a, struct part b)
+{
+    return a.n == b.n && (!a.n || memcmp(a.at, b.at, a.n) == 0);
+}
+
 static int lower(int byte)
 {
     return byte >= 'A' && byte <= 'Z' ? byte - 'A' + 'a' : byte;

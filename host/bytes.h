@@ -25,7 +25,8 @@ void bytes_free(struct bytes *store);
 struct part part_of(const char *text);
 struct part part_all(const struct bytes *store);
 bool part_is(struct part part, const char *text);
-/* The same, A-Z and a-z taken as one. */
+bool part_same(struct part a, struct part b);
+/* part_is, A-Z and a-z taken as one. */
 bool part_names(struct part part, const char *text);
 /* Without spaces and tabs at both ends. */
 struct part part_trimmed(struct part part);

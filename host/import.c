@@ -5,6 +5,7 @@
 #include "fault.h"
 #include "letter.h"
 #include "stop.h"
+#include "text.h"
 
 #include <errno.h>
 #include <fcntl.h>
@@ -41,19 +42,30 @@ static enum exit_code add(struct import *import, const struct message *message)
     return DONE;
 }
 
-/* A message whose BID is known isn't taken. If it is in the base as it is here, all is well; else somebody must hear of it. */
+/* Somebody must hear of another message of that BID, and of a BID that came in another spelling than the base has. */
+static void say_passed_over(const struct import *import, struct part came, struct part stored, bool another)
+{
+    bool respelled = !part_same(came, stored);
+    char *as = text_copy(stored);
+
+    if (respelled || another)
+        say("%s: message %d: its BID is in the base already%s%s%s; passed over", import->file, import->place, respelled ? ", as " : "",
+            respelled ? as : "", another ? ", with another message" : "");
+    free(as);
+}
+
+/* A message whose BID is known isn't taken. */
 static enum exit_code pass_over(struct import *import, const struct message *message)
 {
-    int has = base_has(import->base, message);
+    struct bytes stored = { NULL, 0, 0 };
+    int has = base_spelling(import->base, message->bid, &stored) ? base_has(import->base, message) : -1;
 
+    if (has >= 0)
+        say_passed_over(import, message->bid, part_all(&stored), !has);
+    bytes_free(&stored);
     if (has < 0)
         return BAD_BASE;
-    if (has) {
-        import->there++;
-    } else {
-        import->clashing++;
-        bad(import, "its BID is in the base already, with another message; passed over");
-    }
+    ++*(has ? &import->there : &import->clashing);
     return DONE;
 }
 

@@ -7,12 +7,16 @@
 #define PERSONAL_BEHIND (FRINGEMOLE_MAX_KNOWN / 2)
 
 /* What each partner sent in the last session in which it sent something: it sends just that again if it didn't hear us. */
-#define JUST_CAME "(SELECT bid FROM inbox WHERE session IN (SELECT max(session) FROM inbox GROUP BY partner))"
+#define JUST_CAME "(SELECT " BID_TEXT("bid") " FROM inbox WHERE session IN (SELECT max(session) FROM inbox GROUP BY partner))"
+
+/* Of twins that an older base has (bid.h) one stands for all: that which was seen last. */
+#define SEEN_SINCE "EXISTS (SELECT 1 FROM known AS later WHERE " SAME_BID("later.bid", "known.bid") " AND later.number > known.number)"
 
 static bool see_again(struct base *base, struct part bid)
 {
     sqlite3_stmt *statement = base_prepare(base,
-        "UPDATE known SET seen = ?2, number = (SELECT max(number) FROM known) + 1 WHERE " SAME_BID("bid", "?1"));
+        "UPDATE known SET seen = ?2, number = (SELECT max(number) FROM known) + 1"
+        " WHERE number = (SELECT max(number) FROM known WHERE " SAME_BID("bid", "?1") ")");
 
     if (statement) {
         bind_part(statement, 1, bid);
@@ -47,9 +51,27 @@ int base_knows(struct base *base, struct part bid)
     return base_number(base, statement, &known) ? known > 0 : -1;
 }
 
+static bool take_spelling(void *into, sqlite3_stmt *statement)
+{
+    struct part part = column_part(statement, 0);
+
+    bytes_add(into, part.at, part.n);
+    return true;
+}
+
+bool base_spelling(struct base *base, struct part bid, struct bytes *spelling)
+{
+    sqlite3_stmt *statement = base_prepare(base,
+        "SELECT bid FROM known WHERE " SAME_BID("bid", "?1") " ORDER BY bid = ?1 DESC, number LIMIT 1");
+
+    if (statement)
+        bind_part(statement, 1, bid);
+    return base_rows(base, statement, take_spelling, spelling);
+}
+
 bool base_count_known(struct base *base, long long *count)
 {
-    return base_number(base, base_prepare(base, "SELECT count(*) FROM known"), count);
+    return base_number(base, base_prepare(base, "SELECT count(DISTINCT " BID_KEY("bid") ") FROM known"), count);
 }
 
 struct taker {
@@ -67,8 +89,8 @@ static bool take_row(void *context, sqlite3_stmt *statement)
 bool base_known(struct base *base, bid_function *function, void *context)
 {
     sqlite3_stmt *statement = base_prepare(base,
-        "SELECT bid FROM known WHERE bid NOT IN (SELECT bid FROM outbox WHERE number IN " CHOSEN ")"
-        " ORDER BY bid IN " JUST_CAME " DESC, number - (type = 'P') * ?3 DESC, number DESC LIMIT ?2");
+        "SELECT bid FROM known WHERE " BID_KEY("bid") " NOT IN (SELECT " BID_TEXT("bid") " FROM outbox WHERE number IN " CHOSEN ")"
+        " AND NOT " SEEN_SINCE " ORDER BY " BID_KEY("bid") " IN " JUST_CAME " DESC, number - (type = 'P') * ?3 DESC, number DESC LIMIT ?2");
     struct taker taker = { function, context };
 
     if (statement) {

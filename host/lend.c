@@ -21,10 +21,12 @@ static void say_held(long long number, struct part bid, const char *rule)
     free(shown);
 }
 
+#define TWIN "another message of the outbox has this BID"
+
 static bool take_message(void *context, const struct message *message)
 {
     struct lending *lending = context;
-    const char *rule = message_fault(message);
+    const char *rule = message->copy ? TWIN : message_fault(message);
 
     if (rule) {
         say_held(message->number, message->bid, rule);
@@ -77,12 +79,12 @@ static bool fill(struct lending *lending, size_t room)
     return base_known(lending->base, take_bid, lending);
 }
 
-/* Each record by itself is right: of two with one BID the later is refused. */
+/* Each record by itself is right, and no two have one BID as the base sees it: one that the library refuses is a twin to the library. */
 static void refuse_record(struct lending *lending, size_t place)
 {
     long long number = lending->shelf->numbers[place];
 
-    say_held(number, shelf_bid(lending->shelf, place), "another message of the outbox has this BID");
+    say_held(number, shelf_bid(lending->shelf, place), TWIN);
     lending->bad[lending->count++] = number;
 }
 

@@ -25,6 +25,11 @@ static void show_message(const struct message *message, const char *state)
     show_field(message->bid, 14);
     printf("%6lu  ", (unsigned long)message->body.n);
     text_show(stdout, message->form == PACKED_FILE ? message->name : message->title);
+    if (!part_same(message->bid, message->first_bid)) {
+        printf("  (the same BID as ");
+        text_show(stdout, message->first_bid);
+        putchar(')');
+    }
     putchar('\n');
 }
 

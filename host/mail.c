@@ -115,7 +115,7 @@ bool base_release(struct base *base, struct part bid, bool *found)
 /* ---- questions */
 
 #define ALIKE \
-    "form = ?1 AND type = ?2 AND \"from\" = ?3 AND at = ?4 AND \"to\" = ?5 AND bid = ?6 AND title = ?7 AND name = ?8 AND body = ?9"
+    "form = ?1 AND type = ?2 AND \"from\" = ?3 AND at = ?4 AND \"to\" = ?5 AND " SAME_BID("bid", "?6") " AND title = ?7 AND name = ?8 AND body = ?9"
 
 int base_has(struct base *base, const struct message *message)
 {
@@ -176,6 +176,7 @@ static struct message message_of(sqlite3_stmt *statement)
     message.title = column_part(statement, 10);
     message.name = column_part(statement, 11);
     message.body = column_part(statement, 12);
+    message.first_bid = column_part(statement, 13);
     return message;
 }
 
@@ -192,19 +193,26 @@ static bool take_row(void *context, sqlite3_stmt *statement)
     return taker->function(taker->context, &message);
 }
 
+#define FIRST_BID(in, of) "(SELECT first.bid FROM " in " AS first WHERE " SAME_BID("first.bid", of) " ORDER BY first.number LIMIT 1)"
+
 bool base_each(struct base *base, enum box box, message_function *function, void *context)
 {
-    const char *sql = box == OUTBOX ? "SELECT number, state, size, 0, " FIELDS " FROM outbox ORDER BY number"
-                                    : "SELECT number, 0, length(body), copy, " FIELDS " FROM inbox ORDER BY number";
+    const char *sql = box == OUTBOX
+        ? "SELECT number, state, size, 0, " FIELDS ", " FIRST_BID("outbox", "outbox.bid") " FROM outbox ORDER BY number"
+        : "SELECT number, 0, length(body), copy, " FIELDS ","
+          " coalesce(" FIRST_BID("outbox", "inbox.bid") ", " FIRST_BID("inbox", "inbox.bid") ") FROM inbox ORDER BY number";
     struct taker taker = { function, context };
 
     return base_rows(base, base_prepare(base, sql), take_row, &taker);
 }
 
+#define EARLIER_WAITS \
+    "EXISTS (SELECT 1 FROM outbox AS first WHERE " SAME_BID("first.bid", "outbox.bid") " AND first.number < outbox.number AND first.state = 0)"
+
 bool base_waiting(struct base *base, message_function *function, void *context)
 {
     sqlite3_stmt *statement = base_prepare(base,
-        "SELECT number, state, size, 0, " FIELDS " FROM outbox WHERE number IN " CHOSEN " ORDER BY deferred, number");
+        "SELECT number, state, size, " EARLIER_WAITS ", " FIELDS ", NULL FROM outbox WHERE number IN " CHOSEN " ORDER BY deferred, number");
     struct taker taker = { function, context };
 
     if (statement)

@@ -15,7 +15,8 @@ struct message {
     uint8_t state, form, type;
     struct part from, at, to, bid, title, name, body;
     uint32_t size; /* as announced in a proposal */
-    long long copy; /* of the inbox: 0 the first of its BID, then 1, 2 .. */
+    long long copy; /* of the inbox: 0 the first of its BID, then 1, 2 ..; of what waits: 0 the first of its BID, else 1 */
+    struct part first_bid; /* as the base's first message of this BID spells it, or empty: where nobody asks */
 };
 
 extern const char *const state_names[4], *const form_names[3];

@@ -46,19 +46,35 @@ static const char to_2[] =
     "ALTER TABLE inbox ADD COLUMN partner BLOB;"
     "ALTER TABLE inbox ADD COLUMN session INTEGER;"
     "ALTER TABLE inbox ADD COLUMN copy INTEGER NOT NULL DEFAULT 0;" /* 0 the first of its BID, then 1, 2 .. */
-    "CREATE INDEX inbox_bid ON inbox (" BID_KEY("bid") ");"
+    "CREATE INDEX inbox_bid ON inbox (bid);"
     "CREATE INDEX inbox_session ON inbox (session);"
     "UPDATE inbox SET session = 0, partner = (SELECT partner FROM station)"
     " WHERE number IN (SELECT number FROM inbox ORDER BY number DESC LIMIT 64);"
     "UPDATE inbox SET copy ="
-    " (SELECT count(*) FROM inbox AS other WHERE " SAME_BID("other.bid", "inbox.bid") " AND other.number < inbox.number)"
-    " + EXISTS (SELECT 1 FROM outbox WHERE " SAME_BID("outbox.bid", "inbox.bid") ");"
+    " (SELECT count(*) FROM inbox AS other WHERE other.bid = inbox.bid AND other.number < inbox.number)"
+    " + EXISTS (SELECT 1 FROM outbox WHERE outbox.bid = inbox.bid);"
     "ALTER TABLE known ADD COLUMN type TEXT NOT NULL DEFAULT 'B';"
     "ALTER TABLE known ADD COLUMN seen INTEGER NOT NULL DEFAULT 0;"
     "UPDATE known SET type = 'P' WHERE EXISTS (SELECT 1 FROM outbox WHERE outbox.bid = known.bid AND type = 'P')"
     " OR EXISTS (SELECT 1 FROM inbox WHERE inbox.bid = known.bid AND type = 'P');";
 
-static const char *const steps[BASE_VERSION] = { to_1, to_2 };
+/* To older versions BIDs that differ in the case of letters were two (bid.h). All messages stay; of those in the outbox that are twins now
+ * the first goes, the others are held; those in the inbox are copies. */
+#define FIRST_VERSION_WITH_TWINS 3
+#define LATER_TWIN "EXISTS (SELECT 1 FROM outbox AS first WHERE " SAME_BID("first.bid", "outbox.bid") " AND first.number < outbox.number)"
+
+static const char to_3[] =
+    "CREATE INDEX outbox_bid ON outbox (" BID_KEY("bid") ");"
+    "DROP INDEX inbox_bid;"
+    "CREATE INDEX inbox_bid ON inbox (" BID_KEY("bid") ");"
+    "CREATE INDEX known_bid ON known (" BID_KEY("bid") ");"
+    "UPDATE outbox SET state = 3 WHERE state = 0 AND " LATER_TWIN ";"
+    "UPDATE inbox SET copy ="
+    " (SELECT count(*) FROM inbox AS other WHERE " SAME_BID("other.bid", "inbox.bid") " AND other.number < inbox.number)"
+    " + EXISTS (SELECT 1 FROM outbox WHERE " SAME_BID("outbox.bid", "inbox.bid") ")"
+    " WHERE EXISTS (SELECT 1 FROM known AS other WHERE " SAME_BID("other.bid", "inbox.bid") " AND other.bid <> inbox.bid);";
+
+static const char *const steps[BASE_VERSION] = { to_1, to_2, to_3 };
 
 /* Of a file without our mark. */
 static int nothing_yet(struct base *base, long long mark)
@@ -88,11 +104,25 @@ int schema_version(struct base *base)
     return -1;
 }
 
+/* The operator hears of twins when the base is lifted; list shows them. */
+static bool tell_twins(struct base *base)
+{
+    long long held = 0;
+
+    if (!base_number(base, base_prepare(base, "SELECT count(*) FROM outbox WHERE state = 3 AND " LATER_TWIN), &held))
+        return false;
+    if (held)
+        say("%s: messages of the outbox that are held, since another has their BID but for the case of letters: %lld", base->path, held);
+    return true;
+}
+
 bool schema_lift(struct base *base, int version)
 {
+    bool older = version < FIRST_VERSION_WITH_TWINS;
+
     for (; version < BASE_VERSION; version++) {
         if (!base_execute(base, steps[version]))
             return false;
     }
-    return base_execute(base, "PRAGMA user_version = " SQL_OF(BASE_VERSION));
+    return (!older || tell_twins(base)) && base_execute(base, "PRAGMA user_version = " SQL_OF(BASE_VERSION));
 }

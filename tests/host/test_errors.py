@@ -5,7 +5,7 @@ import signal
 
 from node import *
 from test_files import HEAD, letter
-from test_lifted import VERSION_1
+from test_lifted import TODAY, VERSION_1
 
 
 class Exported(Folder):
@@ -147,9 +147,9 @@ class KilledAtEachMoment(Folder):
             node = self.node(str(moment), program=PLAIN)
             code = self.killed(node, ("list",), moment, loaded)
             if dice.random() < 0.5:  # by the host, or by somebody who looks before that
-                self.assertIn(node.ask("PRAGMA user_version")[0][0], (1, 2))
+                self.assertIn(node.ask("PRAGMA user_version")[0][0], (1, TODAY))
             node.right("list")
-            self.assertEqual(node.ask("PRAGMA user_version"), [(2,)])
+            self.assertEqual(node.ask("PRAGMA user_version"), [(TODAY,)])
             self.assertEqual({box: node.ask("SELECT number, " + COLUMNS + " FROM " + box) for box in rows}, rows)
             self.assertEqual(node.ask("SELECT sum(copy) FROM inbox"), [(2,)])
             moment += 1

@@ -2,7 +2,8 @@
 from node import *
 
 VERSION_1 = (ROOT / "tests" / "host" / "version1.sql").read_text()
-TODAY = 2
+VERSION_2 = (ROOT / "tests" / "host" / "version2.sql").read_text()
+TODAY = 3
 
 
 def shape(node):
@@ -13,10 +14,10 @@ def shape(node):
 
 
 class Lifted(Folder):
-    def old(self, name="old"):
+    def old(self, name="old", dump=VERSION_1):
         path = self.folder / (name + ".base")
         base = sqlite3.connect(path)
-        base.executescript(VERSION_1)
+        base.executescript(dump)
         base.close()
         return self.node(name)
 
@@ -52,9 +53,10 @@ class Lifted(Folder):
 
     def test_shape(self):
         "a lifted base has the tables of a new one"
-        node = self.old()
-        node.right("list")
-        self.assertEqual(shape(node), shape(self.node("new")))
+        for number, dump in enumerate((VERSION_1, VERSION_2)):
+            node = self.old("old%d" % number, dump)
+            node.right("list")
+            self.assertEqual(shape(node), shape(self.node("new")))
 
     def test_whole(self):
         "a step that fails leaves the base as it was"

@@ -184,7 +184,7 @@ class Limits(Sessions):
         partner.hears(Message(b"OUT", form="plain").proposal() + b"F>\r")
         partner.hang_up()
         self.assertEqual(partner.ends()[0], LINK_DROPPED)
-        self.assertEqual(self.signs(node, b"IN", b"OUT", b"DONE", b"in"), "---+")
+        self.assertEqual(self.signs(node, b"IN", b"OUT", b"DONE", b"in", b"NEW"), "----+")
 
     def test_1024(self):
         "of more than 1,024 known BIDs the newest count, beside those that wait"

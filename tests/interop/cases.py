@@ -328,6 +328,22 @@ def changed_letter(world, mode, role):
     at_linfbb(world, mode, [outgoing])
 
 
+@case("a BID in small letters comes back in capitals and is declined, not kept again")
+def comes_back(world, mode, role):
+    """The flood that nobody wants: our own message, which another partner brings to a mailbox that writes BIDs in capitals."""
+    message = for_us(world, mode, bid=world.bid().replace(b"N0DE", b"low\xe9"))
+    node, capitals = world.node(message), message.bid.upper()
+    world.fetch(mode)
+    done(world.session(mode, "caller", node, login=".F0SRC", options=options_for(mode)))
+    states_of(node, [message], FORWARDED)
+    _, link = done(world.session(mode, role, node, options=options_for(mode)))
+    expect("its proposal", b" %s " % capitals in link.heard["peer"], True)
+    expect("our answer", b"FS -\r" in link.heard["us"], True)
+    expect("the base", (node.states(), node.inbox()), ({message.bid: FORWARDED}, []))
+    _, link = done(world.session(mode, role, node, options=options_for(mode)))
+    expect("proposed again", capitals in link.heard["peer"], False)
+
+
 def dropped_while_it_sends(world, mode, role, step):
     incoming, node = incoming_mail(world, mode, 4), world.node()
     # Our bytes up to our FS line, then a part of its transfers.

@@ -1,13 +1,42 @@
 // Where BIDs are compared: two of them, and one with those of a buffer's entries.
 use part::at_most;
 ghost use mathlib.Core.Path.{_≡_};
-ghost use Prim.Native.Nat.{_+_, _≤_};
+ghost use Prim.Native.Nat.{_+_, _≤_, min};
+ghost use lib.Dec.{eqb};
 ghost use lib.ListN.{length, take, drop};
-ghost use Rattle.grammar.specs.Fields.{sameBid};
+ghost use Rattle.grammar.specs.Fields.{upper, sameBid};
 ghost use Rattle.session.specs.Choices.{among};
 ghost use Rattle.places.specs.Places.{bidMax};
 ghost use Rattle.layout.specs.Layout.{fieldIn};
 ghost use Rattle.entries.specs.Decoded.{entries};
+ghost use Rattle.bid.specs.Letter.{isLetter};
+
+// The capital and the small form of a letter differ in this bit alone.
+const CASE: u8 = 0x20;
+
+// A letter, in either case.
+fn is_letter(a: u8) -> bool
+    ensures { λ r. ⌜ r ≡ isLetter a ⌝ }
+{
+    match a {
+        b'A'..=b'Z' => true,
+        b'a'..=b'z' => true,
+        _ => false,
+    }
+}
+
+// The two bytes are one: the same, or the capital and the small form of a letter. Most bytes that differ are told apart by their bits.
+fn as_one(a: u8, b: u8) -> bool
+    ensures { λ r. ⌜ r ≡ eqb (upper a) (upper b) ⌝ }
+{
+    if a == b {
+        return true;
+    }
+    if (a ^ b) != CASE {
+        return false;
+    }
+    is_letter(a)
+}
 
 // The bytes of s from a place on, as many as the BID has, are this BID.
 fn same_from(s: &[u8], from: usize, bid: &[u8]) -> bool
@@ -16,7 +45,7 @@ fn same_from(s: &[u8], from: usize, bid: &[u8]) -> bool
 {
     let mut i = 0;
     while i < bid.len() {
-        if s[from + i] != bid[i] {
+        if !as_one(s[from + i], bid[i]) {
             return false;
         }
         i += 1;
@@ -24,7 +53,7 @@ fn same_from(s: &[u8], from: usize, bid: &[u8]) -> bool
     true
 }
 
-// The two BIDs are the same, byte by byte.
+// The two BIDs are one.
 pub fn same_bid(a: &[u8], b: &[u8]) -> bool
     ensures { λ r. ⌜ r ≡ sameBid (now (a .entry)) (now (b .entry)) ⌝ }
 {
@@ -40,12 +69,27 @@ fn wide(x: u8) -> usize
     x as usize
 }
 
+// A field that says this length has that one: a length past the longest counts as the longest. What doesn't depend on the field is tested
+// first, since that is the same for all entries of a buffer.
+fn says_length(said: usize, length: usize) -> bool
+    ensures { λ r. ⌜ r ≡ eqb (min bidMax said) length ⌝ }
+{
+    let longest = places::BID_MAX as usize;
+    if length < longest {
+        return said == length;
+    }
+    if length == longest {
+        return longest <= said;
+    }
+    false
+}
+
 // The field at this place, which s has room for up to the longest BID, is this BID.
 fn is_bid_at(s: &[u8], at: usize, bid: &[u8]) -> bool
     requires { ⌜ at + 1 + bidMax ≤ length (now s) ⌝ }
     ensures { λ r. ⌜ r ≡ sameBid (fieldIn bidMax at (now (s .entry))) (now (bid .entry)) ⌝ }
 {
-    if at_most(places::BID_MAX as usize, wide(s[at])) != bid.len() {
+    if !says_length(wide(s[at]), bid.len()) {
         return false;
     }
     same_from(s, at + 1, bid)
@@ -59,10 +103,12 @@ pub fn has_bid(size: u8, s: &[u8], n: u16, at: u8, bid: &[u8]) -> bool
     let step = size as usize;
     let whole = at_most(n as usize, s.len() / step);
     let mut i = 0usize;
+    let mut place = at as usize;
     while i < whole {
-        if is_bid_at(s, i * step + (at as usize), bid) {
+        if is_bid_at(s, place, bid) {
             return true;
         }
+        place += step;
         i += 1;
     }
     // An entry past the end of the buffer is empty, and so is its BID.

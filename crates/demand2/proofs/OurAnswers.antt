@@ -13,27 +13,28 @@ use Rattle.grammar.specs.Bytes.{Bytes}
 use Rattle.grammar.specs.Fields.{sameBid}
 use Rattle.grammar.specs.Turns.{Proposal}
 use Rattle.grammar.specs.Answers.{Sign, accept, decline, defer}
-use Rattle.grammar.proofs.Basics.{and2, or-left, or-right, no-both}
+use Rattle.grammar.specs.Bids.{OneBid}
+use Rattle.grammar.proofs.Basics.{or-left, or-right, no-both}
+use Rattle.grammar.proofs.Bids.{one-bid, bid-one}
 use Rattle.mail.specs.Mail.{Record, Message, accepted}
 use Rattle.session.specs.Choices.{Shelf, among, recordBids, messageBids, proposalBids, bodyBytes, announced, haveBid, noRoomFor, signFor, withAccepted, answersAfter, answersTo}
-use Rattle.session.proofs.Bids.{bid-itself, bid-is}
 use Rattle.session.proofs.Choices.{one-sign-each}
 use Rattle.demand2.specs.OurAnswers.{Among, HaveBid, inTable, isKnown, inInbox, inBlock, NoRoomFor, tooLong, noStore, noPlace, SignExact, AnswersExact}
 use Rattle.demand2.proofs.Marks.{accepted-is}
 
 -- ---------------------------------------------------------------- the tests say what 01 says
 
-among-in : (b : Bytes) (xs : List Bytes) → among b xs ≡ true → Among b xs
+pub among-in : (b : Bytes) (xs : List Bytes) → among b xs ≡ true → Among b xs
 among-in b [] e = absurd (no-both false e refl)
 among-in b (x ∷ xs) e = go (sameBid x b) refl e (λ k. among-in b xs k)
   where
     go : (c : Bool) → sameBid x b ≡ c → c || among b xs ≡ true → (among b xs ≡ true → Among b xs) → Among b (x ∷ xs)
-    go true f e ih = record { at = 0; within = omega arith; same = bid-is x b f }
+    go true f e ih = record { at = 0; within = omega arith; same = one-bid x b f }
     go false f e ih = let h = ih e in record { at = suc (h .at); within = omega (arith, h .within); same = h .same }
 
-among-out : (b : Bytes) (xs : List Bytes) (i : ℕ) → i < length xs → getD xs i [] ≡ b → among b xs ≡ true
+among-out : (b : Bytes) (xs : List Bytes) (i : ℕ) → i < length xs → OneBid (getD xs i []) b → among b xs ≡ true
 among-out b [] i l e = absurd (omega arith)
-among-out b (x ∷ xs) zero l e = or-left (sameBid x b) (among b xs) (rw e (bid-itself b))
+among-out b (x ∷ xs) zero l e = or-left (sameBid x b) (among b xs) (bid-one x b e)
 among-out b (x ∷ xs) (suc i) l e = or-right (sameBid x b) (among b xs) (among-out b xs i (omega arith) e)
 
 -- the BIDs of a list, as the session goes along them

@@ -4,6 +4,7 @@ use mathlib.Core.List.{List, [], _∷_, _++_, map}
 use Prim.Native.Nat.{ℕ, _+_, _-_, _≤_, _<_}
 use lib.ListN.{length, getD}
 use Rattle.grammar.specs.Bytes.{Bytes}
+use Rattle.grammar.specs.Bids.{OneBid}
 use Rattle.grammar.specs.Turns.{Proposal}
 use Rattle.grammar.specs.Answers.{Sign, accept, decline, defer}
 use Rattle.mail.specs.Mail.{Record, Message}
@@ -12,11 +13,11 @@ use Rattle.demand2.specs.Limits.{bodyLimit}
 use Rattle.demand2.specs.Room.{keptBytes}
 use Rattle.demand2.specs.Marks.{withSign}
 
--- The BID stands in the list, byte for byte.
+-- The BID stands in the list, in whichever case its letters are.
 pub record Among (b : Bytes) (bids : List Bytes) : Type 0 where
   pub at : ℕ
   pub within : at < length bids
-  pub same : getD bids at [] ≡ b
+  pub same : OneBid (getD bids at []) b
 
 -- The announced sizes of these proposals, together.
 abbrev pub sizesOf : List Proposal → ℕ

@@ -11,11 +11,11 @@ use borrow.Author.Tests.{not-true, lt-ltb}
 use Rattle.grammar.specs.Bytes.{Bytes}
 use Rattle.grammar.specs.Fields.{sameBid}
 use Rattle.grammar.specs.Turns.{Proposal, proposable}
-use Rattle.grammar.proofs.Basics.{and2}
+use Rattle.grammar.proofs.Basics.{and2, same-itself}
+use Rattle.grammar.proofs.Bids.{bids-apart}
 use Rattle.mail.specs.Mail.{Record, Message, recordAt, proposalOf, placeOf}
 use Rattle.session.specs.Choices.{Shelf, chosen, answersTo}
 use Rattle.session.specs.Session.{Memory}
-use Rattle.session.proofs.Bids.{bid-itself}
 use Rattle.session.proofs.Choices.{Places, chosen-places, one-sign-each}
 use Rattle.log.specs.Log.{placesOf}
 use Rattle.log.proofs.Spoken.{AllFit}
@@ -30,10 +30,10 @@ none-at b (r ∷ T) (suc j) h k = none-at b T j ((and2 (not (sameBid b (r .bid))
 
 place-at : (T : List Record) (j : ℕ) → distinctBids T ≡ true → j < length T → placeOf T (recordAt T j .bid) ≡ j
 place-at [] j h k = absurd (not-suc-le-zero k)
-place-at (r ∷ T) zero h k = rw (bid-itself (r .bid))
+place-at (r ∷ T) zero h k = rw (same-itself (r .bid))
 place-at (r ∷ T) (suc j) h k =
     let p = and2 (noneWith (r .bid) T) (distinctBids T) h in
-    rw (none-at (r .bid) T j (p .0) (le-of-suc-le-suc k)) (ap suc (place-at T j (p .1) (le-of-suc-le-suc k)))
+    rw (bids-apart (r .bid) (recordAt T j .bid) (none-at (r .bid) T j (p .0) (le-of-suc-le-suc k))) (ap suc (place-at T j (p .1) (le-of-suc-le-suc k)))
 
 proposable-at : (T : List Record) (j : ℕ) → allProposable T ≡ true → j < length T → proposable (proposalOf (recordAt T j)) ≡ true
 proposable-at [] j h k = absurd (not-suc-le-zero k)

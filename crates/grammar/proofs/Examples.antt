@@ -1,7 +1,7 @@
 -- The ● examples of 01, proved as one statement over one list. Assumes nothing.
 use mathlib.Core.Path.{_≡_, refl}
 use mathlib.Core.List.{map}
-use Rattle.grammar.specs.Fields.{hexDigit, isAt, isBid, isCall, isSize, readFrom, twoHex, words}
+use Rattle.grammar.specs.Fields.{hexDigit, isAt, isBid, isCall, isSize, readFrom, twoHex, words, sameBid}
 use Rattle.grammar.specs.Lines.{trim}
 use Rattle.grammar.specs.Sid.{readSid}
 use Rattle.grammar.specs.Turns.{readProposal, readSummedEnd, readTurnLine}
@@ -14,5 +14,5 @@ unfolding words isCall isAt isBid isSize readFrom hexDigit twoHex trim readSid r
 marked = refl
 
 pub at-edges : map answered edges ≡ map expected edges
-unfolding words isCall isAt isBid isSize readFrom hexDigit twoHex trim readSid readSummedEnd readTurnLine readProposal readFs parse readTransfer writeTransfer
+unfolding words isCall isAt isBid isSize readFrom sameBid hexDigit twoHex trim readSid readSummedEnd readTurnLine readProposal readFs parse readTransfer writeTransfer
 at-edges = refl

@@ -2,6 +2,7 @@
 -- TransferBack, Refusal, Portions, Spelling and SummedEnd; the others carry them.
 pub mod Basics
 pub mod Fields
+pub mod Bids
 pub mod OurLines
 pub mod TransferBack
 pub mod AsRead

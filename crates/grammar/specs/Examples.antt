@@ -8,7 +8,7 @@ use Prim.Native.Nat.{ℕ}
 use lib.ListN.{length, replicate}
 use Rattle.grammar.specs.Bytes.{Bytes}
 use Rattle.grammar.specs.Ascii.{text}
-use Rattle.grammar.specs.Fields.{Form, file, message, plain}
+use Rattle.grammar.specs.Fields.{Form, file, message, plain, sameBid}
 use Rattle.grammar.specs.Lines.{trim, isComment, isPrompt, lineByte, lineByteNumber, LineRead, line, refused, unfinished, lineSteps}
 use Rattle.grammar.specs.Sid.{framed, readSid, sidNumber}
 use Rattle.grammar.specs.Turns.{Proposal, TurnLine, endsBlock, endsSummed, notAllowed, ourBlock, proposes, readTurnLine, saysFF, saysFQ, turnLineNumber}
@@ -26,6 +26,7 @@ pub data Question : Type 0 where
   lineFrom : Bool → Bytes → Question  -- bytes where a line is awaited, after a CR (true) or not
   sent : Form → Bytes → Bytes → Question  -- a transfer as we write it: heading and data
   received : ℕ → Form → Bytes → Question  -- bytes of a transfer, read whole, and byte by byte with so much room
+  oneBid : Bytes → Bytes → Question  -- two BIDs
 
 pub data Answer : Type 0 where
   sidIs : ℕ → Bool → List ℕ → Answer  -- the number, the mode, the 27 levels
@@ -36,6 +37,7 @@ pub data Answer : Type 0 where
   lineRead : LineRead → Answer
   bytes : Bytes → Answer
   heard : Option Content → Scanned → Answer
+  isOne : Bool → Answer
 
 abbrev pub sidAnswer : Option (List ℕ) → Answer
 sidAnswer none = number (sidNumber none)
@@ -61,6 +63,7 @@ answer (lineByteAt afterCr n b) = number (lineByteNumber (lineByte afterCr n b))
 answer (lineFrom afterCr bs) = lineRead (lineSteps afterCr [] bs)
 answer (sent f h x) = bytes (writeTransfer f h x)
 answer (received room f p) = heard (readTransfer f p) (scan room f p)
+answer (oneBid v w) = isOne (sameBid v w)
 
 pub record Example : Type 0 where
   pub asked : Question
@@ -217,4 +220,17 @@ edges =
     record { asked = proposed (1 ∷ 1 ∷ 1 ∷ 1 ∷ 1 ∷ 1 ∷ 1 ∷ []); told = number 5 } ∷
     record { asked = proposed (10240 ∷ 1 ∷ []); told = number 1 } ∷
     record { asked = sent plain (text "HI") (text "AB"); told = bytes (72 ∷ 73 ∷ 13 ∷ 65 ∷ 66 ∷ 26 ∷ 13 ∷ []) } ∷
+    record { asked = oneBid (text "12_ab") (text "12_AB"); told = isOne true } ∷
+    record { asked = oneBid (text "12_Ab") (text "12_aB"); told = isOne true } ∷
+    record { asked = oneBid (text "AZ") (text "az"); told = isOne true } ∷
+    record { asked = oneBid (text "[1") (text "{1"); told = isOne false } ∷
+    record { asked = oneBid (text "@1") (text "`1"); told = isOne false } ∷
+    record { asked = oneBid (text "^1") (text "~1"); told = isOne false } ∷
+    record { asked = oneBid (text "_1") (127 ∷ 49 ∷ []); told = isOne false } ∷
+    record { asked = oneBid (201 ∷ []) (233 ∷ []); told = isOne false } ∷
+    record { asked = oneBid (192 ∷ []) (224 ∷ []); told = isOne false } ∷
+    record { asked = oneBid (105 ∷ []) (233 ∷ []); told = isOne false } ∷
+    record { asked = oneBid (text "12_ab") (text "12_a"); told = isOne false } ∷
+    record { asked = oneBid (text "12_a") (text "12_AB"); told = isOne false } ∷
+    record { asked = oneBid (text "12_ab") (text "12_ba"); told = isOne false } ∷
     []

@@ -1,7 +1,7 @@
 -- 01, "Fields" (under Lent memory): byte classes, and the fields that records, lines and transfers are made of.
 use mathlib.Core.Bool.{Bool, true, false, cond, not, _&&_, _||_}
 use mathlib.Core.Option.{Option, none, some}
-use mathlib.Core.List.{List, [], _∷_, _++_}
+use mathlib.Core.List.{List, [], _∷_, _++_, map}
 use Prim.Native.Nat.{ℕ, zero, suc, _+_, _*_, _-_, _/_, _%_}
 use lib.Dec.{eqb, ltb, leb}
 use lib.ListN.{length}
@@ -71,10 +71,6 @@ bidByte b = cond (ltb b 33) false (ltb b 256)
 unfoldable pub isBid : Bytes → Bool
 isBid w = field bidByte 12 w
 
--- "BIDs are compared byte by byte."
-unfoldable pub sameBid : Bytes → Bytes → Bool
-sameBid v w = same v w
-
 -- ---------------------------------------------------------------- heading and body
 
 -- "bytes in 0x20-0xFF"
@@ -106,6 +102,11 @@ isBody f x = leb (length x) bodyLimit && bodyFair f x
 -- "Command, type and feature letters are taken in either case and written as capitals": a letter as a capital, any other byte as it is
 abbrev pub upper : ℕ → ℕ
 upper b = cond (ltb b 97) b (cond (ltb b 123) (b - 32) b)
+
+-- "Two BIDs are now equal when they agree after A-Z and a-z are taken as one. Bytes from 0x80 still compare exactly." It is a comparison and
+-- no more: nothing that is stored or sent is made of it.
+unfoldable pub sameBid : Bytes → Bytes → Bool
+sameBid v w = same (map upper v) (map upper w)
 
 -- What follows the capitals w, taken in either case.
 abbrev pub after : Bytes → Bytes → Option Bytes

@@ -3,6 +3,7 @@ pub mod Bytes
 pub mod Ascii
 pub mod Refusals
 pub mod Fields
+pub mod Bids
 pub mod Lines
 pub mod Sid
 pub mod Turns

@@ -12,7 +12,6 @@ use lib.Dec.{eqb}
 use lib.ListN.{length}
 use borrow.Author.Tests.{le-ltb}
 use Rattle.grammar.specs.Bytes.{Bytes, CR, LF, same, isSome}
-use Rattle.grammar.specs.Fields.{sameBid}
 use Rattle.grammar.specs.Turns.{Proposal, TurnLine, endsSummed, readTurnLine, withCr}
 use Rattle.grammar.specs.Answers.{consO}
 use Rattle.grammar.specs.Transfers.{readTransfer}
@@ -85,10 +84,10 @@ our-transfer-ends T i is sent k a u h es =
 
 -- ---------------------------------------------------------------- a proposal of ours that is of no record
 
--- no record of the table has this BID
+-- no record of the table has this BID, byte for byte
 abbrev pub NoRecord : Bytes → List Record → Type 0
 NoRecord b [] = Unit {0}
-NoRecord b (r ∷ T) = (sameBid (r .bid) b ≡ false) × NoRecord b T
+NoRecord b (r ∷ T) = (same (r .bid) b ≡ false) × NoRecord b T
 
 past-the-end : (b : Bytes) (T : List Record) → NoRecord b T → placeOf T b ≡ length T
 past-the-end b [] h = refl

@@ -3,8 +3,8 @@ use mathlib.Core.Bool.{cond}
 use mathlib.Core.List.{List, [], _∷_, _++_}
 use Prim.Native.Nat.{ℕ, zero, suc}
 use lib.ListN.{getD, set}
-use Rattle.grammar.specs.Bytes.{Bytes}
-use Rattle.grammar.specs.Fields.{Form, plain, message, file, sameBid}
+use Rattle.grammar.specs.Bytes.{Bytes, same}
+use Rattle.grammar.specs.Fields.{Form, plain, message, file}
 use Rattle.grammar.specs.Turns.{Proposal, proposalLine, withCr, fixedText, ourEnd}
 use Rattle.grammar.specs.Answers.{Sign, accept, decline, defer}
 use Rattle.grammar.specs.Transfers.{Content, writeTransfer}
@@ -81,10 +81,11 @@ unfoldable pub transfersText : List Record → List ℕ → Bytes
 transfersText T [] = []
 transfersText T (i ∷ is) = transferOf (recordAt T i) ++ transfersText T is
 
--- The place of the first record with this BID; the table's length where there is none.
+-- The log's "records with those BIDs": the place of the first record with this BID, byte for byte, since we send a record's own spelling; the
+-- table's length where there is none.
 abbrev pub placeOf : List Record → Bytes → ℕ
 placeOf [] b = zero
-placeOf (r ∷ T) b = cond (sameBid (r .bid) b) zero (suc (placeOf T b))
+placeOf (r ∷ T) b = cond (same (r .bid) b) zero (suc (placeOf T b))
 
 -- ---------------------------------------------------------------- proposals with the answers to them
 

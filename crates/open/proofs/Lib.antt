@@ -1,2 +1,3 @@
 -- Laws for the tests of open.
 pub mod Laws
+pub mod Twins

@@ -1,2 +1,3 @@
 -- What open accepts, and what it leaves.
 pub mod Opening
+pub mod Twins

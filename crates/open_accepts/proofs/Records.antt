@@ -11,6 +11,7 @@ use lib.Dec.{eqb, leb}
 use lib.ListN.{length, getD, take, drop, length-drop}
 use lib.Seq.{length-take-le}
 use borrow.Author.Tests.{leb-true, le-leb, eqb-true, eqb-false, eq-eqb, ne-eqb, not-true}
+use Rattle.grammar.specs.Bids.{OneBid}
 use Rattle.grammar.specs.Bytes.{Bytes, CTRLZ}
 use Rattle.grammar.specs.Fields.{Form, plain, message, file, formIs, formNumber, isCall, isAt, isBid, isHeading, isBody, bodyFair, notCtrlZ, sameBid}
 use Rattle.grammar.specs.Turns.{isType}
@@ -24,7 +25,7 @@ use Rattle.entries.specs.Decoded.{entriesFrom, entries, recordCount, recordsOf}
 use Rattle.entries.proofs.Laws.{entries-at, entries-length}
 use Rattle.marking.specs.States.{statesOf}
 use Rattle.open.specs.Opening.{lengthOk, numbersOk, fieldsOk, within, headingOk, textsOk, recordOk, placeOk}
-use Rattle.open_accepts.specs.Words.{Callsign, At, Bid, Field, Lies, Headed, Bodied, NeedsTitle, NeedsName, SameBid}
+use Rattle.open_accepts.specs.Words.{Callsign, At, Bid, Field, Lies, Headed, Bodied, NeedsTitle, NeedsName}
 use Rattle.open_accepts.specs.Lending.{Lending, recordsIn, recordIn, stateIn, bytesIn}
 use Rattle.open_accepts.specs.Good.{IsType, IsState, GoodRecord, GoodAt}
 use Rattle.open_accepts.proofs.Words.{Decides, both-decide, as-well, leb-decides, denied, all-decides, callsign-decides, bid-decides, heading-decides, at-decides, at-some, same-decides}
@@ -292,7 +293,7 @@ module _ (L : Lending) where
   earlier i = among (bidAt i) (entries (fieldIn bidMax recordBid) recordSize (L .table) i)
 
   abbrev New : ℕ → Type 0
-  New i = (j : ℕ) → j < i → SameBid (recordIn L j .bid) (recordIn L i .bid) → ⊥
+  New i = (j : ℕ) → j < i → OneBid (recordIn L j .bid) (recordIn L i .bid) → ⊥
 
   new-decides : (i : ℕ) → i < count → Decides (not (earlier i)) (New i)
   new-decides i h = (there, back)
@@ -300,13 +301,13 @@ module _ (L : Lending) where
       there : not (earlier i) ≡ true → New i
       there e j k s =
           denied (same-decides (bidAt j) (bidAt i)) (none-before (bidAt i) i 0 (not-true (earlier i) e) j (omega arith) (omega arith))
-          (subst (λ (v : Bytes). SameBid v (bidAt i)) (bid-there j (omega arith)) (subst (λ (v : Bytes). SameBid (recordIn L j .bid) v) (bid-there i h) s))
+          (subst (λ (v : Bytes). OneBid v (bidAt i)) (bid-there j (omega arith)) (subst (λ (v : Bytes). OneBid (recordIn L j .bid) v) (bid-there i h) s))
 
       apart : New i → (j : ℕ) → j < i → sameBid (bidAt j) (bidAt i) ≡ true → ⊥
       apart n j k e =
           n j k
-          (subst (λ (v : Bytes). SameBid v (recordIn L i .bid)) (sym (bid-there j (omega arith)))
-          (subst (λ (v : Bytes). SameBid (bidAt j) v) (sym (bid-there i h)) (same-decides (bidAt j) (bidAt i) .0 e)))
+          (subst (λ (v : Bytes). OneBid v (recordIn L i .bid)) (sym (bid-there j (omega arith)))
+          (subst (λ (v : Bytes). OneBid (bidAt j) v) (sym (bid-there i h)) (same-decides (bidAt j) (bidAt i) .0 e)))
 
       back : New i → not (earlier i) ≡ true
       back n = ap not (before-none (bidAt i) i 0 (λ j a k. not-so (sameBid (bidAt j) (bidAt i)) (apart n j (omega arith))))

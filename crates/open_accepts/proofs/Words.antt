@@ -4,17 +4,19 @@ use mathlib.Core.Path.{_≡_, refl, sym, ap, _∙_, subst}
 use mathlib.Core.Bool.{Bool, true, false, cond, _&&_, _||_}
 use mathlib.Core.List.{List, [], _∷_, _++_}
 use mathlib.Core.Logic.{_↔_}
-use Prim.Native.Nat.{ℕ, zero, suc, _+_, _-_, _≤_, _<_}
+use Prim.Native.Nat.{ℕ, suc, _+_, _-_, _≤_, _<_}
 use native.Mathlib.Omega.{arith}
 use lib.Dec.{eqb, ltb, leb}
 use lib.ListN.{length, getD}
-use borrow.Author.Tests.{leb-true, le-leb, ltb-true, ltb-false, lt-ltb, le-ltb, eqb-true, eqb-false, eq-eqb, ne-eqb}
-use Rattle.grammar.specs.Bytes.{Bytes, all, same}
+use borrow.Author.Tests.{leb-true, le-leb, ltb-true, ltb-false, lt-ltb, le-ltb, eqb-true, eqb-false, ne-eqb}
+use Rattle.grammar.specs.Bytes.{Bytes, all}
+use Rattle.grammar.specs.Bids.{OneBid}
+use Rattle.grammar.proofs.Bids.{one-bid, bid-one}
 use Rattle.grammar.specs.Fields.{field, callByte, bidByte, headingByte, isCall, isBid, isAt, isHeading, parts, allCalls, afterDot, sameBid}
 use Rattle.grammar.proofs.Basics.{and2, both, no-both, field-is, field-of, Lacks, all-lacks}
 use Rattle.grammar.proofs.Fields.{call-field}
 use Rattle.byte.proofs.Laws.{all-get}
-use Rattle.open_accepts.specs.Words.{Between, CallByte, BidByte, HeadingByte, Text, Callsign, Bid, Heading, joined, afterPoint, AllParts, At, SameBid}
+use Rattle.open_accepts.specs.Words.{Between, CallByte, BidByte, HeadingByte, Text, Callsign, Bid, Heading, joined, afterPoint, AllParts, At}
 
 -- ---------------------------------------------------------------- deciding
 
@@ -187,29 +189,5 @@ at-some w h = subst (λ (u : Bytes). 1 ≤ length u) (sym (h .parts)) (go (h .fi
 
 -- ---------------------------------------------------------------- one BID
 
-same-only : (v w : Bytes) → same v w ≡ true → SameBid v w
-same-only [] [] e = record { long = refl; bytes = λ k h. absurd (omega arith) }
-same-only [] (y ∷ w) e = absurd (no-both false e refl)
-same-only (x ∷ v) [] e = absurd (no-both false e refl)
-same-only (x ∷ v) (y ∷ w) e =
-    let p = and2 (eqb x y) (same v w) e in
-    go (eqb-true x y (p .0)) (same-only v w (p .1))
-  where
-    at : x ≡ y → SameBid v w → (k : ℕ) → k < suc (length v) → getD (x ∷ v) k 0 ≡ getD (y ∷ w) k 0
-    at q s zero h = q
-    at q s (suc k) h = s .bytes k (omega arith)
-
-    go : x ≡ y → SameBid v w → SameBid (x ∷ v) (y ∷ w)
-    go q s = record { long = ap suc (s .long); bytes = at q s }
-
-same-if : (v w : Bytes) → SameBid v w → same v w ≡ true
-same-if [] [] s = refl
-same-if [] (y ∷ w) s = let z = s .long in absurd (omega arith)
-same-if (x ∷ v) [] s = let z = s .long in absurd (omega arith)
-same-if (x ∷ v) (y ∷ w) s =
-    both (eqb x y) (same v w) (eq-eqb x y (s .bytes 0 (omega arith)))
-    (same-if v w (record { long = let z = s .long in omega arith; bytes = λ k h. s .bytes (suc k) (omega arith) }))
-
-pub same-decides : (v w : Bytes) → Decides (sameBid v w) (SameBid v w)
-unfolding sameBid
-same-decides v w = (same-only v w, same-if v w)
+pub same-decides : (v w : Bytes) → Decides (sameBid v w) (OneBid v w)
+same-decides v w = (one-bid v w, bid-one v w)

@@ -41,6 +41,13 @@ third = letter stateDeclined (text "103_N0NOR")
 abbrev pub small : Bytes
 small = letter stateWaiting (text "101_n0nor")
 
+-- two that are two, though the last byte differs as the cases of a letter do
+abbrev pub bracket : Bytes
+bracket = letter stateWaiting (text "101_N0NO[")
+
+abbrev pub brace : Bytes
+brace = letter stateWaiting (text "101_N0NO{")
+
 abbrev pub known : Bytes → Bytes
 known bid = fieldOut bidMax bid
 
@@ -81,11 +88,11 @@ badBefore = reply badMemory noPlace 0
 abbrev pub badAt : ℕ → Reply
 badAt place = reply badMemory place 0
 
--- an empty table; one record; records in all three states; "BIDs are compared byte by byte"
+-- an empty table; one record; records in all three states; BIDs that differ as letters do and in no letter
 abbrev pub goodOnes : List Example
 goodOnes =
     gets (lent called sessionLen [] [] 0) accepted ∷ gets (lent caller sessionLen [] [] 0) accepted ∷ gets (holding first) accepted
-    ∷ gets (holding (first ++ (second ++ third))) accepted ∷ gets (holding (first ++ small)) accepted ∷ []
+    ∷ gets (holding (first ++ (second ++ third))) accepted ∷ gets (holding (bracket ++ brace)) accepted ∷ []
 
 -- role; session memory too short; half a record; 65 records; half a known BID; a known BID with a space, one that is longer than its room; 65 inbox places
 abbrev pub badBeforeRecords : List Example
@@ -106,10 +113,10 @@ slips =
 abbrev pub badAlone : Bytes → Example
 badAlone table = gets (holding table) (badAt 0)
 
--- behind a good one; two of one BID; the first of two bad ones
+-- behind a good one; two of one BID, spelt alike and not; the first of two bad ones
 abbrev pub badLater : List Example
 badLater =
-    gets (holding (second ++ set first recordForm 3)) (badAt 1) ∷ gets (holding (first ++ (second ++ first))) (badAt 2)
+    gets (holding (second ++ set first recordForm 3)) (badAt 1) ∷ gets (holding (first ++ (second ++ first))) (badAt 2) ∷ gets (holding (first ++ small)) (badAt 1)
     ∷ gets (holding (first ++ (set second 0 3 ++ set third 0 3))) (badAt 1) ∷ []
 
 abbrev pub examples : List Example

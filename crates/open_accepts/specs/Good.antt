@@ -4,13 +4,14 @@ use mathlib.Core.Path.{_≡_}
 use mathlib.Core.Logic.{_⊎_}
 use Prim.Native.Nat.{ℕ, _*_, _≤_, _<_}
 use lib.ListN.{length}
+use Rattle.grammar.specs.Bids.{OneBid}
 use Rattle.grammar.specs.Bytes.{Bytes}
 use Rattle.grammar.specs.Fields.{formNumber}
 use Rattle.mail.specs.Mail.{Record}
 use Rattle.phase.specs.Phase.{stateWaiting, stateForwarded, stateDeclined}
 use Rattle.places.specs.Places.{recordForm, recordFrom, recordAt, recordTo, recordBid, recordTitle, recordTitleLength, recordName, recordNameLength, recordBody, recordBodyLength, recordLen, knownLen, entryLen, sessionLen}
 use Rattle.layout.specs.Layout.{byteAt, le2At, le4At}
-use Rattle.open_accepts.specs.Words.{Callsign, At, Bid, Field, Headed, Bodied, NeedsTitle, NeedsName, SameBid}
+use Rattle.open_accepts.specs.Words.{Callsign, At, Bid, Field, Headed, Bodied, NeedsTitle, NeedsName}
 use Rattle.open_accepts.specs.Lending.{Lending, recordsIn, recordIn, stateIn, bytesIn, knownIn, bidIn, knownBytesIn}
 
 -- ---------------------------------------------------------------- before the records
@@ -81,7 +82,7 @@ pub record GoodRecord (L : Lending) (s : ℕ) (c : Bytes) (r : Record) : Type 0 
 pub record GoodAt (L : Lending) (i : ℕ) : Type 0 where
   pub good : GoodRecord L (stateIn L i) (bytesIn L i) (recordIn L i)
   -- "of two records with one BID the later is bad"
-  pub new : (j : ℕ) → j < i → SameBid (recordIn L j .bid) (recordIn L i .bid) → ⊥
+  pub new : (j : ℕ) → j < i → OneBid (recordIn L j .bid) (recordIn L i .bid) → ⊥
 
 -- ---------------------------------------------------------------- all of it
 

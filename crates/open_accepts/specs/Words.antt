@@ -1,5 +1,5 @@
--- 01, "Fields", as facts about bytes: what a callsign, an at field, a BID, a title or name and a body are, and when two BIDs are one. Nothing here is
--- a test; that the tests of the grammar decide these facts is proved in proofs/Words.
+-- 01, "Fields", as facts about bytes: what a callsign, an at field, a BID, a title or name and a body are. When two BIDs are one stands in the
+-- grammar's Bids. Nothing here is a test; that the tests of the grammar decide these facts is proved in proofs/Words.
 use mathlib.Core.Path.{_≡_}
 use mathlib.Core.List.{List, [], _∷_, _++_}
 use mathlib.Core.Logic.{_≢_}
@@ -79,16 +79,6 @@ pub record At (w : Bytes) : Type 0 where
   pub otherParts : AllParts others
   pub short : length w ≤ 38
   pub shortAfter : length (afterPoint others) ≤ 31
-
--- ---------------------------------------------------------------- one BID
-
--- "BIDs are compared byte by byte": two bytes that are one
-abbrev pub SameByte : ℕ → ℕ → Type 0
-SameByte a b = a ≡ b
-
-pub record SameBid (v w : Bytes) : Type 0 where
-  pub long : length v ≡ length w
-  pub bytes : (k : ℕ) → k < length v → SameByte (getD v k 0) (getD w k 0)
 
 -- ---------------------------------------------------------------- fields as they lie in lent memory
 

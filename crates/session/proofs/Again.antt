@@ -1,4 +1,4 @@
--- A BID offered again, by computation.
+-- BIDs offered again, by computation.
 use mathlib.Core.Path.{_≡_, refl}
 use Rattle.grammar.specs.Fields.{isAt, isBid, isCall, isSize, readFrom, hexDigit, twoHex, words, writeNum, sameBid}
 use Rattle.grammar.specs.Lines.{trim, isComment, isPrompt}
@@ -11,8 +11,12 @@ use Rattle.session.specs.Choices.{chosen, answersTo}
 use Rattle.session.specs.Session.{opened}
 use Rattle.session.specs.Calls.{receive, give}
 use Rattle.session.specs.Sessions.{leftOf, played, shelf, waiting}
-use Rattle.session.specs.Again.{offeredAgain}
+use Rattle.session.specs.Again.{offeredAgain, inOtherCase}
 
 pub declined-again : leftOf (played shelf (opened (offeredAgain .caller) waiting) (offeredAgain .moves)) ≡ offeredAgain .left
 unfolding isAt isBid isCall isSize readFrom hexDigit twoHex words writeNum sameBid trim isComment isPrompt readSid readProposal readSummedEnd readTurnLine proposalLine readFs fsLine parse readTransfer writeTransfer turnText transfersText chosen answersTo receive give
 declined-again = refl
+
+pub declined-in-other-case : leftOf (played shelf (opened (inOtherCase .caller) waiting) (inOtherCase .moves)) ≡ inOtherCase .left
+unfolding isAt isBid isCall isSize readFrom hexDigit twoHex words writeNum sameBid trim isComment isPrompt readSid readProposal readSummedEnd readTurnLine proposalLine readFs fsLine parse readTransfer writeTransfer turnText transfersText chosen answersTo receive give
+declined-in-other-case = refl

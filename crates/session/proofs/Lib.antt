@@ -1,5 +1,4 @@
 -- Theorems about the session alone, and the laws of BIDs that all others cite.
-pub mod Bids
 pub mod Choices
 pub mod Sessions
 pub mod Again

@@ -18,7 +18,7 @@ use Rattle.two_nodes.specs.Session.{ran}
 use Rattle.two_nodes.specs.Series.{Node, Meeting, here, there, shelfOf, afterward, AllLinked, TwoNodes}
 use Rattle.two_nodes.proofs.Series.{two-nodes}
 use Rattle.two_nodes.specs.Examples.{Seen, seen, see, greeted, accepts, proposes, proposesBack, packed}
-use Rattle.two_nodes.specs.Meetings.{reader, ourSidLine, sender, twoProposed, twoTransfers, packetsGo, packetsKept, waits, short, roomy, longer, longTransfer, overrun, overrunTook, twin, bothHave, holder, calledSends, yoKept, cutInAnswer, cutInBody, threeMeetings, hiKept}
+use Rattle.two_nodes.specs.Meetings.{reader, ourSidLine, sender, twoProposed, twoTransfers, packetsGo, packetsKept, waits, short, roomy, longer, longTransfer, overrun, overrunTook, twin, bothHave, smallTwin, bothHaveIt, holder, calledSends, yoKept, cutInAnswer, cutInBody, threeMeetings, hiKept}
 
 -- both go, the file under its name and the empty body as no block
 pub packets-here : seen sender (here sender packetsGo) ≡ see (greeted ++ (text "FS ++\r" ++ text "FF\r")) (twoProposed ++ (twoTransfers ++ text "FQ\r")) (1 ∷ 1 ∷ []) sender []
@@ -64,6 +64,15 @@ both-here = refl
 pub both-there : seen twin (there twin bothHave) ≡ see (proposes ++ text "FS -\rFF\r") (greeted ++ (text "FS -\r" ++ (text "FA P A B C X1 2\rF>\r" ++ text "FQ\r"))) (2 ∷ []) twin []
 unfolding isAt isBid isCall isSize readFrom hexDigit twoHex words writeNum sameBid trim isComment isPrompt readSid readProposal readSummedEnd readTurnLine proposalLine readFs fsLine parse readTransfer writeTransfer turnText transfersText chosen answersTo receive give
 both-there = refl
+
+-- and so they are where one is spelt in small letters
+pub spelt-here : seen waits (here waits bothHaveIt) ≡ see (greeted ++ (text "FS -\r" ++ (text "FA P A B C x1 2\rF>\r" ++ text "FQ\r"))) (proposes ++ text "FS -\rFF\r") (2 ∷ []) waits []
+unfolding isAt isBid isCall isSize readFrom hexDigit twoHex words writeNum sameBid trim isComment isPrompt readSid readProposal readSummedEnd readTurnLine proposalLine readFs fsLine parse readTransfer writeTransfer turnText transfersText chosen answersTo receive give
+spelt-here = refl
+
+pub spelt-there : seen smallTwin (there smallTwin bothHaveIt) ≡ see (proposes ++ text "FS -\rFF\r") (greeted ++ (text "FS -\r" ++ (text "FA P A B C x1 2\rF>\r" ++ text "FQ\r"))) (2 ∷ []) smallTwin []
+unfolding isAt isBid isCall isSize readFrom hexDigit twoHex words writeNum sameBid trim isComment isPrompt readSid readProposal readSummedEnd readTurnLine proposalLine readFs fsLine parse readTransfer writeTransfer turnText transfersText chosen answersTo receive give
+spelt-there = refl
 
 -- the called end's mail goes
 pub called-here : seen reader (here reader calledSends) ≡ see (greeted ++ (proposesBack ++ (packed (text "yo") 24 ++ text "FQ\r"))) (ourSidLine ++ (text "FF\r" ++ (accepts ++ text "FF\r"))) [] reader yoKept

@@ -1,5 +1,5 @@
 -- MORE MEETINGS of two nodes, each whole and proved by computation (proofs/Meetings), with the bytes of both directions: a file and an empty body; a
--- record deferred for want of room, which goes in the next; a body longer than announced; a BID at both ends; mail at the called end alone; and a
+-- record deferred for want of room, which goes in the next; a body longer than announced; a BID at both ends, spelt alike and not; mail at the called end alone; and a
 -- series of three, cut in the FS line, cut in the body with the roles exchanged, and whole: the premises of the claim are met by it, one by one.
 use mathlib.Core.Bool.{Bool, true, false}
 use mathlib.Core.List.{List, [], _∷_, _++_}
@@ -109,6 +109,17 @@ abbrev pub bothHave : Meeting
 bothHave =
     meetingIn true 99 99
     (receiving greeted ∷ giving 99 ∷ receiving (text "FS -\rFA P A B C X1 2\rF>\r") ∷ giving 99 ∷ receiving (text "FQ\r") ∷ [])
+    (giving 99 ∷ receiving proposes ∷ giving 99 ∷ receiving (text "FS -\rFF\r") ∷ giving 99 ∷ [])
+
+-- a BID at both ends, spelt in small letters at the called one
+abbrev pub smallTwin : Node
+smallTwin = nodeWith (letter message (text "x1") (text "no") ∷ []) (0 ∷ [])
+
+-- each declines the other's, and sends its own spelling
+abbrev pub bothHaveIt : Meeting
+bothHaveIt =
+    meetingIn true 99 99
+    (receiving greeted ∷ giving 99 ∷ receiving (text "FS -\rFA P A B C x1 2\rF>\r") ∷ giving 99 ∷ receiving (text "FQ\r") ∷ [])
     (giving 99 ∷ receiving proposes ∷ giving 99 ∷ receiving (text "FS -\rFF\r") ∷ giving 99 ∷ [])
 
 -- ---------------------------------------------------------------- mail at the called end alone

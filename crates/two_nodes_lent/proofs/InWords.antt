@@ -17,6 +17,7 @@ use Rattle.session.specs.Choices.{Shelf, among, recordBids, messageBids, haveBi
 use Rattle.entries.specs.Decoded.{knownBids}
 use Rattle.main_theorem.specs.Demand2.{shelfIn}
 use Rattle.demand2.specs.OurTurn.{mayPropose}
+use Rattle.demand2.proofs.OurAnswers.{among-in}
 use Rattle.two_nodes.specs.Fates.{messageFor, Has}
 use Rattle.two_nodes.specs.Once.{hasBid, EachNew, KeptOnce}
 use Rattle.two_nodes.specs.Series.{copies}
@@ -67,9 +68,9 @@ has-it b E ms h = go (among b (recordBids (E .table))) (among b (E .known)) (amo
   where
     go : (c d e : Bool) → among b (recordBids (E .table)) ≡ c → among b (E .known) ≡ d → among b (messageBids ms) ≡ e → c || (d || (e || false)) ≡ true
         → HasIt b (E .table) (E .known) ms
-    go true d e x y z h = inTable x
-    go false true e x y z h = inKnown y
-    go false false true x y z h = inKept z
+    go true d e x y z h = inTable (among-in b (recordBids (E .table)) x)
+    go false true e x y z h = inKnown (among-in b (E .known) y)
+    go false false true x y z h = inKept (among-in b (messageBids ms) z)
     go false false false x y z h = absurd (no-both false h refl)
 
 -- ---------------------------------------------------------------- still waiting

@@ -9,7 +9,8 @@ use lib.ListN.{length, getD}
 use Rattle.grammar.specs.Bytes.{Bytes}
 use Rattle.grammar.specs.Fields.{plain}
 use Rattle.mail.specs.Mail.{Record, Message, headingFor, recordAt}
-use Rattle.session.specs.Choices.{among, recordBids, messageBids}
+use Rattle.session.specs.Choices.{recordBids, messageBids}
+use Rattle.demand2.specs.OurAnswers.{Among}
 use Rattle.entries.specs.Decoded.{knownBids}
 use Rattle.session_memory.specs.State.{loadOf}
 use Rattle.main_theorem.specs.Demand2.{shelfIn}
@@ -44,11 +45,12 @@ pub record Arrived (r : Record) (ms : List Message) : Type 0 where
   pub whole : IsCopy r (messageAt ms place)
   pub alone : copies (r .bid) ms ≡ 1
 
--- DECLINED: the other node has the BID: in its own table, in its known list at the start, or among what it has kept since, which may be our very copy.
+-- DECLINED: the other node has the BID, letters in either case: in its own table, in its known list at the start, or among what it has kept since, which
+-- may be our very copy.
 pub data HasIt (b : Bytes) (table : List Record) (known : List Bytes) (ms : List Message) : Type 0 where
-  inTable : among b (recordBids table) ≡ true → HasIt b table known ms
-  inKnown : among b known ≡ true → HasIt b table known ms
-  inKept : among b (messageBids ms) ≡ true → HasIt b table known ms
+  inTable : Among b (recordBids table) → HasIt b table known ms
+  inKnown : Among b known → HasIt b table known ms
+  inKept : Among b (messageBids ms) → HasIt b table known ms
 
 -- Of the records of one node that waited at the start. x: its end of the first session, z: of the last; y: the other's of the first; ms: all that the
 -- other has kept.

@@ -64,7 +64,12 @@ pub fn limits(run: &mut Run) -> Checked {
     bodies(run)?;
     for length in 0..20 {
         for other in 0..20 {
-            check_bids(run, &vec![b'A'; length], &vec![b'A'; other])?;
+            check_bids(run, &vec![b'A'; length], &vec![b'a'; other])?;
+        }
+    }
+    for a in 0..=255 {
+        for b in 0..=255 {
+            check_bids(run, &[b'1', a], &[b'1', b])?;
         }
     }
     Ok(())
@@ -180,10 +185,14 @@ pub fn random_fields(run: &mut Run) -> Checked {
 pub fn random_bids(run: &mut Run) -> Checked {
     let random = &mut run.random;
     let length = inputs::length(random, field::BID_LIMIT);
-    let a = inputs::bytes(random, length);
-    let b = match random.below(4) {
+    let a = match random.below(2) {
+        0 => inputs::bytes(random, length),
+        _ => inputs::bid(random),
+    };
+    let b = match random.below(6) {
         0 => a.clone(),
         1 => inputs::bid(random),
+        2 | 3 => inputs::respelt(random, &a),
         _ => inputs::damaged(random, a.clone()),
     };
     check_bids(run, &a, &b)

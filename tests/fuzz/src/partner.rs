@@ -3,7 +3,7 @@
 //! transfer.
 
 use inputs::random::Random;
-use inputs::{at, bid, body_of, call, either_case, fs_line, heading, line, spaced};
+use inputs::{at, bid, body_of, call, either_case, fs_line, heading, line, respelt, spaced};
 use second::host::Buffers;
 use second::line::with_cr;
 use second::memory::Memory;
@@ -36,6 +36,9 @@ pub struct Partner {
     long: bool,
     /// Numbers the BIDs that it makes up.
     fresh: u32,
+    /// Proposals of a BID that stood in another case, and not as spelt: in the
+    /// table, the known list, the inbox, earlier in the block.
+    respelt: [u64; 4],
 }
 
 impl Partner {
@@ -55,6 +58,7 @@ impl Partner {
             bare: random.pick(&[1, 2, usize::MAX]),
             long: host.store.len() > 65_000 && random.once_in(2),
             fresh: 0,
+            respelt: [0; 4],
         }
     }
 
@@ -66,6 +70,11 @@ impl Partner {
 
     pub fn is_calm(&self) -> bool {
         self.calm
+    }
+
+    /// How often it proposed what stands in another case, by where it stands.
+    pub fn respelt(&self) -> [u64; 4] {
+        self.respelt
     }
 
     /// True once in so many, for a partner that makes slips.
@@ -256,7 +265,8 @@ impl Partner {
         let records = memory.table.iter().map(|record| record.envelope.bid.clone());
         let inbox = memory.inbox[..session.kept()].iter().flatten();
         let inbox = inbox.map(|message| message.envelope.bid.clone());
-        let old: Vec<Vec<u8>> = match random.below(10) {
+        let place = random.below(10);
+        let old: Vec<Vec<u8>> = match place {
             0 => records.collect(),
             1 => memory.known.iter().take(20).cloned().collect(),
             2 => inbox.collect(),
@@ -264,13 +274,10 @@ impl Partner {
             _ => Vec::new(),
         };
         if !old.is_empty() {
-            let mut bid = old[random.below(old.len())].clone();
-            // A copy but for one bit of one byte is none.
-            if random.once_in(4) {
-                let place = random.below(bid.len());
-                let changed = bid[place] ^ random.pick(&[0x20, 0x80, 0x01]);
-                bid[place] = if changed > 0x20 { changed } else { bid[place] };
-            }
+            let copied = &old[random.below(old.len())];
+            let bid = nearly(random, copied);
+            let stands = old.iter().any(|other| other.eq_ignore_ascii_case(&bid));
+            self.respelt[place] += u64::from(stands && !old.contains(&bid));
             return bid;
         }
         self.fresh += 1;
@@ -343,5 +350,21 @@ impl Partner {
                 out.push(b'\n');
             }
         }
+    }
+}
+
+/// A BID that is there already: as it is, in another case, or changed in one bit
+/// of one byte, which is a copy if that is a letter's case and else is none.
+fn nearly(random: &mut Random, bid: &[u8]) -> Vec<u8> {
+    match random.below(4) {
+        0 => {
+            let mut bid = bid.to_vec();
+            let place = random.below(bid.len());
+            let changed = bid[place] ^ random.pick(&[0x20, 0x20, 0x80, 0x01]);
+            bid[place] = if changed > 0x20 { changed } else { bid[place] };
+            bid
+        }
+        1 => respelt(random, bid),
+        _ => bid.to_vec(),
     }
 }

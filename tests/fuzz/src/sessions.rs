@@ -281,6 +281,7 @@ impl<'a> Driver<'a> {
         self.pair.demand_3()?;
         let over = self.second().map_or(false, |second| second.session.is_over());
         self.tally.ended(&self.pair, self.refused);
+        self.tally.respelt(self.partner.respelt());
         self.refused = false;
         if over && self.random.once_in(2) {
             self.receive(b"", None)?;

@@ -2,8 +2,8 @@
 //! so.
 
 use inputs::random::Random;
-use inputs::{at, bid, body_of, byte, call, heading};
-use second::field::{BID_LIMIT, BODY_END, BODY_LIMIT};
+use inputs::{at, bid, body_of, byte, call, heading, respelt};
+use second::field::{same_bid, BID_LIMIT, BODY_END, BODY_LIMIT};
 use second::host::{append, Buffers};
 use second::layout::{self, KNOWN_BYTES, MESSAGE_BYTES, RECORD_BYTES, SESSION_BYTES};
 use second::memory::{Envelope, Record, Span, State, KNOWN_LIMIT, MESSAGE_LIMIT, RECORD_LIMIT};
@@ -59,6 +59,19 @@ pub fn rivals(lent: &Lent<'_>) -> [bool; 2] {
         None => [false, false],
     }
 }
+
+/// Open was refused at a record whose BID stands earlier in another case alone.
+pub fn is_twin(lent: &Lent<'_>) -> bool {
+    let bid = |entry: &[u8]| layout::read_record(entry).map(|record| record.envelope.bid);
+    let refused = session::open(0, lent).err().filter(|reply| reply.place < 255);
+    let place = refused.map_or(0, |reply| usize::from(reply.place));
+    let mut earlier = lent.table.chunks(RECORD_BYTES).take(place).filter_map(bid);
+    let own = lent.table.chunks(RECORD_BYTES).nth(place).and_then(bid);
+    own.map_or(false, |own| earlier.any(|other| other != own && same_bid(&other, &own)))
+}
+
+/// Where a record's BID stands (docs/MEMORY.md).
+const BID_AT: usize = 56;
 
 const ALL: [Form; 3] = [Form::Plain, Form::Message, Form::File];
 
@@ -199,7 +212,11 @@ fn know(random: &mut Random, host: &mut Buffers) {
         let bid = if own {
             let place = random.below(host.table.len() / RECORD_BYTES);
             let entry = &host.table[place * RECORD_BYTES..][..RECORD_BYTES];
-            layout::read_record(entry).expect("a valid record").envelope.bid
+            let own = layout::read_record(entry).expect("a valid record").envelope.bid;
+            match random.once_in(2) {
+                true => respelt(random, &own),
+                false => own,
+            }
         } else {
             bid(random)
         };
@@ -273,7 +290,14 @@ fn spoil_record(random: &mut Random, host: &mut Buffers) {
             let offset = random.pick(&[0, 1, 2, 3, 10, 49, 56, 71, 72, 75, 77, 80, 82, 85, 87, 88]);
             host.table[entry + offset] = random.pick(&[0, 1, 2, 3, 6, 7, 12, 13, 38, 39, 80, 81]);
         }
-        1 => host.table.copy_within(other + 56..other + 69, entry + 56),
+        1 => {
+            host.table.copy_within(other + BID_AT..other + BID_AT + 1 + BID_LIMIT, entry + BID_AT);
+            if random.once_in(2) {
+                let field = &mut host.table[entry + BID_AT + 1..][..BID_LIMIT];
+                let bid = respelt(random, field);
+                field.copy_from_slice(&bid);
+            }
+        }
         2 => {
             let offset = random.below(RECORD_BYTES);
             host.table[entry + offset] = host.table[entry + offset].wrapping_add(1);

@@ -17,6 +17,7 @@ pub const ENOUGH: u64 = 20_000;
 
 const LONGEST: [&str; 4] = ["65,534 kept", "65,535 kept", "65,534 forwarded", "65,535 forwarded"];
 const KINDS: [&str; 4] = ["called plain", "called framed", "caller plain", "caller framed"];
+const PLACES: [&str; 4] = ["the table", "the known list", "the inbox", "the block"];
 const PHASES: [&str; 7] = ["SID", "prompt", "turn", "FS line", "transfers", "our FQ", "nothing"];
 const TURNS: [&str; 6] = ["0", "1 to 2", "3 to 5", "6 to 10", "11 to 20", "over 20"];
 
@@ -31,6 +32,10 @@ pub struct Tally {
     places: [u64; 2],
     /// Opens with more than one fault, by [`tables::rivals`].
     rivals: [u64; 2],
+    /// Opens refused for a BID that stands earlier in another case.
+    twins: u64,
+    /// The partner's proposals of a BID that stands in another case, by `PLACES`.
+    respelt: [u64; 4],
     consumed: usize,
     given: usize,
     kept: usize,
@@ -70,6 +75,12 @@ impl Tally {
         for (times, came) in self.rivals.iter_mut().zip(tables::rivals(lent)) {
             *times += u64::from(came);
         }
+        self.twins += u64::from(tables::is_twin(lent));
+    }
+
+    /// Counts what the partner proposed in another case.
+    pub fn respelt(&mut self, times: [u64; 4]) {
+        self.respelt.iter_mut().zip(times).for_each(|(all, times)| *all += times);
     }
 
     pub fn received(&mut self, reply: Reply) {
@@ -154,6 +165,8 @@ impl Tally {
             ("give answered", numbered(&self.gives)),
             ("open refused for", named(&["a record", "what comes before"], &self.places)),
             ("open found", named(&["known before record", "first of two records"], &self.rivals)),
+            ("open found a BID", named(&["in another case"], &[self.twins])),
+            ("proposed in another case: BIDs of", named(&PLACES, &self.respelt)),
             ("our records", named(&["forwarded", "declined", "deferred"], &self.records)),
             ("the longest bodies", named(&LONGEST, &self.longest)),
             ("our signs", named(&["+", "-", "="], &self.signs)),

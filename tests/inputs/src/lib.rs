@@ -13,6 +13,9 @@ use second::sid::is_author_byte;
 /// Bytes that mean something somewhere in 01.
 const SPECIAL: &[u8] = b"\r\n\x00\x01\x02\x04\x1A [];>$@.-+=0159FfBbPpSs\x7F\x80\xFF";
 
+/// Letters at the ends of the alphabet, their neighbours, and accented letters.
+const CASES: &[u8] = b"AaBbMmYyZz@`[{^~_\x7F1\xC0\xE0\xC9\xE9\xDE\xFE\xFF";
+
 /// A byte of any value; those from 0x80, control bytes and bytes with a meaning
 /// come more often than they would by chance.
 pub fn byte(random: &mut Random) -> u8 {
@@ -72,9 +75,23 @@ pub fn at(random: &mut Random) -> Vec<u8> {
     at
 }
 
+/// A BID; every other one of letters and of what differs as a letter's two cases
+/// do and is no letter.
 pub fn bid(random: &mut Random) -> Vec<u8> {
     let length = random.within(1, field::BID_LIMIT);
+    if random.once_in(2) {
+        return (0..length).map(|_| random.pick(CASES)).collect();
+    }
     of_class(random, length, field::is_bid_byte)
+}
+
+/// The same BID, its letters in another case.
+pub fn respelt(random: &mut Random, bid: &[u8]) -> Vec<u8> {
+    match random.below(3) {
+        0 => bid.to_ascii_uppercase(),
+        1 => bid.to_ascii_lowercase(),
+        _ => bid.iter().map(|byte| either_case(random, byte.to_ascii_uppercase())).collect(),
+    }
 }
 
 pub fn heading(random: &mut Random) -> Vec<u8> {

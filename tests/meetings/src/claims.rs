@@ -15,9 +15,10 @@ pub struct Course<'a> {
     pub now: &'a Node,
 }
 
-/// "BIDs are compared byte by byte."
+/// "by Q-2's rule": "when they agree after A-Z and a-z are taken as one"
 fn same_bid(one: &[u8], other: &[u8]) -> bool {
-    one == other
+    let folded = |bid: &[u8]| bid.iter().map(u8::to_ascii_lowercase).collect::<Vec<u8>>();
+    folded(one) == folded(other)
 }
 
 fn copies(bid: &[u8], kept: &[Kept]) -> usize {

@@ -59,9 +59,10 @@ pub fn is_bid(bytes: &[u8]) -> bool {
     is_run(bytes, BID_LIMIT, is_bid_byte)
 }
 
-/// "BIDs are compared byte by byte."
+/// "Two BIDs are now equal when they agree after A-Z and a-z are taken as one.
+/// Bytes from 0x80 still compare exactly."
 pub fn same_bid(one: &[u8], other: &[u8]) -> bool {
-    one == other
+    one.eq_ignore_ascii_case(other)
 }
 
 /// "A title or name has 1 to 80 bytes in 0x20-0xFF."
@@ -151,11 +152,21 @@ mod tests {
     }
 
     #[test]
-    fn bids_are_compared_byte_by_byte() {
+    fn bids_are_one_but_for_the_case_of_a_to_z() {
         assert!(same_bid(b"1_A", b"1_A"));
-        assert!(!same_bid(b"1_A", b"1_a"));
+        assert!(same_bid(b"12_ab", b"12_AB"));
         assert!(!same_bid(b"1_A", b"1_A "));
         assert!(!same_bid(b"1_\xE9", b"1_\x69"));
+        for one in 0..=255_u8 {
+            let with = |other: u8| same_bid(&[b'1', one], &[b'1', other]);
+            let same: Vec<u8> = (0..=255).filter(|&other| with(other)).collect();
+            let expected = match one {
+                b'A'..=b'Z' => vec![one, one + 32],
+                b'a'..=b'z' => vec![one - 32, one],
+                _ => vec![one],
+            };
+            assert_eq!(same, expected, "{one:#04X}");
+        }
     }
 
     #[test]

@@ -145,7 +145,8 @@ impl<'a> Reading<'a> {
     /// transfers. "FS line, at its CR: the other side owes the accepted transfers
     /// in order."
     fn exchange(&mut self, side: Side, proposals: &[Proposal<'_>]) -> Option<()> {
-        // "ours are the records with those BIDs"
+        // "ours are the records with those BIDs": byte by byte, since we send the
+        // spelling that is stored and no other.
         let ours: Option<Vec<usize>> = match side {
             Side::Us => proposals.iter().map(|proposal| self.place(proposal.bid)).collect(),
             Side::Partner => Some(Vec::new()),

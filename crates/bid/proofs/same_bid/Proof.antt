@@ -1,6 +1,6 @@
 -- The lengths first, then the bytes.
 use mathlib.Core.Path.{_∙_}
-use Rattle.session.proofs.Bids.{bid-length}
+use Rattle.grammar.proofs.Bids.{bid-length}
 use Rattle.bid.proofs.Laws.{same-whole}
 use borrow.Author.Needs.{needs}
 use Rattle.bid.proofs.same_bid.Statement.{statement}

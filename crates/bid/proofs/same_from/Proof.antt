@@ -17,17 +17,20 @@ abbrev μ-loop : tie.MeasureT-loop
 loop-holds : tie.Need-loop-holds Inv-loop μ-loop
 loop-holds c = (search needs, refl)
 
-add-if1 : tie.Need-add-if1 Inv-loop μ-loop
-add-if1 c = search needs
+add-as-one : tie.Need-add-as-one Inv-loop μ-loop
+add-as-one c = search needs
 
-shared-slice-read-if1 : tie.Need-shared-slice-read-if1 Inv-loop μ-loop
-shared-slice-read-if1 c = search needs
+shared-slice-read-as-one : tie.Need-shared-slice-read-as-one Inv-loop μ-loop
+shared-slice-read-as-one c = search needs
 
-shared-slice-read-if1-2 : tie.Need-shared-slice-read-if1-2 Inv-loop μ-loop
-shared-slice-read-if1-2 c = search needs
+shared-slice-read-as-one-2 : tie.Need-shared-slice-read-as-one-2 Inv-loop μ-loop
+shared-slice-read-as-one-2 c = search needs
+
+as-one-requires : tie.Need-as-one-requires Inv-loop μ-loop
+as-one-requires c κs = search needs
 
 returns : tie.Need-returns Inv-loop μ-loop
-returns c = same-stop (c .before .before .before .before .before .args .s .now) (c .before .before .before .before .before .args .bid .now) (c .before .before .before .before .before .args .from) (c .before .before .before .before .before .pre) (c .before .before .before .before .loop .i) (c .before .before .before .loop-test .taken) (c .if1 .taken) ∙ sym (c .before .before .before .before .loop .inv .1)
+returns c = same-stop (c .before .before .before .before .before .before .before .before .args .s .now) (c .before .before .before .before .before .before .before .before .args .bid .now) (c .before .before .before .before .before .before .before .before .args .from) (c .before .before .before .before .before .before .before .before .pre) (c .before .before .before .before .before .loop .i) (c .before .before .before .before .loop-test .taken) (c .before .as-one .ensures) (c .if1 .taken) ∙ sym (c .before .before .before .before .before .loop .inv .1)
 
 add-i : tie.Need-add-i Inv-loop μ-loop
 add-i c = search needs
@@ -36,10 +39,10 @@ loop-less : tie.Need-loop-less Inv-loop μ-loop
 loop-less c = search needs
 
 loop-again : tie.Need-loop-again Inv-loop μ-loop
-loop-again c = (search needs, c .before .before .before .before .loop .inv .1 ∙ same-more (c .before .before .before .before .before .args .s .now) (c .before .before .before .before .before .args .bid .now) (c .before .before .before .before .before .args .from) (c .before .before .before .before .before .pre) (c .before .before .before .before .loop .i) (c .before .before .before .loop-test .taken) (c .if1 .left))
+loop-again c = (search needs, c .before .before .before .before .before .loop .inv .1 ∙ same-more (c .before .before .before .before .before .before .before .before .args .s .now) (c .before .before .before .before .before .before .before .before .args .bid .now) (c .before .before .before .before .before .before .before .before .args .from) (c .before .before .before .before .before .before .before .before .pre) (c .before .before .before .before .before .loop .i) (c .before .before .before .before .loop-test .taken) (c .before .as-one .ensures) (c .if1 .left))
 
 returns-2 : tie.Need-returns-2 Inv-loop μ-loop
-returns-2 c = same-end (c .before .before .args .s .now) (c .before .before .args .bid .now) (c .before .before .args .from) (c .before .before .pre) (c .before .loop .i) (c .loop-test .left) ∙ sym (c .before .loop .inv .1)
+returns-2 c = same-end (c .before .before .before .before .args .s .now) (c .before .before .before .before .args .bid .now) (c .before .before .before .before .args .from) (c .before .before .before .before .pre) (c .before .loop .i) (c .loop-test .left) ∙ sym (c .before .loop .inv .1)
 
 pub same-from-spec : {M : Type 1} → statement M
 same-from-spec =
@@ -48,9 +51,10 @@ same-from-spec =
     Inv-loop
     μ-loop
     loop-holds
-    add-if1
-    shared-slice-read-if1
-    shared-slice-read-if1-2
+    add-as-one
+    shared-slice-read-as-one
+    shared-slice-read-as-one-2
+    as-one-requires
     returns
     add-i
     loop-less

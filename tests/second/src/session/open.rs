@@ -1,7 +1,7 @@
 //! Open: what is lent, judged.
 
 use super::{Phase, Reply, Role, Session};
-use crate::field::is_bid;
+use crate::field::{is_bid, same_bid};
 use crate::layout::{self, KNOWN_BYTES, MESSAGE_BYTES, RECORD_BYTES, SESSION_BYTES};
 use crate::memory::{Memory, Record, Sizes, Stores, KNOWN_LIMIT, MESSAGE_LIMIT, RECORD_LIMIT};
 use crate::sid::{self, Mode};
@@ -80,7 +80,7 @@ fn read_table(bytes: &[u8], stores: &Stores) -> Result<Vec<Record>, Reply> {
     let mut table: Vec<Record> = Vec::new();
     for entry in bytes.chunks(RECORD_BYTES) {
         let copy = |record: &Record| {
-            table.iter().any(|earlier| earlier.envelope.bid == record.envelope.bid)
+            table.iter().any(|earlier| same_bid(&earlier.envelope.bid, &record.envelope.bid))
         };
         let record = layout::read_record(entry)
             .filter(|record| record.is_valid(stores) && !copy(record))

@@ -31,11 +31,29 @@ fn copies_are_declined() {
     let first = [("1_US", 5), ("2_US", 5), ("3_US", 5), ("7_KNOWN", 5), ("1_US ", 5)];
     assert_eq!(signs(&mut end, &first), "-----");
     end.hears(b"FS =\r");
-    let second = [("1_us", 5), ("1_us", 5), ("9_X", 9999), ("9_X", 5), ("9_X", 9999)];
+    let second = [("1_UT", 5), ("1_UT", 5), ("9_X", 9999), ("9_X", 5), ("9_X", 9999)];
     assert_eq!(signs(&mut end, &second), "+-=+-");
     end.hears(b"T\ra\x1A\rT\rb\x1A\r");
     end.say();
-    assert_eq!(signs(&mut end, &[("1_us", 5), ("9_X", 5), ("9_x", 5)]), "--+");
+    assert_eq!(signs(&mut end, &[("1_UT", 5), ("9_X", 5), ("9_Y", 5)]), "--+");
+}
+
+/// "A partner's program writes BIDs in capitals, so our byte-by-byte test misses
+/// the copy." In the table, the known list, the block and the inbox; what is kept
+/// keeps its spelling.
+#[test]
+fn copies_in_another_case_are_declined() {
+    let mut buffers = plain_table(&[1]);
+    buffers.know(b"7_knOwn");
+    let mut end = End::called(&buffers);
+    let first = [("1_us", 5), ("7_KNOWN", 5), ("9_a[", 5), ("9_A[", 5), ("9_a{", 5)];
+    assert_eq!(signs(&mut end, &first), "--+-+");
+    end.hears(b"T\ra\x1A\rT\rb\x1A\r");
+    let kept: Vec<Vec<u8>> = end.kept().into_iter().map(|kept| kept.envelope.bid).collect();
+    assert_eq!(kept, [b"9_a[", b"9_a{"]);
+    end.say();
+    end.hears(b"FS =\r");
+    assert_eq!(signs(&mut end, &[("9_A[", 5), ("9_A{", 5), ("9_a", 5)]), "--+");
 }
 
 /// "else `=` if the size is over 65,535"

@@ -104,6 +104,26 @@ fn of_two_records_with_one_bid_the_later_is_bad() {
     assert_eq!(changed(known), None);
 }
 
+/// "so a table with `12_ab` and `12_AB` now gets 1 at the later record"
+#[test]
+fn of_two_records_with_one_bid_in_another_case_the_later_is_bad() {
+    let bids = |buffers: &mut Buffers, spelt: [&[u8; 5]; 3]| {
+        for (entry, bid) in buffers.table.chunks_mut(89).zip(spelt) {
+            entry[56..62].copy_from_slice(&[&[5], &bid[..]].concat());
+        }
+    };
+    for (spelt, place) in [
+        ([b"12_ab", b"12_AB", b"12_Ab"], Some(1)),
+        ([b"12_ab", b"12_cd", b"12_aB"], Some(2)),
+        ([b"12_a[", b"12_a{", b"12_a_"], None),
+        ([b"12_a@", b"12_a`", b"12_a "], Some(2)), // a space is no BID byte
+        ([b"12_a^", b"12_a~", b"12_a>"], None),
+        ([b"12_a\xC9", b"12_a\xE9", b"12_ai"], None),
+    ] {
+        assert_eq!(changed(|buffers| bids(buffers, spelt)), place, "{spelt:?}");
+    }
+}
+
 /// One wrong byte of a record at a time: offset, value, whether it is bad.
 #[test]
 fn record_bytes() {

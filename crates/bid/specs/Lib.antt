@@ -1,0 +1,2 @@
+-- For the functions within.
+pub mod Letter
