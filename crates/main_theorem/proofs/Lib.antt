@@ -1,6 +1,6 @@
 -- Held: memory as a call left it, and saving. Giving, Accepted, Opening: the laws of give and open. Run: of receive and of a list of calls. Demand3:
 -- THE THEOREM; Demand2: what demand 2 says. Replies: every reply, on whatever memory. LastShown, Written, LastLive, Store: every byte of the inbox store. DeedStates, Deeds, Becomes, Once, Fates,
--- InWords: demand 3 in the mission's words; Corollaries: sentence by sentence.
+-- InWords: demand 3 in the mission's words; Corollaries: sentence by sentence. Acceptable: the claims where open is lent what 01 asks for.
 pub mod Held
 pub mod Giving
 pub mod Accepted
@@ -20,3 +20,4 @@ pub mod Once
 pub mod Fates
 pub mod InWords
 pub mod Corollaries
+pub mod Acceptable
