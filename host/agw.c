@@ -6,6 +6,7 @@
 
 #define ASK (SECOND / 4)       /* between two questions what is outstanding */
 #define ASK_AGAIN (5 * SECOND) /* if there was no answer */
+#define LAST (5 * SECOND)      /* for the disconnect of a partner who had our last word: a frame and its answer at 1,200 bit/s, twice */
 #define HEARD_MOST 65536       /* bytes that came; more stay with the TNC */
 
 static const char retried_out[] = "RETRYOUT"; /* in the text of a disconnect: AX.25 has given the partner up */
@@ -17,7 +18,7 @@ static void link_begins(struct agw *agw, const struct station *partner)
     agw->state = STANDS;
     agw->partner = *partner;
     agw->end = NULL;
-    agw->lost = agw->anew = agw->asks = false;
+    agw->lost = agw->anew = agw->asks = agw->spoke = false;
     agw->heard.n = 0;
     agw->sent = agw->acknowledged = agw->asked = 0;
 }
@@ -108,8 +109,10 @@ static bool take(struct agw *agw, const struct frame *frame)
     case FRAME_CONNECT:
         return take_connect(agw, frame);
     case FRAME_DATA:
-        if (agw->state == STANDS && is_ours(agw, frame, false))
+        if (agw->state == STANDS && is_ours(agw, frame, false)) {
             bytes_add(&agw->heard, frame->data.at, frame->data.n);
+            agw->spoke = false;
+        }
         return true;
     case FRAME_DISCONNECT:
         take_disconnect(agw, frame);
@@ -210,6 +213,7 @@ long agw_write(struct agw *agw, struct part bytes, milliseconds time)
         bytes.n = AGW_PORTION;
     tnc_send(&agw->tnc, FRAME_DATA, &agw->partner, bytes);
     agw->sizes[agw->sent++ % AGW_WINDOW] = bytes.n;
+    agw->spoke = true;
     return (long)bytes.n;
 }
 
@@ -254,6 +258,14 @@ void agw_drop(struct agw *agw)
         disconnect(agw);
 }
 
+/* Whoever hears the last word disconnects. If both did it, their frames would cross, and the TNC that is done first leaves the other's
+ * without an answer; so who spoke last waits a while. */
+static void await_disconnect(struct agw *agw, milliseconds end)
+{
+    while (agw->state == STANDS && agw->spoke && !stop_asked() && moment_now() < end)
+        await(agw, end - moment_now(), true);
+}
+
 void agw_hang_up(struct agw *agw, milliseconds time)
 {
     milliseconds end = moment_now() + time;
@@ -262,6 +274,8 @@ void agw_hang_up(struct agw *agw, milliseconds time)
     }
     if (agw->state == STANDS && outstanding(agw))
         say("%s has not acknowledged our last %lu bytes", agw->partner.text, (unsigned long)agw_held(agw));
+    else
+        await_disconnect(agw, moment_now() + LAST < end ? moment_now() + LAST : end);
     agw_drop(agw);
 }
 

@@ -22,6 +22,7 @@ struct agw {
     bool lost;          /* not by the partner's disconnect, nor by ours */
     bool anew;          /* the partner calls again; that frame is the next to hear */
     struct bytes heard; /* data that nobody has taken yet */
+    bool spoke;         /* the last data were ours */
     /* Frames of data since the link stands: sent, acknowledged as far as we know, and sent when we last asked. */
     uint64_t sent, acknowledged, asked;
     bool asks; /* an answer is due */

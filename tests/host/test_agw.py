@@ -49,7 +49,13 @@ class Radio(Folder):
         station.says(b"FS +\r")
         station.hears(message.transfer())
         station.says(b"FF\r")
+        self.leaves(station)
+
+    def leaves(self, station):
+        """The node says FQ, and who hears it disconnects."""
         station.hears(b"FQ\r")
+        station.disconnects()
+        station.hears_end()
 
 
 class Calls(Radio):
@@ -185,6 +191,20 @@ class Ends(Radio):
         time.sleep(1)
         self.assertNotIn("d", tnc.words())
         self.assertIsNone(process.poll())
+
+    def test_partner_first(self):
+        "a partner who heard our FQ disconnects: we leave that to it for some seconds, so that two disconnects don't cross; then we do"
+        for leaves in (True, False):
+            tnc = self.tnc()
+            process, station = self.calls(self.node(), tnc, "--called")
+            self.session(station)
+            station.hears(b"FQ\r")
+            began = time.monotonic()
+            time.sleep(1)
+            station.disconnects() if leaves else None
+            self.ended(process, DONE, "ended by FQ")
+            self.assertEqual("d" in tnc.words(), not leaves)
+            self.assertTrue(leaves or time.monotonic() - began > 4)
 
     def test_confirmed(self):
         "the disconnect is awaited before the connection with the TNC is closed: at the end, after a refusal, a drop, a limit, a signal, a bad base"
@@ -505,7 +525,6 @@ class Listens(Radio):
         for name, text in (("F0ABC", b"1_US"), ("F0ABC-15", b"2_US")):
             station = tnc.calls(name, US)
             self.takes(station, Message(text, b"private", form="plain"))
-            station.hears_end()
             node.add(Message(b"2_US", b"private", form="plain")) if text == b"1_US" else None
         self.assertEqual(node.states(), {b"1_US": FORWARDED, b"2_US": FORWARDED})
         self.assertEqual(node.ask("SELECT partner, role FROM session"), [(b"F0ABC", 0)] * 2)
@@ -521,7 +540,7 @@ class Listens(Radio):
         station = tnc.calls("F0XXX-1", US)
         station.hears(GREETING)
         station.says(PLAIN_SID + b"FF\r")
-        station.hears(b"FQ\r")
+        self.leaves(station)
         self.ended(process, DONE)
         self.assertEqual(node.ask("SELECT partner FROM session"), [(b"F0XXX",)])
         node.right("dismiss", "F0ABC")
@@ -541,13 +560,11 @@ class Listens(Radio):
         third.hears_end()
         self.assertEqual(second.end.heard + third.end.heard, b"")
         station.says(PLAIN_SID + b"FF\r")
-        station.hears(b"FQ\r")
-        station.hears_end()
+        self.leaves(station)
         again = tnc.calls("F0XYZ", US)
         again.hears(GREETING)
         again.says(PLAIN_SID + b"FF\r")
-        again.hears(b"FQ\r")
-        again.hears_end()
+        self.leaves(again)
         process.terminate()
         self.ended(process, -15, "F0XYZ calls on radio 0, and is hung up on: another link stands", "F0XYZ calls on radio 1, and is hung up on: that radio isn't ours")
 
@@ -563,7 +580,6 @@ class Listens(Radio):
             station.end.ended = station.end.other.ended = "forgotten"
         station = tnc.calls(PARTNER, US)
         self.takes(station, Message(b"1_US", b"mail", form="plain"))
-        station.hears_end()
         process.terminate()
         self.ended(process, -15, "the link dropped: the partner calls anew")
         self.assertEqual(self.endings(node), [b"the partner calls anew", b"FQ"])
@@ -581,8 +597,7 @@ class Listens(Radio):
             station = tnc.calls(PARTNER, US)
             station.hears(GREETING)
             station.says(PLAIN_SID + b"FF\r")
-            station.hears(b"FQ\r")
-            station.hears_end()
+            self.leaves(station)
         process.terminate()
         said = self.ended(process, -15, "the TNC has closed its connection; it is tried again")
         self.assertEqual(said.count("listening as"), 2)
@@ -597,8 +612,7 @@ class Listens(Radio):
         station = tnc.calls(PARTNER, US)
         station.hears(GREETING)
         station.says(PLAIN_SID + b"FF\r")
-        station.hears(b"FQ\r")
-        station.hears_end()
+        self.leaves(station)
         process.terminate()
         self.ended(process, -15)
 
@@ -614,7 +628,6 @@ class Listens(Radio):
         station = tnc.calls(PARTNER, US)
         station.hears(GREETING)
         station.says(PLAIN_SID + b"FF\r")
-        station.hears(b"FQ\r")
-        station.hears_end()
+        self.leaves(station)
         process.terminate()
         self.ended(process, -15, "the base is in use")
