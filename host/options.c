@@ -42,7 +42,7 @@ static const char help[] =
     "  --log FILE           add what is said to FILE instead of standard error\n"
     "  --progress           progress lines also where standard error is no terminal\n"
     "  --room BYTES         for bodies that come in, in one session (4194240)\n"
-    "  --once               listen: end after one session, with its exit code\n"
+    "  --once               listen, agw --listen: end after one session, with its exit code\n"
     "  --drop-after BYTES   drop the link after so many bytes, to see what happens\n"
     "  --rtscts             serial: hardware flow control\n"
     "  --from CALL          stdio: who calls, as ax25d knows it; served if it is a partner\n"

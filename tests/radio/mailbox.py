@@ -18,7 +18,7 @@ from world import World, expect  # noqa: E402
 import node as nodes  # noqa: E402
 
 nodes.PATIENCE = 300  # seconds; LinFBB answers at once, the air doesn't
-PROGRAM = str(ROOT / "target" / "host-sanitized" / "fringemole")
+PROGRAM = str(ROOT / "target" / "radio" / "fringemole")
 US, THEM = "N0DE-1", "N0BBB-1"
 EDITS = [BARE, ZEROS]  # what LinFBB says otherwise than 01, taken out between it and the radio as tests/interop does
 

@@ -1,6 +1,6 @@
 """Two of our nodes by radio: real AX.25 over real audio between two direwolf stations. To be run by `stations`, as `run` and `long` do.
 
-    python3 radio.py ROOT whole | silenced | once | fades --seconds N [--seed N]
+    python3 radio.py ROOT whole | silenced | fades [--seconds N] [--seed N]
 """
 import argparse
 import os
@@ -16,8 +16,9 @@ ROOT = pathlib.Path(sys.argv[1]).resolve()
 sys.dont_write_bytecode = True
 sys.path.insert(0, str(ROOT / "tests" / "host"))
 
-from node import DECLINED, DONE, FORWARDED, LINK_DROPPED, PLAIN, SANITIZED, WAITING, Message, Node  # noqa: E402
+from node import DECLINED, DONE, FORWARDED, LINK_DROPPED, WAITING, Message, Node  # noqa: E402
 
+PROGRAM = ROOT / "target" / "radio" / "fringemole"
 RADIO = pathlib.Path(os.environ["RADIO"])
 NORTH, SOUTH = ("8100", "N0AAA-1"), ("8200", "N0BBB-1")
 EVERY = bytes(range(256))
@@ -47,12 +48,12 @@ def said(bytes_of, file):
 class Pair:
     """North calls by station A, south listens at station B."""
 
-    def __init__(self, folder, program=SANITIZED, once=False):
+    def __init__(self, folder):
         self.folder, self.calls = pathlib.Path(folder), 0
-        self.north, self.south = Node(folder, "north", program), Node(folder, "south", program)
+        self.north, self.south = Node(folder, "north", PROGRAM), Node(folder, "south", PROGRAM)
         self.south.right("admit", "N0AAA")
         self.air = self.folder / "south.transcript"
-        self.listener = self.south.start("agw", *SOUTH, "--listen", "--transcript=%s" % self.air, "--log", self.folder / "south.log", *(["--once"] if once else []))
+        self.listener = self.south.start("agw", *SOUTH, "--listen", "--transcript=%s" % self.air, "--log", self.folder / "south.log")
         self.wait(lambda: b"listening as" in self.log(), "south to listen")
 
     def log(self):
@@ -76,7 +77,7 @@ class Pair:
         threading.Thread(target=meanwhile, daemon=True).start() if meanwhile else None
         err = process.communicate(timeout=LATE)[1].decode(errors="replace")
         self.took = time.monotonic() - began
-        if b"linked with" in err.encode():
+        if "linked with" in err:
             self.wait(lambda: self.count(self.south) > sessions, "south's session to end")
         for text in (err, self.log().decode(errors="replace")):
             must("Sanitizer" not in text and "runtime error" not in text, text)
