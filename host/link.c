@@ -183,3 +183,14 @@ bool link_write(struct link *link, struct part bytes)
     bytes_free(&doubled);
     return right;
 }
+
+bool link_settle(struct link *link)
+{
+    long settled;
+
+    while ((settled = port_settle(&link->port, patience_left(&link->patience, &link->port))) == PORT_SILENT) {
+        if (!goes_on(link))
+            return false;
+    }
+    return settled != PORT_GONE;
+}

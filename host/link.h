@@ -38,6 +38,8 @@ void link_start(struct link *link, const struct port *port, const struct options
 long link_read(struct link *link, uint8_t *into, size_t room, bool wait);
 /* Writes all of it, unless the port is gone or a limit is reached. */
 bool link_write(struct link *link, struct part bytes);
+/* Waits until the partner's station has all of it, where the port can tell; false if the link is lost before, or a limit is reached. */
+bool link_settle(struct link *link);
 /* The byte that was read last, alone, comes again. */
 void link_unread(struct link *link);
 /* From here on what the partner says is kept, as far as there is room, and what we say. */

@@ -1,9 +1,11 @@
 /* Fringemole's reference host: a port and a message base, and between them the library's three calls, which decide everything. */
+#include "agw.h"
 #include "base.h"
 #include "boxes.h"
 #include "call.h"
 #include "options.h"
 #include "partners.h"
+#include "radio.h"
 #include "serve.h"
 #include "stop.h"
 
@@ -52,7 +54,8 @@ static const struct command commands[] = {
     { "call", 1, 1, serve_call },
     { "listen", 1, 1, serve_listen },
     { "stdio", 0, 0, serve_stdio },
-    { "serial", 2, 2, serve_serial }
+    { "serial", 2, 2, serve_serial },
+    { "agw", 2, 4 + AGW_MAX_DIGIPEATERS, radio_serve }
 };
 
 static enum exit_code run(const struct options *options)

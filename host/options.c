@@ -28,10 +28,12 @@ static const char help[] =
     "  listen [HOST:]PORT   wait for partners to call over TCP, one at a time\n"
     "  stdio                a session on standard input and output\n"
     "  serial DEVICE BITS   a session on a serial device, at 300 to 230400 bit/s\n"
+    "  agw [HOST:]PORT MYCALL CALL [via CALL..]\n"
+    "                       call a partner by radio, with a TNC that speaks AGW (--listen: wait for calls)\n"
     "HOST is 127.0.0.1 if it is left out. PORT 0 listens where there is room.\n"
     "\n"
     "Options of a session\n"
-    "  --caller, --called   our role (call: caller; listen, stdio, serial: called)\n"
+    "  --caller, --called   our role (call, agw: caller; listen, stdio, serial, agw --listen: called)\n"
     "  --login TEXT         answer the partner's login question with this line first\n"
     "  --question TEXT      the question (\"Callsign : \")\n"
     "  --password FILE      and \"Password : \" with FILE's first line\n"
@@ -41,10 +43,12 @@ static const char help[] =
     "  --log FILE           add what is said to FILE instead of standard error\n"
     "  --progress           progress lines also where standard error is no terminal\n"
     "  --room BYTES         for bodies that come in, in one session (4194240)\n"
-    "  --once               listen: end after one session, with its exit code\n"
+    "  --once               listen, agw --listen: end after one session, with its exit code\n"
     "  --drop-after BYTES   drop the link after so many bytes, to see what happens\n"
     "  --rtscts             serial: hardware flow control\n"
     "  --from CALL          stdio: who calls, as ax25d knows it; served if it is a partner\n"
+    "  --listen             agw: wait for partners to call by radio, one at a time\n"
+    "  --radio NUMBER       agw: which radio of the TNC, from 0 (0)\n"
     "  --anyone             serve callers from outside without asking who they are\n"
     "Limits; 0: none\n"
     "  --timeout SECONDS    of silence, from the last byte that came or left (600)\n"
@@ -126,6 +130,8 @@ static const struct option table[] = {
     OPTION("--from", TEXT, from),
     OPTION("--password", TEXT, password),
     OPTION("--anyone", FLAG, anyone),
+    OPTION("--listen", FLAG, listen),
+    OPTION("--radio", NUMBER, radio),
     OPTION("--callers", NUMBER, callers),
     OPTION("--delay", NUMBER, delay),
     OPTION("--room", NUMBER, room),

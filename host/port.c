@@ -1,4 +1,5 @@
 #include "port.h"
+#include "agw.h"
 #include "stop.h"
 
 #include <errno.h>
@@ -47,6 +48,12 @@ long port_read(struct port *port, uint8_t *into, size_t room, milliseconds time)
 {
     ssize_t n;
 
+    if (port->kind == TNC) {
+        n = agw_read(port->agw, into, room, time);
+        if (n > 0)
+            port->heard_at = moment_now();
+        return (long)n;
+    }
     if (!ready(port->in, POLLIN, time))
         return PORT_SILENT;
     n = read(port->in, into, room);
@@ -70,6 +77,11 @@ long port_write(struct port *port, struct part bytes, milliseconds time)
     size_t most = bytes.n < port->portion ? bytes.n : port->portion;
     ssize_t n;
 
+    if (port->kind == TNC) {
+        n = agw_write(port->agw, bytes, time);
+        port->taken += n > 0 ? (uint64_t)n : 0;
+        return (long)n;
+    }
     if (!ready(port->out, POLLOUT, time))
         return PORT_SILENT;
     n = put(port, bytes.at, most);
@@ -86,13 +98,23 @@ bool port_look(struct port *port)
 {
     uint64_t left;
 
-    port->held = queue_held(port);
+    port->held = port->kind == TNC ? agw_held(port->agw) : queue_held(port);
     left = port->taken > port->held ? port->taken - port->held : 0;
     if (left > port->left) {
         port->left = left;
         port->left_at = moment_now();
     }
     return !port->carrier || serial_has_carrier(port->in);
+}
+
+long port_settle(struct port *port, milliseconds time)
+{
+    return port->kind == TNC ? agw_settle(port->agw, time) : 1;
+}
+
+const char *port_end(const struct port *port)
+{
+    return port->kind == TNC ? port->agw->end : NULL;
 }
 
 /* A socket that is closed with unread bytes in it drops what is still on its way, AX.25 drops it in any case: so first see it leave, and
@@ -113,6 +135,10 @@ static void see_off(struct port *port, milliseconds end)
 
 void port_hang_up(struct port *port, milliseconds time)
 {
+    if (port->kind == TNC) {
+        agw_hang_up(port->agw, time);
+        return;
+    }
     if (port->kind == STREAM)
         shutdown(port->out, SHUT_WR);
     if (port->kind != PIPE)
@@ -124,6 +150,10 @@ void port_hang_up(struct port *port, milliseconds time)
 
 void port_drop(struct port *port)
 {
+    if (port->kind == TNC) {
+        agw_drop(port->agw);
+        return;
+    }
     if (port->kind == LINE)
         serial_close(port);
     close(port->in);

@@ -7,9 +7,12 @@
 
 #include <termios.h>
 
+struct agw;
+
 struct port {
     int in, out; /* one descriptor twice, but for standard input and output */
-    enum { PIPE, STREAM, PACKETS, LINE } kind; /* pipes and files; TCP; packets as AX.25 has them; a serial line */
+    enum { PIPE, STREAM, PACKETS, LINE, TNC } kind; /* pipes and files; TCP; packets as AX.25 has them; a serial line; a TNC's link (agw.h) */
+    struct agw *agw;       /* a TNC's */
     struct termios before; /* a line's mode when it was opened */
     bool carrier;          /* the line has one, and its loss ends the link */
     size_t portion;        /* the most bytes that one write may have */
@@ -40,6 +43,11 @@ long port_read(struct port *port, uint8_t *into, size_t room, milliseconds time)
 long port_write(struct port *port, struct part bytes, milliseconds time);
 /* Looks what has left meanwhile; false if the line has lost its carrier. */
 bool port_look(struct port *port);
+/* Waits so long until the partner's station has all that was written, where the port can tell that: PORT_SILENT if it hasn't yet, PORT_GONE if
+ * the link was lost before. */
+long port_settle(struct port *port, milliseconds time);
+/* How the link ended, in words, where the port can tell more than that it did; else NULL. */
+const char *port_end(const struct port *port);
 /* Ends the link; what was written still goes out, if it does within the time. */
 void port_hang_up(struct port *port, milliseconds time);
 /* Ends the link as a failing radio does. */

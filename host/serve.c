@@ -21,8 +21,7 @@ static struct base *base_for_session(const struct options *options)
     return NULL;
 }
 
-/* Whether a base can be used, before somebody is called or waited for. */
-static bool base_is_there(const struct options *options)
+bool serve_base_is_there(const struct options *options)
 {
     struct base *base = base_for_session(options);
 
@@ -76,6 +75,8 @@ static bool is_admitted(struct link *link, const struct options *options, struct
 {
     if (options->from)
         return guest_told(options, caller);
+    if (options->with && !call_read(part_of(options->with), caller))
+        caller->text[0] = 0; /* an alias names nobody */
     return !options->asks || guest_asked(link, options, caller);
 }
 
@@ -106,13 +107,18 @@ static enum exit_code hold(struct port *port, const struct options *options, uin
     return code;
 }
 
+enum exit_code serve_on(struct port *port, const struct options *options, uint8_t role)
+{
+    return hold(port, options, role, NO_DOOR);
+}
+
 /* ---- the ports */
 
 enum exit_code serve_call(const struct options *options)
 {
     struct port port;
 
-    if (!base_is_there(options))
+    if (!serve_base_is_there(options))
         return BAD_BASE;
     return tcp_call(&port, options->arguments[0]) ? hold(&port, options, FRINGEMOLE_CALLER, NO_DOOR) : BAD_PORT;
 }
@@ -121,7 +127,7 @@ enum exit_code serve_serial(const struct options *options)
 {
     struct port port;
 
-    if (!base_is_there(options))
+    if (!serve_base_is_there(options))
         return BAD_BASE;
     return serial_open(&port, options->arguments[0], options->arguments[1], options->flow) ? hold(&port, options, FRINGEMOLE_CALLED, NO_DOOR)
                                                                                             : BAD_PORT;
@@ -168,7 +174,7 @@ enum exit_code serve_listen(const struct options *options)
     bool inside = false;
     int listener;
 
-    if (!base_is_there(options))
+    if (!serve_base_is_there(options))
         return BAD_BASE;
     listener = tcp_listen(options->arguments[0], &inside);
     if (listener < 0)

@@ -3,7 +3,13 @@
 #define SERVE_H
 
 #include "options.h"
+#include "port.h"
 #include "say.h"
+
+/* Whether a base can be used, before somebody is called or waited for; says why not. */
+bool serve_base_is_there(const struct options *options);
+/* All that happens on an open port, to its hanging up. */
+enum exit_code serve_on(struct port *port, const struct options *options, uint8_t role);
 
 enum exit_code serve_call(const struct options *options);
 enum exit_code serve_listen(const struct options *options);

@@ -52,6 +52,8 @@ static enum exit_code dropped(struct session *session, const char *how)
         how = "--drop-after";
     else if (session->link->over)
         how = session->link->over;
+    else if (port_end(&session->link->port))
+        how = port_end(&session->link->port);
     ended(session, how, LINK_DROPPED);
     say("the link dropped: %s", how);
     return LINK_DROPPED;
@@ -118,8 +120,8 @@ static enum exit_code converse(struct session *session)
         speaking = given.count == sizeof out;
         if (given.count && !link_write(link, (struct part){ out, given.count }))
             return dropped(session, "the partner is gone");
-        if (has_ended(&session->shelf))
-            return ended(session, "FQ", DONE);
+        if (has_ended(&session->shelf)) /* and if the FQ was ours, the partner should have it */
+            return !given.count || link_settle(link) ? ended(session, "FQ", DONE) : dropped(session, "the partner is gone");
         n = link_read(link, in, sizeof in, !speaking);
         if (n == PORT_GONE || link->over)
             return dropped(session, "the partner is gone");
