@@ -11,7 +11,8 @@
 #define VERSION "1.0"
 #define ROOM ((long)FRINGEMOLE_MAX_MESSAGES * FRINGEMOLE_MAX_BODY) /* each message that a session can keep, at its longest */
 
-static const char help[] =
+/* in parts, since a string of C99 has 4,095 bytes at most */
+static const char commands_help[] =
     "Usage: fringemole BASE COMMAND [OPTION]..\n"
     "One end of FBB mail forwarding. BASE is a SQLite file with the messages.\n"
     "\n"
@@ -30,7 +31,9 @@ static const char help[] =
     "  serial DEVICE BITS   a session on a serial device, at 300 to 230400 bit/s\n"
     "  agw [HOST:]PORT MYCALL CALL [via CALL..]\n"
     "                       call a partner by radio, with a TNC that speaks AGW (--listen: wait for calls)\n"
-    "HOST is 127.0.0.1 if it is left out. PORT 0 listens where there is room.\n"
+    "HOST is 127.0.0.1 if it is left out. PORT 0 listens where there is room.\n";
+
+static const char options_help_text[] =
     "\n"
     "Options of a session\n"
     "  --caller, --called   our role (call, agw: caller; listen, stdio, serial, agw --listen: called)\n"
@@ -67,7 +70,9 @@ static const char help[] =
     "  --partner CALL       init: the partner's callsign, for X-Forwarded-To\n"
     "  --text               import: line ends of plain bodies become CR, as on the air\n"
     "  --as-is              import: plain bodies whose lines end with LF stay as they are\n"
-    "  --outbox             export: the outbox instead\n"
+    "  --outbox             export: the outbox instead\n";
+
+static const char ends_help[] =
     "\n"
     "--help and --version need no base.\n"
     "\n"
@@ -88,7 +93,9 @@ static const char help[] =
 
 void options_help(void)
 {
-    fputs(help, stdout);
+    fputs(commands_help, stdout);
+    fputs(options_help_text, stdout);
+    fputs(ends_help, stdout);
 }
 
 void options_version(void)
