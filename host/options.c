@@ -30,13 +30,13 @@ static const char commands_help[] =
     "  stdio                a session on standard input and output\n"
     "  serial DEVICE BITS   a session on a serial device, at 300 to 230400 bit/s\n"
     "  agw [HOST:]PORT MYCALL CALL [via CALL..]\n"
-    "                       call a partner by radio, with a TNC that speaks AGW (--listen: wait for calls)\n"
+    "                       call a partner by radio, by a TNC's AGW port (or --listen)\n"
     "HOST is 127.0.0.1 if it is left out. PORT 0 listens where there is room.\n";
 
 static const char options_help_text[] =
     "\n"
     "Options of a session\n"
-    "  --caller, --called   our role (call, agw: caller; listen, stdio, serial, agw --listen: called)\n"
+    "  --caller, --called   our role (caller: call, agw; called: the others, agw --listen)\n"
     "  --login TEXT         answer the partner's login question with this line first\n"
     "  --question TEXT      the question (\"Callsign : \")\n"
     "  --password FILE      and \"Password : \" with FILE's first line\n"
@@ -46,7 +46,7 @@ static const char options_help_text[] =
     "  --log FILE           add what is said to FILE instead of standard error\n"
     "  --progress           progress lines also where standard error is no terminal\n"
     "  --room BYTES         for bodies that come in, in one session (4194240)\n"
-    "  --once               listen, agw --listen: end after one session, with its exit code\n"
+    "  --once               listen: end after one session, with its exit code\n"
     "  --drop-after BYTES   drop the link after so many bytes, to see what happens\n"
     "  --rtscts             serial: hardware flow control\n"
     "  --from CALL          stdio: who calls, as ax25d knows it; served if it is a partner\n"

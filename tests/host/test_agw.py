@@ -368,13 +368,13 @@ class HeldBack(Radio):
     def test_silence(self):
         "nobody is silent while frames are acknowledged one by one; silence counts from the last"
         node, tnc = self.node(), self.tnc()
+        self.body = EVERY * 6  # all of it is with the TNC at once
         process, station = self.sends(node, tnc, "--timeout", "4")
-        for _ in range(8):
-            station.holds(WINDOW)
+        station.holds(-(-len(Message(b"1_US", self.body).transfer()) // PORTION))
+        while station.end.other.queue:
             time.sleep(1)
             self.assertIsNone(process.poll())
             station.acknowledges(1)
-        station.acknowledges_all()
         station.hears(Message(b"1_US", self.body).transfer())
         began = time.monotonic()
         self.ended(process, LINK_DROPPED, "the link dropped: the partner is silent")

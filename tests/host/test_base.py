@@ -178,7 +178,7 @@ class Usage(Folder):
         text = out.decode()
         for word in ("init", "import", "export", "list", "sessions", "release", "call", "listen", "stdio", "serial", "--caller", "--called", "--login", "--question",
                      "--telnet", "--blank-offset", "--transcript", "--progress", "--timeout", "--room", "--once", "--drop-after", "--rtscts", "--log", "--sid-limit", "--progress-limit",
-                     "--least-rate", "--session-limit", "--login-limit", "--linger", "--delay", "--callers", "--from", "--anyone", "--password", "admit", "dismiss", "partners", "--call", "--partner", "--text", "--as-is", "--outbox"):
+                     "--least-rate", "--session-limit", "--login-limit", "--linger", "--delay", "--callers", "--from", "--anyone", "--password", "agw", "--listen", "--radio", "admit", "dismiss", "partners", "--call", "--partner", "--text", "--as-is", "--outbox"):
             self.assertIn("\n  " + word, text.replace(", --called", "\n  --called"))
         for number in range(9):
             self.assertIn("\n  %d  " % number, text.split("Exit codes")[1])

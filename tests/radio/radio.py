@@ -7,6 +7,7 @@ import os
 import pathlib
 import random
 import re
+import signal
 import sys
 import tempfile
 import threading
@@ -68,8 +69,8 @@ class Pair:
             must(time.monotonic() < end, "waited in vain for", what)
             time.sleep(0.05)
 
-    def call(self, *options, meanwhile=None):
-        """North's exit code and what it said, once both sessions are over."""
+    def call(self, *options, meanwhile=None, patient=True):
+        """North's exit code and what it said, once both sessions are over; an impatient one doesn't wait for south's."""
         self.calls += 1
         mine = self.folder / ("north%d.transcript" % self.calls)
         began, sessions = time.monotonic(), self.count(self.south)
@@ -77,7 +78,7 @@ class Pair:
         threading.Thread(target=meanwhile, daemon=True).start() if meanwhile else None
         err = process.communicate(timeout=LATE)[1].decode(errors="replace")
         self.took = time.monotonic() - began
-        if "linked with" in err:
+        if patient and "linked with" in err:
             self.wait(lambda: self.count(self.south) > sessions, "south's session to end")
         for text in (err, self.log().decode(errors="replace")):
             must("Sanitizer" not in text and "runtime error" not in text, text)
@@ -177,7 +178,7 @@ class Mail:
 
 
 def fades(folder, seconds, seed):
-    """Sessions with random fades of either station, the bases checked after each."""
+    """Sessions with random fades of either station, the bases checked after each. North calls again at once, whether south has seen its end or not."""
     draw, pair = random.Random(seed), Pair(folder)
     north, south = Mail(pair.north, b"N"), Mail(pair.south, b"S")
     began, count, dropped = time.monotonic(), 0, 0
@@ -194,19 +195,20 @@ def fades(folder, seconds, seed):
     while time.monotonic() - began < seconds:
         north.put(draw, draw.choice([0, 1, 2]))
         south.put(draw, draw.choice([0, 1, 2]))
-        code, err, _ = pair.call("--sid-limit", "60")
+        code, err, _ = pair.call("--sid-limit", "60", patient=False)
         count, dropped = count + 1, dropped + (code != DONE)
         must(code in (DONE, LINK_DROPPED), "north ended with", code, err)
         north.check(pair.south)
         south.check(pair.north)
-        report("fades", "session %d: exit code %d, %.0f s" % (count, code, pair.took))
+        report("fades", "session %d: exit code %d, %.0f s, %s" % (count, code, pair.took, err.strip().splitlines()[-1]))
     over.set()
     time.sleep(0.5)
     for mute in RADIO.glob("mute_?"):
         mute.unlink()
     for _ in range(5):
-        if pair.call()[0] == DONE:
+        if pair.call("--sid-limit", "60", patient=False)[0] == DONE:
             break
+    pair.wait(lambda: pair.south.ask("SELECT count(*) FROM session WHERE ended IS NULL") == [(0,)], "south's session to end")
     for one, other in ((north, pair.south), (south, pair.north)):
         one.check(other)
         must(WAITING not in one.node.states().values(), "left waiting:", one.node.states())
@@ -222,6 +224,7 @@ def main():
     words.add_argument("--seconds", type=int, default=3600)
     words.add_argument("--seed", type=int, default=int(time.time()))
     words = words.parse_args()
+    signal.signal(signal.SIGTERM, lambda *_: sys.exit(1))  # and no node is left behind
     with tempfile.TemporaryDirectory(prefix="radio.") as folder:
         try:
             if words.what == "fades":
