@@ -11,7 +11,7 @@ use lib.Dec.{eqb, ltb}
 use lib.ListN.{length, getD, drop, drop-of-length-le}
 use lib.Seq.{drop-cons}
 use borrow.Author.Tests.{eq-eqb, ne-eqb, ltb-true, ltb-false}
-use Rattle.grammar.specs.Bytes.{Bytes, all}
+use Rattle.grammar.specs.Bytes.{Bytes, every}
 use Rattle.grammar.specs.Fields.{digit, upper, hexCapital, hexDigit, hexPair}
 use Rattle.byte.specs.declared.Hex.{Hex}
 use Rattle.byte.specs.Hex.{hexIs}
@@ -45,20 +45,20 @@ pub first-not : (a b : Bool) → a ≡ false → b ≡ (a || b)
 first-not a b e = rw e
 
 -- a byte of a list whose bytes are all of the class
-pub all-get : (c : ℕ → Bool) (l : Bytes) (i : ℕ) → all c l ≡ true → i < length l → c (getD l i 0) ≡ true
+pub all-get : (c : ℕ → Bool) (l : Bytes) (i : ℕ) → every c l ≡ true → i < length l → c (getD l i 0) ≡ true
 all-get c [] i e h = let z : ⊥ = omega arith in absurd z
-all-get c (x ∷ l) zero e h = (and2 (c x) (all c l) e) .0
-all-get c (x ∷ l) (suc i) e h = all-get c l i ((and2 (c x) (all c l) e) .1) (omega arith)
+all-get c (x ∷ l) zero e h = (and2 (c x) (every c l) e) .0
+all-get c (x ∷ l) (suc i) e h = all-get c l i ((and2 (c x) (every c l) e) .1) (omega arith)
 
 -- a test of every byte, one byte further on
 module _ (c : ℕ → Bool) (l : Bytes) (i : ℕ) (h : i < length l) where
-  pub all-more : c (getD l i 0) ≡ true → all c (drop i l) ≡ all c (drop (i + 1) l)
+  pub all-more : c (getD l i 0) ≡ true → every c (drop i l) ≡ every c (drop (i + 1) l)
   all-more e = rw (drop-cons l i 0 h, e, add-one i)
 
-  pub all-stop : c (getD l i 0) ≡ false → false ≡ all c (drop i l)
+  pub all-stop : c (getD l i 0) ≡ false → false ≡ every c (drop i l)
   all-stop e = rw (drop-cons l i 0 h, e)
 
-pub all-end : (c : ℕ → Bool) (l : Bytes) (i : ℕ) → length l ≤ i → true ≡ all c (drop i l)
+pub all-end : (c : ℕ → Bool) (l : Bytes) (i : ℕ) → length l ≤ i → true ≡ every c (drop i l)
 all-end c l i h = rw (drop-of-length-le l {i = i} h)
 
 -- a digit's bounds

@@ -1,6 +1,6 @@
 // Bytes: the classes that the fields of 01 are made of, each decided by a match with ranges; and letters as capitals.
 ghost use mathlib.Core.Path.{_≡_};
-ghost use Rattle.grammar.specs.Bytes.{all};
+ghost use Rattle.grammar.specs.Bytes.{every};
 ghost use Rattle.grammar.specs.Fields.{callByte, bidByte, headingByte, notCtrlZ, digit, upper, hexDigit, hexPair};
 ghost use Rattle.grammar.specs.Sid.{authorByte, dataByte};
 ghost use Rattle.byte.specs.Classes.{classOf};
@@ -149,7 +149,7 @@ pub fn in_class(class: Class, b: u8) -> bool
 
 // Every byte is of the class.
 pub fn all_of(s: &[u8], class: Class) -> bool
-    ensures { λ r. ⌜ r ≡ all (classOf class) (now (s .entry)) ⌝ }
+    ensures { λ r. ⌜ r ≡ every (classOf class) (now (s .entry)) ⌝ }
 {
     let mut i = 0;
     while i < s.len() {

@@ -1,11 +1,11 @@
 // The checksum of a framed transfer, by wrapping sums of bytes.
 ghost use Prim.Native.Nat.{_+_, _%_};
 ghost use mathlib.Core.Path.{_≡_};
-ghost use Rattle.grammar.specs.Transfers.{sum, checksum};
+ghost use Rattle.grammar.specs.Transfers.{byteSum, checksum};
 
 // The sum of the bytes, modulo 256.
 pub fn sum(s: &[u8]) -> u8
-    ensures { λ r. ⌜ r ≡ sum (now (s .entry)) % 256 ⌝ }
+    ensures { λ r. ⌜ r ≡ byteSum (now (s .entry)) % 256 ⌝ }
 {
     let mut t = 0u8;
     let mut i = 0;
@@ -19,7 +19,7 @@ pub fn sum(s: &[u8]) -> u8
 // The byte that makes the sum of all data bytes plus itself 0 modulo 256.
 pub fn checksum(s: &[u8]) -> u8
     ensures { λ r. ⌜ r ≡ checksum (now (s .entry)) ⌝ }
-    ensures { λ r. ⌜ (sum (now (s .entry)) + r) % 256 ≡ 0 ⌝ }
+    ensures { λ r. ⌜ (byteSum (now (s .entry)) + r) % 256 ≡ 0 ⌝ }
 {
     std::num::wrapping_sub_u8(0, sum(s))
 }

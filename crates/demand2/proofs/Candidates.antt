@@ -7,7 +7,7 @@ use native.Mathlib.Omega.{arith}
 use lib.Dec.{eqb, ltb}
 use lib.ListN.{length, getD}
 use borrow.Author.Tests.{eqb-true, eq-eqb, ne-eqb, ltb-true, ltb-false, lt-ltb, le-ltb}
-use Rattle.grammar.specs.Bytes.{all}
+use Rattle.grammar.specs.Bytes.{every}
 use Rattle.grammar.proofs.Basics.{and2, both, or-right, no-both}
 use Rattle.mail.specs.Mail.{Record, recordAt}
 use Rattle.session.specs.Choices.{wanted, candidates}
@@ -24,29 +24,29 @@ in-append i (x ∷ xs) ys = go (eqb i x) (in-append i xs ys)
     go true h = refl
     go false h = h
 
-all-in : (c : ℕ → Bool) (xs : List ℕ) (i : ℕ) → all c xs ≡ true → isIn i xs ≡ true → c i ≡ true
+all-in : (c : ℕ → Bool) (xs : List ℕ) (i : ℕ) → every c xs ≡ true → isIn i xs ≡ true → c i ≡ true
 all-in c [] i a e = absurd (no-both false e refl)
-all-in c (x ∷ xs) i a e = let p = and2 (c x) (all c xs) a in go (eqb i x) refl e (p .0) (λ k. all-in c xs i (p .1) k)
+all-in c (x ∷ xs) i a e = let p = and2 (c x) (every c xs) a in go (eqb i x) refl e (p .0) (λ k. all-in c xs i (p .1) k)
   where
     go : (d : Bool) → eqb i x ≡ d → d || isIn i xs ≡ true → c x ≡ true → (isIn i xs ≡ true → c i ≡ true) → c i ≡ true
     go true q e h ih = ap c (eqb-true i x q) ∙ h
     go false q e h ih = ih e
 
 pub rising-first : (x : ℕ) (xs : List ℕ) → rising (x ∷ xs) ≡ true → (i : ℕ) → isIn i xs ≡ true → x < i
-rising-first x xs r i e = ltb-true x i (all-in (λ (y : ℕ). ltb x y) xs i (and2 (all (λ (y : ℕ). ltb x y) xs) (rising xs) r .0) e)
+rising-first x xs r i e = ltb-true x i (all-in (λ (y : ℕ). ltb x y) xs i (and2 (every (λ (y : ℕ). ltb x y) xs) (rising xs) r .0) e)
 
 pub rising-rest : (x : ℕ) (xs : List ℕ) → rising (x ∷ xs) ≡ true → rising xs ≡ true
-rising-rest x xs r = and2 (all (λ (y : ℕ). ltb x y) xs) (rising xs) r .1
+rising-rest x xs r = and2 (every (λ (y : ℕ). ltb x y) xs) (rising xs) r .1
 
 -- the beginning of a rising list rises, and what follows it is later
 pub rising-front : (xs ys : List ℕ) → rising (xs ++ ys) ≡ true → rising xs ≡ true
 rising-front [] ys r = refl
 rising-front (x ∷ xs) ys r =
-    both (all (λ (y : ℕ). ltb x y) xs) (rising xs) (front xs (and2 (all (λ (y : ℕ). ltb x y) (xs ++ ys)) (rising (xs ++ ys)) r .0)) (rising-front xs ys (rising-rest x (xs ++ ys) r))
+    both (every (λ (y : ℕ). ltb x y) xs) (rising xs) (front xs (and2 (every (λ (y : ℕ). ltb x y) (xs ++ ys)) (rising (xs ++ ys)) r .0)) (rising-front xs ys (rising-rest x (xs ++ ys) r))
   where
-    front : (xs : List ℕ) → all (λ (y : ℕ). ltb x y) (xs ++ ys) ≡ true → all (λ (y : ℕ). ltb x y) xs ≡ true
+    front : (xs : List ℕ) → every (λ (y : ℕ). ltb x y) (xs ++ ys) ≡ true → every (λ (y : ℕ). ltb x y) xs ≡ true
     front [] a = refl
-    front (z ∷ xs) a = let p = and2 (ltb x z) (all (λ (y : ℕ). ltb x y) (xs ++ ys)) a in both (ltb x z) (all (λ (y : ℕ). ltb x y) xs) (p .0) (front xs (p .1))
+    front (z ∷ xs) a = let p = and2 (ltb x z) (every (λ (y : ℕ). ltb x y) (xs ++ ys)) a in both (ltb x z) (every (λ (y : ℕ). ltb x y) xs) (p .0) (front xs (p .1))
 
 pub rising-later : (xs ys : List ℕ) → rising (xs ++ ys) ≡ true → (j i : ℕ) → isIn j xs ≡ true → isIn i ys ≡ true → j < i
 rising-later [] ys r j i e f = absurd (no-both false e refl)
@@ -103,13 +103,13 @@ module _ (md : Bool) (states flags : List ℕ) where
       subst (λ (k : ℕ). isIn k (candidates md states flags 0 T) ≡ (ltb i (length T) && wanted md (recordAt T i) (getD states k 0) (getD flags k 0)))
       (let z : 0 + i ≡ i = omega arith in z) (at T 0 i)
 
-  later : (R : List Record) (i k : ℕ) → k < i → all (λ (y : ℕ). ltb k y) (candidates md states flags i R) ≡ true
+  later : (R : List Record) (i k : ℕ) → k < i → every (λ (y : ℕ). ltb k y) (candidates md states flags i R) ≡ true
   later [] i k h = refl
   later (r ∷ R) i k h = go (wanted md r (getD states i 0) (getD flags i 0)) (later R (suc i) k (omega arith))
     where
-      go : (c : Bool) → all (λ (y : ℕ). ltb k y) (candidates md states flags (suc i) R) ≡ true
-          → all (λ (y : ℕ). ltb k y) (cond c (i ∷ candidates md states flags (suc i) R) (candidates md states flags (suc i) R)) ≡ true
-      go true e = both (ltb k i) (all (λ (y : ℕ). ltb k y) (candidates md states flags (suc i) R)) (lt-ltb k i h) e
+      go : (c : Bool) → every (λ (y : ℕ). ltb k y) (candidates md states flags (suc i) R) ≡ true
+          → every (λ (y : ℕ). ltb k y) (cond c (i ∷ candidates md states flags (suc i) R) (candidates md states flags (suc i) R)) ≡ true
+      go true e = both (ltb k i) (every (λ (y : ℕ). ltb k y) (candidates md states flags (suc i) R)) (lt-ltb k i h) e
       go false e = e
 
   pub in-order : (R : List Record) (i : ℕ) → rising (candidates md states flags i R) ≡ true
@@ -119,5 +119,5 @@ module _ (md : Bool) (states flags : List ℕ) where
       go : (c : Bool) → rising (candidates md states flags (suc i) R) ≡ true
           → rising (cond c (i ∷ candidates md states flags (suc i) R) (candidates md states flags (suc i) R)) ≡ true
       go true e =
-          both (all (λ (y : ℕ). ltb i y) (candidates md states flags (suc i) R)) (rising (candidates md states flags (suc i) R)) (later R (suc i) i (omega arith)) e
+          both (every (λ (y : ℕ). ltb i y) (candidates md states flags (suc i) R)) (rising (candidates md states flags (suc i) R)) (later R (suc i) i (omega arith)) e
       go false e = e

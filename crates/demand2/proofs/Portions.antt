@@ -17,7 +17,7 @@ use Rattle.session.specs.Session.{withOut, Phase, leaving, over, Session, Outco
 use Rattle.session.proofs.Ways.{Way, isRefused, dropsLf, growsLine, ignoresLine, hearsLine, readsOn, readsLast, way}
 use Rattle.session.specs.Calls.{Received, oneMore, stoppedAt, stops, receiveOn, receive, give, handedOut}
 use Rattle.demand2.specs.Refusals.{Over, closed, Live}
-use Rattle.demand2.specs.Portions.{ByteReceived, livesOn, andThen, Counted, all, upTo, GivenTogether, GivenOut}
+use Rattle.demand2.specs.Portions.{ByteReceived, livesOn, andThen, Counted, allTaken, upTo, GivenTogether, GivenOut}
 use Rattle.demand2.proofs.Ended.{ended-over}
 
 -- ---------------------------------------------------------------- receive
@@ -202,7 +202,7 @@ pub counted : (E : Shelf) (s : Session) (bs : Bytes) → Live s → Counted E s 
 counted E s bs L = subst (Counted E s bs) (sym (live-receive E s bs L)) (go (dealt E bs s L))
   where
     go : Dealt E s bs (receiveOn E s bs) → Counted E s bs (receiveOn E s bs)
-    go (whole l c) = all l c
+    go (whole l c) = allTaken l c
     go (part h) =
         let f = live-receive E s (h .before) L in
         upTo
@@ -224,7 +224,7 @@ pub count-most : (E : Shelf) (s : Session) (bs : Bytes) → receive E s bs .coun
 count-most E s bs = go (ended s) refl
   where
     most : Counted E s bs (receive E s bs) → receive E s bs .count ≤ length bs
-    most (all l c) = omega arith
+    most (allTaken l c) = omega arith
     most (upTo h) =
         let e : length bs ≡ length (h .before) + suc (length (h .rest)) = ap length (h .portion) ∙ length-append (h .before) (h .byte ∷ h .rest) in
         omega (arith, h .count)

@@ -15,7 +15,7 @@ use Rattle.grammar.specs.Lines.{trim, isComment, isPrompt}
 use Rattle.grammar.specs.Sid.{readSid, hasFeature, framed}
 use Rattle.grammar.specs.Turns.{Proposal, TurnLine, saysFF, saysFQ, endsBlock, proposes, endsSummed, readTurnLine, proposalLine, fixedText, ourSid, ourFF, ourFQ, withCr}
 use Rattle.grammar.specs.Answers.{Sign, accept, readFs, fsLine}
-use Rattle.grammar.specs.Transfers.{parse, sum}
+use Rattle.grammar.specs.Transfers.{parse, byteSum}
 use Rattle.grammar.specs.Scan.{Scan, goes, scan, scanFrom}
 use Rattle.mail.specs.Mail.{Record, Message, proposalOf, transferOf, recordAt}
 use Rattle.session.specs.Choices.{Shelf, chosen, answersTo}
@@ -81,7 +81,7 @@ transfersOr E afterCr o (p ∷ ps) m = between (awaitsTransfer p ps (scanFrom (p
 -- lines as received, their CR included, .. plus HH must be 0 modulo 256." (02, Q-5)
 pub data EndsBlock (raw : Bytes) : TurnLine → Type 0 where
   bare : EndsBlock raw endsBlock
-  summed : (h : ℕ) → (sum raw + h) % byteValues ≡ 0 → EndsBlock raw (endsSummed h)
+  summed : (h : ℕ) → (byteSum raw + h) % byteValues ≡ 0 → EndsBlock raw (endsSummed h)
 
 -- ---------------------------------------------------------------- THE EVENTS
 

@@ -7,7 +7,7 @@ use mathlib.Core.List.{List, [], _∷_, _++_}
 use Prim.Native.Nat.{ℕ, _+_, _≤_, _<_}
 use lib.Dec.{eqb, ltb, leb}
 use lib.ListN.{length, getD}
-use Rattle.grammar.specs.Bytes.{all}
+use Rattle.grammar.specs.Bytes.{every}
 use Rattle.grammar.specs.Turns.{inMode, fixedText, ourFF, ourFQ, withCr}
 use Rattle.mail.specs.Mail.{Record, recordAt}
 use Rattle.session.specs.Choices.{Shelf, sizeAt}
@@ -24,7 +24,7 @@ mayPropose T framed states flags i =
 -- "in table order"
 abbrev pub rising : List ℕ → Bool
 rising [] = true
-rising (x ∷ xs) = all (λ (y : ℕ). ltb x y) xs && rising xs
+rising (x ∷ xs) = every (λ (y : ℕ). ltb x y) xs && rising xs
 
 -- The announced sizes of the records at these places, together.
 abbrev pub sizes : List Record → List ℕ → ℕ

@@ -49,7 +49,7 @@ pub record EndedAt (E : Shelf) (s : Session) (bs : Bytes) (r : Received) : Type 
 
 -- "Receive consumes every byte lent to it", or up to and with the byte that ended the session
 pub data Counted (E : Shelf) (s : Session) (bs : Bytes) (r : Received) : Type 0 where
-  all : livesOn r ≡ true → r .count ≡ length bs → Counted E s bs r
+  allTaken : livesOn r ≡ true → r .count ≡ length bs → Counted E s bs r
   upTo : EndedAt E s bs r → Counted E s bs r
 
 -- ---------------------------------------------------------------- give

@@ -24,7 +24,7 @@ use Rattle.grammar.specs.Lines.{trim, isComment}
 use Rattle.grammar.specs.Sid.{readSid, hasFeature}
 use Rattle.grammar.specs.Turns.{Proposal, TurnLine, saysFF, saysFQ, endsBlock, notAllowed, proposes, endsSummed, readTurnLine}
 use Rattle.grammar.specs.Answers.{readFs}
-use Rattle.grammar.specs.Transfers.{Parsed, parse, sum}
+use Rattle.grammar.specs.Transfers.{Parsed, parse, byteSum}
 use Rattle.grammar.specs.Scan.{Scan, goes, scan, bodyOf, isBodyByte}
 use Rattle.session.specs.Choices.{Shelf}
 use Rattle.session.specs.Session.{awaitsSid, awaitsTurn, awaitsAnswer, Phase, aLine, awaitsTransfer, leaving, over, Memory, Session, between, step, ended}
@@ -154,7 +154,7 @@ pub record WrongBlockSum (s : Session) (b : ℕ) : Type 0 where
   pub said : TurnSaid s b ff (first ∷ others) raw line
   pub checksum : ℕ
   pub summed : readTurnLine (s .memory .framed) line ≡ endsSummed checksum
-  pub wrong : (sum raw + checksum) % byteValues ≡ 0 → ⊥
+  pub wrong : (byteSum raw + checksum) % byteValues ≡ 0 → ⊥
 
 -- ---------------------------------------------------------------- 8 to 10
 

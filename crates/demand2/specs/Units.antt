@@ -6,7 +6,7 @@ use mathlib.Core.List.{List, [], _∷_, _++_}
 use Prim.Native.Nat.{ℕ, suc, _+_, _≤_}
 use lib.Dec.{eqb}
 use lib.ListN.{length}
-use Rattle.grammar.specs.Bytes.{Bytes, CR, LF, null, all}
+use Rattle.grammar.specs.Bytes.{Bytes, CR, LF, null, every}
 use Rattle.grammar.specs.Lines.{dropLf}
 use Rattle.grammar.specs.Turns.{Proposal}
 use Rattle.grammar.specs.Transfers.{parse}
@@ -24,7 +24,7 @@ lineBegun p m afterCr w = withPart w (between p afterCr [] m)
 
 -- "A line ends with CR.": none of these bytes is one
 abbrev pub hasNoCr : Bytes → Bool
-hasNoCr u = all (λ (b : ℕ). not (eqb b CR)) u
+hasNoCr u = every (λ (b : ℕ). not (eqb b CR)) u
 
 -- Bytes of a line of at most 256 in all. None of them is refused (`taken`), and with its CR the line is judged as it stands then (`judged`; what the
 -- step of that CR is, Refusals and Events say). "One LF directly after the CR that ended a line .. is dropped" and is no byte of the line.

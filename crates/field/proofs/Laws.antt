@@ -9,7 +9,7 @@ use lib.Dec.{eqb, ltb, leb}
 use lib.ListN.{length, getD, take, drop, length-drop, drop-of-length-le}
 use lib.Seq.{drop-cons, drop-drop, take-all}
 use borrow.Author.Tests.{eq-eqb, ne-eqb, lt-ltb, le-ltb, ltb-true, ltb-false, le-leb, lt-leb, leb-true, leb-false, not-true, not-false}
-use Rattle.grammar.specs.Bytes.{Bytes, all, same}
+use Rattle.grammar.specs.Bytes.{Bytes, every, same}
 use Rattle.grammar.specs.Fields.{parts, toFirst, afterDot, allCalls, isCall, isAt, isBody, formIs}
 use Rattle.grammar.proofs.Basics.{suc-ltb}
 use Rattle.byte.specs.Classes.{classOf}
@@ -105,6 +105,6 @@ module _ (n : ℕ) (x : Bytes) (h : length x ≤ 65535) where
   pub body-file : (n ≡ 1 → ⊥) → n ≡ 2 → true ≡ isBody (formIs n) x
   body-file i e = rw (ne-eqb _ _ i, eq-eqb _ _ e, le-leb _ _ h)
 
-  pub body-plain : (r : Bool) → (n ≡ 1 → ⊥) → (n ≡ 2 → ⊥) → r ≡ all (classOf Class.PlainBody) x → r ≡ isBody (formIs n) x
+  pub body-plain : (r : Bool) → (n ≡ 1 → ⊥) → (n ≡ 2 → ⊥) → r ≡ every (classOf Class.PlainBody) x → r ≡ isBody (formIs n) x
   unfolding classOf
   body-plain r i j e = rw (ne-eqb _ _ i, ne-eqb _ _ j, le-leb _ _ h) e

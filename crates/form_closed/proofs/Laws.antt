@@ -9,7 +9,7 @@ use lib.Dec.{eqb, leb}
 use lib.ListN.{length, getD, set, take, drop, replicate, length-drop, length-set}
 use lib.Seq.{length-take-le, drop-drop, getD-drop, getD-take}
 use borrow.Author.Tests.{eq-eqb, eqb-true, ltb-true, lt-ltb}
-use Rattle.grammar.specs.Bytes.{Bytes, all}
+use Rattle.grammar.specs.Bytes.{Bytes, every}
 use Rattle.grammar.specs.Answers.{Sign, accept, decline, defer, writeSign}
 use Rattle.grammar.specs.Transfers.{partOf}
 use Rattle.grammar.proofs.Basics.{and2, both, all-append, all-replicate, octet}
@@ -33,13 +33,13 @@ pub octets-nil : Octets []
 octets-nil = record { each = refl }
 
 pub octets-cons : {x : ℕ} {l : Bytes} → x < 256 → Octets l → Octets (x ∷ l)
-octets-cons {x} {l} h o = record { each = both (octet x) (all octet l) (lt-ltb x 256 h) (o .each) }
+octets-cons {x} {l} h o = record { each = both (octet x) (every octet l) (lt-ltb x 256 h) (o .each) }
 
 pub octets-first : {x : ℕ} {l : Bytes} → Octets (x ∷ l) → x < 256
-octets-first {x} {l} o = ltb-true x 256 ((and2 (octet x) (all octet l) (o .each)) .0)
+octets-first {x} {l} o = ltb-true x 256 ((and2 (octet x) (every octet l) (o .each)) .0)
 
 pub octets-rest : {x : ℕ} {l : Bytes} → Octets (x ∷ l) → Octets l
-octets-rest {x} {l} o = record { each = (and2 (octet x) (all octet l) (o .each)) .1 }
+octets-rest {x} {l} o = record { each = (and2 (octet x) (every octet l) (o .each)) .1 }
 
 pub octets-append : (s t : Bytes) → Octets s → Octets t → Octets (s ++ t)
 octets-append s t o q = record { each = all-append octet s t (o .each) (q .each) }

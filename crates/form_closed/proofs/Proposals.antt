@@ -5,7 +5,7 @@ use Prim.Native.Nat.{ℕ, _≤_, _<_}
 use native.Mathlib.Omega.{arith}
 use lib.Dec.{eqb, ltb}
 use borrow.Author.Tests.{lt-ltb, eqb-true, ltb-true}
-use Rattle.grammar.specs.Bytes.{Bytes, all}
+use Rattle.grammar.specs.Bytes.{Bytes, every}
 use Rattle.grammar.specs.Fields.{Form, plain, message, file, formNumber, callByte, bidByte, isCall, isBid}
 use Rattle.grammar.specs.Turns.{Proposal, isType}
 use Rattle.grammar.proofs.Basics.{all-sub, octet}
@@ -15,7 +15,7 @@ use Rattle.layout.specs.Layout.{proposalOut, fieldOut, le4}
 use Rattle.form_closed.specs.Facts.{Octets}
 use Rattle.form_closed.proofs.Laws.{octets-cons, octets-append, octets-le4, octets-field}
 
-class-octets : (c : ℕ → Bool) (w : Bytes) → ((b : ℕ) → c b ≡ true → octet b ≡ true) → all c w ≡ true → Octets w
+class-octets : (c : ℕ → Bool) (w : Bytes) → ((b : ℕ) → c b ≡ true → octet b ≡ true) → every c w ≡ true → Octets w
 class-octets c w h e = record { each = all-sub c octet w h e }
 
 below : (b n : ℕ) → n ≤ 256 → ltb b n ≡ true → octet b ≡ true

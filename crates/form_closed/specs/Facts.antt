@@ -4,7 +4,7 @@ use mathlib.Core.Path.{_≡_}
 use mathlib.Core.Bool.{true}
 use Prim.Native.Nat.{ℕ, _+_, _≤_, _<_}
 use lib.ListN.{length, getD, drop}
-use Rattle.grammar.specs.Bytes.{Bytes, all, isByte, byteValues, wordValues}
+use Rattle.grammar.specs.Bytes.{Bytes, every, isByte, byteValues, wordValues}
 use Rattle.transfer_step.specs.declared.Reader.{Reader}
 use Rattle.session_memory.specs.State.{held}
 use Rattle.session_memory.specs.Session.{Await}
@@ -34,7 +34,7 @@ fourByteValues = 4294967296
 
 -- Every number of the list is a byte.
 pub record Octets (l : Bytes) : Type 0 where
-  pub each : all isByte l ≡ true
+  pub each : every isByte l ≡ true
 
 -- Up to five numbers in their array.
 pub record FiveOk (f : Five) : Type 0 where

@@ -10,7 +10,7 @@ use lib.Dec.{eqb, ltb}
 use lib.ListN.{length, getD, set, take, drop, replicate, length-map, List·getD-append}
 use lib.Seq.{take-at, take-suc, take-all, append-snoc, set-at, length-take-le}
 use borrow.Author.Tests.{eq-eqb, ne-eqb, lt-ltb, le-ltb, ltb-false, eqb-true}
-use Rattle.grammar.specs.Bytes.{Bytes, SP, all, isSome}
+use Rattle.grammar.specs.Bytes.{Bytes, SP, every, isSome}
 use Rattle.grammar.specs.Ascii.{text}
 use Rattle.grammar.specs.Fields.{upper, after}
 use Rattle.grammar.specs.Refusals.{badAnswer, lineNotAllowed}
@@ -69,12 +69,12 @@ abbrev pub ReadAs : Bytes → Option (List Sign) → Type 0
 ReadAs s o = (isSome o ≡ true) × (signBytes o ≡ s)
 
 -- as many bytes as proposals, each a sign
-pub signs-read : (n : ℕ) (s : Bytes) → length s ≡ n → all isSign s ≡ true → ReadAs s (readSigns n s)
+pub signs-read : (n : ℕ) (s : Bytes) → length s ≡ n → every isSign s ≡ true → ReadAs s (readSigns n s)
 signs-read zero [] h e = (refl, refl)
 signs-read zero (x ∷ s) h e = let z : ⊥ = omega arith in absurd z
 signs-read (suc n) [] h e = let z : ⊥ = omega arith in absurd z
 signs-read (suc n) (x ∷ s) h e =
-    let p = and2 (isSign x) (all isSign s) e in
+    let p = and2 (isSign x) (every isSign s) e in
     go (signOf x) (readSigns n s) (p .0) (sign-from x) (signs-read n s (omega arith) (p .1))
   where
     go : (o : Option Sign) (t : Option (List Sign)) → isSome o ≡ true → SignFrom x o → ReadAs s t → ReadAs (x ∷ s) (consO o t)
@@ -93,24 +93,24 @@ signs-count (suc n) (x ∷ s) h = rw (signs-count n s (λ e. h (ap (λ (k : ℕ)
     go none = refl
     go (some s) = refl
 
-pub signs-other : (n : ℕ) (s : Bytes) → all isSign s ≡ false → readSigns n s ≡ none
+pub signs-other : (n : ℕ) (s : Bytes) → every isSign s ≡ false → readSigns n s ≡ none
 signs-other zero [] e = cc
 signs-other zero (x ∷ s) e = refl
 signs-other (suc n) [] e = refl
 signs-other (suc n) (x ∷ s) e = go (signOf x) (signs-other n s) e
   where
-    go : (o : Option Sign) → (all isSign s ≡ false → readSigns n s ≡ none) → (isSome o && all isSign s) ≡ false → consO o (readSigns n s) ≡ none
+    go : (o : Option Sign) → (every isSign s ≡ false → readSigns n s ≡ none) → (isSome o && every isSign s) ≡ false → consO o (readSigns n s) ≡ none
     go none ih e = refl
     go (some g) ih e = rw (ih e)
 
 -- ---------------------------------------------------------------- the loop over the signs
 
 -- the first i bytes are signs
-module _ (s : Bytes) (n i : ℕ) (m : length s ≡ n) (h : i < n) (a : all isSign s ≡ all isSign (drop i s)) where
+module _ (s : Bytes) (n i : ℕ) (m : length s ≡ n) (h : i < n) (a : every isSign s ≡ every isSign (drop i s)) where
   pub signs-stop : isSign (getD s i 0) ≡ false → readSigns n s ≡ none
   signs-stop e = signs-other n s (a ∙ sym (all-stop isSign s i (omega arith) e))
 
-  pub signs-more : isSign (getD s i 0) ≡ true → all isSign s ≡ all isSign (drop (i + 1) s)
+  pub signs-more : isSign (getD s i 0) ≡ true → every isSign s ≡ every isSign (drop (i + 1) s)
   signs-more e = a ∙ all-more isSign s i (omega arith) e
 
 -- they are copied, with zeros after them
@@ -123,7 +123,7 @@ copy-more s g n i k m h e =
     (sym (append-snoc (take i s) (getD s i 0) (replicate (5 - suc i) 0)))
 
 -- all are signs, and all are copied
-pub signs-end : (s g : Bytes) (n i : ℕ) → length s ≡ n → n ≤ i → i ≤ n → g ≡ take i s ++ replicate (5 - i) 0 → all isSign s ≡ all isSign (drop i s)
+pub signs-end : (s g : Bytes) (n i : ℕ) → length s ≡ n → n ≤ i → i ≤ n → g ≡ take i s ++ replicate (5 - i) 0 → every isSign s ≡ every isSign (drop i s)
     → (0 ≡ cond (isSome (readSigns n s)) 0 badAnswer) × (g ≡ zeroed (signBytes (readSigns n s)))
 signs-end s g n i m h k e a =
     let r = signs-read n s m (a ∙ sym (all-end isSign s i (omega arith))) in

@@ -9,7 +9,7 @@ use native.Mathlib.Nat.{mul-le-mul-right, mul-assoc, pow-succ', pow-le-pow-right
 use lib.Dec.{eqb, ltb}
 use lib.ListN.{length, length-set, set}
 use borrow.Author.Tests.{ltb-true}
-use Rattle.grammar.specs.Bytes.{Bytes, CR, CTRLZ, all, before, byteValues, null, same, splitAt}
+use Rattle.grammar.specs.Bytes.{Bytes, CR, CTRLZ, every, before, byteValues, null, same, splitAt}
 use Rattle.grammar.specs.Ascii.{text}
 use Rattle.grammar.specs.Fields.{Form, after, bodyFair, digit, file, hexDigit, hexPair, isAt, isBid, isCall, isHeading, isSize, message, plain, readFrom, sized, starts, twoHex, upper, words}
 use Rattle.grammar.specs.Sid.{authorByte, authorRead, dataByte, dataRead, hasFeature, isLetter, letterPlace, noFeatures, readFeatures, readLevels, readSid, sidEnd, sidRead, splitLast, withFeature}
@@ -27,11 +27,11 @@ digit-most x e = go (ltb x 48) e
     go false k = let z = ltb-true x 58 k in omega arith
 
 -- so many digits make a number below that power of ten
-read-bound : (a : ℕ) (w : Bytes) → all digit w ≡ true → readFrom a w < (a + 1) * 10 ^ length w
+read-bound : (a : ℕ) (w : Bytes) → every digit w ≡ true → readFrom a w < (a + 1) * 10 ^ length w
 unfolding readFrom
 read-bound a [] e = omega arith
 read-bound a (x ∷ w) e =
-    let p = and2 (digit x) (all digit w) e in
+    let p = and2 (digit x) (every digit w) e in
     let d = digit-most x (p .0) in
     let h = read-bound (a * 10 + (x - 48)) w (p .1) in
     let k : (a * 10 + (x - 48) + 1) * 10 ^ length w ≤ ((a + 1) * 10) * 10 ^ length w = mul-le-mul-right (10 ^ length w) (omega arith) in
@@ -223,11 +223,11 @@ features-27 (x ∷ r) = levels-if (isLetter x) (readLevels noFeatures (x ∷ r))
 
 data-27 : (r : Bytes) (o : Option (Bytes × Bytes)) → Levels (dataRead r o)
 data-27 r none = features-27 r
-data-27 r (some p) = levels-if (all dataByte (p .0) && not (null (p .0))) (readFeatures (p .1)) none (features-27 (p .1)) tt
+data-27 r (some p) = levels-if (every dataByte (p .0) && not (null (p .0))) (readFeatures (p .1)) none (features-27 (p .1)) tt
 
 author-27 : (o : Option (Bytes × Bytes)) → Levels (authorRead o)
 author-27 none = tt
-author-27 (some p) = levels-if (all authorByte (p .0) && not (null (p .0))) (dataRead (p .1) (splitLast (p .1))) none (data-27 (p .1) (splitLast (p .1))) tt
+author-27 (some p) = levels-if (every authorByte (p .0) && not (null (p .0))) (dataRead (p .1) (splitLast (p .1))) none (data-27 (p .1) (splitLast (p .1))) tt
 
 sid-if : (o : Option Bytes) → Levels (sidRead o)
 sid-if none = tt
@@ -243,7 +243,7 @@ sid-27 ln = sid-if (after (91 ∷ []) ln)
 -- what stands before the first c lacks it
 abbrev Before : ℕ → Option (Bytes × Bytes) → Type 0
 Before c none = Unit {0}
-Before c (some p) = all (λ b. not (eqb b c)) (p .0) ≡ true
+Before c (some p) = every (λ b. not (eqb b c)) (p .0) ≡ true
 
 before-if : (c : ℕ) (xs : Bytes) → Before c (splitAt c xs)
 before-if c [] = tt
@@ -292,7 +292,7 @@ off-if len h none = tt
 off-if len h (some p) = go (isHeader len h (p .0)) refl
   where
     go : (c : Bool) → isHeader len h (p .0) ≡ c → HeadIf (cond c (blocksRead h (blocks 0 (p .1))) none)
-    go true e = data-if h (blocks 0 (p .1)) ((and2 (isHeading h) ((all zeroDigit (p .0) && sized 6 (p .0)) && eqb len (length h + length (p .0) + 2)) e) .0)
+    go true e = data-if h (blocks 0 (p .1)) ((and2 (isHeading h) ((every zeroDigit (p .0) && sized 6 (p .0)) && eqb len (length h + length (p .0) + 2)) e) .0)
     go false e = tt
 
 head-if : (len : ℕ) (o : Option (Bytes × Bytes)) → HeadIf (headRead len o)

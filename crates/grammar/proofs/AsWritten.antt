@@ -11,7 +11,7 @@ use borrow.Author.Tests.{eq-eqb, ne-eqb, eqb-true, eqb-false, ltb-true, ltb-fals
 use Rattle.grammar.specs.Bytes.{Bytes, SP}
 use Rattle.grammar.specs.Fields.{Form, bidByte, callByte, decimal, digit, file, headingByte, isBody, isHeading, message, plain, readFrom, writeNum}
 use Rattle.grammar.specs.Turns.{Proposal, formLetter, proposable, proposalLine, sp}
-use Rattle.grammar.specs.Transfers.{blocksOut, checksum, sendable, sum, writeFramed, writeTransfer}
+use Rattle.grammar.specs.Transfers.{blocksOut, checksum, sendable, byteSum, writeFramed, writeTransfer}
 use Rattle.grammar.specs.AsWritten.{betweenSpaces, noLeadingZero, lettersFor, ProposalWritten, InBlocks, joined, blockNumber, blocksText, FramedWritten, TransferWritten}
 use Rattle.grammar.proofs.Basics.{and2, Lacks, all-lacks, field-is}
 use Rattle.grammar.proofs.Fields.{num-field, num-back, size-ok, atByte, at-field, Word, field-word, type-word, letters-word, Ours, ours, call-field, bid-field}

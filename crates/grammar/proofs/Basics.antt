@@ -9,7 +9,7 @@ use lib.Dec.{eqb, leb, ltb}
 use lib.ListN.{length, take, drop, length-append, length-drop, replicate}
 use lib.Seq.{take-all}
 use borrow.Author.Tests.{eq-eqb, le-leb, lt-ltb, le-ltb, leb-true, ltb-true, ltb-false, eqb-true, eqb-false, not-true, not-false}
-use Rattle.grammar.specs.Bytes.{Bytes, all, same, splitAt}
+use Rattle.grammar.specs.Bytes.{Bytes, every, same, splitAt}
 use Rattle.grammar.specs.Fields.{field, sized}
 
 pub and2 : (a b : Bool) → a && b ≡ true → (a ≡ true) × (b ≡ true)
@@ -98,37 +98,37 @@ to-end l i = take-all (length l - i) (drop i l) (simp length-drop (omega arith))
 abbrev pub octet : ℕ → Bool
 octet b = ltb b 256
 
-pub all-append : (c : ℕ → Bool) (s t : Bytes) → all c s ≡ true → all c t ≡ true → all c (s ++ t) ≡ true
+pub all-append : (c : ℕ → Bool) (s t : Bytes) → every c s ≡ true → every c t ≡ true → every c (s ++ t) ≡ true
 all-append c [] t e f = f
-all-append c (x ∷ s) t e f = both (c x) (all c (s ++ t)) ((and2 (c x) (all c s) e) .0) (all-append c s t ((and2 (c x) (all c s) e) .1) f)
+all-append c (x ∷ s) t e f = both (c x) (every c (s ++ t)) ((and2 (c x) (every c s) e) .0) (all-append c s t ((and2 (c x) (every c s) e) .1) f)
 
-pub all-mid : (c : ℕ → Bool) (s t : Bytes) (b : ℕ) → all c (s ++ b ∷ t) ≡ true → c b ≡ true
-all-mid c [] t b e = (and2 (c b) (all c t) e) .0
-all-mid c (x ∷ s) t b e = all-mid c s t b ((and2 (c x) (all c (s ++ b ∷ t)) e) .1)
+pub all-mid : (c : ℕ → Bool) (s t : Bytes) (b : ℕ) → every c (s ++ b ∷ t) ≡ true → c b ≡ true
+all-mid c [] t b e = (and2 (c b) (every c t) e) .0
+all-mid c (x ∷ s) t b e = all-mid c s t b ((and2 (c x) (every c (s ++ b ∷ t)) e) .1)
 
-pub all-replicate : (c : ℕ → Bool) (n a : ℕ) → c a ≡ true → all c (replicate n a) ≡ true
+pub all-replicate : (c : ℕ → Bool) (n a : ℕ) → c a ≡ true → every c (replicate n a) ≡ true
 all-replicate c zero a e = refl
-all-replicate c (suc n) a e = both (c a) (all c (replicate n a)) e (all-replicate c n a e)
+all-replicate c (suc n) a e = both (c a) (every c (replicate n a)) e (all-replicate c n a e)
 
 -- a class within another
-pub all-sub : (c d : ℕ → Bool) (w : Bytes) → ((b : ℕ) → c b ≡ true → d b ≡ true) → all c w ≡ true → all d w ≡ true
+pub all-sub : (c d : ℕ → Bool) (w : Bytes) → ((b : ℕ) → c b ≡ true → d b ≡ true) → every c w ≡ true → every d w ≡ true
 all-sub c d [] h e = refl
-all-sub c d (x ∷ w) h e = both (d x) (all d w) (h x ((and2 (c x) (all c w) e) .0)) (all-sub c d w h ((and2 (c x) (all c w) e) .1))
+all-sub c d (x ∷ w) h e = both (d x) (every d w) (h x ((and2 (c x) (every c w) e) .0)) (all-sub c d w h ((and2 (c x) (every c w) e) .1))
 
 -- what a field is, and back
 pub record Field (c : ℕ → Bool) (n : ℕ) (w : Bytes) : Type 0 where
-  pub class : all c w ≡ true
+  pub class : every c w ≡ true
   pub least : 1 ≤ length w
   pub most : length w ≤ n
 
 pub field-is : (c : ℕ → Bool) (n : ℕ) (w : Bytes) → field c n w ≡ true → Field c n w
 field-is c n w e =
-    let p = and2 (all c w) (sized n w) e in
+    let p = and2 (every c w) (sized n w) e in
     let q = and2 (leb 1 (length w)) (leb (length w) n) (p .1) in
     record { class = p .0; least = leb-true 1 (length w) (q .0); most = leb-true (length w) n (q .1) }
 
-pub field-of : (c : ℕ → Bool) (n : ℕ) (w : Bytes) → all c w ≡ true → 1 ≤ length w → length w ≤ n → field c n w ≡ true
-field-of c n w e h k = both (all c w) (sized n w) e (both (leb 1 (length w)) (leb (length w) n) (le-leb 1 (length w) h) (le-leb (length w) n k))
+pub field-of : (c : ℕ → Bool) (n : ℕ) (w : Bytes) → every c w ≡ true → 1 ≤ length w → length w ≤ n → field c n w ≡ true
+field-of c n w e h k = both (every c w) (sized n w) e (both (leb 1 (length w)) (leb (length w) n) (le-leb 1 (length w) h) (le-leb (length w) n k))
 
 -- ---------------------------------------------------------------- lists that lack a byte
 
@@ -142,10 +142,10 @@ lacks-append c [] t h k = k
 lacks-append c (x ∷ s) t h k = (h .0, lacks-append c s t (h .1) k)
 
 -- a class without c
-pub all-lacks : (d : ℕ → Bool) (c : ℕ) (w : Bytes) → d c ≡ false → all d w ≡ true → Lacks c w
+pub all-lacks : (d : ℕ → Bool) (c : ℕ) (w : Bytes) → d c ≡ false → every d w ≡ true → Lacks c w
 all-lacks d c [] h e = tt
 all-lacks d c (x ∷ w) h e =
-    let p = and2 (d x) (all d w) e in
+    let p = and2 (d x) (every d w) e in
     (not-so (eqb x c) (λ q. no-both (d x) (p .0) (ap d (eqb-true x c q) ∙ h)), all-lacks d c w h (p .1))
 
 pub split-mid : (c : ℕ) (t r : Bytes) → Lacks c t → splitAt c (t ++ c ∷ r) ≡ some (t, r)

@@ -8,9 +8,9 @@ use Prim.Native.Nat.{ℕ, zero, suc, _+_, _-_, _%_, _≤_, min}
 use native.Mathlib.Omega.{arith}
 use lib.ListN.{length, length-append, replicate, length-replicate}
 use borrow.Author.Tests.{eq-eqb, lt-ltb}
-use Rattle.grammar.specs.Bytes.{Bytes, CR, CTRLZ, all, splitAt}
+use Rattle.grammar.specs.Bytes.{Bytes, CR, CTRLZ, every, splitAt}
 use Rattle.grammar.specs.Fields.{headingByte, isHeading}
-use Rattle.grammar.specs.Transfers.{blocks, checksum, sum, sumRight, zeroDigit}
+use Rattle.grammar.specs.Transfers.{blocks, checksum, byteSum, sumRight, zeroDigit}
 use Rattle.grammar.specs.Scan.{Scan, atLen, atSize, atStart, atSum, bodyOf, inBody, inData, inHead, inMark, inOff, inTitle}
 use Rattle.grammar.proofs.Basics.{both, all-append, all-replicate, field-of, Lacks, all-lacks, split-mid, octet, snoc-length}
 use Rattle.grammar.proofs.Rest.{onto-nil, rest, Ok, RightAt}
@@ -47,13 +47,13 @@ pending (atSum h x) = 0
 nil-length : (x : Bytes) → length (x ++ []) ≡ length x + 0
 nil-length x = length-append x []
 
-sum-zeros : (x : Bytes) (k : ℕ) → sum (x ++ replicate k 0) ≡ sum x
+sum-zeros : (x : Bytes) (k : ℕ) → byteSum (x ++ replicate k 0) ≡ byteSum x
 sum-zeros [] zero = refl
 sum-zeros [] (suc k) = rw (sum-zeros [] k)
 sum-zeros (y ∷ x) k = rw (sum-zeros x k)
 
 sum-closed : (x : Bytes) (k : ℕ) → sumRight (x ++ replicate k 0) (checksum x) ≡ true
-sum-closed x k = rw (sum-zeros x k) (eq-eqb ((sum x + checksum x) % 256) 0 (omega arith))
+sum-closed x k = rw (sum-zeros x k) (eq-eqb ((byteSum x + checksum x) % 256) 0 (omega arith))
 
 blocks-zeros : (k c : ℕ) → blocks k (replicate k 0 ++ 4 ∷ c ∷ []) ≡ some (replicate k 0, c)
 blocks-zeros zero c = refl
@@ -66,7 +66,7 @@ lacks-pad : (n : ℕ) → Lacks 0 (replicate n 65)
 lacks-pad n = all-lacks headingByte 0 (replicate n 65) refl (all-replicate headingByte n 65 refl)
 
 -- n digits more, and an empty body
-done-off : (len n : ℕ) (h o : Bytes) → isHeading h ≡ true → all zeroDigit o ≡ true → 1 ≤ length o + n → length o + n ≤ 6 → len ≡ length h + (length o + n) + 2
+done-off : (len n : ℕ) (h o : Bytes) → isHeading h ≡ true → every zeroDigit o ≡ true → 1 ≤ length o + n → length o + n ≤ 6 → len ≡ length h + (length o + n) + 2
     → RightAt 0 (rest (inOff len h o) (replicate n 48 ++ 0 ∷ 4 ∷ 0 ∷ []))
 done-off len n h o e f a b c =
     let l : length (o ++ replicate n 48) ≡ length o + n = simp (length-append, length-replicate) in
@@ -77,7 +77,7 @@ done-off len n h o e f a b c =
     (refl, refl))
 
 -- n bytes of heading more, then m digits
-done-head : (len n m : ℕ) (h : Bytes) → all headingByte h ≡ true → 1 ≤ length h + n → length h + n ≤ 80 → 1 ≤ m → m ≤ 6 → len ≡ (length h + n) + m + 2
+done-head : (len n m : ℕ) (h : Bytes) → every headingByte h ≡ true → 1 ≤ length h + n → length h + n ≤ 80 → 1 ≤ m → m ≤ 6 → len ≡ (length h + n) + m + 2
     → RightAt 0 (rest (inHead len h) (replicate n 65 ++ 0 ∷ (replicate m 48 ++ 0 ∷ 4 ∷ 0 ∷ [])))
 done-head len n m h e a b c d s =
     let l : length (h ++ replicate n 65) ≡ length h + n = simp (length-append, length-replicate) in
@@ -109,7 +109,7 @@ completes (inData h x k) u = rw (blocks-zeros k (checksum x)) (sum-closed x k, s
 completes (atSize h x) k = (sum-closed x 1, snoc-length x 0)
 completes (atSum h x) k = (sum-closed x 0, nil-length x)
 
-pub complete-octets : (sc : Scan) → all octet (complete sc) ≡ true
+pub complete-octets : (sc : Scan) → every octet (complete sc) ≡ true
 complete-octets (inTitle []) = refl
 complete-octets (inTitle (x ∷ t)) = refl
 complete-octets (inBody t x) = refl

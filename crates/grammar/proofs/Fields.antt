@@ -8,7 +8,7 @@ use native.Mathlib.Omega.{arith}
 use lib.Dec.{eqb, ltb, leb}
 use lib.ListN.{length, length-append}
 use borrow.Author.Tests.{ltb-true, lt-ltb, le-ltb, leb-true, ne-eqb, eqb-true}
-use Rattle.grammar.specs.Bytes.{Bytes, SP, all}
+use Rattle.grammar.specs.Bytes.{Bytes, SP, every}
 use Rattle.grammar.specs.Fields.{Form, afterDot, allCalls, bidByte, callByte, decimal, digit, field, file, isAt, isBid, isCall, isSize, message, parts, plain, readFrom, toFirst, upper, words, writeNum}
 use Rattle.grammar.specs.Turns.{Proposal, formLetter, formOf, inMode, isType, proposable, proposalLine, readProposal, sp, typeOf}
 use Rattle.grammar.proofs.Basics.{and2, both, all-append, Field, field-is, field-of, Lacks, all-lacks, or-left, or-right, or-second}
@@ -102,32 +102,32 @@ atByte b = callByte b || eqb b 46
 
 abbrev allIn : List Bytes → Bool
 allIn [] = true
-allIn (w ∷ ws) = all callByte w && allIn ws
+allIn (w ∷ ws) = every callByte w && allIn ws
 
 calls-in : (ws : List Bytes) → allCalls ws ≡ true → allIn ws ≡ true
 unfolding isCall
 calls-in [] e = refl
 calls-in (w ∷ ws) e =
     let p = and2 (field callByte 6 w) (allCalls ws) e in
-    both (all callByte w) (allIn ws) ((field-is callByte 6 w (p .0)) .class) (calls-in ws (p .1))
+    both (every callByte w) (allIn ws) ((field-is callByte 6 w (p .0)) .class) (calls-in ws (p .1))
 
 first-in : (x : ℕ) (ws : List Bytes) → allIn (toFirst x ws) ≡ true → (callByte x ≡ true) × (allIn ws ≡ true)
 first-in x [] e = ((and2 (callByte x) true ((and2 (callByte x && true) true e) .0)) .0, refl)
 first-in x (w ∷ ws) e =
-    let p = and2 (callByte x && all callByte w) (allIn ws) e in
-    let q = and2 (callByte x) (all callByte w) (p .0) in
-    (q .0, both (all callByte w) (allIn ws) (q .1) (p .1))
+    let p = and2 (callByte x && every callByte w) (allIn ws) e in
+    let q = and2 (callByte x) (every callByte w) (p .0) in
+    (q .0, both (every callByte w) (allIn ws) (q .1) (p .1))
 
-at-class : (w : Bytes) → allIn (parts w) ≡ true → all atByte w ≡ true
+at-class : (w : Bytes) → allIn (parts w) ≡ true → every atByte w ≡ true
 at-class [] e = refl
 at-class (x ∷ w) e = go (eqb x 46) refl (λ k. at-class w k) e
   where
-    go : (c : Bool) → eqb x 46 ≡ c → (allIn (parts w) ≡ true → all atByte w ≡ true)
-        → allIn (cond c ([] ∷ parts w) (toFirst x (parts w))) ≡ true → (callByte x || eqb x 46) && all atByte w ≡ true
-    go true p ih k = both (callByte x || eqb x 46) (all atByte w) (or-right (callByte x) (eqb x 46) p) (ih k)
+    go : (c : Bool) → eqb x 46 ≡ c → (allIn (parts w) ≡ true → every atByte w ≡ true)
+        → allIn (cond c ([] ∷ parts w) (toFirst x (parts w))) ≡ true → (callByte x || eqb x 46) && every atByte w ≡ true
+    go true p ih k = both (callByte x || eqb x 46) (every atByte w) (or-right (callByte x) (eqb x 46) p) (ih k)
     go false p ih k =
         let f = first-in x (parts w) k in
-        both (callByte x || eqb x 46) (all atByte w) (or-left (callByte x) (eqb x 46) (f .0)) (ih (f .1))
+        both (callByte x || eqb x 46) (every atByte w) (or-left (callByte x) (eqb x 46) (f .0)) (ih (f .1))
 
 at-some : (w : Bytes) → allCalls (parts w) ≡ true → 1 ≤ length w
 unfolding isCall

@@ -9,7 +9,7 @@ use native.Mathlib.Omega.{arith}
 use lib.Dec.{eqb, leb, ltb}
 use lib.ListN.{length}
 use borrow.Author.Tests.{lt-ltb, le-ltb, le-leb, ltb-true, ltb-false, leb-true, eqb-true, eqb-false}
-use Rattle.grammar.specs.Bytes.{Bytes, all, splitAt}
+use Rattle.grammar.specs.Bytes.{Bytes, every, splitAt}
 use Rattle.grammar.specs.Fields.{field, headingByte, isHeading}
 use Rattle.grammar.specs.Transfers.{blocks, blocksRead, isHeader, sumRight, zeroDigit}
 use Rattle.grammar.specs.Scan.{atLen, atSize, atStart, atSum, goes, got, inData, inHead, inOff, malformed, noRoom, scanByte, wrongSum}
@@ -114,7 +114,7 @@ step-off room len h o b k = go (eqb b 0) refl (eqb len (length h + length o + 2)
         let l = mid-length o u b in
         no-both (eqb b 48 && ltb (length h + length o + 2) len)
         (both (eqb b 48) (ltb (length h + length o + 2) len)
-        (all-mid zeroDigit o u b (ap (all zeroDigit) (sym (snoc-cons o u b)) ∙ f .off .class)) (lt-ltb (length h + length o + 2) len (omega arith)))
+        (all-mid zeroDigit o u b (ap (every zeroDigit) (sym (snoc-cons o u b)) ∙ f .off .class)) (lt-ltb (length h + length o + 2) len (omega arith)))
         q
 
     go : (e : Bool) → eqb b 0 ≡ e → (v : Bool) → eqb len (length h + length o + 2) ≡ v → (f : Bool) → eqb b 48 && ltb (length h + length o + 2) len ≡ f

@@ -8,7 +8,7 @@ use native.Mathlib.Omega.{arith}
 use lib.Dec.{eqb}
 use lib.ListN.{length}
 use borrow.Author.Tests.{eq-eqb, eqb-true}
-use Rattle.grammar.specs.Bytes.{Bytes, all, splitAt}
+use Rattle.grammar.specs.Bytes.{Bytes, every, splitAt}
 use Rattle.grammar.specs.Fields.{field, headingByte, isHeading}
 use Rattle.grammar.specs.Transfers.{headRead, isHeader, offRead, titleRead, zeroDigit}
 use Rattle.grammar.proofs.Basics.{and2, both, snoc-cons, all-mid, Field, field-is, mid-length}
@@ -36,7 +36,7 @@ mid-head t u b e =
     let f = field-is headingByte 80 ((t ++ (b ∷ [])) ++ u) e in
     let m = f .most in
     let l = mid-length t u b in
-    (all-mid headingByte t u b (ap (all headingByte) (sym (snoc-cons t u b)) ∙ f .class), omega arith)
+    (all-mid headingByte t u b (ap (every headingByte) (sym (snoc-cons t u b)) ∙ f .class), omega arith)
 
 -- no title, no header: whatever follows, nothing is read
 pub title-none : (t : Bytes) (o : Option (Bytes × Bytes)) → ((u : Bytes) → isHeading (t ++ u) ≡ false) → titleRead (onto t o) ≡ none

@@ -8,7 +8,7 @@ use native.Mathlib.Omega.{arith}
 use lib.Dec.{eqb, ltb}
 use lib.ListN.{length, length-append, length-map}
 use borrow.Author.Tests.{ne-eqb, eqb-true, ltb-true}
-use Rattle.grammar.specs.Bytes.{Bytes, CR, SP, all, same}
+use Rattle.grammar.specs.Bytes.{Bytes, CR, SP, every, same}
 use Rattle.grammar.specs.Fields.{Form, bidByte, callByte, digit, file, message, plain, upper, writeNum}
 use Rattle.grammar.specs.Lines.{isComment, isPrompt, trim}
 use Rattle.grammar.specs.Sid.{readSid, sidNumber}
@@ -215,7 +215,7 @@ fs-good ss h k =
 abbrev notCR : ℕ → Bool
 notCR b = not (eqb b CR)
 
-closed-good : (w : Bytes) → all notCR w ≡ true → length w ≤ 256 → trim w ≡ w → isComment w ≡ false → GoodLine w
+closed-good : (w : Bytes) → every notCR w ≡ true → length w ≤ 256 → trim w ≡ w → isComment w ≡ false → GoodLine w
 closed-good w a b c d = record { whole = all-lacks notCR CR w refl a; short = b; kept = c; heard = d }
 
 -- THE LAW of our lines

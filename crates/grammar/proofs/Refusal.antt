@@ -9,7 +9,7 @@ use native.Mathlib.Omega.{arith}
 use lib.Dec.{eqb, leb, ltb}
 use lib.ListN.{length}
 use borrow.Author.Tests.{le-leb}
-use Rattle.grammar.specs.Bytes.{Bytes, CR, CTRLZ, SP, all, splitAt}
+use Rattle.grammar.specs.Bytes.{Bytes, CR, CTRLZ, SP, every, splitAt}
 use Rattle.grammar.specs.Fields.{Form, file, headingByte, message, plain}
 use Rattle.grammar.specs.Transfers.{Content, Parsed, parse, readTransfer, sumRight, valid}
 use Rattle.grammar.specs.Scan.{Scan, Scanned, atLen, atSize, atStart, atSum, bodyOf, goes, got, inBody, inData, inHead, inMark, inOff, inTitle, malformed, noRoom, onward, scan, scanByte, scanFrom, scanOn, wrongSum, isBodyByte}
@@ -25,12 +25,12 @@ use Rattle.grammar.proofs.Exact.{step}
 -- got: it is whole, right, and fits; 8: whatever follows, it is no transfer; 9: it is whole, but for its checksum; both: nothing longer is one
 -- 10: what begins so is longer than the room, and bytes exist that make it right but for that
 abbrev pub Verdict : ℕ → Form → Scanned → Bytes → Type 0
-Verdict room f (goes sc) q = (parse f q ≡ none) × ((r : Bytes) × (all octet r ≡ true) × RightAt (length (bodyOf sc) + pending sc) (parse f (q ++ r)))
+Verdict room f (goes sc) q = (parse f q ≡ none) × ((r : Bytes) × (every octet r ≡ true) × RightAt (length (bodyOf sc) + pending sc) (parse f (q ++ r)))
 Verdict room f (got h x) q =
     (parse f q ≡ some (record { heading = h; body = x; right = true })) × (length x ≤ room) × ((c : ℕ) (r : Bytes) → parse f (q ++ c ∷ r) ≡ none)
 Verdict room f malformed q = (r : Bytes) → parse f (q ++ r) ≡ none
 Verdict room f wrongSum q = Wrong (parse f q) × ((c : ℕ) (r : Bytes) → parse f (q ++ c ∷ r) ≡ none)
-Verdict room f noRoom q = ((r : Bytes) → Longer room (parse f (q ++ r))) × ((r : Bytes) × (all octet r ≡ true) × Right (parse f (q ++ r))) × (parse f q ≡ none)
+Verdict room f noRoom q = ((r : Bytes) → Longer room (parse f (q ++ r))) × ((r : Bytes) × (every octet r ≡ true) × Right (parse f (q ++ r))) × (parse f q ≡ none)
 
 -- ---------------------------------------------------------------- the way there
 
@@ -153,7 +153,7 @@ right-heeded n (some p) l h =
     rw (h .0) (rw (le-leb (length (p .body)) 65535 (omega arith)) tt)
 
 pub goes-valid : (room : ℕ) (f : Form) (q : Bytes) (sc sc′ : Scan) → scan room f q ≡ goes sc → (b : ℕ) → scanByte room sc b ≡ goes sc′
-    → length (bodyOf sc′) + pending sc′ ≤ 65535 → (r : Bytes) × (all octet r ≡ true) × Heeded (readTransfer f ((q ++ (b ∷ [])) ++ r))
+    → length (bodyOf sc′) + pending sc′ ≤ 65535 → (r : Bytes) × (every octet r ≡ true) × Heeded (readTransfer f ((q ++ (b ∷ [])) ++ r))
 unfolding readTransfer
 goes-valid room f q sc sc′ e b w l =
     let k = subst (λ (s : Scanned). Verdict room f s (q ++ (b ∷ []))) w (exact room f q sc e b) in

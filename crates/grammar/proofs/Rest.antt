@@ -6,7 +6,7 @@ use mathlib.Core.Option.{Option, none, some}
 use mathlib.Core.List.{[], _∷_, _++_}
 use Prim.Native.Nat.{ℕ, zero, suc, _+_, _≤_, _<_}
 use lib.ListN.{length}
-use Rattle.grammar.specs.Bytes.{Bytes, CR, CTRLZ, all, before, null, splitAt}
+use Rattle.grammar.specs.Bytes.{Bytes, CR, CTRLZ, every, before, null, splitAt}
 use Rattle.grammar.specs.Fields.{headingByte, isHeading}
 use Rattle.grammar.specs.Transfers.{Parsed, blockSize, blocks, blocksRead, bodyRead, consData, headRead, lenRead, offRead, readFramed, spacesCR, titleRead, zeroDigit}
 use Rattle.grammar.specs.Scan.{Scan, Scanned, atLen, atSize, atStart, atSum, bodyOf, goes, got, inBody, inData, inHead, inMark, inOff, inTitle, malformed, noRoom, wrongSum}
@@ -53,9 +53,9 @@ rest (atSum h x) r = lastRead h x r
 
 -- what holds of the parts read so far
 abbrev pub Ok : Scan → Type 0
-Ok (inTitle t) = (all headingByte t ≡ true) × (length t ≤ 80)
-Ok (inHead len h) = (all headingByte h ≡ true) × (length h ≤ 80) × (4 ≤ len) × (len ≤ 88) × (length h + 3 ≤ len)
-Ok (inOff len h o) = (isHeading h ≡ true) × (all zeroDigit o ≡ true) × (length h + 3 ≤ len) × (len ≤ length h + 8) × (length h + length o + 2 ≤ len)
+Ok (inTitle t) = (every headingByte t ≡ true) × (length t ≤ 80)
+Ok (inHead len h) = (every headingByte h ≡ true) × (length h ≤ 80) × (4 ≤ len) × (len ≤ 88) × (length h + 3 ≤ len)
+Ok (inOff len h o) = (isHeading h ≡ true) × (every zeroDigit o ≡ true) × (length h + 3 ≤ len) × (len ≤ length h + 8) × (length h + length o + 2 ≤ len)
 Ok (inBody t x) = Unit {0}
 Ok (inMark t x) = Unit {0}
 Ok atStart = Unit {0}
@@ -114,4 +114,4 @@ StepOk room (got h x) sc b =
     (rest sc (b ∷ []) ≡ some (record { heading = h; body = x; right = true })) × (length x ≤ room) × ((c : ℕ) (r : Bytes) → rest sc (b ∷ c ∷ r) ≡ none)
 StepOk room malformed sc b = (r : Bytes) → rest sc (b ∷ r) ≡ none
 StepOk room wrongSum sc b = Wrong (rest sc (b ∷ [])) × ((c : ℕ) (r : Bytes) → rest sc (b ∷ c ∷ r) ≡ none)
-StepOk room noRoom sc b = ((r : Bytes) → Longer room (rest sc (b ∷ r))) × ((r : Bytes) × (all octet r ≡ true) × Right (rest sc (b ∷ r))) × (rest sc (b ∷ []) ≡ none)
+StepOk room noRoom sc b = ((r : Bytes) → Longer room (rest sc (b ∷ r))) × ((r : Bytes) × (every octet r ≡ true) × Right (rest sc (b ∷ r))) × (rest sc (b ∷ []) ≡ none)

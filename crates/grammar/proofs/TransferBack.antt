@@ -8,9 +8,9 @@ use native.Mathlib.Omega.{arith}
 use lib.Dec.{eqb, leb}
 use lib.ListN.{length, take, drop, length-take, length-drop, take-append-drop}
 use borrow.Author.Tests.{eq-eqb, eqb-true, eqb-false}
-use Rattle.grammar.specs.Bytes.{Bytes, CR, CTRLZ, all}
+use Rattle.grammar.specs.Bytes.{Bytes, CR, CTRLZ, every}
 use Rattle.grammar.specs.Fields.{Form, file, headingByte, isBody, isHeading, message, notCtrlZ, plain}
-use Rattle.grammar.specs.Transfers.{blockSize, blocks, blocksOut, checksum, consData, parse, readFramed, readPlain, readTransfer, sendable, sum, sumRight, valid, writeFramed, writePlain, writeTransfer}
+use Rattle.grammar.specs.Transfers.{blockSize, blocks, blocksOut, checksum, consData, parse, readFramed, readPlain, readTransfer, sendable, byteSum, sumRight, valid, writeFramed, writePlain, writeTransfer}
 use Rattle.grammar.proofs.Basics.{and2, Lacks, all-lacks, split-mid, field-is}
 use Rattle.grammar.proofs.Rest.{onto, onto-nil}
 use Rattle.grammar.proofs.Headers.{header-of}
@@ -57,7 +57,7 @@ blocks-back (suc f) (y ∷ x) r h =
     (omega arith) (omega arith) (take-append-drop 256 (y ∷ x)) (blocks-back f (drop 256 (y ∷ x)) r (omega arith))
 
 sum-right : (x : Bytes) → sumRight x (checksum x) ≡ true
-sum-right x = eq-eqb ((sum x + checksum x) % 256) 0 (omega arith)
+sum-right x = eq-eqb ((byteSum x + checksum x) % 256) 0 (omega arith)
 
 head-lacks : (c : ℕ) (h : Bytes) → headingByte c ≡ false → isHeading h ≡ true → Lacks c h
 head-lacks c h e k = all-lacks headingByte c h e ((field-is headingByte 80 h k) .class)
@@ -71,7 +71,7 @@ framed-back h x k =
     (rw (header-of (length h + 3) h (48 ∷ []) k refl (omega arith))
     (rw (blocks-back (length x) x (4 ∷ checksum x ∷ []) (omega arith)) (rw (append-nil x) (rw (sum-right x)))))))
 
-pub plain-back : (t x : Bytes) → isHeading t ≡ true → all notCtrlZ x ≡ true → readPlain (writePlain t x) ≡ some (record { heading = t; body = x; right = true })
+pub plain-back : (t x : Bytes) → isHeading t ≡ true → every notCtrlZ x ≡ true → readPlain (writePlain t x) ≡ some (record { heading = t; body = x; right = true })
 plain-back t x k e =
     rw (split-mid CR t (x ++ CTRLZ ∷ CR ∷ []) (head-lacks CR t refl k))
     (rw k (rw (split-mid CTRLZ x (CR ∷ []) (all-lacks notCtrlZ CTRLZ x refl e))))
@@ -86,22 +86,22 @@ sent-back h x e =
 pub transfer-back : (f : Form) (h x : Bytes) → sendable f h x ≡ true → readTransfer f (writeTransfer f h x) ≡ some (record { heading = h; body = x })
 unfolding readTransfer writeTransfer parse
 transfer-back plain h x e =
-    let p = and2 (isHeading h) (leb (length x) 65535 && all notCtrlZ x) e in
-    let q = and2 (leb (length x) 65535) (all notCtrlZ x) (p .1) in
+    let p = and2 (isHeading h) (leb (length x) 65535 && every notCtrlZ x) e in
+    let q = and2 (leb (length x) 65535) (every notCtrlZ x) (p .1) in
     rw (plain-back h x (p .0) (q .1)) (rw (q .0))
 transfer-back message h x e = sent-back h x e
 transfer-back file h x e = sent-back h x e
 
 -- ---------------------------------------------------------------- the checksum as a wrapping sum
 
-pub sum-snoc : (x : Bytes) (b : ℕ) → sum (x ++ (b ∷ [])) ≡ sum x + b
+pub sum-snoc : (x : Bytes) (b : ℕ) → byteSum (x ++ (b ∷ [])) ≡ byteSum x + b
 sum-snoc [] b = omega arith
 sum-snoc (y ∷ x) b = rw (sum-snoc x b) (omega arith)
 
 -- a byte more, kept modulo 256
-pub sum-wraps : (x : Bytes) (b : ℕ) → sum (x ++ (b ∷ [])) % 256 ≡ (sum x % 256 + b) % 256
+pub sum-wraps : (x : Bytes) (b : ℕ) → byteSum (x ++ (b ∷ [])) % 256 ≡ (byteSum x % 256 + b) % 256
 sum-wraps x b = rw (sum-snoc x b) (omega arith)
 
 -- the test on the sum kept modulo 256
-pub right-wraps : (x : Bytes) (c : ℕ) → sumRight x c ≡ eqb ((sum x % 256 + c) % 256) 0
-right-wraps x c = let e : (sum x + c) % 256 ≡ (sum x % 256 + c) % 256 = omega arith in rw e
+pub right-wraps : (x : Bytes) (c : ℕ) → sumRight x c ≡ eqb ((byteSum x % 256 + c) % 256) 0
+right-wraps x c = let e : (byteSum x + c) % 256 ≡ (byteSum x % 256 + c) % 256 = omega arith in rw e

@@ -10,7 +10,7 @@ use Rattle.grammar.specs.Bytes.{Bytes, CR, SP, CTRLZ, byteValues}
 use Rattle.grammar.specs.Ascii.{text}
 use Rattle.grammar.specs.Fields.{Form, plain, message, file, toFirst, isSize, readFrom}
 use Rattle.grammar.specs.Turns.{Proposal}
-use Rattle.grammar.specs.Transfers.{sum}
+use Rattle.grammar.specs.Transfers.{byteSum}
 
 -- ---------------------------------------------------------------- a proposal
 
@@ -72,7 +72,7 @@ pub record FramedWritten (h x w : Bytes) : Type 0 where
   pub cut : InBlocks blocks
   pub whole : joined blocks ≡ x
   -- "The checksum makes the sum of all data bytes plus itself 0 modulo 256."
-  pub zero : (sum x + checksum) % 256 ≡ 0
+  pub zero : (byteSum x + checksum) % 256 ≡ 0
   pub byte : checksum < byteValues
 
 -- "Plain: title, CR, body, 0x1A, CR."; no space between the last two

@@ -47,9 +47,9 @@ null [] = true
 null (x ∷ xs) = false
 
 -- Every byte is of the class.
-abbrev pub all : (ℕ → Bool) → Bytes → Bool
-all c [] = true
-all c (x ∷ xs) = c x && all c xs
+abbrev pub every : (ℕ → Bool) → Bytes → Bool
+every c [] = true
+every c (x ∷ xs) = c x && every c xs
 
 -- The same bytes in the same order.
 abbrev pub same : Bytes → Bytes → Bool

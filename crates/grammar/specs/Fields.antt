@@ -5,7 +5,7 @@ use mathlib.Core.List.{List, [], _∷_, _++_, map}
 use Prim.Native.Nat.{ℕ, zero, suc, _+_, _*_, _-_, _/_, _%_}
 use lib.Dec.{eqb, ltb, leb}
 use lib.ListN.{length}
-use Rattle.grammar.specs.Bytes.{Bytes, SP, CTRLZ, all, same}
+use Rattle.grammar.specs.Bytes.{Bytes, SP, CTRLZ, every, same}
 
 -- "a form (0 plain text, 1 packed message, 2 packed file)"
 pub data Form : Type 0 where
@@ -27,7 +27,7 @@ abbrev pub sized : ℕ → Bytes → Bool
 sized n w = leb 1 (length w) && leb (length w) n
 
 abbrev pub field : (ℕ → Bool) → ℕ → Bytes → Bool
-field c n w = all c w && sized n w
+field c n w = every c w && sized n w
 
 -- ---------------------------------------------------------------- from, to and at
 
@@ -86,7 +86,7 @@ notCtrlZ b = not (eqb b CTRLZ)
 
 -- "a plain body holds no 0x1A"
 abbrev pub bodyFair : Form → Bytes → Bool
-bodyFair plain x = all notCtrlZ x
+bodyFair plain x = every notCtrlZ x
 bodyFair message x = true
 bodyFair file x = true
 

@@ -5,7 +5,7 @@ use mathlib.Core.List.{List, [], _∷_}
 use Prim.Native.Nat.{ℕ, _+_, _-_}
 use lib.Dec.{eqb, ltb}
 use lib.ListN.{getD, set, replicate}
-use Rattle.grammar.specs.Bytes.{Bytes, null, all, same, splitAt}
+use Rattle.grammar.specs.Bytes.{Bytes, null, every, same, splitAt}
 use Rattle.grammar.specs.Ascii.{text}
 use Rattle.grammar.specs.Refusals.{notSid, noForwarding}
 use Rattle.grammar.specs.Fields.{upper, after, digit}
@@ -78,12 +78,12 @@ splitLast (x ∷ xs) = orLast x (splitLast xs) xs
 -- "(data `-`)? features"
 abbrev pub dataRead : Bytes → Option (Bytes × Bytes) → Option (List ℕ)
 dataRead r none = readFeatures r
-dataRead r (some p) = cond (all dataByte (p .0) && not (null (p .0))) (readFeatures (p .1)) none
+dataRead r (some p) = cond (every dataByte (p .0) && not (null (p .0))) (readFeatures (p .1)) none
 
 -- "The author runs to the first hyphen, the features start after the last."
 abbrev pub authorRead : Option (Bytes × Bytes) → Option (List ℕ)
 authorRead none = none
-authorRead (some p) = cond (all authorByte (p .0) && not (null (p .0))) (dataRead (p .1) (splitLast (p .1))) none
+authorRead (some p) = cond (every authorByte (p .0) && not (null (p .0))) (dataRead (p .1) (splitLast (p .1))) none
 
 abbrev pub sidRead : Option Bytes → Option (List ℕ)
 sidRead none = none

@@ -5,7 +5,7 @@ use mathlib.Core.List.{[], _∷_, _++_}
 use Prim.Native.Nat.{ℕ, zero, suc, _+_, _-_, _%_}
 use lib.Dec.{eqb, leb}
 use lib.ListN.{length, take, drop}
-use Rattle.grammar.specs.Bytes.{Bytes, CR, SP, CTRLZ, null, all, splitAt}
+use Rattle.grammar.specs.Bytes.{Bytes, CR, SP, CTRLZ, null, every, splitAt}
 use Rattle.grammar.specs.Fields.{Form, plain, message, file, isHeading, sized, isBody, bodyLimit}
 
 -- A transfer right in form: its heading, its body, and whether its checksum is right.
@@ -39,13 +39,13 @@ readPlain p = titleRead (splitAt CR p)
 abbrev pub blockSize : ℕ → ℕ
 blockSize n = cond (eqb n 0) 256 n
 
-abbrev pub sum : Bytes → ℕ
-sum [] = 0
-sum (x ∷ xs) = x + sum xs
+abbrev pub byteSum : Bytes → ℕ
+byteSum [] = 0
+byteSum (x ∷ xs) = x + byteSum xs
 
 -- "The checksum makes the sum of all data bytes plus itself 0 modulo 256."
 abbrev pub sumRight : Bytes → ℕ → Bool
-sumRight x c = eqb ((sum x + c) % 256) 0
+sumRight x c = eqb ((byteSum x + c) % 256) 0
 
 abbrev pub consData : ℕ → Option (Bytes × ℕ) → Option (Bytes × ℕ)
 consData x none = none
@@ -68,7 +68,7 @@ zeroDigit b = eqb b 48
 
 -- "L = heading + offset + 2. Offset has 1 to 6 digits, value 0."
 abbrev pub isHeader : ℕ → Bytes → Bytes → Bool
-isHeader len h o = isHeading h && ((all zeroDigit o && sized 6 o) && eqb len (length h + length o + 2))
+isHeader len h o = isHeading h && ((every zeroDigit o && sized 6 o) && eqb len (length h + length o + 2))
 
 abbrev pub offRead : ℕ → Bytes → Option (Bytes × Bytes) → Option Parsed
 offRead len h none = none
@@ -110,7 +110,7 @@ readTransfer f p = valid (parse f p)
 -- ---------------------------------------------------------------- how we write a transfer
 
 abbrev pub checksum : Bytes → ℕ
-checksum x = (256 - sum x % 256) % 256
+checksum x = (256 - byteSum x % 256) % 256
 
 abbrev pub writePlain : Bytes → Bytes → Bytes
 writePlain t x = t ++ CR ∷ (x ++ CTRLZ ∷ CR ∷ [])

@@ -8,7 +8,7 @@ use native.Mathlib.Nat.{add-zero, div-div-eq-div-mul}
 use lib.ListN.{length, take, replicate, length-append, length-take, length-replicate}
 use lib.Seq.{length-take-le}
 use borrow.Author.Tests.{ltb-true}
-use Rattle.grammar.specs.Bytes.{Bytes, all}
+use Rattle.grammar.specs.Bytes.{Bytes, every}
 use Rattle.grammar.specs.Fields.{Form, plain, message, file, formIs, formNumber}
 use Rattle.grammar.specs.Turns.{Proposal}
 use Rattle.grammar.specs.Transfers.{partOf}
@@ -64,10 +64,10 @@ pub le8-small : (s : Bytes) → ((i : ℕ) → byteAt s i < 256) → (i : ℕ) �
 le8-small s small i = omega (arith, le4-small s small i, le4-small s small (i + 4))
 
 -- memory of bytes holds bytes
-pub octets : (s : Bytes) → all octet s ≡ true → (i : ℕ) → byteAt s i < 256
+pub octets : (s : Bytes) → every octet s ≡ true → (i : ℕ) → byteAt s i < 256
 octets [] e i = omega arith
-octets (x ∷ s) e zero = ltb-true x 256 (and2 (octet x) (all octet s) e .0)
-octets (x ∷ s) e (suc i) = octets s (and2 (octet x) (all octet s) e .1) i
+octets (x ∷ s) e zero = ltb-true x 256 (and2 (octet x) (every octet s) e .0)
+octets (x ∷ s) e (suc i) = octets s (and2 (octet x) (every octet s) e .1) i
 
 -- ---------------------------------------------------------------- fields
 

@@ -11,7 +11,7 @@ use native.Mathlib.Nat.{zero-add}
 use lib.Dec.{eqb, ltb, leb}
 use lib.ListN.{length, take, length-append}
 use borrow.Author.Tests.{lt-ltb, le-ltb, ltb-true, ltb-false, le-leb, lt-leb, leb-true, leb-false}
-use Rattle.grammar.specs.Bytes.{Bytes, CR, LF, all, splitAt, before}
+use Rattle.grammar.specs.Bytes.{Bytes, CR, LF, every, splitAt, before}
 use Rattle.grammar.specs.Lines.{LineRead, unfinished, line, refused, lineSteps, lineLimit, dropLf, wholeLine, withinLimit, ends, grows, overruns, lineOn, lineWith}
 use Rattle.grammar.proofs.Basics.{suc-ltb, and-false}
 use Rattle.line.specs.Steps.{notCr, overlong, StepsAgree}
@@ -64,7 +64,7 @@ steps-lf a (b ∷ bs) w = go a (eqb b LF) refl
 
 -- more than k bytes, and no CR among the first k + 1
 abbrev pub overBy : ℕ → Bytes → Bool
-overBy k d = ltb k (length d) && all notCr (take (suc k) d)
+overBy k d = ltb k (length d) && every notCr (take (suc k) d)
 
 -- how long a line is that has come so far
 abbrev pub come : Bytes → Option (Bytes × Bytes) → ℕ
@@ -80,7 +80,7 @@ over-come [] k = rw (le-ltb k 0 (omega arith))
 over-come (b ∷ d) k = go k (eqb b CR) (over-come d)
   where
     go : (k : ℕ) (c : Bool) → ((k : ℕ) → overBy k d ≡ ltb k (come d (splitAt CR d)))
-        → (ltb k (length (b ∷ d)) && (not c && all notCr (take k d))) ≡ ltb k (come (b ∷ d) (cond c (some ([], d)) (before b (splitAt CR d))))
+        → (ltb k (length (b ∷ d)) && (not c && every notCr (take k d))) ≡ ltb k (come (b ∷ d) (cond c (some ([], d)) (before b (splitAt CR d))))
     go k true ih = rw (le-ltb k 0 (omega arith)) (and-false (ltb k (length (b ∷ d))) false refl)
     go zero false ih = rw (lt-ltb 0 (length (b ∷ d)) (omega arith), come-before b d (splitAt CR d), lt-ltb 0 (suc (come d (splitAt CR d))) (omega arith))
     go (suc k) false ih = rw (suc-ltb k (length d), come-before b d (splitAt CR d), suc-ltb k (come d (splitAt CR d))) (ih k)

@@ -7,7 +7,7 @@ use mathlib.Core.Logic.{_↔_}
 use Prim.Native.Nat.{ℕ, suc}
 use lib.Dec.{eqb, ltb}
 use lib.ListN.{length, take}
-use Rattle.grammar.specs.Bytes.{Bytes, CR, all}
+use Rattle.grammar.specs.Bytes.{Bytes, CR, every}
 use Rattle.grammar.specs.Lines.{unfinished, line, refused, lineSteps, lineLimit, dropLf, wholeLine}
 
 -- The byte is no CR.
@@ -16,7 +16,7 @@ notCr b = not (eqb b CR)
 
 -- "a 257th byte of a line comes before CR": there are 257 bytes, and no CR is among the first 257
 unfoldable pub overlong : Bytes → Bool
-overlong d = ltb lineLimit (length d) && all notCr (take (suc lineLimit) d)
+overlong d = ltb lineLimit (length d) && every notCr (take (suc lineLimit) d)
 
 -- What reading byte by byte says, it says exactly when the whole line does: a line where there is a whole one; a refusal where it is
 -- too long, an LF that is dropped not counted; else all that came, but for that LF.

@@ -10,7 +10,7 @@ use lib.Seq.{take-all, length-take-le}
 use borrow.Author.Tests.{ltb-true, ltb-false}
 use Rattle.grammar.specs.Bytes.{Bytes, CR}
 use Rattle.grammar.specs.Lines.{LineByte, dropped, ends, grows, overruns, lineByte, lineLimit, trim}
-use Rattle.grammar.specs.Transfers.{sum}
+use Rattle.grammar.specs.Transfers.{byteSum}
 use Rattle.grammar.proofs.TransferBack.{sum-wraps}
 use Rattle.line.specs.declared.LineByte as code
 use Rattle.line.specs.Byte.{lineByteIs}
@@ -116,6 +116,6 @@ module _ (s : Numbers) (m e : Bytes) (v : Verdict) (table known inbox : Bytes) (
 -- ---------------------------------------------------------------- the sum of a line
 
 -- n: the sum of its bytes, r: with the CR
-pub sum-cr : (l : Bytes) (n r : ℕ) → n ≡ sum l % 256 → r ≡ (n + CR) % 256 → r ≡ lineSum l
+pub sum-cr : (l : Bytes) (n r : ℕ) → n ≡ byteSum l % 256 → r ≡ (n + CR) % 256 → r ≡ lineSum l
 unfolding lineSum
 sum-cr l n r e f = f ∙ ap (λ (x : ℕ). (x + CR) % 256) e ∙ sym (sum-wraps l CR)

@@ -12,7 +12,7 @@ use Rattle.grammar.specs.Fields.{formNumber}
 use Rattle.grammar.specs.Lines.{isComment, isPrompt}
 use Rattle.grammar.specs.Sid.{readSid, hasFeature, framed}
 use Rattle.grammar.specs.Turns.{Proposal, TurnLine, saysFF, saysFQ, endsBlock, notAllowed, proposes, endsSummed, readTurnLine, turnLineNumber, withCr}
-use Rattle.grammar.specs.Transfers.{sum}
+use Rattle.grammar.specs.Transfers.{byteSum}
 use Rattle.grammar.specs.Answers.{accept, decline, defer, writeSign}
 use Rattle.fs_line.specs.Answers.{answerNumber, answerSigns}
 use Rattle.buffer.specs.Put.{putBytes}
@@ -129,7 +129,7 @@ summedLine h w y k r table known inbox store =
 
 -- "The sum of all bytes .. as received, their CR included" (02, Q-5), of one line, modulo 256
 unfoldable pub lineSum : Bytes → ℕ
-lineSum ln = sum (withCr ln) % 256
+lineSum ln = byteSum (withCr ln) % 256
 
 -- n: the sum of the proposal's line
 abbrev pub withProposal : Proposal → ℕ → Await → Await

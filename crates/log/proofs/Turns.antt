@@ -13,7 +13,7 @@ use borrow.Author.Tests.{le-leb, ne-eqb}
 use Rattle.grammar.specs.Bytes.{Bytes, byteValues, CR, LF}
 use Rattle.grammar.specs.Lines.{trim, isComment, lineLimit}
 use Rattle.grammar.specs.Turns.{Proposal, TurnLine, saysFF, saysFQ, endsBlock, notAllowed, proposes, endsSummed, readTurnLine, withCr}
-use Rattle.grammar.specs.Transfers.{sum, sumRight}
+use Rattle.grammar.specs.Transfers.{byteSum, sumRight}
 use Rattle.grammar.proofs.Basics.{Lacks}
 use Rattle.mail.specs.Mail.{Record, turnText}
 use Rattle.log.specs.Effects.{forwardedSent}
@@ -274,13 +274,13 @@ module _ (T : List Record) (a ff : Bool) (sent : List ℕ) (k : Book) (cs : List
 
   -- A WRONG CHECKSUM: "A turn with a wrong checksum is no valid turn." (02, Q-5). At its last CR the log is over; records sent, states and messages
   -- kept are as before the turn
-  pub wrong-sum-fed : (h : ℕ) → readTurnLine (k .framed) (trim ln) ≡ endsSummed h → ((sum (proposalsCame (k .framed) cs) + h) % byteValues ≡ 0 → ⊥)
+  pub wrong-sum-fed : (h : ℕ) → readTurnLine (k .framed) (trim ln) ≡ endsSummed h → ((byteSum (proposalsCame (k .framed) cs) + h) % byteValues ≡ 0 → ⊥)
       → fedAll T (record { log = owing a (theirNewTurn ff) sent k; raw = [] }) (map took (bytesCame cs ++ withCr ln))
       ≡ record { log = owing true over sent k; raw = [] }
   wrong-sum-fed h e n = with-last ∙ rw e (rw (ne-eqb _ _ n) (rw (not-allowed-wrong ff (linesSay (k .framed) [] cs))))
 
   -- and they stay so, whatever bytes fs come after them: of the log over whole units, after a trace es that left the partner's turn next
-  pub wrong-sum-ends : (h : ℕ) → readTurnLine (k .framed) (trim ln) ≡ endsSummed h → ((sum (proposalsCame (k .framed) cs) + h) % byteValues ≡ 0 → ⊥)
+  pub wrong-sum-ends : (h : ℕ) → readTurnLine (k .framed) (trim ln) ≡ endsSummed h → ((byteSum (proposalsCame (k .framed) cs) + h) % byteValues ≡ 0 → ⊥)
       → (caller : Bool) (states : List ℕ) (es fs : List Event) → fedAll T (fedOpened caller states) es ≡ record { log = owing a (theirNewTurn ff) sent k; raw = [] }
       → Agrees (log T caller states (es ++ (map took (bytesCame cs ++ withCr ln) ++ fs))) (owing true over sent k)
   wrong-sum-ends h e n caller states es fs o =

@@ -9,7 +9,7 @@ use native.Mathlib.Omega.{arith}
 use lib.Dec.{eqb}
 use lib.ListN.{length, take, drop}
 use borrow.Author.Tests.{eqb-true, not-true}
-use Rattle.grammar.specs.Bytes.{Bytes, all}
+use Rattle.grammar.specs.Bytes.{Bytes, every}
 use Rattle.grammar.specs.Refusals.{badMemory, sessionEnded}
 use Rattle.grammar.proofs.Basics.{no-both, octet, and-false}
 use Rattle.session.specs.Choices.{Shelf}
@@ -74,7 +74,7 @@ module _ (F : Fixed) (E : Shelf) (c₀ : Cs) (z : Sizes) where
     pub held : Held F E c₀ z (leftBy r) (q .session)
 
   -- THE LAW OF RECEIVE over lent memory
-  pub receive-law : (m : Lent) (s : on-lists.Session) → Held F E c₀ z m s → (bs : Bytes) → all octet bs ≡ true → TookAs (received F m bs) (on-lists-calls.receive E s bs)
+  pub receive-law : (m : Lent) (s : on-lists.Session) → Held F E c₀ z m s → (bs : Bytes) → every octet bs ≡ true → TookAs (received F m bs) (on-lists-calls.receive E s bs)
   unfolding receiveOf on-lists-calls.receive
   receive-law m s h bs o =
       subst (λ (b : Bool). TookAs (cond b asked (unchanged (reply badMemory 255 0) (m .sm) (m .table) (m .inbox) (m .store))) (on-lists-calls.receive E s bs))

@@ -4,7 +4,7 @@ use mathlib.Core.Bool.{true, Bool, not}
 use mathlib.Core.List.{List, [], _∷_, _++_, map}
 use Prim.Native.Nat.{ℕ, _<_}
 use lib.ListN.{length, take, drop}
-use Rattle.grammar.specs.Bytes.{Bytes, all, isByte, wordValues}
+use Rattle.grammar.specs.Bytes.{Bytes, every, isByte, wordValues}
 use Rattle.log.specs.Log.{Event, took, gave}
 use Rattle.session_memory.specs.State.{sessionSize, loadOf}
 use Rattle.session_memory.specs.declared.Sizes.{Sizes}
@@ -23,7 +23,7 @@ use lib.Dec.{eqb}
 -- slice of bytes is, in C and in the language, and nothing of what stands in it.
 pub record Buffer : Type 0 where
   pub bytes : Bytes
-  pub octets : all isByte bytes ≡ true
+  pub octets : every isByte bytes ≡ true
   pub short : length bytes < wordValues
 
 -- All that open is lent.

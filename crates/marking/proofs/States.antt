@@ -11,7 +11,7 @@ use lib.Dec.{eqb, leb, ltb}
 use lib.ListN.{length, getD, take, drop, set, length-set, length-take, length-drop}
 use lib.Seq.{drop-set-add, drop-set-lt, take-set-le, take-set-lt, getD-set-same, getD-set-other, getD-take, getD-drop, ext-getD}
 use borrow.Author.Tests.{eqb-true, eqb-false, ltb-true, ltb-false}
-use Rattle.grammar.specs.Bytes.{Bytes, all}
+use Rattle.grammar.specs.Bytes.{Bytes, every}
 use Rattle.grammar.proofs.Basics.{and2}
 use Rattle.mail.specs.Mail.{marked}
 use Rattle.places.specs.Places.{recordLen}
@@ -29,12 +29,12 @@ unfolding setState
 state-length t i v = length-set t (i * recordLen) v
 
 -- what holds of this state and of every byte holds of every byte then
-all-set : (c : ℕ → Bool) (t : Bytes) (i v : ℕ) → c v ≡ true → all c t ≡ true → all c (set t i v) ≡ true
+all-set : (c : ℕ → Bool) (t : Bytes) (i v : ℕ) → c v ≡ true → every c t ≡ true → every c (set t i v) ≡ true
 all-set c [] i v h o = refl
-all-set c (x ∷ t) zero v h o = rw h (and2 (c x) (all c t) o .1)
-all-set c (x ∷ t) (suc i) v h o = rw (and2 (c x) (all c t) o .0) (all-set c t i v h (and2 (c x) (all c t) o .1))
+all-set c (x ∷ t) zero v h o = rw h (and2 (c x) (every c t) o .1)
+all-set c (x ∷ t) (suc i) v h o = rw (and2 (c x) (every c t) o .0) (all-set c t i v h (and2 (c x) (every c t) o .1))
 
-pub state-all : (c : ℕ → Bool) (t : Bytes) (i v : ℕ) → c v ≡ true → all c t ≡ true → all c (setState t i v) ≡ true
+pub state-all : (c : ℕ → Bool) (t : Bytes) (i v : ℕ) → c v ≡ true → every c t ≡ true → every c (setState t i v) ≡ true
 unfolding setState
 state-all c t i v h o = all-set c t (i * recordLen) v h o
 

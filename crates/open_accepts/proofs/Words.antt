@@ -9,7 +9,7 @@ use native.Mathlib.Omega.{arith}
 use lib.Dec.{eqb, ltb, leb}
 use lib.ListN.{length, getD}
 use borrow.Author.Tests.{leb-true, le-leb, ltb-true, ltb-false, lt-ltb, le-ltb, eqb-true, eqb-false, ne-eqb}
-use Rattle.grammar.specs.Bytes.{Bytes, all}
+use Rattle.grammar.specs.Bytes.{Bytes, every}
 use Rattle.grammar.specs.Bids.{OneBid}
 use Rattle.grammar.proofs.Bids.{one-bid, bid-one}
 use Rattle.grammar.specs.Fields.{field, callByte, bidByte, headingByte, isCall, isBid, isAt, isHeading, parts, allCalls, afterDot, sameBid}
@@ -61,11 +61,11 @@ call-decides b = (go (eqb b 46) (eqb b 64) refl refl, back)
 -- ---------------------------------------------------------------- texts
 
 module _ (Kind : ℕ → Type 0) (c : ℕ → Bool) (decides : (b : ℕ) → Decides (c b) (Kind b)) where
-  all-of : (w : Bytes) → ((k : ℕ) → k < length w → Kind (getD w k 0)) → all c w ≡ true
+  all-of : (w : Bytes) → ((k : ℕ) → k < length w → Kind (getD w k 0)) → every c w ≡ true
   all-of [] h = refl
-  all-of (x ∷ w) h = both (c x) (all c w) (decides x .1 (h 0 (omega arith))) (all-of w (λ k l. h (suc k) (omega arith)))
+  all-of (x ∷ w) h = both (c x) (every c w) (decides x .1 (h 0 (omega arith))) (all-of w (λ k l. h (suc k) (omega arith)))
 
-  pub all-decides : (w : Bytes) → Decides (all c w) ((k : ℕ) → k < length w → Kind (getD w k 0))
+  pub all-decides : (w : Bytes) → Decides (every c w) ((k : ℕ) → k < length w → Kind (getD w k 0))
   all-decides w = (λ e k h. decides (getD w k 0) .0 (all-get c w k e h), all-of w)
 
   -- THE LAW OF TEXTS

@@ -5,7 +5,7 @@ use mathlib.Core.List.{List, [], _∷_, _++_, map}
 use Prim.Native.Nat.{ℕ, _+_, _*_}
 use lib.Dec.{eqb}
 use lib.ListN.{length, replicate, set}
-use Rattle.grammar.specs.Bytes.{Bytes, SP, CTRLZ, all}
+use Rattle.grammar.specs.Bytes.{Bytes, SP, CTRLZ, every}
 use Rattle.grammar.specs.Ascii.{text}
 use Rattle.grammar.specs.Fields.{formNumber, plain, file}
 use Rattle.grammar.specs.Refusals.{badMemory, noPlace}
@@ -142,7 +142,7 @@ abbrev pub isWaiting : ℕ → Bool
 isWaiting s = eqb s stateWaiting
 
 abbrev pub ofWaitingOnly : Lending → Opened
-ofWaitingOnly L = cond (all isWaiting (statesOf (L .table))) (openOn L) (refusing L)
+ofWaitingOnly L = cond (every isWaiting (statesOf (L .table))) (openOn L) (refusing L)
 
 abbrev pub atPlace0 : Lending → Opened
 atPlace0 L = record { reply = reply (openOn L .reply .answer) 0 0; sm = openOn L .sm }

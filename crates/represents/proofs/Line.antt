@@ -16,7 +16,7 @@ use Rattle.grammar.specs.Sid.{hasFeature, framed}
 use Rattle.grammar.specs.Turns.{Proposal, TurnLine, saysFF, saysFQ, endsBlock, notAllowed, proposes, endsSummed, withCr, fixedText, ourSid}
 use Rattle.grammar.specs.Answers.{Sign, fsLine, writeSign}
 use Rattle.grammar.specs.Scan.{scanFrom}
-use Rattle.grammar.specs.Transfers.{sum, sumRight}
+use Rattle.grammar.specs.Transfers.{byteSum, sumRight}
 use Rattle.grammar.proofs.AsRead.{TurnOk}
 use Rattle.mail.specs.Mail.{Message, accepted}
 use Rattle.session.specs.Choices.{Shelf, answersTo, bodyBytes}
@@ -61,11 +61,11 @@ use Rattle.form_closed.specs.Facts.{FiveOk}
 use Rattle.form_closed.proofs.Laws.{five-of, signs-octets}
 
 -- THE SUM OF THE PROPOSAL LINES so far, and with one line more
-sum-append : (x y : Bytes) → sum (x ++ y) ≡ sum x + sum y
+sum-append : (x y : Bytes) → byteSum (x ++ y) ≡ byteSum x + byteSum y
 sum-append [] y = omega arith
 sum-append (b ∷ x) y = omega (arith, sum-append x y)
 
-sum-on : (lines raw : Bytes) (n : ℕ) → n ≡ sum lines % 256 → (n + lineSum raw) % 256 ≡ sum (lines ++ withCr raw) % 256
+sum-on : (lines raw : Bytes) (n : ℕ) → n ≡ byteSum lines % 256 → (n + lineSum raw) % 256 ≡ byteSum (lines ++ withCr raw) % 256
 unfolding lineSum
 sum-on lines raw n e = let a = sum-append lines (withCr raw) in omega arith
 
@@ -184,7 +184,7 @@ module _ (F : Fixed) (E : Shelf) (s : Session) (a : Bool) (i st : Bytes) where
         go zero false = (refl, refl)
         go (suc n) ff = rw (ne-eqb (suc n) 0 (λ e. omega arith)) (refl, refl)
 
-    pub proposal-law : (q : Proposal) → Fits q → w .phase ≡ 3 → (lines raw : Bytes) → w .sum ≡ sum lines % 256
+    pub proposal-law : (q : Proposal) → Fits q → w .phase ≡ 3 → (lines raw : Bytes) → w .sum ≡ byteSum lines % 256
         → Lead (proposalLine q (lineSum raw) w y k r) (on-lists.turnJudged E (proposes q) (w .ff) (proposalsOf (w .block) (w .proposals)) lines raw m)
     unfolding proposalLine
     proposal-law q fits e lines raw z =
@@ -282,13 +282,13 @@ module _ (F : Fixed) (E : Shelf) (s : Session) (a : Bool) (i st : Bytes) where
             (on-lists.answered E qs (on-lists.turnMarks m))) f all-answered)
 
     -- F> with the checksum h
-    summed-law : (h : ℕ) (lines raw : Bytes) → w .sum ≡ sum lines % 256
+    summed-law : (h : ℕ) (lines raw : Bytes) → w .sum ≡ byteSum lines % 256
         → Lead (summedLine h w y k r t (F .known) i (length st)) (on-lists.turnJudged E (endsSummed h) (w .ff) (proposalsOf (w .block) (w .proposals)) lines raw m)
     unfolding summedLine
     summed-law h lines raw z = go (proposalsOf (w .block) (w .proposals)) (w .proposals) (sym (proposals-length (w .block) (w .proposals))) refl
       where
         same : sumRight lines h ≡ eqb ((w .sum + h) % 256) 0
-        same = let q : (sum lines + h) % 256 ≡ (w .sum + h) % 256 = omega arith in rw q
+        same = let q : (byteSum lines + h) % 256 ≡ (w .sum + h) % 256 = omega arith in rw q
 
         tested : (c : Bool) (p : Proposal) (ps : List Proposal) → proposalsOf (w .block) (w .proposals) ≡ p ∷ ps
             → Lead (cond c (endLine w y k r t (F .known) i (length st)) (refusal wrongBlockSum w y k r))
@@ -306,7 +306,7 @@ module _ (F : Fixed) (E : Shelf) (s : Session) (a : Bool) (i st : Bytes) where
 
     -- ---------------------------------------------------------------- a line of the partner's turn
 
-    pub turn-law : w .phase ≡ 3 → (lines raw : Bytes) → w .sum ≡ sum lines % 256 → (md : Bool) (l : TurnLine) → TurnOk md l
+    pub turn-law : w .phase ≡ 3 → (lines raw : Bytes) → w .sum ≡ byteSum lines % 256 → (md : Bool) (l : TurnLine) → TurnOk md l
         → Lead (turnRead l (lineSum raw) w y k r t (F .known) i (length st)) (on-lists.turnJudged E l (w .ff) (proposalsOf (w .block) (w .proposals)) lines raw m)
     turn-law e lines raw z md saysFF f = ff-law lines raw
     turn-law e lines raw z md saysFQ f = fq-law lines raw

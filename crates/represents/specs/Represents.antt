@@ -10,7 +10,7 @@ use lib.ListN.{length, take, drop}
 use Rattle.grammar.specs.Bytes.{Bytes}
 use Rattle.grammar.specs.Turns.{Proposal}
 use Rattle.grammar.specs.Answers.{Sign, accept, decline, defer, plusSign, minusSign}
-use Rattle.grammar.specs.Transfers.{partOf, sum}
+use Rattle.grammar.specs.Transfers.{partOf, byteSum}
 use Rattle.mail.specs.Mail.{Message, accepted}
 use Rattle.session.specs.Choices.{Shelf, bodyBytes}
 use Rattle.session.specs.Session as on-lists
@@ -119,7 +119,7 @@ lineNumber (on-lists.awaitsAnswer is) = phaseFs
 abbrev pub HeldFor : Await → on-lists.Awaited → Type 0
 HeldFor w (on-lists.awaitsSid caller) = Unit {0}
 HeldFor w on-lists.awaitsPrompt = Unit {0}
-HeldFor w (on-lists.awaitsTurn ff ps raw) = (w .ff ≡ ff) × (proposalsOf (w .block) (w .proposals) ≡ ps) × (w .sum ≡ sum raw % 256)
+HeldFor w (on-lists.awaitsTurn ff ps raw) = (w .ff ≡ ff) × (proposalsOf (w .block) (w .proposals) ≡ ps) × (w .sum ≡ byteSum raw % 256)
 HeldFor w (on-lists.awaitsAnswer is) = held (w .ours) ≡ is
 
 -- What is awaited.

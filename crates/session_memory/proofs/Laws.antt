@@ -9,7 +9,7 @@ use native.Mathlib.Nat.{add-assoc}
 use lib.Dec.{eqb}
 use lib.ListN.{length, take, drop, getD, replicate, length-append, length-drop, length-replicate, drop-of-length-le}
 use lib.Seq.{take-append-seam, take-append-add, take-at, take-all, drop-append-add, drop-drop, length-take-le}
-use Rattle.grammar.specs.Bytes.{Bytes, all}
+use Rattle.grammar.specs.Bytes.{Bytes, every}
 use Rattle.grammar.specs.Transfers.{partOf}
 use Rattle.grammar.proofs.Basics.{octet}
 use Rattle.buffer.specs.Put.{putBytes}
@@ -349,7 +349,7 @@ module _ (sm : Bytes) (z : Sizes) (n : numbersStart ≤ length sm) where
 -- ---------------------------------------------------------------- in shape
 
 -- every state that is loaded from bytes is in shape
-pub load-shaped : (sm : Bytes) → all octet sm ≡ true → Shaped (loadOf sm)
+pub load-shaped : (sm : Bytes) → every octet sm ≡ true → Shaped (loadOf sm)
 unfolding loadOf loadAwait loadSay loadKeep loadReading loadLine
 load-shaped sm o =
     let b = octets sm o in

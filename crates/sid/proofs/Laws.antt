@@ -10,7 +10,7 @@ use lib.Dec.{eqb, ltb}
 use lib.ListN.{length, getD, take, drop, length-drop, drop-of-length-le}
 use lib.Seq.{drop-cons}
 use borrow.Author.Tests.{eq-eqb, ne-eqb, lt-ltb, le-ltb, ltb-true, ltb-false, not-true, not-false}
-use Rattle.grammar.specs.Bytes.{Bytes, null, all, splitAt}
+use Rattle.grammar.specs.Bytes.{Bytes, null, every, splitAt}
 use Rattle.grammar.specs.Fields.{upper, digit}
 use Rattle.grammar.specs.Sid.{isLetter, letterPlace, noFeatures, hasFeature, withFeature, sidEnd, readLevels, readFeatures, splitLast, dataRead, authorRead, sidRead, readSid}
 use Rattle.grammar.proofs.Basics.{to-end}
@@ -139,7 +139,7 @@ module _ (l : Bytes) (p : ℕ) (f : splitLast l ≡ lastBy l p) where
   pub data-none : p ≡ 0 → readFeatures l ≡ dataRead l (splitLast l)
   data-none e = rw (f, eq-eqb p 0 e)
 
-  pub data-by : (r : Bool) → (p ≡ 0 → ⊥) → r ≡ (all (classOf Class.Data) (take (p - 1 - 0) l) && not (null (take (p - 1 - 0) l)))
+  pub data-by : (r : Bool) → (p ≡ 0 → ⊥) → r ≡ (every (classOf Class.Data) (take (p - 1 - 0) l) && not (null (take (p - 1 - 0) l)))
       → dataRead l (splitLast l) ≡ cond r (readFeatures (take (length l - p) (drop p l))) none
   unfolding classOf
   data-by r n g =
@@ -151,7 +151,7 @@ module _ (l : Bytes) (h : ℕ) (f : h ≡ upto 45 l) where
   pub author-none : length l ≤ h → none ≡ authorRead (splitAt 45 l)
   author-none k = rw (split-upto 45 l, ← f, le-ltb _ _ k)
 
-  pub author-by : (r : Bool) → h < length l → r ≡ (all (classOf Class.Author) (take (h - 0) l) && not (null (take (h - 0) l)))
+  pub author-by : (r : Bool) → h < length l → r ≡ (every (classOf Class.Author) (take (h - 0) l) && not (null (take (h - 0) l)))
       → authorRead (splitAt 45 l) ≡ cond r (let t = take (length l - (h + 1)) (drop (h + 1) l) in dataRead t (splitLast t)) none
   unfolding classOf
   author-by r k g =

@@ -10,7 +10,7 @@ ghost use mathlib.Core.Bool.{true, not, _&&_};
 ghost use mathlib.Core.Option.{none, some};
 ghost use Prim.Native.Nat.{_≤_, _<_};
 ghost use lib.ListN.{length};
-ghost use Rattle.grammar.specs.Bytes.{null, all, splitAt};
+ghost use Rattle.grammar.specs.Bytes.{null, every, splitAt};
 ghost use Rattle.grammar.specs.Sid.{isLetter, letterPlace, noFeatures, sidEnd, readLevels, readFeatures, splitLast, dataRead, authorRead, readSid};
 ghost use Rattle.byte.specs.Classes.{classOf};
 ghost use Rattle.sid.specs.Meaning.{sidOf, lastBy};
@@ -150,7 +150,7 @@ fn past_last_hyphen(s: &[u8]) -> usize
 
 // At least one byte, and every byte of the class.
 fn some_of(s: &[u8], class: Class) -> bool
-    ensures { λ r. ⌜ r ≡ (all (classOf class) (now (s .entry)) && not (null (now (s .entry)))) ⌝ }
+    ensures { λ r. ⌜ r ≡ (every (classOf class) (now (s .entry)) && not (null (now (s .entry)))) ⌝ }
 {
     if !all_of(s, class) {
         return false;

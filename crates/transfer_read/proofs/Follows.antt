@@ -11,7 +11,7 @@ use lib.Seq.{take-suc-set}
 use borrow.Author.Tests.{ne-eqb, ltb-true}
 use Rattle.grammar.specs.Bytes.{Bytes, CR, SP, CTRLZ}
 use Rattle.grammar.specs.Fields.{headingByte}
-use Rattle.grammar.specs.Transfers.{sum, sumRight}
+use Rattle.grammar.specs.Transfers.{byteSum, sumRight}
 use Rattle.grammar.specs.Scan.{Scan, inTitle, inBody, inMark, atStart, atLen, inHead, inOff, inData, atSize, atSum, Scanned, goes, got, malformed, wrongSum, noRoom, scanByte, scanOn, bodyOf}
 use Rattle.grammar.proofs.Basics.{by-test, and2, snoc-length}
 use Rattle.grammar.proofs.TransferBack.{sum-wraps, right-wraps}
@@ -68,12 +68,12 @@ step-scan room (inData h x (suc k)) b =
     let r = numbersOf (inData h x (suc k)) in
     let e : suc k - 1 ≡ k = omega arith in
     rw (ne-eqb (suc k) 0 (λ z. omega arith))
-    (two (inData h x (suc k)) b (ltb (length x) room) (onward (reader 7 0 (length h) 0 (suc k - 1) ((sum x % 256 + b) % 256) (length x + 1)) 2) (ended r NoRoom)
+    (two (inData h x (suc k)) b (ltb (length x) room) (onward (reader 7 0 (length h) 0 (suc k - 1) ((byteSum x % 256 + b) % 256) (length x + 1)) 2) (ended r NoRoom)
     (goes (inData h (x ++ (b ∷ [])) k)) noRoom (λ _. rw (snoc-length x b, sum-wraps x b, e)) (λ _. refl))
 step-scan room (atSize h x) b = refl
 step-scan room (atSum h x) b =
     let r = numbersOf (atSum h x) in
-    rw (right-wraps x b) (two (atSum h x) b (eqb ((sum x % 256 + b) % 256) 0) (ended r Whole) (ended r WrongSum) (got h x) wrongSum (λ _. refl) (λ _. refl))
+    rw (right-wraps x b) (two (atSum h x) b (eqb ((byteSum x % 256 + b) % 256) 0) (ended r Whole) (ended r WrongSum) (got h x) wrongSum (λ _. refl) (λ _. refl))
 
 -- ---------------------------------------------------------------- the bytes so far
 

@@ -11,7 +11,7 @@ use lib.ListN.{length, getD, take, drop, set, length-take, length-drop, take-app
 use lib.Seq.{sets, sets-eq, take-all, take-take, drop-drop, drop-cons, length-take-le}
 use borrow.Author.Tests.{eq-eqb, ne-eqb, lt-ltb, eqb-true, ltb-true}
 use Rattle.grammar.specs.Bytes.{Bytes, CTRLZ}
-use Rattle.grammar.specs.Transfers.{sum}
+use Rattle.grammar.specs.Transfers.{byteSum}
 use Rattle.grammar.proofs.Basics.{Lacks}
 use Rattle.buffer.specs.Put.{putBytes}
 use Rattle.transfer_step.specs.declared.Reader.{Reader}
@@ -25,12 +25,12 @@ use Rattle.transfer_read.proofs.Laws.{after-zero, after-after}
 
 -- the reading after the bytes w of a block
 abbrev past : Reader → Bytes → Reader
-past r w = reader 7 (r .len) (r .head) (r .off) (r .left - length w) ((r .sum + sum w) % 256) (r .body + length w)
+past r w = reader 7 (r .len) (r .head) (r .off) (r .left - length w) ((r .sum + byteSum w) % 256) (r .body + length w)
 
 past-past : (r : Reader) (x : ℕ) (w : Bytes) → past (past r (x ∷ [])) w ≡ past r (x ∷ w)
 past-past r x w =
     let a : r .left - 1 - length w ≡ r .left - suc (length w) = omega arith in
-    let b : ((r .sum + (x + 0)) % 256 + sum w) % 256 ≡ (r .sum + (x + sum w)) % 256 = omega arith in
+    let b : ((r .sum + (x + 0)) % 256 + byteSum w) % 256 ≡ (r .sum + (x + byteSum w)) % 256 = omega arith in
     let c : r .body + 1 + length w ≡ r .body + suc (length w) = omega arith in
     rw (a, b, c)
 
@@ -217,10 +217,10 @@ put-sets d at p h =
     (sym (sets-eq p d at h ∙ append-assoc (take at d) p (drop (at + length p) d)))
 
 -- the wrapping sums
-pub block-along : (r : Reader) (w : Bytes) (k s : ℕ) → r .place ≡ 7 → k ≡ sum w % 256 → s ≡ (r .sum + k) % 256
+pub block-along : (r : Reader) (w : Bytes) (k s : ℕ) → r .place ≡ 7 → k ≡ byteSum w % 256 → s ≡ (r .sum + k) % 256
     → reader (r .place) (r .len) (r .head) (r .off) (r .left - length w) s (r .body + length w) ≡ along r w
 unfolding along
-block-along r w k s e f g = let a : s ≡ (r .sum + sum w) % 256 = omega arith in rw (eq-eqb (r .place) 7 e, a)
+block-along r w k s e f g = let a : s ≡ (r .sum + byteSum w) % 256 = omega arith in rw (eq-eqb (r .place) 7 e, a)
 
 pub body-along : (r : Reader) (w : Bytes) → (r .place ≡ 7 → ⊥)
     → reader (r .place) (r .len) (r .head) (r .off) (r .left) (r .sum) (r .body + length w) ≡ along r w

@@ -6,7 +6,7 @@ use Prim.Native.Nat.{ℕ, zero, suc, _+_, _%_, _≤_}
 use lib.Dec.{eqb}
 use lib.ListN.{length, take, drop}
 use Rattle.grammar.specs.Bytes.{Bytes, CR, CTRLZ}
-use Rattle.grammar.specs.Transfers.{Parsed, sum}
+use Rattle.grammar.specs.Transfers.{Parsed, byteSum}
 use Rattle.grammar.specs.Scan.{Scan, inTitle, inBody, inMark, atStart, atLen, inHead, inOff, inData, atSize, atSum, Scanned, goes, got, malformed, wrongSum, noRoom, scanByte, scanOn, bodyOf}
 use Rattle.transfer_step.specs.declared.Reader.{Reader}
 use Rattle.transfer_step.specs.declared.Stepped.{Stepped}
@@ -39,9 +39,9 @@ numbersOf atStart = reader 3 0 0 0 0 0 0
 numbersOf atLen = reader 4 0 0 0 0 0 0
 numbersOf (inHead len h) = reader 5 len (length h) 0 0 0 0
 numbersOf (inOff len h o) = reader 6 len (length h) (length o) 0 0 0
-numbersOf (inData h x k) = reader 7 0 (length h) 0 k (sum x % 256) (length x)
-numbersOf (atSize h x) = reader 8 0 (length h) 0 0 (sum x % 256) (length x)
-numbersOf (atSum h x) = reader 9 0 (length h) 0 0 (sum x % 256) (length x)
+numbersOf (inData h x k) = reader 7 0 (length h) 0 k (byteSum x % 256) (length x)
+numbersOf (atSize h x) = reader 8 0 (length h) 0 0 (byteSum x % 256) (length x)
+numbersOf (atSum h x) = reader 9 0 (length h) 0 0 (byteSum x % 256) (length x)
 
 -- Where a byte goes at which the scan goes on: 0 nowhere, 1 to the heading, 2 to the body.
 abbrev pub placeOf : Scan → ℕ → ℕ

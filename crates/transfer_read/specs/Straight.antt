@@ -6,7 +6,7 @@ use Prim.Native.Nat.{ℕ, suc, _+_, _-_, _%_, min}
 use lib.Dec.{eqb, ltb}
 use lib.ListN.{length, take}
 use Rattle.grammar.specs.Bytes.{Bytes, CTRLZ}
-use Rattle.grammar.specs.Transfers.{sum}
+use Rattle.grammar.specs.Transfers.{byteSum}
 use Rattle.transfer_step.specs.declared.Reader.{Reader}
 use Rattle.transfer_step.specs.Step.{reader}
 
@@ -27,5 +27,5 @@ straightOf room r bs =
 unfoldable pub along : Reader → Bytes → Reader
 along r w =
     cond (eqb (r .place) 7)
-    (reader (r .place) (r .len) (r .head) (r .off) (r .left - length w) ((r .sum + sum w) % 256) (r .body + length w))
+    (reader (r .place) (r .len) (r .head) (r .off) (r .left - length w) ((r .sum + byteSum w) % 256) (r .body + length w))
     (reader (r .place) (r .len) (r .head) (r .off) (r .left) (r .sum) (r .body + length w))

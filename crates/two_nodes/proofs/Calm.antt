@@ -9,7 +9,7 @@ use native.Mathlib.Omega.{arith}
 use lib.Dec.{eqb, ltb}
 use lib.ListN.{length}
 use borrow.Author.Tests.{eqb-true, eq-eqb}
-use Rattle.grammar.specs.Bytes.{Bytes, CR, LF, CTRLZ, all}
+use Rattle.grammar.specs.Bytes.{Bytes, CR, LF, CTRLZ, every}
 use Rattle.grammar.specs.Fields.{Form, plain, message, file, headingByte, isHeading, isBody}
 use Rattle.grammar.specs.Lines.{LineByte, dropped, ends, grows, overruns, lineByte, trim, isComment, isPrompt}
 use Rattle.grammar.specs.Sid.{readSid, hasFeature, framed}
@@ -37,7 +37,7 @@ Calm (goesOn p m o) = headLf o ≡ false
 heading-calm : (h r : Bytes) → isHeading h ≡ true → headLf (h ++ r) ≡ false
 heading-calm [] r e = absurd (let z = field-is headingByte 80 [] e .least in omega arith)
 heading-calm (x ∷ h) r e =
-    not-so (eqb x LF) (λ k. no-both (headingByte x) ((and2 (headingByte x) (all headingByte h) (field-is headingByte 80 (x ∷ h) e .class)) .0) (ap headingByte (eqb-true x LF k)))
+    not-so (eqb x LF) (λ k. no-both (headingByte x) ((and2 (headingByte x) (every headingByte h) (field-is headingByte 80 (x ∷ h) e .class)) .0) (ap headingByte (eqb-true x LF k)))
 
 transfer-calm : (f : Form) (h x r : Bytes) → sendable f h x ≡ true → headLf (writeTransfer f h x ++ r) ≡ false
 unfolding writeTransfer

@@ -3,14 +3,14 @@ use Prim.Native.Nat.{_≤_, _-_}
 use lib.ListN.{length, drop}
 use borrow.Author.Needs.{needs}
 use borrow.Author.Tests.{not-true, not-false}
-use Rattle.grammar.specs.Bytes.{all}
+use Rattle.grammar.specs.Bytes.{every}
 use Rattle.byte.specs.Classes.{classOf}
 use Rattle.byte.proofs.Laws.{all-more, all-stop, all-end}
 use Rattle.byte.proofs.all_of.Statement.{statement}
 use Rattle.byte.proofs.all_of.Tie as tie
 
 abbrev Inv-loop : tie.InvT-loop
-Inv-loop s k i₀ i = (i ≤ length s) × (all (classOf k) s ≡ all (classOf k) (drop i s))
+Inv-loop s k i₀ i = (i ≤ length s) × (every (classOf k) s ≡ every (classOf k) (drop i s))
 
 abbrev μ-loop : tie.MeasureT-loop
 μ-loop s k i₀ i = length s - i

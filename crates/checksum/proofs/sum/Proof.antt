@@ -4,13 +4,13 @@ use mathlib.Core.Path.{_≡_, refl, _∙_}
 use native.Mathlib.Omega.{arith}
 use lib.ListN.{length, take}
 use borrow.Author.Needs.{needs}
-use Rattle.grammar.specs.Transfers.{sum}
+use Rattle.grammar.specs.Transfers.{byteSum}
 use Rattle.checksum.proofs.Laws.{sum-more, sum-all}
 use Rattle.checksum.proofs.sum.Statement.{statement}
 use Rattle.checksum.proofs.sum.Tie as tie
 
 abbrev Inv-loop : tie.InvT-loop
-Inv-loop s t₀ i₀ t i = (i ≤ length s) × (t ≡ sum (take i s) % 256)
+Inv-loop s t₀ i₀ t i = (i ≤ length s) × (t ≡ byteSum (take i s) % 256)
 
 abbrev μ-loop : tie.MeasureT-loop
 μ-loop s t₀ i₀ t i = length s - i

@@ -5,13 +5,13 @@ use Prim.Native.Nat.{_≤_, _-_}
 use lib.ListN.{length, take, drop, replicate}
 use borrow.Author.Needs.{needs}
 use borrow.Author.Tests.{not-true, not-false}
-use Rattle.grammar.specs.Bytes.{all}
+use Rattle.grammar.specs.Bytes.{every}
 use Rattle.fs_line.proofs.Laws.{isSign, signs-count, signs-stop, signs-more, signs-end, copy-more}
 use Rattle.fs_line.proofs.read_signs.Statement.{statement}
 use Rattle.fs_line.proofs.read_signs.Tie as tie
 
 abbrev Inv-loop : tie.InvT-loop
-Inv-loop s n signs₀ i₀ signs i = (i ≤ n) × (length signs ≡ 5) × (signs ≡ take i s ++ replicate (5 - i) 0) × (all isSign s ≡ all isSign (drop i s))
+Inv-loop s n signs₀ i₀ signs i = (i ≤ n) × (length signs ≡ 5) × (signs ≡ take i s ++ replicate (5 - i) 0) × (every isSign s ≡ every isSign (drop i s))
 
 abbrev μ-loop : tie.MeasureT-loop
 μ-loop s n signs₀ i₀ signs i = n - i
