@@ -136,15 +136,15 @@ line-lies body at = go (at + leadingLf (drop at body)) (omega arith) (leb (lengt
 
 -- ---------------------------------------------------------------- a line in front of a body
 
-upto-mid : (c : ℕ) (l r : Bytes) → Lacks c l → upto c (l ++ c ∷ r) ≡ length l
+pub upto-mid : (c : ℕ) (l r : Bytes) → Lacks c l → upto c (l ++ c ∷ r) ≡ length l
 unfolding upto
 upto-mid c [] r h = rw (eq-eqb c c refl)
 upto-mid c (x ∷ l) r h = rw (h .0, upto-mid c l r (h .1))
 
-take-front : (l r : Bytes) → take (length l) (l ++ r) ≡ l
+pub take-front : (l r : Bytes) → take (length l) (l ++ r) ≡ l
 take-front l r = take-at l r (length l) refl
 
-drop-front : (c : ℕ) (l r : Bytes) → drop (suc (length l)) (l ++ c ∷ r) ≡ r
+pub drop-front : (c : ℕ) (l r : Bytes) → drop (suc (length l)) (l ++ c ∷ r) ≡ r
 drop-front c [] r = refl
 drop-front c (x ∷ l) r = drop-front c l r
 
