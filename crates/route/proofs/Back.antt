@@ -135,7 +135,7 @@ abbrev pub elseOurs : Bytes → Option Bytes → Option Bytes
 elseOurs w none = some w
 elseOurs w (some v) = some v
 
-origin-cons : (h : Header) (hs : List Header) → originOf (h ∷ hs) ≡ elseOurs (h .mailbox) (originOf hs)
+pub origin-cons : (h : Header) (hs : List Header) → originOf (h ∷ hs) ≡ elseOurs (h .mailbox) (originOf hs)
 unfolding originOf
 origin-cons h [] = refl
 origin-cons h (g ∷ hs) = refl
