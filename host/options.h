@@ -15,7 +15,7 @@ struct options {
     /* sessions */
     bool caller, called, telnet, blank_offset, once, progress, flow, anyone;
     bool asks; /* no option: callers from outside must log in */
-    const char *login, *question, *password, *transcript, *log, *from;
+    const char *login, *question, *password, *transcript, *log, *from, *header;
     long timeout, sid_limit, progress_limit, session_limit, linger, delay; /* seconds; 0: no limit */
     long least_rate, login_limit, callers;                                 /* bytes a second, bytes, processes */
     long room, drop_after;
