@@ -91,7 +91,9 @@ static void print_title(FILE *to, const struct trace *trace, const struct messag
         fprintf(to, ", copy %lld", message->copy);
     fprintf(to, ", BID ");
     text_show(to, message->bid);
-    fprintf(to, ", %c from ", message->type);
+    fprintf(to, ", ");
+    text_show(to, (struct part){ &message->type, 1 });
+    fprintf(to, " from ");
     text_show(to, message->from);
     fprintf(to, " to ");
     text_show(to, message->to);
