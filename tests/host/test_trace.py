@@ -89,6 +89,21 @@ class Traced(Kept):
         self.assertEqual(rows(node.right("trace", file, "--text")), self.ROWS)
         self.assertEqual(node.right("trace", "-"), b"no messages\n")
 
+    def test_beside(self):
+        "beside a session"
+        node = self.node().add(plain(b"1_US", FOUR))
+        partner = node.stdio()
+        partner.hears(GREETING)
+        self.assertEqual(rows(node.right("trace", "1_US")), self.ROWS)
+        partner.hang_up()
+        partner.rest()
+
+    def test_output(self):
+        "output that can't be written is an error"
+        with open("/dev/full", "wb") as full:
+            process = self.node().add(plain(b"1_US", FOUR)).start("trace", "1_US", stdout=full)
+            self.says_why((process.wait(PATIENCE), process.stderr.read().decode()), FAILED, "standard output")
+
     def test_many(self):
         "a body full of headers, and damaged ones, end as they should"
         line = b"R:700101/0000 1@A\r"
