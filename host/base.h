@@ -69,6 +69,8 @@ bool base_partner(struct base *base, struct bytes *partner);
 typedef bool message_function(void *context, const struct message *message);
 typedef bool bid_function(void *context, struct part bid);
 bool base_each(struct base *base, enum box box, message_function *function, void *context);
+/* Those of one BID, in whatever spelling. */
+bool base_each_of(struct base *base, enum box box, struct part bid, message_function *function, void *context);
 /* For one session: of what waits the oldest, those behind that were deferred; and the known BIDs beside theirs that are likeliest to come
  * again. */
 bool base_waiting(struct base *base, message_function *function, void *context);

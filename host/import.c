@@ -3,16 +3,12 @@
 #include "base.h"
 #include "boxes.h"
 #include "fault.h"
+#include "file.h"
 #include "letter.h"
-#include "stop.h"
 #include "text.h"
 
-#include <errno.h>
-#include <fcntl.h>
 #include <stdio.h>
 #include <stdlib.h>
-#include <string.h>
-#include <unistd.h>
 
 struct import {
     struct base *base;
@@ -159,24 +155,6 @@ static enum exit_code add_message(struct import *import, const struct letter *le
     return code == DONE ? add_copies(import, letter) : code;
 }
 
-/* A person's line ends as they look on the air: CR LF and LF become CR. */
-static void to_air(struct bytes *air, struct part body)
-{
-    size_t i;
-
-    for (i = 0; i < body.n; i++) {
-        if (body.at[i] != '\n')
-            bytes_add(air, body.at + i, 1);
-        else if (!i || body.at[i - 1] != '\r')
-            bytes_add(air, "\r", 1);
-    }
-}
-
-static bool has_byte(struct part bytes, uint8_t byte)
-{
-    return bytes.n && memchr(bytes.at, byte, bytes.n);
-}
-
 /* Bytes of a packed body are no line ends, whichever they are. */
 static enum exit_code add_letter(struct import *import, struct letter *letter)
 {
@@ -185,11 +163,11 @@ static enum exit_code add_letter(struct import *import, struct letter *letter)
     bool plain = message->form == PLAIN_TEXT;
     enum exit_code code;
 
-    if (plain && !import->text && !import->as_is && has_byte(message->body, '\n') && !has_byte(message->body, '\r'))
+    if (plain && !import->text && !import->as_is && letter_has_lf_ends(message->body))
         return bad(import, "its lines end with LF, and on the air with CR: import it with --text (with --as-is it goes out as it stands)");
     if (plain && import->text) {
         bool announced = message->size != message->body.n;
-        to_air(&air, message->body);
+        letter_to_air(&air, message->body);
         message->body = part_all(&air);
         message->size = announced ? message->size : (uint32_t)air.n;
     }
@@ -200,39 +178,19 @@ static enum exit_code add_letter(struct import *import, struct letter *letter)
 
 /* ---- files */
 
-static bool begins_with(struct part file, const char *mark, size_t n)
-{
-    return file.n >= n && memcmp(file.at, mark, n) == 0;
-}
-
 static enum exit_code add_all(struct import *import, struct part file)
 {
     enum exit_code code = DONE;
     struct letter letter;
 
     import->place = 1;
-    if (begins_with(file, "\xEF\xBB\xBF", 3) || begins_with(file, "\xFF\xFE", 2) || begins_with(file, "\xFE\xFF", 2))
-        return bad(import, "the file begins with a byte order mark (BOM); save it without one, not as UTF-16");
+    if (file_fault(file))
+        return bad(import, file_fault(file));
     for (; code == DONE && letter_follows(&file); import->place++) {
         const char *wrong = letter_read(&file, &letter);
         code = wrong ? bad(import, wrong) : add_letter(import, &letter);
     }
     return code;
-}
-
-static bool read_all(const char *name, struct bytes *into)
-{
-    int file = strcmp(name, "-") ? open(name, O_RDONLY | O_CLOEXEC) : STDIN_FILENO;
-    uint8_t piece[65536];
-    ssize_t n = -1;
-
-    while (file >= 0 && !stop_asked() && (n = read(file, piece, sizeof piece)) > 0)
-        bytes_add(into, piece, (size_t)n);
-    if (n < 0 && !stop_asked())
-        say("%s: %s", name, strerror(errno));
-    if (file >= 0 && file != STDIN_FILENO)
-        close(file);
-    return n == 0;
 }
 
 /* The base is opened when all of them are read: standard input may take its time. */
@@ -277,7 +235,7 @@ enum exit_code boxes_import(const struct options *options)
     if (!files)
         give_up("no memory");
     for (i = 0; code == DONE && i < options->count; i++)
-        code = read_all(options->arguments[i], &files[i]) ? DONE : BAD_FILE;
+        code = file_read(options->arguments[i], &files[i]) ? DONE : BAD_FILE;
     if (code == DONE)
         code = add_files(&import, options, files);
     if (code == DONE)

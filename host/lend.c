@@ -1,5 +1,6 @@
 #include "lend.h"
 #include "fault.h"
+#include "route.h"
 #include "say.h"
 #include "text.h"
 
@@ -8,6 +9,8 @@
 struct lending {
     struct shelf *shelf;
     struct base *base;
+    struct part mailbox; /* of our routing header, or empty */
+    const char *unrouted[FRINGEMOLE_MAX_RECORDS]; /* why a record goes without it, or NULL */
     long long bad[FRINGEMOLE_MAX_RECORDS]; /* numbers of messages to hold */
     size_t count;
     bool judges_known; /* only once open has refused: there are many */
@@ -23,6 +26,38 @@ static void say_held(long long number, struct part bid, const char *rule)
 
 #define TWIN "another message of the outbox has this BID"
 
+/* With our routing header, if there shall be one. */
+static bool put_on_shelf(struct lending *lending, const struct message *message)
+{
+    struct bytes store = { NULL, 0, 0 };
+    struct message lent = *message;
+    size_t place = shelf_records(lending->shelf);
+    const char *why = NULL;
+    bool right;
+
+    if (lending->mailbox.n && message->form == PLAIN_TEXT)
+        why = route_add(&lent, lending->mailbox, &store);
+    right = shelf_add(lending->shelf, &lent);
+    if (right)
+        lending->unrouted[place] = why;
+    bytes_free(&store);
+    return right;
+}
+
+static void say_unrouted(const struct lending *lending)
+{
+    size_t place;
+
+    for (place = 0; place < shelf_records(lending->shelf); place++) {
+        if (lending->unrouted[place]) {
+            char *shown = text_copy(shelf_bid(lending->shelf, place));
+            say("message %lld of the base, BID %s, goes as it is, without our routing header: %s", lending->shelf->numbers[place], shown,
+                lending->unrouted[place]);
+            free(shown);
+        }
+    }
+}
+
 static bool take_message(void *context, const struct message *message)
 {
     struct lending *lending = context;
@@ -33,7 +68,7 @@ static bool take_message(void *context, const struct message *message)
         lending->bad[lending->count++] = message->number;
         return true;
     }
-    return shelf_add(lending->shelf, message);
+    return put_on_shelf(lending, message);
 }
 
 static bool take_bid(void *context, struct part bid)
@@ -88,17 +123,19 @@ static void refuse_record(struct lending *lending, size_t place)
     lending->bad[lending->count++] = number;
 }
 
-bool lend(struct shelf *shelf, struct base *base, uint8_t role, size_t room)
+bool lend(struct shelf *shelf, struct base *base, uint8_t role, size_t room, struct part mailbox)
 {
-    struct lending lending = { shelf, base, { 0 }, 0, false };
+    struct lending lending = { shelf, base, mailbox, { NULL }, { 0 }, 0, false };
 
     for (;;) {
         struct fringemole_reply opened;
         if (!fill(&lending, room))
             return false;
         opened = shelf_open(shelf, role);
-        if (opened.answer == FRINGEMOLE_OK)
+        if (opened.answer == FRINGEMOLE_OK) {
+            say_unrouted(&lending);
             return true;
+        }
         if (opened.place < shelf_records(shelf)) {
             refuse_record(&lending, opened.place);
         } else if (!lending.judges_known) {

@@ -158,6 +158,30 @@ static const char *judge_header(const struct header *header, struct letter *lett
     return letter_address(header->to, &message->to, &message->at) ? NULL : "To is not CALL@MAILBOX";
 }
 
+/* ---- line ends */
+
+static bool has_byte(struct part bytes, uint8_t byte)
+{
+    return bytes.n && memchr(bytes.at, byte, bytes.n);
+}
+
+bool letter_has_lf_ends(struct part body)
+{
+    return has_byte(body, '\n') && !has_byte(body, '\r');
+}
+
+void letter_to_air(struct bytes *air, struct part body)
+{
+    size_t i;
+
+    for (i = 0; i < body.n; i++) {
+        if (body.at[i] != '\n')
+            bytes_add(air, body.at + i, 1);
+        else if (!i || body.at[i - 1] != '\r')
+            bytes_add(air, "\r", 1);
+    }
+}
+
 /* ---- reading */
 
 /* Where a body of this length ends, and the end mark after it. */

@@ -32,6 +32,10 @@ const char *letter_read(struct part *file, struct letter *letter);
 bool letter_follows(struct part *file);
 /* CALL@MAILBOX. */
 bool letter_address(struct part text, struct part *call, struct part *mailbox);
+/* Whether a plain body has a person's line ends alone, LF: a mailbox would glue its lines together. */
+bool letter_has_lf_ends(struct part body);
+/* A person's line ends as they look on the air: CR LF and LF become CR. */
+void letter_to_air(struct bytes *air, struct part body);
 
 /* False if the file takes it not. Forwarded-to may be empty. */
 bool letter_write(FILE *to, const struct message *message, struct part forwarded_to);

@@ -3,18 +3,10 @@
 #include "boxes.h"
 #include "history.h"
 #include "refusal.h"
-#include "stop.h"
+#include "show.h"
 #include "text.h"
 
 #include <stdio.h>
-#include <time.h>
-
-static void show_field(struct part field, size_t width)
-{
-    size_t columns = text_show(stdout, field);
-
-    printf("%*s", columns < width ? (int)(width - columns) : 1, "");
-}
 
 static void show_message(const struct message *message, const char *state)
 {
@@ -43,17 +35,11 @@ static void show_head(void *shown, const char *box)
     *has_rows = true;
 }
 
-/* Nobody reads on where output fails, or we are asked to stop. */
-static bool goes_on(void)
-{
-    return !ferror(stdout) && !stop_asked();
-}
-
 static bool show_outgoing(void *shown, const struct message *message)
 {
     show_head(shown, "outbox");
     show_message(message, message->state <= HELD ? state_names[message->state] : "?");
-    return goes_on();
+    return show_goes_on();
 }
 
 /* A copy is of a BID that the base had already. */
@@ -64,7 +50,7 @@ static bool show_incoming(void *shown, const struct message *message)
     show_head(shown, "inbox");
     snprintf(copy, sizeof copy, "copy %lld", message->copy);
     show_message(message, message->copy ? copy : "kept");
-    return goes_on();
+    return show_goes_on();
 }
 
 enum exit_code boxes_list(const struct options *options)
@@ -83,22 +69,10 @@ enum exit_code boxes_list(const struct options *options)
     if (right)
         printf("%lld BIDs known\n", known);
     base_close(base);
-    return right ? DONE : goes_on() ? BAD_BASE : FAILED;
+    return right ? DONE : show_goes_on() ? BAD_BASE : FAILED;
 }
 
 /* ---- sessions */
-
-/* As UTC has it. */
-static void show_time(long long seconds)
-{
-    time_t time = (time_t)seconds;
-    struct tm parts;
-    char text[32] = "?";
-
-    if (gmtime_r(&time, &parts))
-        strftime(text, sizeof text, "%Y-%m-%d %H:%M:%S", &parts);
-    printf("%-21s", text);
-}
 
 static bool show_session(void *shown, const struct history *session)
 {
@@ -109,6 +83,7 @@ static bool show_session(void *shown, const struct history *session)
     *has_rows = true;
     printf("%5lld  ", session->number);
     show_time(session->began);
+    printf("  ");
     if (session->ended)
         printf("%7lld", session->ended - session->began);
     else
@@ -123,7 +98,7 @@ static bool show_session(void *shown, const struct history *session)
         text_show(stdout, session->line);
     }
     putchar('\n');
-    return goes_on();
+    return show_goes_on();
 }
 
 enum exit_code boxes_sessions(const struct options *options)
@@ -134,7 +109,7 @@ enum exit_code boxes_sessions(const struct options *options)
     if (right && !any)
         puts("no sessions yet");
     base_close(base);
-    return right ? DONE : goes_on() ? BAD_BASE : FAILED;
+    return right ? DONE : show_goes_on() ? BAD_BASE : FAILED;
 }
 
 /* ---- release */

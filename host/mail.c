@@ -176,7 +176,8 @@ static struct message message_of(sqlite3_stmt *statement)
     message.title = column_part(statement, 10);
     message.name = column_part(statement, 11);
     message.body = column_part(statement, 12);
-    message.first_bid = column_part(statement, 13);
+    message.came = sqlite3_column_int64(statement, 13);
+    message.first_bid = column_part(statement, 14);
     return message;
 }
 
@@ -194,16 +195,29 @@ static bool take_row(void *context, sqlite3_stmt *statement)
 }
 
 #define FIRST_BID(in, of) "(SELECT first.bid FROM " in " AS first WHERE " SAME_BID("first.bid", of) " ORDER BY first.number LIMIT 1)"
+#define OUTBOX_ROWS "SELECT number, state, size, 0, " FIELDS ", came, " FIRST_BID("outbox", "outbox.bid") " FROM outbox"
+#define INBOX_ROWS \
+    "SELECT number, 0, length(body), copy, " FIELDS ", came," \
+    " coalesce(" FIRST_BID("outbox", "inbox.bid") ", " FIRST_BID("inbox", "inbox.bid") ") FROM inbox"
 
 bool base_each(struct base *base, enum box box, message_function *function, void *context)
 {
-    const char *sql = box == OUTBOX
-        ? "SELECT number, state, size, 0, " FIELDS ", " FIRST_BID("outbox", "outbox.bid") " FROM outbox ORDER BY number"
-        : "SELECT number, 0, length(body), copy, " FIELDS ","
-          " coalesce(" FIRST_BID("outbox", "inbox.bid") ", " FIRST_BID("inbox", "inbox.bid") ") FROM inbox ORDER BY number";
+    const char *sql = box == OUTBOX ? OUTBOX_ROWS " ORDER BY number" : INBOX_ROWS " ORDER BY number";
     struct taker taker = { function, context };
 
     return base_rows(base, base_prepare(base, sql), take_row, &taker);
+}
+
+bool base_each_of(struct base *base, enum box box, struct part bid, message_function *function, void *context)
+{
+    const char *of_bid = box == OUTBOX ? OUTBOX_ROWS " WHERE " SAME_BID("bid", "?1") " ORDER BY number"
+                                       : INBOX_ROWS " WHERE " SAME_BID("bid", "?1") " ORDER BY number";
+    sqlite3_stmt *statement = base_prepare(base, of_bid);
+    struct taker taker = { function, context };
+
+    if (statement)
+        bind_part(statement, 1, bid);
+    return base_rows(base, statement, take_row, &taker);
 }
 
 #define EARLIER_WAITS \
@@ -212,7 +226,7 @@ bool base_each(struct base *base, enum box box, message_function *function, void
 bool base_waiting(struct base *base, message_function *function, void *context)
 {
     sqlite3_stmt *statement = base_prepare(base,
-        "SELECT number, state, size, " EARLIER_WAITS ", " FIELDS ", NULL FROM outbox WHERE number IN " CHOSEN " ORDER BY deferred, number");
+        "SELECT number, state, size, " EARLIER_WAITS ", " FIELDS ", came, NULL FROM outbox WHERE number IN " CHOSEN " ORDER BY deferred, number");
     struct taker taker = { function, context };
 
     if (statement)

@@ -6,6 +6,7 @@
 #include "options.h"
 #include "partners.h"
 #include "radio.h"
+#include "route.h"
 #include "serve.h"
 #include "stop.h"
 
@@ -46,6 +47,7 @@ static const struct command commands[] = {
     { "import", 1, 9999, boxes_import },
     { "export", 1, 1, boxes_export },
     { "list", 0, 0, boxes_list },
+    { "trace", 1, 9999, boxes_trace },
     { "sessions", 0, 0, boxes_sessions },
     { "release", 1, 9999, boxes_release },
     { "partners", 0, 0, partners_list },
@@ -108,6 +110,10 @@ int main(int count, char **words)
     }
     if (!options.command || (options.caller && options.called)) {
         say("give a base, a command and at most one role; see --help");
+        return BAD_USAGE;
+    }
+    if (options.header && !route_can_name(part_of(options.header))) {
+        say("--header: %s is no mailbox (parts of 1 to 6 bytes 0x21-0x7E without @, joined by dots, 38 bytes in all)", options.header);
         return BAD_USAGE;
     }
     if (options.log && !say_to(options.log))

@@ -16,6 +16,7 @@ struct message {
     struct part from, at, to, bid, title, name, body;
     uint32_t size; /* as announced in a proposal */
     long long copy; /* of the inbox: 0 the first of its BID, then 1, 2 ..; of what waits: 0 the first of its BID, else 1 */
+    long long came; /* to the base, in seconds since 1970; 0 where nobody noted it */
     struct part first_bid; /* as the base's first message of this BID spells it, or empty: where nobody asks */
 };
 

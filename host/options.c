@@ -20,6 +20,7 @@ static const char commands_help[] =
     "  import FILE..        put the messages of files into the outbox (-: standard input)\n"
     "  export FOLDER        write each message of the inbox to a file of its own\n"
     "  list                 show both boxes\n"
+    "  trace BID|FILE..     show a message's way by its routing headers, copies side by side\n"
     "  sessions             show what each session did, the newest first\n"
     "  release BID..        let held messages go\n"
     "  admit CALL [FILE]    CALL may call; its password is FILE's first line (-: standard input)\n"
@@ -42,6 +43,7 @@ static const char options_help_text[] =
     "  --password FILE      and \"Password : \" with FILE's first line\n"
     "  --telnet             FF bytes are doubled on the wire\n"
     "  --blank-offset       take blanks for zeros in a framed header's offset, as LinFBB sends it\n"
+    "  --header MAILBOX     put our routing header in front of plain messages, with this mailbox\n"
     "  --transcript[=FILE]  show both directions as they look on the air (FILE is added to)\n"
     "  --log FILE           add what is said to FILE instead of standard error\n"
     "  --progress           progress lines also where standard error is no terminal\n"
@@ -68,8 +70,8 @@ static const char options_help_text[] =
     "Options of the others\n"
     "  --call CALL          init: our callsign, for BIDs of messages that have none\n"
     "  --partner CALL       init: the partner's callsign, for X-Forwarded-To\n"
-    "  --text               import: line ends of plain bodies become CR, as on the air\n"
-    "  --as-is              import: plain bodies whose lines end with LF stay as they are\n"
+    "  --text               import, trace: line ends of plain bodies become CR, as on the air\n"
+    "  --as-is              import, trace: plain bodies whose lines end with LF stay as they are\n"
     "  --outbox             export: the outbox instead\n";
 
 static const char ends_help[] =
@@ -135,6 +137,7 @@ static const struct option table[] = {
     OPTION("--rtscts", FLAG, flow),
     OPTION("--log", TEXT, log),
     OPTION("--from", TEXT, from),
+    OPTION("--header", TEXT, header),
     OPTION("--password", TEXT, password),
     OPTION("--anyone", FLAG, anyone),
     OPTION("--listen", FLAG, listen),

@@ -16,7 +16,7 @@ struct options {
     bool caller, called, telnet, blank_offset, once, progress, flow, anyone, listen;
     bool asks;        /* no option: callers from outside must log in */
     const char *with; /* no option: whom a radio link is with; NULL if nobody told */
-    const char *login, *question, *password, *transcript, *log, *from;
+    const char *login, *question, *password, *transcript, *log, *from, *header;
     long timeout, sid_limit, progress_limit, session_limit, linger, delay; /* seconds; 0: no limit */
     long least_rate, login_limit, callers, radio;                          /* bytes a second, bytes, processes, a number */
     long room, drop_after;

@@ -10,12 +10,28 @@
 
 #define NO_DOOR (-1)
 
+/* The header that we put on messages names no other station. A base without a callsign is anybody's. */
+static bool header_is_ours(struct base *base, const char *header)
+{
+    struct bytes call = { NULL, 0, 0 };
+    struct part mailbox = part_of(header);
+    bool right = base_call(base, &call);
+
+    bytes_add(&call, "", 1);
+    if (right && call.n > 1 && !part_names(part_until(&mailbox, '.'), (const char *)call.at)) {
+        say("--header: %s is not a mailbox of %s, whose base this is", header, (const char *)call.at);
+        right = false;
+    }
+    bytes_free(&call);
+    return right;
+}
+
 /* A base for one session; NULL after saying why there is none. */
 static struct base *base_for_session(const struct options *options)
 {
     struct base *base = base_open(options->base, CHANGING);
 
-    if (base && base_lock_session(base))
+    if (base && base_lock_session(base) && (!options->header || header_is_ours(base, options->header)))
         return base;
     base_close(base);
     return NULL;
@@ -48,7 +64,8 @@ static enum exit_code run_on(struct link *link, const struct options *options, u
     if (base && options->login && !login(link, options)) {
         code = LINK_DROPPED;
     } else if (base && find_partner(base, caller, &partner)) {
-        struct session_terms terms = { role, (size_t)options->room, part_all(&partner), options->blank_offset };
+        struct session_terms terms = { role, (size_t)options->room, part_all(&partner), part_of(options->header ? options->header : ""),
+            options->blank_offset };
         code = session_run(base, link, &terms);
     }
     bytes_free(&partner);

@@ -183,7 +183,7 @@ static enum exit_code run(struct session *session, const struct session_terms *t
 {
     enum exit_code code;
 
-    if (!lend(&session->shelf, session->base, terms->role, terms->room)
+    if (!lend(&session->shelf, session->base, terms->role, terms->room, terms->mailbox)
         || !history_begin(session->base, terms->partner, terms->role, &session->history.number))
         return BAD_BASE;
     session->passage.session = session->history.number;

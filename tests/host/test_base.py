@@ -28,7 +28,7 @@ class Bases(Folder):
                "half.base: ": [self.made("half", half[:len(half) // 2])]}
         for why, nodes in bad.items():
             for node in nodes:
-                for words in (("list",), ("stdio",), ("export", self.folder / "out"), ("import", "-"), ("listen", "0", "--once"), ("call", "1"), ("release", "X")):
+                for words in (("list",), ("stdio",), ("export", self.folder / "out"), ("import", "-"), ("listen", "0", "--once"), ("call", "1"), ("release", "X"), ("trace", "X")):
                     with self.subTest((why, node.path.name, words)):
                         self.says_why(node.run(*words), BAD_BASE, why)
 
@@ -176,9 +176,9 @@ class Usage(Folder):
         code, out, err = self.node().run("call", "--help")
         self.assertEqual((code, err), (DONE, ""))
         text = out.decode()
-        for word in ("init", "import", "export", "list", "sessions", "release", "call", "listen", "stdio", "serial", "--caller", "--called", "--login", "--question",
+        for word in ("init", "import", "export", "list", "trace", "sessions", "release", "call", "listen", "stdio", "serial", "--caller", "--called", "--login", "--question",
                      "--telnet", "--blank-offset", "--transcript", "--progress", "--timeout", "--room", "--once", "--drop-after", "--rtscts", "--log", "--sid-limit", "--progress-limit",
-                     "--least-rate", "--session-limit", "--login-limit", "--linger", "--delay", "--callers", "--from", "--anyone", "--password", "agw", "--listen", "--radio", "admit", "dismiss", "partners", "--call", "--partner", "--text", "--as-is", "--outbox"):
+                     "--least-rate", "--session-limit", "--login-limit", "--linger", "--delay", "--callers", "--from", "--header", "--anyone", "--password", "agw", "--listen", "--radio", "admit", "dismiss", "partners", "--call", "--partner", "--text", "--as-is", "--outbox"):
             self.assertIn("\n  " + word, text.replace(", --called", "\n  --called"))
         for number in range(9):
             self.assertIn("\n  %d  " % number, text.split("Exit codes")[1])
@@ -224,7 +224,7 @@ class Stopped(Folder):
 
     def test_signals(self):
         "SIGINT and SIGTERM end every command that waits with a sentence, by the signal itself; a session's row tells of it"
-        for number, (words, name) in enumerate([(("stdio",), "SIGTERM"), (("stdio",), "SIGINT"), (("listen", "0"), "SIGTERM"), (("import", "-"), "SIGINT")]):
+        for number, (words, name) in enumerate([(("stdio",), "SIGTERM"), (("stdio",), "SIGINT"), (("listen", "0"), "SIGTERM"), (("import", "-"), "SIGINT"), (("trace", "-"), "SIGTERM")]):
             with self.subTest((words, name)):
                 node = self.node("node%d" % number)
                 process = node.start(*words, stdin=subprocess.PIPE)

@@ -115,6 +115,7 @@ class ReadOnly(Folder):
         self.says_why((code, err), DONE)
         for message in inbox:
             self.assertIn(message.bid, out)
+            self.assertIn(b", BID " + message.bid, self.run_as_reader(node, "trace", message.bid)[1])
         out = self.folder / "out" / node.path.name
         self.says_why(self.run_as_reader(node, "export", out), DONE, "%d exported" % len(inbox))
         for message in inbox:

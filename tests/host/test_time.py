@@ -164,8 +164,8 @@ class Narrow(Timed):
                 lines.append(narrow(line) if ours and not place else line)
             made.append(self.folder / (source.stem + ".i"))
             made[-1].write_text("\n".join(lines) + "\n")
-        library = pathlib.Path(os.environ.get("FRINGEMOLE_LIB_DIR", ROOT / "target" / "staticlib")) / "libfringemole.a"
-        subprocess.run(["cc", "-std=gnu99", "-w", "-O0", "-fsanitize=signed-integer-overflow", "-fno-sanitize-recover=all", "-o", self.folder / "narrow", *made, library, "-lsqlite3"], check=True)
+        library = pathlib.Path(os.environ.get("FRINGEMOLE_LIB_DIR", ROOT / "target" / "staticlib"))
+        subprocess.run(["cc", "-std=gnu99", "-w", "-O0", "-fsanitize=signed-integer-overflow", "-fno-sanitize-recover=all", "-o", self.folder / "narrow", *made, library / "libfringemole.a", library / "libfringemole_route.a", "-lsqlite3"], check=True)
         return self.folder / "narrow"
 
     def test_uptime(self):

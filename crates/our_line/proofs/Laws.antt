@@ -1,16 +1,15 @@
 -- What the pieces of a line come to. Assumes nothing.
-use Prim.Native.Nat.{ℕ, suc, zero, _+_, _-_, _/_, _%_, _^_, _<_, _≤_}
-use mathlib.Core.Path.{_≡_, refl, sym, _∙_}
+use Prim.Native.Nat.{ℕ, _-_}
+use mathlib.Core.Path.{_≡_, refl}
 use mathlib.Core.Bool.{Bool, true, false, cond}
 use mathlib.Core.List.{List, [], _∷_, _++_, append-assoc, map}
 use native.Mathlib.Omega.{arith}
-use native.Mathlib.Numerals.{add-one}
 use lib.Dec.{eqb}
-use lib.ListN.{length, take, drop, set, length-drop}
-use lib.Seq.{set-split, drop-at, length-take-le, take-all}
-use borrow.Author.Tests.{eq-eqb, ne-eqb, lt-ltb, le-ltb}
+use lib.ListN.{length, take, drop, length-drop}
+use lib.Seq.{take-all}
+use borrow.Author.Tests.{eq-eqb, ne-eqb}
 use Rattle.grammar.specs.Bytes.{Bytes, CR, SP}
-use Rattle.grammar.specs.Fields.{plain, file, formIs, decimal, writeNum}
+use Rattle.grammar.specs.Fields.{plain, file, formIs, decimal}
 use Rattle.grammar.specs.Turns.{proposalLine, withCr, formLetter}
 use Rattle.grammar.specs.Answers.{Sign, writeSign, fsLine}
 use Rattle.buffer.specs.declared.Cursor.{Cursor}
@@ -48,34 +47,7 @@ module _ (d : Bytes) (c : Cursor) (l form kind : ℕ) (from at to bid : Bytes) (
       puts-as d c proposal-text
       (puts-then d c _ _ (puts-then d c _ _ (puts-then d c _ _ (puts-then d c _ _ (puts-then d c _ _ p₁ p₂) p₃) p₄) p₅) p₆)
 
--- ---------------------------------------------------------------- digits
-
-drop-set : (l : Bytes) (i b : ℕ) → i < length l → drop i (set l i b) ≡ b ∷ drop (suc i) l
-drop-set l i b h = rw (set-split l i b h) (drop-at (take i l) (b ∷ drop (suc i) l) i (length-take-le i l (omega arith)))
-
--- a turn of the loop: the last digit of what is left goes before those that are there
-pub digits-more : (n rest at b : ℕ) (l : Bytes) → 1 ≤ at → at < length l → 10 ≤ rest → b ≡ 48 + rest % 10
-    → writeNum 10 n ≡ writeNum (at + 1) rest ++ drop (at + 1) l → writeNum 10 n ≡ writeNum (at - 1 + 1) (rest / 10) ++ drop (at - 1 + 1) (set l at b)
-unfolding writeNum
-digits-more n rest at b l g h k q e =
-    let z : at - 1 + 1 ≡ at = omega arith in
-    e ∙ rw (z, drop-set l at b h, add-one at, le-ltb rest 10 k, q) (append-assoc (writeNum at (rest / 10)) ((48 + rest % 10) ∷ []) (drop (suc at) l))
-
--- the digit that is left at the end
-pub digits-end : (n rest at b : ℕ) (l : Bytes) → at < length l → rest < 10 → b ≡ 48 + rest % 10
-    → writeNum 10 n ≡ writeNum (at + 1) rest ++ drop (at + 1) l → drop at (set l at b) ≡ writeNum 10 n
-unfolding writeNum
-digits-end n rest at b l h k q e =
-    let z : rest % 10 ≡ rest = omega arith in
-    sym (e ∙ rw (drop-set l at b h, add-one at, lt-ltb rest 10 k, q, z))
-
--- as many digits are left to write as there are places for
-pub digits-left : (rest at : ℕ) → rest < 10 ^ (at + 1) → 10 ≤ rest → (1 ≤ at) × (rest / 10 < 10 ^ (at - 1 + 1))
-digits-left rest zero h k = let z : ⊥ = omega arith in absurd z
-digits-left rest (suc at) h k =
-    let z : suc at - 1 + 1 ≡ suc at = omega arith in
-    let y : rest < 10 ^ suc (suc at) = rw (add-one (suc at)) at h in
-    (omega arith, rw z (omega arith))
+-- ---------------------------------------------------------------- the size
 
 -- a part that goes to the end of the ten bytes
 pub size-text : (bytes : Bytes) (start size : ℕ) → length bytes ≡ 10 → drop start bytes ≡ decimal size

@@ -1,9 +1,8 @@
 // Our lines, each with its CR, resumed at any byte with any room: the text at the cursor, what of it isn't passed over and fits.
 use buffer::Cursor;
+use decimal::digits;
 ghost use mathlib.Core.Path.{_≡_};
 ghost use mathlib.Core.List.{[], _∷_, _++_};
-ghost use lib.ListN.{length, drop};
-ghost use Prim.Native.Nat.{_+_, _%_, _≤_};
 ghost use Rattle.grammar.specs.Bytes.{CR};
 ghost use Rattle.grammar.specs.Fields.{formIs, decimal};
 ghost use Rattle.grammar.specs.Turns.{fixedText, proposalLine, withCr, formLetter};
@@ -29,38 +28,6 @@ pub fn write_fixed(which: Fixed, buf: &mut [u8], c: Cursor) -> Cursor
         Fixed::FF => buffer::put(buf, c, b"FF\r"),
         Fixed::FQ => buffer::put(buf, c, b"FQ\r"),
         Fixed::End => buffer::put(buf, c, b"F>\r"),
-    }
-}
-
-// A number's decimal digits: the bytes from start on.
-struct Decimal {
-    bytes: [u8; 10],
-    start: usize,
-}
-
-// The last decimal digit.
-fn last_digit(n: u32) -> u8
-    ensures { λ r. ⌜ r ≡ 48 + n % 10 ⌝ }
-{
-    48 + (n % 10) as u8
-}
-
-// The digits of a size, without leading zeros.
-fn digits(size: u32) -> Decimal
-    ensures { λ r. ⌜ (length (r .bytes) ≡ 10) × (r .start ≤ 10) × (drop (r .start) (r .bytes) ≡ decimal size) ⌝ }
-{
-    let mut bytes = [0u8; 10];
-    let mut at = 9;
-    let mut rest = size;
-    while 10 <= rest {
-        bytes[at] = last_digit(rest);
-        rest = rest / 10;
-        at -= 1;
-    }
-    bytes[at] = last_digit(rest);
-    Decimal {
-        bytes: bytes,
-        start: at,
     }
 }
 

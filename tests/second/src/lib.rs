@@ -29,6 +29,7 @@ pub mod memory;
 pub mod proposal;
 pub mod record;
 pub mod refusal;
+pub mod route;
 pub mod session;
 pub mod sid;
 pub mod transfer;

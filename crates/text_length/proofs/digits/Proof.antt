@@ -5,7 +5,7 @@ use native.Mathlib.Omega.{arith}
 use lib.ListN.{length}
 use borrow.Author.Needs.{needs}
 use Rattle.grammar.specs.Fields.{writeNum}
-use Rattle.our_line.proofs.Laws.{digits-left}
+use Rattle.decimal.proofs.Laws.{digits-left}
 use Rattle.text_length.proofs.Laws.{digits-more, digits-end}
 use Rattle.text_length.proofs.digits.Statement.{statement}
 use Rattle.text_length.proofs.digits.Tie as tie

@@ -1,4 +1,4 @@
--- The loop's invariant: the digits of the size are those of what is left, in at + 1 places at most, and then the bytes after at. The measure is at.
+-- The loop's invariant: the digits of the number are those of what is left, in at + 1 places at most, and then the bytes after at. The measure is at.
 use Prim.Native.Nat.{_≤_, _<_, _+_, _^_}
 use mathlib.Core.Path.{_≡_, sym}
 use mathlib.Core.List.{_++_, append-nil}
@@ -6,19 +6,19 @@ use native.Mathlib.Omega.{arith}
 use lib.ListN.{length, drop, length-set}
 use borrow.Author.Needs.{needs}
 use Rattle.grammar.specs.Fields.{writeNum}
-use Rattle.our_line.proofs.Laws.{digits-more, digits-end, digits-left}
-use Rattle.our_line.proofs.digits.Statement.{statement}
-use Rattle.our_line.proofs.digits.Tie as tie
+use Rattle.decimal.proofs.Laws.{digits-more, digits-end, digits-left}
+use Rattle.decimal.proofs.digits.Statement.{statement}
+use Rattle.decimal.proofs.digits.Tie as tie
 
 abbrev Inv-loop : tie.InvT-loop
-Inv-loop size bytes₀ at₀ rest₀ bytes at rest =
-    (at ≤ 9) × (length bytes ≡ 10) × (rest < 10 ^ (at + 1)) × (writeNum 10 size ≡ writeNum (at + 1) rest ++ drop (at + 1) bytes)
+Inv-loop n bytes₀ at₀ rest₀ bytes at rest =
+    (at ≤ 9) × (length bytes ≡ 10) × (rest < 10 ^ (at + 1)) × (writeNum 10 n ≡ writeNum (at + 1) rest ++ drop (at + 1) bytes)
 
 abbrev μ-loop : tie.MeasureT-loop
-μ-loop size bytes₀ at₀ rest₀ bytes at rest = at
+μ-loop n bytes₀ at₀ rest₀ bytes at rest = at
 
 loop-holds : tie.Need-loop-holds Inv-loop μ-loop
-loop-holds c = (search needs, search needs, search needs, sym (append-nil (writeNum 10 (c .args .size))))
+loop-holds c = (search needs, search needs, search needs, sym (append-nil (writeNum 10 (c .args .n))))
 
 last-digit-requires : tie.Need-last-digit-requires Inv-loop μ-loop
 last-digit-requires c κs = search needs
@@ -43,7 +43,7 @@ loop-again c =
       omega arith,
       simp length-set (l .inv .1),
       h .1,
-      digits-more (c .before .before .before .args .size) (l .rest) (l .at) (c .last-digit .result) (l .bytes) (h .0) (omega arith) (c .before .loop-test .taken) (c .last-digit .ensures) (l .inv .3),
+      digits-more (c .before .before .before .args .n) (l .rest) (l .at) (c .last-digit .result) (l .bytes) (h .0) (omega arith) (c .before .loop-test .taken) (c .last-digit .ensures) (l .inv .3),
     )
 
 last-digit-requires-2 : tie.Need-last-digit-requires-2 Inv-loop μ-loop
@@ -57,7 +57,7 @@ returns c =
     let l = c .before .before .loop in (
       simp length-set (l .inv .1),
       omega arith,
-      digits-end (c .before .before .before .args .size) (l .rest) (l .at) (c .last-digit2 .result) (l .bytes) (omega arith) (c .before .loop-test .left) (c .last-digit2 .ensures) (l .inv .3),
+      digits-end (c .before .before .before .args .n) (l .rest) (l .at) (c .last-digit2 .result) (l .bytes) (omega arith) (c .before .loop-test .left) (c .last-digit2 .ensures) (l .inv .3),
     )
 
 pub digits-spec : {M : Type 1} → statement M

@@ -1,0 +1,2 @@
+-- What the structs of this crate mean as dates and times.
+pub mod Meaning

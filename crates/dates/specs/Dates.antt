@@ -1,0 +1,99 @@
+-- "Month 1 to 12, day fitting the month, hour to 23, minute to 59; years 70 to 99 are 19xx, the rest 20xx." So a year is one of 1970 to 2069.
+use mathlib.Core.Path.{_≡_, refl}
+use mathlib.Core.Bool.{Bool, true, false, cond, _&&_}
+use mathlib.Core.List.{List, [], _∷_, map}
+use Prim.Native.Nat.{ℕ, zero, suc, _+_, _-_, _*_, _/_, _%_}
+use lib.Dec.{eqb, ltb, leb}
+use lib.ListN.{getD}
+
+pub record Date : Type 0 where
+  pub year : ℕ
+  pub month : ℕ
+  pub day : ℕ
+
+pub record Time : Type 0 where
+  pub hour : ℕ
+  pub minute : ℕ
+
+abbrev pub firstYear : ℕ
+firstYear = 1970
+
+abbrev pub lastYear : ℕ
+lastYear = 2069
+
+-- Every fourth year is a long one: 2000 is, and 2100 lies past the end. `leap-rule` holds this against the calendar's own rule.
+abbrev pub isLeap : ℕ → Bool
+isLeap y = eqb (y % 4) 0
+
+-- How many days of the year come before each month, and, last, all days of the year: the one table of months.
+abbrev pub monthStarts : Bool → List ℕ
+monthStarts false = 0 ∷ 31 ∷ 59 ∷ 90 ∷ 120 ∷ 151 ∷ 181 ∷ 212 ∷ 243 ∷ 273 ∷ 304 ∷ 334 ∷ 365 ∷ []
+monthStarts true = 0 ∷ 31 ∷ 60 ∷ 91 ∷ 121 ∷ 152 ∷ 182 ∷ 213 ∷ 244 ∷ 274 ∷ 305 ∷ 335 ∷ 366 ∷ []
+
+abbrev pub startOf : Bool → ℕ → ℕ
+startOf leap m = getD (monthStarts leap) (m - 1) 0
+
+abbrev pub daysIn : Bool → ℕ → ℕ
+daysIn leap m = getD (monthStarts leap) m 0 - startOf leap m
+
+-- The table has the months' lengths that everybody knows.
+abbrev months : List ℕ
+months = 1 ∷ 2 ∷ 3 ∷ 4 ∷ 5 ∷ 6 ∷ 7 ∷ 8 ∷ 9 ∷ 10 ∷ 11 ∷ 12 ∷ []
+
+example-short : map (daysIn false) months ≡ 31 ∷ 28 ∷ 31 ∷ 30 ∷ 31 ∷ 30 ∷ 31 ∷ 31 ∷ 30 ∷ 31 ∷ 30 ∷ 31 ∷ []
+example-short = refl
+
+example-long : map (daysIn true) months ≡ 31 ∷ 29 ∷ 31 ∷ 30 ∷ 31 ∷ 30 ∷ 31 ∷ 31 ∷ 30 ∷ 31 ∷ 30 ∷ 31 ∷ []
+example-long = refl
+
+-- "Month 1 to 12, day fitting the month"
+unfoldable pub isDate : Date → Bool
+isDate d =
+    (leb firstYear (d .year) && leb (d .year) lastYear)
+    && ((leb 1 (d .month) && leb (d .month) 12) && (leb 1 (d .day) && leb (d .day) (daysIn (isLeap (d .year)) (d .month))))
+
+-- "hour to 23, minute to 59"
+unfoldable pub isTime : Time → Bool
+isTime t = leb (t .hour) 23 && leb (t .minute) 59
+
+-- ---------------------------------------------------------------- days from 1970-01-01
+
+-- 1972 is the first long year, so (year - 1969) / 4 long years lie before a year.
+unfoldable pub dayNumber : Date → ℕ
+dayNumber d = 365 * (d .year - firstYear) + (d .year - 1969) / 4 + (startOf (isLeap (d .year)) (d .month) + (d .day - 1))
+
+-- The last month that starts by day t of the year; ms: the starts of the months after m.
+abbrev pub monthFrom : ℕ → List ℕ → ℕ → ℕ
+monthFrom m [] t = m
+monthFrom m (s ∷ ms) t = cond (ltb t s) m (monthFrom (suc m) ms t)
+
+abbrev pub later : List ℕ → List ℕ
+later [] = []
+later (x ∷ xs) = xs
+
+abbrev pub monthOf : Bool → ℕ → ℕ
+monthOf leap t = monthFrom 1 (later (monthStarts leap)) t
+
+-- Four years have so many days; the third of them, counted from 1970, is the long one.
+abbrev pub cycleDays : ℕ
+cycleDays = 1461
+
+abbrev pub yearIn : ℕ → ℕ
+yearIn r = cond (ltb r 365) 0 (cond (ltb r 730) 1 (cond (ltb r 1096) 2 3))
+
+abbrev pub yearStart : ℕ → ℕ
+yearStart i = getD (0 ∷ 365 ∷ 730 ∷ 1096 ∷ []) i 0
+
+-- Day t, from 0, of a year.
+abbrev pub dateIn : ℕ → Bool → ℕ → Date
+dateIn y leap t = record { year = y; month = monthOf leap t; day = t - startOf leap (monthOf leap t) + 1 }
+
+-- So many days have the hundred years: 25 cycles.
+abbrev pub allDays : ℕ
+allDays = 36525
+
+-- The date of a day number below `allDays`.
+unfoldable pub dateOf : ℕ → Date
+dateOf n =
+    let r = n % cycleDays in
+    dateIn (firstYear + 4 * (n / cycleDays) + yearIn r) (eqb (yearIn r) 2) (r - yearStart (yearIn r))

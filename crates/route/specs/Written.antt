@@ -1,0 +1,68 @@
+-- "Also write our own line in the first form, with `z`, an unpadded number, no remarks and a CR, in front of a body, into a second buffer; every
+-- byte below it is the original."
+use mathlib.Core.Bool.{Bool, true, cond, _&&_}
+use mathlib.Core.List.{[], _∷_, _++_}
+use Prim.Native.Nat.{ℕ}
+use lib.Dec.{ltb, leb}
+use lib.ListN.{length, drop}
+use Rattle.grammar.specs.Bytes.{Bytes, CR}
+use Rattle.grammar.specs.Fields.{isAt, writeNum, bodyLimit}
+use Rattle.dates.specs.Dates.{Date, Time, isDate, isTime}
+use Rattle.dates.specs.Digits.{dateText, timeText}
+use Rattle.route.specs.Routes.{Header}
+
+-- "a number has 1 to 9 digits"
+abbrev pub numberLimit : ℕ
+numberLimit = 1000000000
+
+-- What the writer is given.
+pub record Ours : Type 0 where
+  pub date : Date
+  pub time : Time
+  pub number : ℕ
+  pub mailbox : Bytes
+
+-- The header that it becomes: with `z`, so in GMT.
+abbrev pub ours : Ours → Header
+ours o = record { date = o .date; time = o .time; gmt = true; number = o .number; mailbox = o .mailbox }
+
+-- "1 a field or time outside these rules"
+unfoldable pub mayWrite : Ours → Bool
+mayWrite o = (isDate (o .date) && isTime (o .time)) && (ltb (o .number) numberLimit && isAt (o .mailbox))
+
+-- `R:`, date, `/`, time, `z` and a space
+unfoldable pub stampText : Date → Time → Bytes
+stampText d t = 82 ∷ 58 ∷ (dateText d ++ (47 ∷ (timeText t ++ (122 ∷ 32 ∷ []))))
+
+unfoldable pub routeLine : Ours → Bytes
+routeLine o = stampText (o .date) (o .time) ++ (writeNum 9 (o .number) ++ (64 ∷ o .mailbox))
+
+-- The body with our line in front.
+unfoldable pub withRoute : Ours → Bytes → Bytes
+withRoute o body = routeLine o ++ (CR ∷ body)
+
+-- The writer's own numbers.
+abbrev pub written : ℕ
+written = 0
+
+abbrev pub badField : ℕ
+badField = 1
+
+abbrev pub noRoom : ℕ
+noRoom = 2
+
+pub record Added : Type 0 where
+  pub answer : ℕ
+  pub count : ℕ
+  pub buffer : Bytes
+
+-- "Refusals of the writer are its own, and both write nothing: 1 a field or time outside these rules, then 2 buffer too short, or over 65,535
+-- bytes in all." What is written stands at the buffer's start; no byte behind it changes.
+unfoldable pub addRoute : Bytes → Ours → Bytes → Added
+addRoute buffer o body =
+    let text = withRoute o body in
+    cond (mayWrite o)
+    (cond (leb (length text) bodyLimit && leb (length text) (length buffer))
+    (record { answer = written; count = length text; buffer = text ++ drop (length text) buffer })
+    (record { answer = noRoom; count = 0; buffer = buffer }))
+    (record { answer = badField; count = 0; buffer = buffer })

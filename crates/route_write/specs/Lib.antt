@@ -1,0 +1,2 @@
+-- What the parameters and answers of this crate mean.
+pub mod Meaning
