@@ -70,17 +70,21 @@ static bool same_file(const struct stat *a, const struct stat *b)
         && a->st_mtim.tv_nsec == b->st_mtim.tv_nsec;
 }
 
-/* Nobody tells such a reader that a session has begun, so it takes a copy at once, and again if the file has changed meanwhile. */
+/* Nobody tells such a reader that a session has begun, so it takes a copy at once, and again if the file has changed meanwhile,
+ * whatever was read of it: half of a change looks like a broken file. */
 static bool copy_unchanged(struct base *base)
 {
     struct stat before, after;
     int tries;
 
     for (tries = 0; tries < COPY_TRIES && !has_log(base); tries++) {
-        if (stat(base->file, &before) || !reach_unchanging(base) || !base_is(base, schema_version(base)) || !copy(base))
+        bool copied;
+
+        if (stat(base->file, &before))
             return false;
+        copied = reach_unchanging(base) && base_is(base, schema_version(base)) && copy(base);
         if (!stat(base->file, &after) && same_file(&before, &after) && !has_log(base))
-            return true;
+            return copied;
     }
     return base_reach(base, base->file, SQLITE_OPEN_READONLY);
 }
