@@ -4,6 +4,7 @@ import pathlib
 import re
 import select
 import shutil
+import signal
 import socket
 import sqlite3
 import stat
@@ -24,6 +25,9 @@ DONE, FAILED, BAD_USAGE, BAD_BASE, BAD_PORT, LINK_DROPPED, REFUSED, BAD_FILE, NO
 WAITING, FORWARDED, DECLINED, HELD = range(4)
 OUR_SID = b"[NOD-1-BFH$]\r"
 GREETING = OUR_SID + b">\r"
+
+# Where these tests run in the background SIGINT is ignored, and nodes would inherit that.
+signal.signal(signal.SIGINT, signal.default_int_handler)
 
 COLUMNS = 'form, type, "from", at, "to", bid, title, name, body'
 

@@ -1,5 +1,6 @@
 """Working while the radio works: other commands beside a session, bases that can only be read, and what the base tells of a session."""
 import contextlib
+import signal
 import threading
 
 from node import *
@@ -105,8 +106,11 @@ class ReadOnly(Folder):
         self.place.chmod(folder)
         node.program = self.program
 
+    def reader(self):
+        return {"user": NOBODY, "group": NOBODY, "extra_groups": []} if os.getuid() == 0 else {}
+
     def run_as_reader(self, node, *words):
-        process = node.start(*words, **({"user": NOBODY, "group": NOBODY, "extra_groups": []} if os.getuid() == 0 else {}))
+        process = node.start(*words, **self.reader())
         out, err = process.communicate(timeout=PATIENCE)
         return process.returncode, out, err.decode()
 
@@ -181,6 +185,26 @@ class ReadOnly(Folder):
         self.assertGreaterEqual(len(rows), least)
         for i, row in enumerate(rows):
             self.assertEqual((row[0], row[7], row[8]), (str(i + 1), "%d_A" % i, str(3000 * len(str(i)))))
+
+    def test_changed_meanwhile(self):
+        "what a reader saw of a file that changed meanwhile means nothing, a fault neither: it reads again"
+        node, theirs, partner = self.with_mail("node")
+        partner.says(b"FQ\r")
+        self.assertEqual(partner.ends()[0], DONE)
+        whole = node.path.read_bytes()
+        node.path.write_bytes(whole[:len(whole) // 2])
+        shutil.copy(PLAIN, self.program)
+        self.protect(node, 0o444, 0o555)
+        reader = node.start("list", env=dict(os.environ, LD_PRELOAD=self.shim("paused")), **self.reader())
+        self.assertTrue(os.WIFSTOPPED(os.waitpid(reader.pid, os.WUNTRACED)[1]))
+        self.place.chmod(0o755)
+        node.path.chmod(0o644)
+        node.path.write_bytes(whole)
+        self.protect(node, 0o444, 0o555)
+        reader.send_signal(signal.SIGCONT)
+        out, err = reader.communicate(timeout=PATIENCE)
+        self.says_why((reader.returncode, err.decode()), DONE)
+        self.assertIn(theirs.bid, out)
 
     def test_half_done(self):
         "a base in the middle of a change in the old journal's way is no base to read: nothing is shown rather than half of it"
@@ -258,7 +282,8 @@ class Told(Folder):
         "a refusal's number and the line that was refused"
         for number, (said, refusal, line) in enumerate([(b"Hello\r", 3, b"Hello\r"), (PLAIN_SID + b"FF\rX", 11, b"X"), (PLAIN_SID + b"; all right\rFB P A B C 1_T\rF>\r", 5, b"FB P A B C 1_T\r"),
                                                         (PLAIN_SID + b"x" * 300, 2, b"x" * 256)]):
-            for size in (1, len(said)):
+            # Our FQ leaves at once, so what is too early for it must come with its FF.
+            for size in (1, len(said)) if refusal != 11 else (len(said),):
                 self.refused(self.node("node%d-%d" % (number, size)), [said[i:i + size] for i in range(0, len(said), size)], (refusal, line))
 
     def refused(self, node, portions, why):
