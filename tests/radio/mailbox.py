@@ -12,7 +12,7 @@ sys.path[:0] = [str(pathlib.Path(__file__).parent), str(ROOT / "tests" / "intero
 from bridge import Bridge  # noqa: E402
 from cases import inbox_is  # noqa: E402
 from node import DONE, FORWARDED  # noqa: E402
-from relay import BARE, ZEROS, Relay  # noqa: E402
+from relay import Relay  # noqa: E402
 from linfbb import free_port  # noqa: E402
 from world import World, expect  # noqa: E402
 import node as nodes  # noqa: E402
@@ -20,7 +20,7 @@ import node as nodes  # noqa: E402
 nodes.PATIENCE = 300  # seconds; LinFBB answers at once, the air doesn't
 PROGRAM = str(ROOT / "target" / "radio" / "fringemole")
 US, THEM = "N0DE-1", "N0BBB-1"
-EDITS = [BARE, ZEROS]  # what LinFBB says otherwise than 01, taken out between it and the radio as tests/interop does
+BLANKS = "--blank-offset"  # LinFBB pads the offset of a framed header, which 01 refuses
 
 
 def both_ways(world, name, session):
@@ -33,25 +33,25 @@ def both_ways(world, name, session):
         expect("the session's end", session(node, box).code, DONE)
         took = time.monotonic() - began
         expect("states", node.states(), {ours.bid: FORWARDED})
-        inbox_is(node, "framed", "caller", theirs)
+        inbox_is(node, "framed", False, theirs)
     expect("at LinFBB", world.fetch("framed").get(ours.bid.upper()), [(ours.title, ours.text)])
     print("radio: LinFBB, %s: mail both ways, each once, byte for byte: %.0f s" % (name, took), flush=True)
 
 
 def we_call(node, box):
     bridge = Bridge(8200, THEM)
-    bridge.beside(bridge.answer, Relay(True, box.port, edits=EDITS).port)
-    return nodes.wait_for(node.start("agw", "8100", US, THEM, "--login", ".N0DE"))
+    bridge.beside(bridge.answer, Relay(True, box.port).port)
+    return nodes.wait_for(node.start("agw", "8100", US, THEM, "--login", ".N0DE", BLANKS))
 
 
 def it_calls(node, box):
     node.run("admit", "N0BBB")
     bridge = Bridge(8200, THEM)
-    process = node.start("agw", "8100", US, "--listen", "--once", "--telnet")
+    process = node.start("agw", "8100", US, "--listen", "--once", "--telnet", BLANKS)
     process.stderr.readline()
     port = free_port()
     bridge.beside(bridge.dial, US, port)
-    Relay(False, port, box.call_port, edits=EDITS)
+    Relay(False, port, box.call_port)
     box.call_us()
     return nodes.wait_for(process)
 
