@@ -1,11 +1,13 @@
-/* Loaded before the C library (LD_PRELOAD): stops the process (SIGSTOP) the first time that it is about to close a base, so that a test can
- * change what it has just read. */
+/* Loaded before the C library (LD_PRELOAD): stops the process (SIGSTOP) when it has read the first page of a base the first time, so that a
+ * test can change the base meanwhile. */
 #define _GNU_SOURCE
 #include <dlfcn.h>
 #include <signal.h>
 #include <stdio.h>
 #include <string.h>
 #include <unistd.h>
+
+#define HEADER 100 /* SQLite looks at these bytes alone first */
 
 static int is_base(int file)
 {
@@ -18,14 +20,20 @@ static int is_base(int file)
     return strstr(path, ".base") != NULL;
 }
 
-int close(int file)
+ssize_t pread64(int file, void *bytes, size_t n, off64_t at)
 {
     static int stopped;
-    int (*real)(int) = (int (*)(int))dlsym(RTLD_NEXT, "close");
+    ssize_t (*real)(int, void *, size_t, off64_t) = (ssize_t (*)(int, void *, size_t, off64_t))dlsym(RTLD_NEXT, "pread64");
+    ssize_t done = real(file, bytes, n, at);
 
-    if (!stopped && is_base(file)) {
+    if (!stopped && at == 0 && n > HEADER && is_base(file)) {
         stopped = 1;
         kill(getpid(), SIGSTOP);
     }
-    return real(file);
+    return done;
+}
+
+ssize_t pread(int file, void *bytes, size_t n, off_t at)
+{
+    return pread64(file, bytes, n, at);
 }

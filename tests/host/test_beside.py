@@ -192,7 +192,7 @@ class ReadOnly(Folder):
         partner.says(b"FQ\r")
         self.assertEqual(partner.ends()[0], DONE)
         whole = node.path.read_bytes()
-        node.path.write_bytes(whole[:len(whole) // 2])
+        node.path.write_bytes(whole[:28] + (2 * len(whole) // 4096).to_bytes(4, "big") + whole[32:])  # more pages than there are
         shutil.copy(PLAIN, self.program)
         self.protect(node, 0o444, 0o555)
         reader = node.start("list", env=dict(os.environ, LD_PRELOAD=self.shim("paused")), **self.reader())
