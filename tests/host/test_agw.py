@@ -37,6 +37,13 @@ class Radio(Folder):
     def endings(self, node):
         return [row for row, in node.ask("SELECT CAST(ending AS BLOB) FROM session ORDER BY number")]
 
+    def saved(self, node, *endings):
+        """The rows of the sessions say how they ended, the last one's a moment after the partner has gone."""
+        end = time.monotonic() + PATIENCE
+        while self.endings(node) != list(endings) and time.monotonic() < end:
+            time.sleep(0.01)
+        self.assertEqual(self.endings(node), list(endings))
+
     def partner(self, node):
         node.right("admit", "F0ABC")
         return node
@@ -580,9 +587,9 @@ class Listens(Radio):
             station.end.ended = station.end.other.ended = "forgotten"
         station = tnc.calls(PARTNER, US)
         self.takes(station, Message(b"1_US", b"mail", form="plain"))
+        self.saved(node, b"the partner calls anew", b"FQ")
         process.terminate()
         self.ended(process, -15, "the link dropped: the partner calls anew")
-        self.assertEqual(self.endings(node), [b"the partner calls anew", b"FQ"])
         self.assertEqual(node.states(), {b"1_US": FORWARDED})
 
     def test_comes_back(self):
@@ -598,10 +605,10 @@ class Listens(Radio):
             station.hears(GREETING)
             station.says(PLAIN_SID + b"FF\r")
             self.leaves(station)
+        self.saved(node, b"the TNC has closed its connection", b"FQ", b"FQ")
         process.terminate()
         said = self.ended(process, -15, "the TNC has closed its connection; it is tried again")
         self.assertEqual(said.count("listening as"), 2)
-        self.assertEqual(self.endings(node), [b"the TNC has closed its connection", b"FQ", b"FQ"])
 
     def test_came_and_went(self):
         "a caller who is gone before we look keeps nobody out"
