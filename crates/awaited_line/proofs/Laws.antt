@@ -3,11 +3,12 @@ use mathlib.Core.Path.{_≡_, refl, sym, ap, _∙_, subst}
 use mathlib.Core.Bool.{Bool, true, false, cond}
 use mathlib.Core.Option.{Option, none, some}
 use mathlib.Core.List.{List, _++_}
-use Prim.Native.Nat.{ℕ, _+_, _-_}
+use Prim.Native.Nat.{ℕ, _+_, _-_, _≤_, _<_}
 use native.Mathlib.Omega.{arith}
+use lib.Dec.{eqb}
 use lib.ListN.{length, take, drop, length-drop}
 use lib.Seq.{length-take-le}
-use borrow.Author.Tests.{eq-eqb, ne-eqb}
+use borrow.Author.Tests.{eq-eqb, ne-eqb, eqb-false}
 use Rattle.grammar.specs.Bytes.{Bytes}
 use Rattle.grammar.specs.Refusals.{noForwarding}
 use Rattle.grammar.specs.Lines.{isComment}
@@ -18,7 +19,7 @@ use Rattle.transfer_step.specs.declared.Reader.{Reader}
 use Rattle.session_memory.specs.Session.{Await}
 use Rattle.session_memory.specs.declared.Say.{Say}
 use Rattle.session_memory.specs.Session.{Keep}
-use Rattle.phase.specs.Phase.{phaseCallerSid, phasePrompt}
+use Rattle.phase.specs.Phase.{phaseCalledSid, phaseCallerSid, phasePrompt}
 use Rattle.places.specs.Places.{deferredAt, deferredLen, headingAt, headingLen, lineLen, blockAt, blockLen, arraysLen}
 use Rattle.region.specs.Region.{region, lent}
 use Rattle.region.proofs.Laws.{lent-here, lent-before, lent-after}
@@ -27,7 +28,7 @@ use Rattle.numbers.specs.Whole.{awaitOf, keepOf, deferredIn, blockIn}
 use Rattle.line_effect.specs.declared.Verdict.{Verdict}
 use Rattle.line_effect.specs.Judged.{Judged}
 use Rattle.line_effect.specs.Verdict.{judgedOf, Judges}
-use Rattle.line_effect.specs.Judge.{refusal, wentOn, inPhase, toTurn, inMode, afterSid, sidRead, lineIn, judgeOf}
+use Rattle.line_effect.specs.Judge.{refusal, wentOn, inPhase, toTurn, inMode, afterSid, sidRead, sidLine, lineIn, judgeOf}
 
 module _ (w : Await) (y : Say) (k : Keep) (rd : Reader) where
   -- a SID
@@ -65,6 +66,18 @@ module _ (w : Await) (y : Say) (k : Keep) (rd : Reader) where
     pub line-in : (p : ℕ) (b : Bool) → w .phase ≡ p → b ≡ isComment ln → b ≡ false → j ≡ lineIn p ln n w y k rd table known inbox store → j ≡ judgeOf ln n w y k rd table known inbox store
     unfolding judgeOf
     line-in p b e c z f = rw (sym c ∙ z) (f ∙ ap (λ (q : ℕ). lineIn q ln n w y k rd table known inbox store) (sym e))
+
+    -- a SID is awaited in the first two phases
+    pub sid-in : (p : ℕ) → p < phasePrompt → j ≡ sidLine ln w y k rd → j ≡ lineIn p ln n w y k rd table known inbox store
+    sid-in p l f = go (eqb p phaseCalledSid) refl
+      where
+        go : (b : Bool) → eqb p phaseCalledSid ≡ b → j ≡ lineIn p ln n w y k rd table known inbox store
+        go true q = rw q f
+        go false q = let z = eqb-false p phaseCalledSid q in rw (q, eq-eqb p phaseCallerSid (omega arith)) f
+
+-- and in none after them
+pub past-sid : (p q : ℕ) → q < phasePrompt → phasePrompt ≤ p → eqb p q ≡ false
+past-sid p q l g = ne-eqb p q (λ k. omega arith)
 
 -- ---------------------------------------------------------------- on the arrays where they stand
 

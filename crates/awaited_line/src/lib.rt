@@ -70,9 +70,11 @@ pub fn judge(
         return went(s);
     }
     let awaited = s.now.phase;
+    // a SID, whoever called; one call of its reader, so that it has no frame of its own on the stack
+    if awaited < phase::PROMPT {
+        return sid_line(line, s);
+    }
     match awaited {
-        phase::CALLED_SID => sid_line(line, s),
-        phase::CALLER_SID => sid_line(line, s),
         phase::PROMPT => text_line(line, s),
         phase::TURN => partner_turn::turn_line(
             line,

@@ -25,8 +25,17 @@ ghost use Rattle.calendar.specs.Meaning.{dateIs, timeIs};
 ghost use Rattle.route.specs.Routes.{station, firstForm, secondForm, stationOf, behindTime, readHeader};
 ghost use Rattle.route_read.specs.Meaning.{Lies, StationIs, RouteIs};
 
-// A time stamp without its zone: 003's STAMP.
+// A time stamp without its zone, 003's STAMP: `R:`, the date, a slash, the time.
+const DATE: usize = 2;
+
+const SLASH: usize = 8;
+
+const TIME: usize = 9;
+
 const STAMP_LENGTH: usize = 13;
+
+// `@:`, with which the second form begins.
+const MARK_LENGTH: usize = 2;
 
 // What a header says, its mailbox by the place in the line. gmt: the zone is known, and is GMT.
 pub struct Header {
@@ -128,7 +137,7 @@ fn either_form(line: &[u8], at: usize) -> Stated
     ensures { λ r. ⌜ StationIs (now (line .entry)) r (stationOf (drop at (now (line .entry)))) ⌝ }
 {
     if begins_at(line, at, b'@', b':') {
-        return second_form(line, at + 2);
+        return second_form(line, at + MARK_LENGTH);
     }
     first_form(line, at)
 }
@@ -168,12 +177,12 @@ pub fn read(line: &[u8]) -> Route
     if !begins_at(line, 0, b'R', b':') {
         return Route::NotHeader;
     }
-    if line[8] != b'/' {
+    if line[SLASH] != b'/' {
         return Route::NotHeader;
     }
-    match read_date(&line[2..8]) {
+    match read_date(&line[DATE..SLASH]) {
         ReadDate::BadDate => Route::NotHeader,
-        ReadDate::Says(date) => match read_time(&line[9..13]) {
+        ReadDate::Says(date) => match read_time(&line[TIME..STAMP_LENGTH]) {
             ReadTime::BadTime => Route::NotHeader,
             ReadTime::Says(time) => behind_time(line, date, time),
         },

@@ -20,7 +20,7 @@ use Rattle.dates.specs.Dates.{isDate, isTime}
 use Rattle.dates.specs.Digits.{dateText, timeText}
 use Rattle.decimal.proofs.Laws.{nine-digits}
 use Rattle.route.specs.Written.{Ours, mayWrite, numberLimit, stampText, routeLine, withRoute, addRoute}
-use Rattle.route_write.specs.Meaning.{addedIs}
+use Rattle.route_write.specs.Meaning.{fixedLength, numberDigits, addedIs}
 use Rattle.route_write.specs.declared.Added.{Added}
 
 -- ---------------------------------------------------------------- the fields
@@ -50,17 +50,17 @@ fields o e = and2 (ltb (o .number) numberLimit) (isAt (o .mailbox)) ((and2 (isDa
 
 -- ---------------------------------------------------------------- the line
 
-pub digit-count : (bytes : Bytes) (start n : ℕ) → length bytes ≡ 10 → start ≤ 10 → drop start bytes ≡ decimal n → n < 1000000000 → 10 - start ≡ length (writeNum 9 n)
+pub digit-count : (bytes : Bytes) (start n : ℕ) → length bytes ≡ 10 → start ≤ 10 → drop start bytes ≡ decimal n → n < numberLimit → 10 - start ≡ length (writeNum numberDigits n)
 digit-count bytes start n k s e h =
     let f = ap length (nine-digits bytes start n k e h) in
     let a = length-take (10 - start) (drop start bytes) in
     let b = length-drop start bytes in
     omega (arith, f, a, b, k, s)
 
-pub line-count : (bytes : Bytes) (start n m : ℕ) → length bytes ≡ 10 → start ≤ 10 → drop start bytes ≡ decimal n → n < 1000000000 → 17 + (10 - start) + m ≡ 17 + length (writeNum 9 n) + m
-line-count bytes start n m k s e h = ap (λ (i : ℕ). 17 + i + m) (digit-count bytes start n k s e h)
+pub line-count : (bytes : Bytes) (start n m : ℕ) → length bytes ≡ 10 → start ≤ 10 → drop start bytes ≡ decimal n → n < numberLimit → fixedLength + (10 - start) + m ≡ fixedLength + length (writeNum numberDigits n) + m
+line-count bytes start n m k s e h = ap (λ (i : ℕ). fixedLength + i + m) (digit-count bytes start n k s e h)
 
-module _ (d : Bytes) (c : Cursor) (o : Ours) (stamp number : Bytes) (s : stamp ≡ stampText (o .date) (o .time)) (n : number ≡ writeNum 9 (o .number)) where
+module _ (d : Bytes) (c : Cursor) (o : Ours) (stamp number : Bytes) (s : stamp ≡ stampText (o .date) (o .time)) (n : number ≡ writeNum numberDigits (o .number)) where
   route-text : ((stamp ++ number) ++ (64 ∷ [])) ++ (o .mailbox ++ (CR ∷ [])) ≡ routeLine o ++ (CR ∷ [])
   unfolding routeLine
   route-text = rw (s, n) (simp append-assoc)
@@ -71,7 +71,7 @@ module _ (d : Bytes) (c : Cursor) (o : Ours) (stamp number : Bytes) (s : stamp �
 
 -- ---------------------------------------------------------------- the whole
 
-route-length : (o : Ours) (body : Bytes) → 17 + length (writeNum 9 (o .number)) + length (o .mailbox) + length body ≡ length (withRoute o body)
+route-length : (o : Ours) (body : Bytes) → fixedLength + length (writeNum numberDigits (o .number)) + length (o .mailbox) + length body ≡ length (withRoute o body)
 unfolding withRoute routeLine stampText dateText timeText
 route-length o body = simp length-append (omega arith)
 
@@ -85,7 +85,7 @@ unfolding addRoute
 bad-field d o body m e f = rw (told-not e f)
 
 module _ (d : Bytes) (o : Ours) (body : Bytes) (m : Bool) (e : m ≡ mayWrite o) (f : not m ≡ false) where
-  pub number-small : o .number < 1000000000
+  pub number-small : o .number < numberLimit
   number-small = ltb-true (o .number) numberLimit ((fields o (told e f)) .0)
 
   too-long : bodyLimit < length (withRoute o body) → addedIs Added.NoRoom d ≡ addRoute d o body
@@ -95,7 +95,7 @@ module _ (d : Bytes) (o : Ours) (body : Bytes) (m : Bool) (e : m ≡ mayWrite o)
   pub body-long : bodyLimit < length body → addedIs Added.NoRoom d ≡ addRoute d o body
   body-long h = too-long (omega (arith, h, route-length o body))
 
-  module _ (line : ℕ) (g : line ≡ 17 + length (writeNum 9 (o .number)) + length (o .mailbox)) where
+  module _ (line : ℕ) (g : line ≡ fixedLength + length (writeNum numberDigits (o .number)) + length (o .mailbox)) where
     pub line-small : line ≤ 64
     line-small =
         let a = (num-field 8 (o .number)) .most in

@@ -1,11 +1,25 @@
 -- What the writer is given, and what its answer says.
-use Prim.Native.Nat.{ℕ}
+use Prim.Native.Nat.{ℕ, _+_}
+use lib.ListN.{length}
 use Rattle.grammar.specs.Bytes.{Bytes}
+use Rattle.grammar.specs.Fields.{writeNum}
 use Rattle.calendar.specs.Meaning.{dateIs, timeIs}
 use Rattle.calendar.specs.declared.Date.{Date}
 use Rattle.calendar.specs.declared.Time.{Time}
 use Rattle.route.specs.Written as route
 use Rattle.route_write.specs.declared.Added.{Added}
+
+-- What our line has beside its number and mailbox: the stamp with `z` and a space, `@`, CR.
+abbrev pub fixedLength : ℕ
+fixedLength = 17
+
+-- "a number has 1 to 9 digits"
+abbrev pub numberDigits : ℕ
+numberDigits = 9
+
+-- The bytes of our line, its CR included.
+abbrev pub lineLength : ℕ → Bytes → ℕ
+lineLength n w = fixedLength + length (writeNum numberDigits n) + length w
 
 abbrev pub oursIs : Date → Time → ℕ → Bytes → route.Ours
 oursIs d t n w = record { date = dateIs d; time = timeIs t; number = n; mailbox = w }

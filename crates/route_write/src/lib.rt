@@ -11,19 +11,23 @@ use field::is_at;
 ghost use mathlib.Core.Path.{_≡_};
 ghost use mathlib.Core.Bool.{true};
 ghost use mathlib.Core.List.{[], _∷_, _++_};
-ghost use Prim.Native.Nat.{_+_, _<_};
-ghost use lib.ListN.{length};
+ghost use Prim.Native.Nat.{_<_};
 ghost use Rattle.grammar.specs.Bytes.{CR};
-ghost use Rattle.grammar.specs.Fields.{writeNum};
 ghost use Rattle.buffer.specs.Put.{Puts};
 ghost use Rattle.calendar.specs.Meaning.{dateIs, timeIs};
-ghost use Rattle.route.specs.Written.{mayWrite, stampText, routeLine, addRoute};
-ghost use Rattle.route_write.specs.Meaning.{oursIs, addedIs};
+ghost use Rattle.route.specs.Written.{numberLimit, mayWrite, stampText, routeLine, addRoute};
+ghost use Rattle.route_write.specs.Meaning.{lineLength, oursIs, addedIs};
 
 // A number has nine digits at most.
 const NUMBER_LIMIT: u32 = 1000000000;
 
 const BODY_LIMIT: usize = 65535;
+
+// What our line has beside its number and mailbox: the stamp with `z` and a space, `@`, CR.
+const FIXED_LENGTH: usize = 17;
+
+// The room of decimal's digits; those of a number stand at its end.
+const DIGITS_ROOM: usize = 10;
 
 // How the writer answers: with how many bytes it has written, or by what it refuses, and then it has written nothing.
 pub enum Added {
@@ -75,11 +79,11 @@ fn stamp_text(date: Date, time: Time) -> [u8; 15]
 
 // How many bytes our line has, its CR included.
 fn line_length(number: u32, mailbox: &[u8]) -> usize
-    requires { ⌜ number < 1000000000 ⌝ }
-    ensures { λ r. ⌜ r ≡ 17 + length (writeNum 9 number) + length (now (mailbox .entry)) ⌝ }
+    requires { ⌜ number < numberLimit ⌝ }
+    ensures { λ r. ⌜ r ≡ lineLength number (now (mailbox .entry)) ⌝ }
 {
     let d = digits(number);
-    17 + (10 - d.start) + mailbox.len()
+    FIXED_LENGTH + (DIGITS_ROOM - d.start) + mailbox.len()
 }
 
 // Our line and its CR, at the cursor.
@@ -91,7 +95,7 @@ fn put_route(
     number: u32,
     mailbox: &[u8],
 ) -> Cursor
-    requires { ⌜ number < 1000000000 ⌝ }
+    requires { ⌜ number < numberLimit ⌝ }
     ensures { λ r. ⌜ Puts (now (out .entry)) c (routeLine (oursIs date time number (now (mailbox .entry))) ++ (CR ∷ [])) r (now (out .exit)) ⌝ }
 {
     let stamp = stamp_text(date, time);

@@ -7,7 +7,7 @@ use Rattle.phase.specs.Phase.{phaseCalledSid, phaseCallerSid, phasePrompt, phas
 use Rattle.places.specs.Places.{headingAt}
 use Rattle.numbers.specs.Whole.{awaitOf, keepOf}
 use Rattle.line_effect.specs.Judge.{judgeOf}
-use Rattle.awaited_line.proofs.Laws.{line-in, judging, as-it-was, on-deferred, on-block}
+use Rattle.awaited_line.proofs.Laws.{line-in, sid-in, past-sid, judging, as-it-was, on-deferred, on-block}
 use borrow.Author.Needs.{needs}
 use Rattle.awaited_line.proofs.judge.Statement.{statement}
 use Rattle.awaited_line.proofs.judge.Tie as tie
@@ -28,8 +28,12 @@ returns c =
 sid-line-requires : tie.Need-sid-line-requires
 sid-line-requires c κs = search needs
 
-sid-line-requires-2 : tie.Need-sid-line-requires-2
-sid-line-requires-2 c κs = search needs
+returns-2 : tie.Need-returns-2
+returns-2 c =
+    let a = c .before .before .before .before .before .before .before .before .before .args in
+    let f = judging (a .line .now) (a .sum) (a .table .now) (a .known .now) (a .inbox .now) (a .store) in
+    as-it-was (a .s) (a .mem .now) (c .before .before .before .before .before .before .before .before .before .pre) (c .sid-line .result) f
+    (λ block deferred. line-in (awaitOf (a .s .now) block) (a .s .say) (keepOf (a .s .keep) deferred) (a .s .reader) (a .line .now) (a .sum) (a .table .now) (a .known .now) (a .inbox .now) (a .store) _ (a .s .now .phase) _ refl (c .before .before .before .is-comment .ensures) (c .before .before .if1 .left) (sid-in (awaitOf (a .s .now) block) (a .s .say) (keepOf (a .s .keep) deferred) (a .s .reader) (a .line .now) (a .sum) (a .table .now) (a .known .now) (a .inbox .now) (a .store) _ (a .s .now .phase) (c .before .if2 .taken) (c .sid-line .ensures block deferred)))
 
 text-line-requires : tie.Need-text-line-requires
 text-line-requires c κs = search needs
@@ -50,7 +54,7 @@ slice-relend-prefix-answer-line : tie.Need-slice-relend-prefix-answer-line
 slice-relend-prefix-answer-line c = search needs
 
 slice-aggregate-answer-line : tie.Need-slice-aggregate-answer-line
-slice-aggregate-answer-line c = sym (length-take-le headingAt (c .before .before .before .before .before .before .before .before .before .args .mem .now) (omega (arith, c .before .before .before .before .before .before .before .before .before .pre)))
+slice-aggregate-answer-line c = sym (length-take-le headingAt (c .before .before .before .before .before .before .before .before .before .before .args .mem .now) (omega (arith, c .before .before .before .before .before .before .before .before .before .before .pre)))
 
 answer-line-requires : tie.Need-answer-line-requires
 answer-line-requires c κs = search needs
@@ -58,53 +62,40 @@ answer-line-requires c κs = search needs
 refusal-requires : tie.Need-refusal-requires
 refusal-requires c κs = search needs
 
-returns-2 : tie.Need-returns-2
-returns-2 c =
-    let a = c .before .before .before .before .before .before .before .before .before .args in
-    let f = judging (a .line .now) (a .sum) (a .table .now) (a .known .now) (a .inbox .now) (a .store) in
-    as-it-was (a .s) (a .mem .now) (c .before .before .before .before .before .before .before .before .before .pre) (c .sid-line .result) f
-    (λ block deferred. line-in (awaitOf (a .s .now) block) (a .s .say) (keepOf (a .s .keep) deferred) (a .s .reader) (a .line .now) (a .sum) (a .table .now) (a .known .now) (a .inbox .now) (a .store) _ phaseCalledSid _ (c .before .match .keys1) (c .before .before .before .is-comment .ensures) (c .before .before .if1 .left) (c .sid-line .ensures block deferred))
-
 returns-3 : tie.Need-returns-3
 returns-3 c =
-    let a = c .before .before .before .before .before .before .before .before .before .args in
+    let a = c .before .before .before .before .before .before .before .before .before .before .args in
     let f = judging (a .line .now) (a .sum) (a .table .now) (a .known .now) (a .inbox .now) (a .store) in
-    as-it-was (a .s) (a .mem .now) (c .before .before .before .before .before .before .before .before .before .pre) (c .sid-line2 .result) f
-    (λ block deferred. line-in (awaitOf (a .s .now) block) (a .s .say) (keepOf (a .s .keep) deferred) (a .s .reader) (a .line .now) (a .sum) (a .table .now) (a .known .now) (a .inbox .now) (a .store) _ phaseCallerSid _ (c .before .match .keys2) (c .before .before .before .is-comment .ensures) (c .before .before .if1 .left) (c .sid-line2 .ensures block deferred))
-
-returns-4 : tie.Need-returns-4
-returns-4 c =
-    let a = c .before .before .before .before .before .before .before .before .before .args in
-    let f = judging (a .line .now) (a .sum) (a .table .now) (a .known .now) (a .inbox .now) (a .store) in
-    as-it-was (a .s) (a .mem .now) (c .before .before .before .before .before .before .before .before .before .pre) (c .text-line .result) f
-    (λ block deferred. line-in (awaitOf (a .s .now) block) (a .s .say) (keepOf (a .s .keep) deferred) (a .s .reader) (a .line .now) (a .sum) (a .table .now) (a .known .now) (a .inbox .now) (a .store) _ phasePrompt _ (c .before .match .keys3) (c .before .before .before .is-comment .ensures) (c .before .before .if1 .left) (c .text-line .ensures block deferred))
+    as-it-was (a .s) (a .mem .now) (c .before .before .before .before .before .before .before .before .before .before .pre) (c .text-line .result) f
+    (λ block deferred. line-in (awaitOf (a .s .now) block) (a .s .say) (keepOf (a .s .keep) deferred) (a .s .reader) (a .line .now) (a .sum) (a .table .now) (a .known .now) (a .inbox .now) (a .store) _ phasePrompt _ (c .before .match .keys1) (c .before .before .before .before .is-comment .ensures) (c .before .before .before .if1 .left) (c .text-line .ensures block deferred))
 
 same-length : tie.Need-same-length
 same-length c = search needs
 
-returns-5 : tie.Need-returns-5
-returns-5 c =
-    let a = c .before .before .before .before .before .before .before .before .before .before .before .before .args in
+returns-4 : tie.Need-returns-4
+returns-4 c =
+    let a = c .before .before .before .before .before .before .before .before .before .before .before .before .before .args in
     let f = judging (a .line .now) (a .sum) (a .table .now) (a .known .now) (a .inbox .now) (a .store) in
-    on-block (a .s) (a .mem .now) (c .before .before .before .before .before .before .before .before .before .before .before .before .pre) (c .before .before .turn-line .result) f _ (c .before .mem .given .0)
-    (λ deferred. line-in (awaitOf (a .s .now) _) (a .s .say) (keepOf (a .s .keep) deferred) (a .s .reader) (a .line .now) (a .sum) (a .table .now) (a .known .now) (a .inbox .now) (a .store) _ phaseTurn _ (c .before .before .before .before .match .keys4) (c .before .before .before .before .before .before .is-comment .ensures) (c .before .before .before .before .before .if1 .left) (c .before .before .turn-line .ensures deferred))
+    on-block (a .s) (a .mem .now) (c .before .before .before .before .before .before .before .before .before .before .before .before .before .pre) (c .before .before .turn-line .result) f _ (c .before .mem .given .0)
+    (λ deferred. line-in (awaitOf (a .s .now) _) (a .s .say) (keepOf (a .s .keep) deferred) (a .s .reader) (a .line .now) (a .sum) (a .table .now) (a .known .now) (a .inbox .now) (a .store) _ phaseTurn _ (c .before .before .before .before .match .keys2) (c .before .before .before .before .before .before .before .is-comment .ensures) (c .before .before .before .before .before .before .if1 .left) (c .before .before .turn-line .ensures deferred))
 
 same-length-2 : tie.Need-same-length-2
 same-length-2 c = search needs
 
+returns-5 : tie.Need-returns-5
+returns-5 c =
+    let a = c .before .before .before .before .before .before .before .before .before .before .before .before .before .args in
+    let f = judging (a .line .now) (a .sum) (a .table .now) (a .known .now) (a .inbox .now) (a .store) in
+    on-deferred (a .s) (a .mem .now) (c .before .before .before .before .before .before .before .before .before .before .before .before .before .pre) (c .before .before .answer-line .result) f _ (c .before .mem2 .given .0)
+    (λ block. line-in (awaitOf (a .s .now) block) (a .s .say) (keepOf (a .s .keep) _) (a .s .reader) (a .line .now) (a .sum) (a .table .now) (a .known .now) (a .inbox .now) (a .store) _ phaseFs _ (c .before .before .before .before .match .keys3) (c .before .before .before .before .before .before .before .is-comment .ensures) (c .before .before .before .before .before .before .if1 .left) (c .before .before .answer-line .ensures block))
+
 returns-6 : tie.Need-returns-6
 returns-6 c =
-    let a = c .before .before .before .before .before .before .before .before .before .before .before .before .args in
+    let a = c .before .before .before .before .before .before .before .before .before .before .args in
     let f = judging (a .line .now) (a .sum) (a .table .now) (a .known .now) (a .inbox .now) (a .store) in
-    on-deferred (a .s) (a .mem .now) (c .before .before .before .before .before .before .before .before .before .before .before .before .pre) (c .before .before .answer-line .result) f _ (c .before .mem2 .given .0)
-    (λ block. line-in (awaitOf (a .s .now) block) (a .s .say) (keepOf (a .s .keep) _) (a .s .reader) (a .line .now) (a .sum) (a .table .now) (a .known .now) (a .inbox .now) (a .store) _ phaseFs _ (c .before .before .before .before .match .keys5) (c .before .before .before .before .before .before .is-comment .ensures) (c .before .before .before .before .before .if1 .left) (c .before .before .answer-line .ensures block))
-
-returns-7 : tie.Need-returns-7
-returns-7 c =
-    let a = c .before .before .before .before .before .before .before .before .before .args in
-    let f = judging (a .line .now) (a .sum) (a .table .now) (a .known .now) (a .inbox .now) (a .store) in
-    as-it-was (a .s) (a .mem .now) (c .before .before .before .before .before .before .before .before .before .pre) (c .refusal .result) f
-    (λ block deferred. line-in (awaitOf (a .s .now) block) (a .s .say) (keepOf (a .s .keep) deferred) (a .s .reader) (a .line .now) (a .sum) (a .table .now) (a .known .now) (a .inbox .now) (a .store) _ (a .s .now .phase) _ refl (c .before .before .before .is-comment .ensures) (c .before .before .if1 .left) (rw (ne-eqb _ _ (c .before .match .rest .0 .0 .0 .0 .1), ne-eqb _ _ (c .before .match .rest .0 .0 .0 .1), ne-eqb _ _ (c .before .match .rest .0 .0 .1), ne-eqb _ _ (c .before .match .rest .0 .1), ne-eqb _ _ (c .before .match .rest .1)) (c .refusal .ensures block deferred)))
+    let past = c .before .before .if2 .left in
+    as-it-was (a .s) (a .mem .now) (c .before .before .before .before .before .before .before .before .before .before .pre) (c .refusal .result) f
+    (λ block deferred. line-in (awaitOf (a .s .now) block) (a .s .say) (keepOf (a .s .keep) deferred) (a .s .reader) (a .line .now) (a .sum) (a .table .now) (a .known .now) (a .inbox .now) (a .store) _ (a .s .now .phase) _ refl (c .before .before .before .before .is-comment .ensures) (c .before .before .before .if1 .left) (rw (past-sid (a .s .now .phase) phaseCalledSid (omega arith) past, past-sid (a .s .now .phase) phaseCallerSid (omega arith) past, ne-eqb _ _ (c .before .match .rest .0 .0 .1), ne-eqb _ _ (c .before .match .rest .0 .1), ne-eqb _ _ (c .before .match .rest .1)) (c .refusal .ensures block deferred)))
 
 pub judge-spec : {M : Type 1} → statement M
 judge-spec =
@@ -114,7 +105,7 @@ judge-spec =
     went-requires
     returns
     sid-line-requires
-    sid-line-requires-2
+    returns-2
     text-line-requires
     sub-turn-line
     part-turn-line-start
@@ -124,11 +115,9 @@ judge-spec =
     slice-aggregate-answer-line
     answer-line-requires
     refusal-requires
-    returns-2
     returns-3
-    returns-4
     same-length
-    returns-5
+    returns-4
     same-length-2
-    returns-6
-    returns-7)
+    returns-5
+    returns-6)

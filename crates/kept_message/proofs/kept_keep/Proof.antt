@@ -1,0 +1,20 @@
+-- One more kept, its body's bytes more used.
+use mathlib.Core.Path.{refl}
+use borrow.Author.Needs.{needs}
+use Rattle.kept_message.proofs.kept_keep.Statement.{statement}
+use Rattle.kept_message.proofs.kept_keep.Tie as tie
+
+cast-k : tie.Need-cast-k
+cast-k c = search needs
+
+add-k : tie.Need-add-k
+add-k c = search needs
+
+add-k-2 : tie.Need-add-k-2
+add-k-2 c = search needs
+
+returns : tie.Need-returns
+returns c deferred heading line block = refl
+
+pub kept-keep-spec : {M : Type 1} → statement M
+kept-keep-spec = tie.close (tie.spec add-k cast-k add-k-2 returns)
