@@ -61,6 +61,8 @@ int base_has(struct base *base, const struct message *message);
 bool base_next(struct base *base, long long *number);
 bool base_count_known(struct base *base, long long *count);
 bool base_count_waiting(struct base *base, long long *count);
+/* Packed texts that wait and have no room for the check of this level. */
+bool base_count_too_long(struct base *base, uint8_t level, long long *count);
 /* Our callsign or the partner's, added to a store. */
 bool base_call(struct base *base, struct bytes *call);
 bool base_partner(struct base *base, struct bytes *partner);
@@ -71,9 +73,9 @@ typedef bool bid_function(void *context, struct part bid);
 bool base_each(struct base *base, enum box box, message_function *function, void *context);
 /* Those of one BID, in whatever spelling. */
 bool base_each_of(struct base *base, enum box box, struct part bid, message_function *function, void *context);
-/* For one session: of what waits the oldest, those behind that were deferred; and the known BIDs beside theirs that are likeliest to come
+/* For one session at this level: of what waits the oldest, those behind that were deferred; and the known BIDs beside theirs that are likeliest to come
  * again. */
-bool base_waiting(struct base *base, message_function *function, void *context);
-bool base_known(struct base *base, bid_function *function, void *context);
+bool base_waiting(struct base *base, uint8_t level, message_function *function, void *context);
+bool base_known(struct base *base, uint8_t level, bid_function *function, void *context);
 
 #endif

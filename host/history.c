@@ -22,7 +22,7 @@ bool history_end(struct base *base, const struct history *session)
 {
     sqlite3_stmt *statement = base_prepare(base,
         "UPDATE session SET ended = ?, ending = CAST(? AS TEXT), refusal = ?, line = ?,"
-        " forwarded = ?, declined = ?, deferred = ?, kept = ?, sent = ?, received = ? WHERE number = ?");
+        " forwarded = ?, declined = ?, deferred = ?, kept = ?, sent = ?, received = ?, level = ? WHERE number = ?");
 
     if (statement) {
         sqlite3_bind_int64(statement, 1, base_now());
@@ -35,9 +35,25 @@ bool history_end(struct base *base, const struct history *session)
         sqlite3_bind_int64(statement, 8, (long long)session->kept);
         sqlite3_bind_int64(statement, 9, (long long)session->sent);
         sqlite3_bind_int64(statement, 10, (long long)session->received);
-        sqlite3_bind_int64(statement, 11, session->number);
+        if (session->level >= 0)
+            sqlite3_bind_int(statement, 11, session->level);
+        sqlite3_bind_int64(statement, 12, session->number);
     }
     return base_finish(base, statement);
+}
+
+bool history_level(struct base *base, struct part partner, uint8_t *level)
+{
+    sqlite3_stmt *statement = base_prepare(base,
+        "SELECT coalesce((SELECT level > 0 FROM session WHERE partner = ? AND level IS NOT NULL ORDER BY number DESC LIMIT 1), 1)");
+    long long number = 1;
+
+    if (statement)
+        bind_part(statement, 1, partner);
+    if (!base_number(base, statement, &number))
+        return false;
+    *level = (uint8_t)number;
+    return true;
 }
 
 struct taker {

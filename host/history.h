@@ -11,6 +11,7 @@ struct history {
     struct part ending;             /* in a word or two: FQ, refused, silent .. */
     unsigned refusal;               /* its number, or 0 */
     struct part line;               /* what the partner sent of the line that was refused */
+    int level;                      /* in force; below 0: no SID came */
     unsigned long forwarded, declined, deferred, kept, sent, received;
 };
 
@@ -18,6 +19,9 @@ struct history {
 bool history_begin(struct base *base, struct part partner, uint8_t role, long long *number);
 /* All from `ended` on but partner and role; the time is now. */
 bool history_end(struct base *base, const struct history *session);
+
+/* The level in force in the last session with this partner that had one; 1 if there was none. */
+bool history_level(struct base *base, struct part partner, uint8_t *level);
 
 /* The newest first; parts last until the function returns. It answers whether to go on. */
 typedef bool history_function(void *context, const struct history *session);

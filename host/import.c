@@ -5,6 +5,7 @@
 #include "fault.h"
 #include "file.h"
 #include "letter.h"
+#include "level.h"
 #include "text.h"
 
 #include <stdio.h>
@@ -13,6 +14,7 @@
 struct import {
     struct base *base;
     bool text, as_is;
+    uint8_t level; /* of packed texts that don't say theirs */
     const char *file;
     int place; /* of the message in the file, from 1 */
     long count, there, clashing;
@@ -30,6 +32,7 @@ static enum exit_code add(struct import *import, const struct message *message)
 {
     const char *fault = message_fault(message);
 
+    fault = fault ? fault : level_fault(message);
     if (fault)
         return bad(import, fault);
     if (!base_add(import->base, message))
@@ -187,7 +190,7 @@ static enum exit_code add_all(struct import *import, struct part file)
     if (file_fault(file))
         return bad(import, file_fault(file));
     for (; code == DONE && letter_follows(&file); import->place++) {
-        const char *wrong = letter_read(&file, &letter);
+        const char *wrong = letter_read(&file, import->level, &letter);
         code = wrong ? bad(import, wrong) : add_letter(import, &letter);
     }
     return code;
@@ -227,7 +230,7 @@ static enum exit_code sum_up(const struct import *import)
 
 enum exit_code boxes_import(const struct options *options)
 {
-    struct import import = { NULL, options->text, options->as_is, NULL, 0, 0, 0, 0 };
+    struct import import = { NULL, options->text, options->as_is, (uint8_t)options->level, NULL, 0, 0, 0, 0 };
     struct bytes *files = calloc((size_t)options->count, sizeof *files);
     enum exit_code code = DONE;
     int i;

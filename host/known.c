@@ -1,5 +1,6 @@
 #include "known.h"
 #include "bid.h"
+#include "level.h"
 #include "statement.h"
 
 /* A bulletin comes by many ways, as long as mailboxes keep it; a personal message has one way, and comes again only from a partner that
@@ -86,7 +87,16 @@ static bool take_row(void *context, sqlite3_stmt *statement)
     return taker->function(taker->context, column_part(statement, 0));
 }
 
-bool base_known(struct base *base, bid_function *function, void *context)
+/* Bodies from this length on are too long for the level; one that is too long for any isn't this rule's matter. */
+void bind_chosen(sqlite3_stmt *statement, uint8_t level)
+{
+    if (statement) {
+        sqlite3_bind_int(statement, 1, FRINGEMOLE_MAX_RECORDS);
+        sqlite3_bind_int(statement, 4, FRINGEMOLE_MAX_BODY + 1 - (level ? LEVEL_CHECK : 0));
+    }
+}
+
+bool base_known(struct base *base, uint8_t level, bid_function *function, void *context)
 {
     sqlite3_stmt *statement = base_prepare(base,
         "SELECT bid FROM known WHERE " BID_KEY("bid") " NOT IN (SELECT " BID_TEXT("bid") " FROM outbox WHERE number IN " CHOSEN ")"
@@ -94,7 +104,7 @@ bool base_known(struct base *base, bid_function *function, void *context)
     struct taker taker = { function, context };
 
     if (statement) {
-        sqlite3_bind_int(statement, CHOSEN_LIMIT, FRINGEMOLE_MAX_RECORDS);
+        bind_chosen(statement, level);
         sqlite3_bind_int(statement, 2, FRINGEMOLE_MAX_KNOWN);
         sqlite3_bind_int(statement, 3, PERSONAL_BEHIND);
     }

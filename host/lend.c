@@ -1,5 +1,6 @@
 #include "lend.h"
 #include "fault.h"
+#include "level.h"
 #include "route.h"
 #include "say.h"
 #include "text.h"
@@ -9,7 +10,7 @@
 struct lending {
     struct shelf *shelf;
     struct base *base;
-    struct part mailbox; /* of our routing header, or empty */
+    const struct lend_terms *terms;
     const char *unrouted[FRINGEMOLE_MAX_RECORDS]; /* why a record goes without it, or NULL */
     long long bad[FRINGEMOLE_MAX_RECORDS]; /* numbers of messages to hold */
     size_t count;
@@ -26,7 +27,7 @@ static void say_held(long long number, struct part bid, const char *rule)
 
 #define TWIN "another message of the outbox has this BID"
 
-/* With our routing header, if there shall be one. */
+/* With our routing header, if there shall be one; a packed text in the form of the level. */
 static bool put_on_shelf(struct lending *lending, const struct message *message)
 {
     struct bytes store = { NULL, 0, 0 };
@@ -35,8 +36,9 @@ static bool put_on_shelf(struct lending *lending, const struct message *message)
     const char *why = NULL;
     bool right;
 
-    if (lending->mailbox.n && message->form == PLAIN_TEXT)
-        why = route_add(&lent, lending->mailbox, &store);
+    if (lending->terms->mailbox.n && message->form == PLAIN_TEXT)
+        why = route_add(&lent, lending->terms->mailbox, &store);
+    level_shape(&lent, lending->terms->level, &store);
     right = shelf_add(lending->shelf, &lent);
     if (right)
         lending->unrouted[place] = why;
@@ -63,6 +65,7 @@ static bool take_message(void *context, const struct message *message)
     struct lending *lending = context;
     const char *rule = message->copy ? TWIN : message_fault(message);
 
+    rule = rule ? rule : level_fault(message);
     if (rule) {
         say_held(message->number, message->bid, rule);
         lending->bad[lending->count++] = message->number;
@@ -100,18 +103,21 @@ static bool hold_bad(struct lending *lending)
 }
 
 /* Until all that is on the shelf is right, since others take the places of those that are held. */
-static bool fill(struct lending *lending, size_t room)
+static bool fill(struct lending *lending)
 {
+    uint8_t level = lending->terms->level;
+
     do {
         if (lending->count && !hold_bad(lending))
             return false;
         lending->count = 0;
         shelf_clear(lending->shelf);
-        shelf_start(lending->shelf, room);
-        if (!base_waiting(lending->base, take_message, lending))
+        shelf_start(lending->shelf, lending->terms->room);
+        if (!base_waiting(lending->base, level, take_message, lending))
             return false;
     } while (lending->count);
-    return base_known(lending->base, take_bid, lending);
+    lending->shelf->level = level;
+    return base_known(lending->base, level, take_bid, lending);
 }
 
 /* Each record by itself is right, and no two have one BID as the base sees it: one that the library refuses is a twin to the library. */
@@ -123,17 +129,18 @@ static void refuse_record(struct lending *lending, size_t place)
     lending->bad[lending->count++] = number;
 }
 
-bool lend(struct shelf *shelf, struct base *base, uint8_t role, size_t room, struct part mailbox)
+bool lend(struct shelf *shelf, struct base *base, const struct lend_terms *terms)
 {
-    struct lending lending = { shelf, base, mailbox, { NULL }, { 0 }, 0, false };
+    struct lending lending = { shelf, base, terms, { NULL }, { 0 }, 0, false };
 
     for (;;) {
         struct fringemole_reply opened;
-        if (!fill(&lending, room))
+        if (!fill(&lending))
             return false;
-        opened = shelf_open(shelf, role);
+        opened = shelf_open(shelf, terms->role);
         if (opened.answer == FRINGEMOLE_OK) {
-            say_unrouted(&lending);
+            if (!terms->again)
+                say_unrouted(&lending);
             return true;
         }
         if (opened.place < shelf_records(shelf)) {

@@ -4,9 +4,16 @@
 
 #include "shelf.h"
 
-/* On an empty shelf. A message that breaks a rule is named, held and left out; a known BID that is none is named and left out. False if
+struct lend_terms {
+    uint8_t role, level;
+    size_t room;
+    struct part mailbox; /* of our routing header, or empty */
+    bool again;          /* what can be said of the messages has been said */
+};
+
+/* In place of what the shelf has. Packed texts are lent in the form of the level. A message that breaks a rule is named, held and left out; a known BID that is none is named and left out. False if
  * there is something that can't be left out, or the base fails; that is said. With a mailbox, plain messages are lent with our routing header
  * in front, and each that can't have it is named; the base keeps them as they are. */
-bool lend(struct shelf *shelf, struct base *base, uint8_t role, size_t room, struct part mailbox);
+bool lend(struct shelf *shelf, struct base *base, const struct lend_terms *terms);
 
 #endif

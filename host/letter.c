@@ -1,4 +1,5 @@
 #include "letter.h"
+#include "level.h"
 
 #include <string.h>
 
@@ -59,7 +60,7 @@ static bool body_end(struct part bytes, size_t *body, size_t *after)
 /* ---- header lines */
 
 struct header {
-    struct part from, to, title, id, bid, type, jnos_type, form, name, size, length, cc, forwarded_to;
+    struct part from, to, title, id, bid, type, jnos_type, form, level, name, size, length, cc, forwarded_to;
     bool held;
 };
 
@@ -72,6 +73,7 @@ static struct part *place_of(struct header *header, struct part keyword)
     } places[] = {
         { "From", &header->from }, { "To", &header->to }, { "Subject", &header->title }, { "Message-ID", &header->id },
         { "X-BID", &header->bid }, { "X-msgtype", &header->type }, { "X-BBS-Msg-Type", &header->jnos_type }, { "X-Form", &header->form },
+        { "X-Level", &header->level },
         { "X-File-Name", &header->name }, { "X-Size", &header->size }, { "X-Length", &header->length }, { "cc", &header->cc },
         { "X-Forwarded-To", &header->forwarded_to }
     };
@@ -135,6 +137,16 @@ static bool find_form(struct part name, uint8_t *form)
     }
     *form = PLAIN_TEXT;
     return name.n == 0;
+}
+
+static const char *judge_level(struct part text, uint8_t level, struct message *message)
+{
+    long number = level;
+
+    if (text.n && (!part_number(text, &number) || number > LEVEL_LAST))
+        return "X-Level is not 0 or 1";
+    message->level = message->form == PLAIN_TEXT ? 0 : (uint8_t)number;
+    return NULL;
 }
 
 static const char *judge_header(const struct header *header, struct letter *letter)
@@ -228,7 +240,7 @@ bool letter_follows(struct part *file)
     return file->n > 0;
 }
 
-const char *letter_read(struct part *file, struct letter *letter)
+const char *letter_read(struct part *file, uint8_t level, struct letter *letter)
 {
     struct header header;
     const char *wrong = read_header(file, &header);
@@ -236,6 +248,8 @@ const char *letter_read(struct part *file, struct letter *letter)
 
     if (!wrong)
         wrong = judge_header(&header, letter);
+    if (!wrong)
+        wrong = judge_level(header.level, level, &letter->message);
     if (!wrong)
         wrong = read_body(file, header.length, &letter->message);
     if (wrong)
@@ -302,6 +316,8 @@ bool letter_write(FILE *to, const struct message *message, struct part forwarded
         put_header(to, "X-Forwarded-To", forwarded_to);
     if (message->form != PLAIN_TEXT && message->form <= PACKED_FILE)
         put_header(to, "X-Form", part_of(form_names[message->form]));
+    if (message->form != PLAIN_TEXT && message->level)
+        fprintf(to, "X-Level: %u\r\n", message->level);
     if (message->name.n)
         put_header(to, "X-File-Name", message->name);
     if (message->size != message->body.n)

@@ -7,9 +7,10 @@
  *   X-msgtype, X-BBS-Msg-Type   P or B; P if there is neither
  *   X-BBS-Hold           the message is held
  *   X-Forwarded-To       callsigns
- * and four of our own, for what that form has no place for:
+ * and five of our own, for what that form has no place for:
  *   X-Form               plain, message or file; plain if it isn't there
  *   X-File-Name          the name of a packed file
+ *   X-Level              of a packed text: 0, or 1 with its two check bytes in front; what the reader is told if it isn't there
  *   X-Size               the announced size; the body's length if it isn't there
  *   X-Length             bytes of the body, where the body itself holds a line /EX
  *
@@ -26,8 +27,8 @@ struct letter {
     struct part cc, forwarded_to;
 };
 
-/* Takes the next letter off the front of a file. Gives NULL, or what is wrong with it. */
-const char *letter_read(struct part *file, struct letter *letter);
+/* Takes the next letter off the front of a file; a packed text that doesn't say its level has this one. Gives NULL, or what is wrong with it. */
+const char *letter_read(struct part *file, uint8_t level, struct letter *letter);
 /* Whether a letter follows, or only empty lines do. */
 bool letter_follows(struct part *file);
 /* CALL@MAILBOX. */

@@ -2,6 +2,7 @@
 #include "base.h"
 #include "boxes.h"
 #include "history.h"
+#include "level.h"
 #include "refusal.h"
 #include "show.h"
 #include "text.h"
@@ -17,6 +18,8 @@ static void show_message(const struct message *message, const char *state)
     show_field(message->bid, 14);
     printf("%6lu  ", (unsigned long)message->body.n);
     text_show(stdout, message->form == PACKED_FILE ? message->name : message->title);
+    if (message->form != PLAIN_TEXT && message->level)
+        printf("  (level %u%s)", message->level, level_fault(message) ? ", with a wrong check" : "");
     if (!part_same(message->bid, message->first_bid)) {
         printf("  (the same BID as ");
         text_show(stdout, message->first_bid);

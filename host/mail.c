@@ -5,8 +5,8 @@
 
 #include <string.h>
 
-#define FIELDS "form, type, \"from\", at, \"to\", bid, title, name, body"
-#define MESSAGE_PLACES 9 /* what bind_message fills */
+#define FIELDS "form, type, \"from\", at, \"to\", bid, title, name, body, level"
+#define MESSAGE_PLACES 10 /* what bind_message fills */
 
 /* ---- changes */
 
@@ -21,11 +21,12 @@ static void bind_message(sqlite3_stmt *statement, const struct message *message)
     bind_part(statement, 7, message->title);
     bind_part(statement, 8, message->name);
     bind_part(statement, 9, message->body);
+    sqlite3_bind_int(statement, 10, message->level);
 }
 
 bool base_add(struct base *base, const struct message *message)
 {
-    sqlite3_stmt *statement = base_prepare(base, "INSERT INTO outbox (" FIELDS ", state, size, came) VALUES (?,?,?,?,?,?,?,?,?, ?,?,?)");
+    sqlite3_stmt *statement = base_prepare(base, "INSERT INTO outbox (" FIELDS ", state, size, came) VALUES (?,?,?,?,?,?,?,?,?,?, ?,?,?)");
 
     if (statement) {
         bind_message(statement, message);
@@ -55,7 +56,7 @@ bool base_keep(struct base *base, const struct message *message, const struct pa
 
     if (!next_copy(base, message->bid, &copy))
         return false;
-    statement = base_prepare(base, "INSERT INTO inbox (" FIELDS ", came, partner, session, copy) VALUES (?,?,?,?,?,?,?,?,?, ?,?,?,?)");
+    statement = base_prepare(base, "INSERT INTO inbox (" FIELDS ", came, partner, session, copy) VALUES (?,?,?,?,?,?,?,?,?,?, ?,?,?,?)");
     if (statement) {
         bind_message(statement, message);
         sqlite3_bind_int64(statement, MESSAGE_PLACES + 1, base_now());
@@ -115,7 +116,8 @@ bool base_release(struct base *base, struct part bid, bool *found)
 /* ---- questions */
 
 #define ALIKE \
-    "form = ?1 AND type = ?2 AND \"from\" = ?3 AND at = ?4 AND \"to\" = ?5 AND " SAME_BID("bid", "?6") " AND title = ?7 AND name = ?8 AND body = ?9"
+    "form = ?1 AND type = ?2 AND \"from\" = ?3 AND at = ?4 AND \"to\" = ?5 AND " SAME_BID("bid", "?6") " AND title = ?7 AND name = ?8 AND body = ?9" \
+    " AND (form = 0 OR level = ?10)"
 
 int base_has(struct base *base, const struct message *message)
 {
@@ -176,8 +178,9 @@ static struct message message_of(sqlite3_stmt *statement)
     message.title = column_part(statement, 10);
     message.name = column_part(statement, 11);
     message.body = column_part(statement, 12);
-    message.came = sqlite3_column_int64(statement, 13);
-    message.first_bid = column_part(statement, 14);
+    message.level = small_number(statement, 13);
+    message.came = sqlite3_column_int64(statement, 14);
+    message.first_bid = column_part(statement, 15);
     return message;
 }
 
@@ -223,15 +226,22 @@ bool base_each_of(struct base *base, enum box box, struct part bid, message_func
 #define EARLIER_WAITS \
     "EXISTS (SELECT 1 FROM outbox AS first WHERE " SAME_BID("first.bid", "outbox.bid") " AND first.number < outbox.number AND first.state = 0)"
 
-bool base_waiting(struct base *base, message_function *function, void *context)
+bool base_waiting(struct base *base, uint8_t level, message_function *function, void *context)
 {
     sqlite3_stmt *statement = base_prepare(base,
         "SELECT number, state, size, " EARLIER_WAITS ", " FIELDS ", came, NULL FROM outbox WHERE number IN " CHOSEN " ORDER BY deferred, number");
     struct taker taker = { function, context };
 
-    if (statement)
-        sqlite3_bind_int(statement, CHOSEN_LIMIT, FRINGEMOLE_MAX_RECORDS);
+    bind_chosen(statement, level);
     return base_rows(base, statement, take_row, &taker);
+}
+
+bool base_count_too_long(struct base *base, uint8_t level, long long *count)
+{
+    sqlite3_stmt *statement = base_prepare(base, "SELECT count(*) FROM outbox WHERE state = 0 AND NOT " FITS_LEVEL);
+
+    bind_chosen(statement, level);
+    return base_number(base, statement, count);
 }
 
 /* ---- our station */

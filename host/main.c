@@ -3,6 +3,7 @@
 #include "base.h"
 #include "boxes.h"
 #include "call.h"
+#include "level.h"
 #include "options.h"
 #include "partners.h"
 #include "radio.h"
@@ -110,6 +111,10 @@ int main(int count, char **words)
     }
     if (!options.command || (options.caller && options.called)) {
         say("give a base, a command and at most one role; see --help");
+        return BAD_USAGE;
+    }
+    if (options.level > LEVEL_LAST) {
+        say("--level: a packed text is of level 0 or 1");
         return BAD_USAGE;
     }
     if (options.header && !route_can_name(part_of(options.header))) {

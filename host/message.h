@@ -13,6 +13,7 @@ enum form { PLAIN_TEXT = FRINGEMOLE_PLAIN_TEXT, PACKED_MESSAGE = FRINGEMOLE_PACK
 struct message {
     long long number; /* its row in the base, in order of arrival */
     uint8_t state, form, type;
+    uint8_t level; /* of a packed text: 1 with check bytes in front (level.h) */
     struct part from, at, to, bid, title, name, body;
     uint32_t size; /* as announced in a proposal */
     long long copy; /* of the inbox: 0 the first of its BID, then 1, 2 ..; of what waits: 0 the first of its BID, else 1 */

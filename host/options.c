@@ -72,6 +72,7 @@ static const char options_help_text[] =
     "  --partner CALL       init: the partner's callsign, for X-Forwarded-To\n"
     "  --text               import, trace: line ends of plain bodies become CR, as on the air\n"
     "  --as-is              import, trace: plain bodies whose lines end with LF stay as they are\n"
+    "  --level NUMBER       import: of packed texts that don't say theirs, 0 or 1 (0)\n"
     "  --outbox             export: the outbox instead\n";
 
 static const char ends_help[] =
@@ -118,6 +119,7 @@ static const struct option table[] = {
     OPTION("--partner", TEXT, partner),
     OPTION("--text", FLAG, text),
     OPTION("--as-is", FLAG, as_is),
+    OPTION("--level", NUMBER, level),
     OPTION("--outbox", FLAG, outbox),
     OPTION("--caller", FLAG, caller),
     OPTION("--called", FLAG, called),

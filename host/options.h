@@ -12,6 +12,7 @@ struct options {
     const char *call, *partner;
     /* import, export */
     bool text, as_is, outbox;
+    long level; /* of packed texts that don't say theirs */
     /* sessions */
     bool caller, called, telnet, blank_offset, once, progress, flow, anyone, listen;
     bool asks;        /* no option: callers from outside must log in */

@@ -74,7 +74,13 @@ static const char to_3[] =
     " + EXISTS (SELECT 1 FROM outbox WHERE " SAME_BID("outbox.bid", "inbox.bid") ")"
     " WHERE EXISTS (SELECT 1 FROM known AS other WHERE " SAME_BID("other.bid", "inbox.bid") " AND other.bid <> inbox.bid);";
 
-static const char *const steps[BASE_VERSION] = { to_1, to_2, to_3 };
+/* Up to here our SID had B without a number, so every packed text is of level 0. What a session's SIDs came to is noted from now on. */
+static const char to_4[] =
+    "ALTER TABLE outbox ADD COLUMN level INTEGER NOT NULL DEFAULT 0;" /* of a packed text: 1 with its two check bytes in front */
+    "ALTER TABLE inbox ADD COLUMN level INTEGER NOT NULL DEFAULT 0;"
+    "ALTER TABLE session ADD COLUMN level INTEGER;"; /* in force; NULL if no SID came, or nobody noted it */
+
+static const char *const steps[BASE_VERSION] = { to_1, to_2, to_3, to_4 };
 
 /* Of a file without our mark. */
 static int nothing_yet(struct base *base, long long mark)

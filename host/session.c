@@ -2,8 +2,10 @@
 #include "heard.h"
 #include "history.h"
 #include "lend.h"
+#include "level.h"
 #include "offset.h"
 #include "refusal.h"
+#include "rest.h"
 
 #include <string.h>
 
@@ -25,6 +27,12 @@ struct session {
     struct heard heard;     /* the partner's line under way */
     struct history history; /* the row that tells of it */
     bool blank_offset;
+    const struct session_terms *terms;
+    /* Until the partner's SID has shown the level: what it said, and how much we have. */
+    bool level_shown;
+    struct bytes before;
+    size_t greeted;
+    struct rest rest; /* what the partner asks for */
 };
 
 /* How it ended, for the operator and for its row. */
@@ -59,6 +67,14 @@ static enum exit_code dropped(struct session *session, const char *how)
     return LINK_DROPPED;
 }
 
+/* Before a byte of another transfer goes. Those that it has deferred stand behind the others at the next call. */
+static enum exit_code asked_for_rest(struct session *session)
+{
+    ended(session, "asked for the rest of a message", LINK_DROPPED);
+    say("the partner asks for the rest of a message that was cut before, and would take the next one for it; we hang up before that: call again");
+    return LINK_DROPPED;
+}
+
 static enum exit_code not_saved(struct session *session)
 {
     return ended(session, "the base took no change", BAD_BASE);
@@ -87,18 +103,68 @@ static struct fringemole_reply receive(const struct session *session, struct par
     return session->blank_offset ? receive_padded(&session->shelf, bytes) : fringemole_receive_in(&session->shelf.lent, bytes.at, bytes.n);
 }
 
+/* ---- the level of packed texts */
+
+static bool lend_for(struct session *session, uint8_t level, bool again)
+{
+    struct lend_terms terms = { session->terms->role, level, session->terms->room, session->terms->mailbox, again };
+
+    return lend(&session->shelf, session->base, &terms);
+}
+
+/* The session anew, with packed texts in the form of this level: of what we say the greeting has been said, and what the partner said is
+ * heard again. Nothing else has been said or changed yet. */
+static bool start_again(struct session *session, uint8_t level, struct fringemole_reply *reply)
+{
+    uint8_t said[PIECE];
+
+    if (!lend_for(session, level, true))
+        return false;
+    fringemole_give_in(&session->shelf.lent, said, session->greeted, 0);
+    *reply = receive(session, part_all(&session->before));
+    return true;
+}
+
+/* The first bytes of the partner, up to its SID, which have been received. A packed text on the shelf has the form of one level: where the SIDs
+ * come to the other, nothing is given before that is set right. */
+static bool hear_level(struct session *session, struct part bytes, struct fringemole_reply *reply)
+{
+    const uint8_t *memory = session->shelf.session;
+    size_t earlier = session->before.n;
+    uint8_t level;
+
+    bytes_add(&session->before, bytes.at, bytes.n);
+    if (memory[FRINGEMOLE_SESSION_PHASE] <= FRINGEMOLE_LAST_SID_PHASE || reply->answer != FRINGEMOLE_OK)
+        return true;
+    level = level_in_force(memory);
+    session->level_shown = true;
+    session->history.level = level;
+    if (level == session->shelf.level)
+        return true;
+    if (!start_again(session, level, reply))
+        return false;
+    reply->count -= earlier;
+    return true;
+}
+
 /* Takes bytes of the partner. What changed is on the disk when it answers. */
 static enum exit_code take(struct session *session, struct part bytes, bool *over)
 {
-    struct fringemole_reply reply = receive(session, bytes);
+    struct fringemole_reply reply;
 
+    rest_hear(&session->rest, session->shelf.session, bytes);
+    reply = receive(session, bytes);
     *over = true;
+    if (!session->level_shown && !hear_level(session, bytes, &reply))
+        return ended(session, "nothing can be lent", BAD_BASE);
     bytes.n = reply.count;
     heard_add(&session->heard, bytes);
     if (!shelf_save(&session->shelf, session->base, &session->passage))
         return not_saved(session);
     if (reply.answer != FRINGEMOLE_OK)
         return refused(session, reply.answer);
+    if (rest_is_asked(&session->rest, session->shelf.session))
+        return asked_for_rest(session);
     *over = false;
     return DONE;
 }
@@ -117,6 +183,7 @@ static enum exit_code converse(struct session *session)
         if (given.answer != FRINGEMOLE_OK)
             return refused(session, given.answer);
         patience_watch(&link->patience, session->shelf.session, given.count > 0 && !speaking);
+        session->greeted += session->level_shown ? 0 : given.count;
         speaking = given.count == sizeof out;
         if (given.count && !link_write(link, (struct part){ out, given.count }))
             return dropped(session, "the partner is gone");
@@ -159,12 +226,15 @@ static bool sum_up(struct session *session)
 static void say_unoffered(const struct session *session)
 {
     size_t plain = 0, packed = 0;
+    long long too_long = 0;
 
     shelf_unoffered(&session->shelf, &plain, &packed);
     if (plain)
         say("waiting for a partner without B in its SID: %lu (plain)", (unsigned long)plain);
     if (packed)
         say("waiting for a partner with B in its SID: %lu (packed)", (unsigned long)packed);
+    if (base_count_too_long(session->base, session->shelf.level, &too_long) && too_long)
+        say("waiting for a partner at level 0: %lld (packed, and with two check bytes over 65,535 bytes)", too_long);
 }
 
 /* The row's end and what was deferred, in one transaction. */
@@ -182,8 +252,11 @@ static bool close_row(struct session *session)
 static enum exit_code run(struct session *session, const struct session_terms *terms)
 {
     enum exit_code code;
+    uint8_t level = 0;
 
-    if (!lend(&session->shelf, session->base, terms->role, terms->room, terms->mailbox)
+    session->terms = terms;
+    session->history.level = -1;
+    if (!history_level(session->base, terms->partner, &level) || !lend_for(session, level, false)
         || !history_begin(session->base, terms->partner, terms->role, &session->history.number))
         return BAD_BASE;
     session->passage.session = session->history.number;
@@ -207,5 +280,7 @@ enum exit_code session_run(struct base *base, struct link *link, const struct se
     session.link = link;
     code = run(&session, terms);
     shelf_clear(&session.shelf);
+    bytes_free(&session.before);
+    rest_free(&session.rest);
     return code;
 }

@@ -1,4 +1,5 @@
 #include "shelf.h"
+#include "level.h"
 
 #include <string.h>
 
@@ -62,6 +63,7 @@ static struct message kept_message(const struct shelf *shelf, size_t place)
     *(message.form == PACKED_FILE ? &message.name : &message.title) = heading;
     message.body.at = shelf->store.at + get_number(entry + FRINGEMOLE_ENTRY_BODY, 4);
     message.body.n = get_number(entry + FRINGEMOLE_ENTRY_BODY_LEN, 2);
+    message.level = message.form == PLAIN_TEXT ? 0 : level_in_force(shelf->session);
     return message;
 }
 

@@ -13,6 +13,7 @@ struct shelf {
     long long numbers[FRINGEMOLE_MAX_RECORDS];
     uint8_t states[FRINGEMOLE_MAX_RECORDS];
     size_t kept;
+    uint8_t level; /* for which packed texts are on it (level.h) */
 };
 
 /* Empty, with this much room for bodies that come in. */

@@ -254,7 +254,7 @@ static enum exit_code take_letters(struct trace *trace, struct part file)
     if (file_fault(file))
         return bad(trace, 1, file_fault(file));
     for (place = 1; code == DONE && letter_follows(&file); place++) {
-        const char *wrong = letter_read(&file, &letter);
+        const char *wrong = letter_read(&file, 0, &letter);
         letter.message.number = place;
         code = wrong ? bad(trace, place, wrong) : take_letter(trace, &letter.message);
     }

@@ -98,8 +98,10 @@ enum { /* our role */
 #define FRINGEMOLE_SESSION_KEPT 66       /* how many messages of the inbox are kept, 1 byte; 0 after an accepted open */
 #define FRINGEMOLE_SESSION_BODY 96       /* body bytes so far of the message that is coming in, 4 bytes */
 #define FRINGEMOLE_SESSION_DEFERRED 160  /* a flag a record, 64 bytes: 1 if the partner has deferred it in this session */
-/* Bytes 117 to 159 and 920 to 1,023 of it are free: no call reads or writes them, but later versions will. */
+#define FRINGEMOLE_SESSION_LEVEL 117     /* the level in force, 1 byte, once the partner's SID has come: 0 is level 0, any other number level 1 */
+/* Bytes 118 to 159 and 920 to 1,023 of it are free: no call reads or writes them, but later versions will. */
 #define FRINGEMOLE_LAST_SID_PHASE 1
+#define FRINGEMOLE_ANSWER_PHASE 4        /* the partner's FS line */
 #define FRINGEMOLE_TRANSFER_PHASE 5
 #define FRINGEMOLE_OFFSET_PLACE 6
 

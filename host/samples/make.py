@@ -3,7 +3,7 @@
 
     make.py [FOLDER]    (default: where it stands)
 
-A packed body is its text in LZHUF, as mailboxes have it (tests/peers/lzhuf.py), so a real mailbox can read it. Files are named by BID and
+A packed body is its text in LZHUF, as mailboxes have it at level 1 (tests/peers/lzhuf.py), so a real mailbox can read it. Files are named by BID and
 written as the host writes them, so that what arrives can be compared with them byte for byte.
 """
 import pathlib
@@ -22,7 +22,7 @@ GERMAN = """Liebe Funkfreunde,
 die Ergebnisse des Fieldday: 1. OE0ABC 412 Punkte, 2. OE0XYZ 398, 3. DL0ÄÖÜ 377. Wir grüßen alle, die im Regen durchgehalten haben.
 """
 ITALIAN = """Perché il rapporto è sceso di sei decibel? L'antenna è più bassa di due metri: il palo si è piegato col vento di giovedì. \
-La rialziamo sabato, servono quattro persone e una corda lunga. Chi può venire risponda a questo messaggio, grazie. 73 da I0ABC, Perugia. A dopo"""
+La rialziamo sabato, servono quattro persone e una corda lunga. Chi può venire risponda a questo messaggio, grazie. 73 da I0ABC, Perugia. A domani. Buona serata."""
 ENGLISH = """Kepler elements, week 11. OBJECT 1 EPOCH 25073.51782528 INC 51.6416 RAAN 247.4627 ECC .0006703 ARGP 130.5360 MA 325.0288
 OBJECT 2 EPOCH 25073.20138889 INC 98.5681 RAAN 83.0412 ECC .0011220 ARGP 90.1101 MA 270.1305
 """
@@ -33,6 +33,8 @@ Quizás el conector se llenó de agua. 73, EA0ABC
 """
 POLISH = """Zażółć gęślą jaźń. Zawody UKF odbędą się w niedzielę, logi proszę przysyłać do środy. Powodzenia życzy SP0ABC
 """
+
+LEVEL = 1  # two of these nodes speak framed at level 1, so what arrives has the same bytes
 
 
 def contest_log():
@@ -55,13 +57,13 @@ def letter(bid, kind, frm, to, heading, body, form="message"):
     lines = [b"From: " + frm, b"To: " + to]
     lines += [b"Subject: " + heading] if form != "file" else []
     lines += [b"Message-ID: " + bid, b"X-msgtype: " + kind, b"X-BID: " + bid]
-    lines += [b"X-Form: " + form.encode()] if form != "plain" else []
+    lines += [b"X-Form: " + form.encode(), b"X-Level: %d" % LEVEL] if form != "plain" else []
     lines += [b"X-File-Name: " + heading] if form == "file" else []
     return b"\r\n".join(lines + [b"", body]) + b"\r\n/EX\r\n"
 
 
 def packed(text, code):
-    return lzhuf.pack(air(text, code))
+    return lzhuf.pack(air(text, code), LEVEL)
 
 
 def samples():

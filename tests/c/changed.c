@@ -240,7 +240,7 @@ static void scribble_number(uint8_t *session)
     if (once_in(3)) {
         put_number(session, at, at < BODY_BYTES ? 2 : 4, value);
     } else {
-        session[once_in(16) ? BLOCK_SUM : other] = small[below(sizeof small)];
+        session[once_in(16) ? BLOCK_SUM + below(FREE - BLOCK_SUM) : other] = small[below(sizeof small)];
     }
 }
 

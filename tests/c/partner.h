@@ -17,7 +17,8 @@
 #define GIVEN 100
 #define USED 108
 #define BLOCK_SUM 116
-#define FREE 117
+#define LEVEL 117
+#define FREE 118
 #define DEFERRED_FLAGS 160
 #define LAST_FREE 920
 
@@ -136,13 +137,19 @@ static void say_turn(int framed)
     }
 }
 
-static void say_fs(uint8_t proposals)
+/* An FS line by the level that stands in session memory, at times by the other. */
+static void say_fs(uint8_t proposals, int level)
 {
+    static const char *const later[] = { "y", "H", "N", "r", "L", "e", "A0", "!000000", "a12", "!999999", "A", "A0000000" };
     size_t i, count = proposals < 5 ? proposals : 5;
 
     say_text("FS ");
     for (i = 0; i < count; i++) {
-        say(&"++-="[below(4)], 1);
+        if (level && once_in(2)) {
+            say_text(later[once_in(16) ? below(12) : below(10)]);
+        } else {
+            say(&"++-="[below(4)], 1);
+        }
     }
     say_text("\r");
 }
@@ -158,7 +165,7 @@ static void say_next(const uint8_t *session)
     } else if (session[AWAITED] == 2) {
         say_text("welcome\r\n>\r");
     } else if (session[AWAITED] == 4) {
-        say_fs(session[OUR_PROPOSALS]);
+        say_fs(session[OUR_PROPOSALS], once_in(16) ? !session[LEVEL] : session[LEVEL]);
     } else if (session[AWAITED] == 5) {
         say_transfer(framed);
     } else {

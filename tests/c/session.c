@@ -155,7 +155,7 @@ static void whole_session(void)
 
     puts("# 01's whole session");
     opens(&m, FRINGEMOLE_CALLED, FRINGEMOLE_OK, 0);
-    SAYS(&m, "[NOD-1-BFH$]\r>\r");
+    SAYS(&m, "[NOD-1-B1FH$]\r>\r");
     HEARS(&m, "");
     HEARS(&m, "[TST-1-F$]\rFF\r");
     SAYS(&m, "FQ\r");
@@ -172,7 +172,7 @@ static void plain_exchange(void)
     one_record(&m, FRINGEMOLE_PLAIN_TEXT);
     put_known(&m, "9_KNOWN");
     opens(&m, FRINGEMOLE_CALLED, FRINGEMOLE_OK, 0);
-    SAYS(&m, "[NOD-1-BFH$]\r>\r");
+    SAYS(&m, "[NOD-1-B1FH$]\r>\r");
     HEARS(&m, "[TST-1-F$]\r\nFB B FC1GHV F6FBB.FRA ALL 1_THEM 2\r\nfb p A B C 9_KNOWN 2\rF>\r");
     SAYS(&m, "FS +-\r");
     HEARS(&m, "\nHI\rAB\x1A \r\n");
@@ -198,7 +198,7 @@ static void framed_exchange(void)
     opens(&m, FRINGEMOLE_CALLER, FRINGEMOLE_OK, 0);
     SAYS(&m, "");
     HEARS(&m, "[TST-1-B1F$]\rwelcome\r>\r");
-    SAYS(&m, "[NOD-1-BFH$]\rFA P F6FBB FC1GHV FC1MVP 1_F6FBB 2\rF>\r");
+    SAYS(&m, "[NOD-1-B1FH$]\rFA P F6FBB FC1GHV FC1MVP 1_F6FBB 2\rF>\r");
     HEARS(&m, "FS +\r");
     SAYS(&m, "\x01\x05HI\x00\x30\x00\x02\x02" "AB\x04\x7D");
     HEARS(&m, "FA B FC1GHV F6FBB.FRA ALL 1_THEM 2\rFB P A B C 2_THEM 99\rF>\r");
@@ -223,7 +223,7 @@ static void block_sums(void)
         one_record(&m, FRINGEMOLE_PLAIN_TEXT);
         opens(&m, FRINGEMOLE_CALLER, FRINGEMOLE_OK, 0);
         HEARS(&m, "[TST-1-F$]\r>\r");
-        SAYS(&m, "[NOD-1-BFH$]\rFB P F6FBB FC1GHV FC1MVP 1_F6FBB 2\rF>\r");
+        SAYS(&m, "[NOD-1-B1FH$]\rFB P F6FBB FC1GHV FC1MVP 1_F6FBB 2\rF>\r");
         HEARS(&m, "FS +\r");
         SAYS(&m, "HI\rAB\x1A\r");
         /* The bytes of `FB P A B C 1_A 2` and its CR sum to 878; with 0x92 that is 1,024. */

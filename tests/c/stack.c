@@ -170,14 +170,14 @@ static void exchange(uint8_t as, uint8_t form, size_t portion)
     role = as;
     measure(&opens, open_here);
     must(reply.answer == FRINGEMOLE_OK, "open refused");
-    says(portion, as == FRINGEMOLE_CALLED ? "[NOD-1-BFH$]\r>\r" : "");
+    says(portion, as == FRINGEMOLE_CALLED ? "[NOD-1-B1FH$]\r>\r" : "");
     hears(form == FRINGEMOLE_PLAIN_TEXT ? "[TST-1-AFHM1$]\r" : "[TST-1-B1FHM$]\r", 15, portion, FRINGEMOLE_OK);
     if (as == FRINGEMOLE_CALLED) {
         HEARS("; hello\rFF\r");
     } else {
         HEARS("welcome\r>\r");
     }
-    says(portion, as == FRINGEMOLE_CALLED ? "F" : "[NOD-1-BFH$]\rF");
+    says(portion, as == FRINGEMOLE_CALLED ? "F" : "[NOD-1-B1FH$]\rF");
     HEARS("FS +++-=\r\n");
     says(portion, form == FRINGEMOLE_PLAIN_TEXT ? "t" : "\x01\x53t");
     HEARS("FB P F6FBB0 FC1GHV.FFPC.FRA.EU ALLALL 1_T 2\rFB B F6FBB FC1GHV ALL 2_T 2\rF>\r");

@@ -13,6 +13,7 @@ sys.dont_write_bytecode = True
 TESTS = os.path.join(os.path.dirname(os.path.abspath(__file__)), "..")
 sys.path[:0] = [os.path.join(TESTS, "interop"), os.path.join(TESTS, "peers")]
 
+from lzhuf import crc16  # noqa: E402
 from message import Message, letter  # noqa: E402
 from node import DECLINED, DONE, FORWARDED, LINK_DROPPED, WAITING, Node  # noqa: E402
 
@@ -38,11 +39,13 @@ class Base:
             number = len(self.sent) + 1
             # Plain records wait for a partner without B; soon there are more of them than a table holds.
             message = Message(bid=b"%d_%s\xe9" % (number, self.name.encode()), form=random.choice([0, 1, 1, 1, 2]),
-                              type=random.choice([b"P", b"B"]), title=bytes(random.choices(range(0x20, 0x100), k=random.randint(1, 80))))
+                              type=random.choice([b"P", b"B"]), stored=0, title=bytes(random.choices(range(0x20, 0x100), k=random.randint(1, 80))))
             body = random.randbytes(random.choice([0, 10, 200, 255, 256, 257, 700, 4000]))
             body = body if message.form else body.replace(b"\x1a", b"\r")
-            self.sent[message.bid] = (message.form, message.type, message.title, body)
             letters.append(letter(message, body, len(body)))
+            # Both nodes have B1: a packed text arrives with its check in front.
+            body = crc16(body).to_bytes(2, "little") + body if message.form else body
+            self.sent[message.bid] = (message.form, message.type, message.title, body)
         if letters:
             self.node.run("import", "-", "--as-is", given=b"".join(letters))
 

@@ -1,4 +1,5 @@
 """Nodes to test, as an operator has them: a base, commands on it, and partners who talk to it."""
+import copy
 import os
 import pathlib
 import re
@@ -14,6 +15,8 @@ import tempfile
 import time
 import unittest
 
+sys.path.insert(0, str(pathlib.Path(__file__).resolve().parents[1] / "peers"))
+from lzhuf import crc16  # noqa: E402
 from older import HOST, OLDER, ROOT, UNKNOWN, without_unknown
 
 PLAIN = HOST / "target" / "host" / "fringemole"
@@ -23,7 +26,7 @@ LATE = PATIENCE / 2  # on a busy machine what a limit of a few seconds ends has 
 
 DONE, FAILED, BAD_USAGE, BAD_BASE, BAD_PORT, LINK_DROPPED, REFUSED, BAD_FILE, NOT_ADMITTED = range(9)
 WAITING, FORWARDED, DECLINED, HELD = range(4)
-OUR_SID = b"[NOD-1-BFH$]\r"
+OUR_SID = b"[NOD-1-B1FH$]\r"
 GREETING = OUR_SID + b">\r"
 
 # Where these tests run in the background SIGINT is ignored, and nodes would inherit that.
@@ -35,9 +38,9 @@ COLUMNS = 'form, type, "from", at, "to", bid, title, name, body'
 class Message:
     """A message with good fields but for those that are given."""
 
-    def __init__(self, bid, body=b"", form="message", kind=b"P", frm=b"F0ABC", at=b"N0DE.TST", to=b"F0XYZ", title=b"Hello", name=b"", size=None):
+    def __init__(self, bid, body=b"", form="message", kind=b"P", frm=b"F0ABC", at=b"N0DE.TST", to=b"F0XYZ", title=b"Hello", name=b"", size=None, level=0):
         self.bid, self.body, self.form, self.kind, self.frm, self.at, self.to = bid, body, form, kind, frm, at, to
-        self.title, self.name, self.size = title, name, size
+        self.title, self.name, self.size, self.level = title, name, size, level
 
     def file(self):
         """In the form of 003, section 9, with X-Length always, so that any body passes."""
@@ -45,7 +48,15 @@ class Message:
                  b"X-msgtype: " + self.kind, b"X-Form: " + self.form.encode(), b"X-File-Name: " + self.name,
                  b"X-Length: %d" % len(self.body)]
         lines += [b"X-Size: %d" % self.size] if self.size is not None else []
+        lines += [b"X-Level: %d" % self.level] if self.level else []
         return b"\r\n".join(lines + [b"", self.body]) + b"\r\n/EX\r\n"
+
+    def checked(self):
+        """The same packed message as level 1 has it."""
+        changed = copy.copy(self)
+        if self.form != "plain":
+            changed.body, changed.level = crc16(self.body).to_bytes(2, "little") + self.body, 1
+        return changed
 
     def row(self):
         """As both boxes have it."""

@@ -78,13 +78,13 @@ class Calls(Radio):
         self.ended(listener, DONE, "N0DE-1 calls", "1 forwarded, 1 declined, 0 still waiting; 1 kept")
         self.assertEqual(north.states(), {b"1_N": FORWARDED, b"X": DECLINED})
         self.assertEqual(south.states(), {b"1_S": FORWARDED, b"X": DECLINED})
-        self.assertEqual(south.inbox(), [Message(b"1_N", EVERY * 40).row()])
-        self.assertEqual(north.inbox(), [Message(b"1_S", EVERY[::-1] * 3).row()])
+        self.assertEqual(south.inbox(), [Message(b"1_N", EVERY * 40).checked().row()])
+        self.assertEqual(north.inbox(), [Message(b"1_S", EVERY[::-1] * 3).checked().row()])
         self.assertEqual(north.ask("SELECT partner, role FROM session"), [(b"F0ABC", 1)])
         self.assertEqual(south.ask("SELECT partner, role FROM session"), [(b"N0DE", 0)])
         calls = [end for end in tnc.ends if end.name == PARTNER]
         self.assertEqual(len(calls), 1)
-        self.assertTrue(calls[0].heard.startswith(OUR_SID + Message(b"1_N", EVERY * 40).proposal()))
+        self.assertTrue(calls[0].heard.startswith(OUR_SID + Message(b"1_N", EVERY * 40).checked().proposal()))
         self.assertNotIn("lost", " ".join(tnc.words()))
 
     def test_via(self):

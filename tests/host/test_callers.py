@@ -162,7 +162,7 @@ class Login(Callers):
                 self.assertEqual((code, process.returncode), (DONE, DONE) if right == SECRET else (LINK_DROPPED, NOT_ADMITTED), said + there)
                 for text in (said, there):
                     self.assertNotIn(right.decode(), text.replace("wrong password", ""))
-        self.assertEqual((north.states(), south.inbox()), ({b"1_N": FORWARDED}, [ours.row()]))
+        self.assertEqual((north.states(), south.inbox()), ({b"1_N": FORWARDED}, [ours.checked().row()]))
         self.says_why(north.run("call", str(port), "--login", "X", "--password", self.folder / "none"), BAD_PORT, "refused")
 
     def test_refuses_to_start(self):

@@ -106,7 +106,7 @@ class Killed(Folder):
         """What must be so at any moment, wherever it was cut."""
         for sender, other in (("north", "south"), ("south", "north")):
             mine, inbox = mail[sender], nodes[other].inbox()
-            rows = {m.bid: m.row() for m in mine}
+            rows = {m.bid: m.checked().row() for m in mine}  # both nodes have B1
             self.assertEqual(nodes[other].ask("PRAGMA integrity_check"), [("ok",)])
             self.assertEqual(len({row[5] for row in inbox}), len(inbox), "kept twice")
             for row in inbox:

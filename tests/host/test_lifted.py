@@ -3,7 +3,8 @@ from node import *
 
 VERSION_1 = (ROOT / "tests" / "host" / "version1.sql").read_text()
 VERSION_2 = (ROOT / "tests" / "host" / "version2.sql").read_text()
-TODAY = 3
+VERSION_3 = (ROOT / "tests" / "host" / "version3.sql").read_text()
+TODAY = 4
 
 
 def shape(node):
@@ -53,10 +54,27 @@ class Lifted(Folder):
 
     def test_shape(self):
         "a lifted base has the tables of a new one"
-        for number, dump in enumerate((VERSION_1, VERSION_2)):
+        for number, dump in enumerate((VERSION_1, VERSION_2, VERSION_3)):
             node = self.old("old%d" % number, dump)
             node.right("list")
             self.assertEqual(shape(node), shape(self.node("new")))
+
+    def test_levels(self):
+        "what stood in a base of version 3 is of level 0, and goes to a partner at level 1 with its check"
+        node = self.old(dump=VERSION_3)
+        node.right("list")
+        self.assertEqual(node.ask("SELECT bid, level FROM outbox UNION ALL SELECT bid, level FROM inbox"),
+                         [(b"1_US", 0), (b"2_US", 0), (b"3_US", 0), (b"4_US", 0), (b"1_T", 0)])
+        self.assertEqual(node.ask("SELECT level FROM session"), [(None,)])
+        ours = [Message(b"2_US", b"file", form="file", name=b"A.BIN", title=b"").checked(), Message(b"4_US", b"four", size=4000).checked()]
+        partner = node.stdio()
+        partner.hears(GREETING)
+        partner.says(b"[TST-1-B1F$]\rFF\r")
+        partner.hears(b"".join(m.proposal() for m in ours) + b"F>\r")
+        partner.says(b"FS YY\r")
+        partner.hears(b"".join(m.transfer() for m in ours))
+        partner.process.kill()
+        partner.rest()
 
     def test_whole(self):
         "a step that fails leaves the base as it was"

@@ -29,8 +29,8 @@ class Tcp(Folder):
         self.says_why((listener.returncode, err.decode()), DONE, "1 forwarded, 1 declined, 0 still waiting; 1 kept")
         self.assertEqual(north.states(), {b"1_N": FORWARDED, b"X": DECLINED, b"2_N": WAITING})
         self.assertEqual(south.states(), {b"1_S": FORWARDED, b"X": DECLINED})
-        self.assertEqual(south.inbox(), [Message(b"1_N", EVERY * 40).row()])
-        self.assertEqual(north.inbox(), [Message(b"1_S", EVERY[::-1]).row()])
+        self.assertEqual(south.inbox(), [Message(b"1_N", EVERY * 40).checked().row()])
+        self.assertEqual(north.inbox(), [Message(b"1_S", EVERY[::-1]).checked().row()])
 
     def test_loopback_only(self):
         "without a HOST the node listens on 127.0.0.1 only"
@@ -320,7 +320,7 @@ class Serial(Folder):
         for process in (caller, called):
             process.communicate()
         self.assertEqual((north.states(), south.states()), ({b"1_N": FORWARDED}, {b"1_S": FORWARDED}))
-        self.assertEqual((south.inbox(), north.inbox()), ([Message(b"1_N", EVERY * 4).row()], [Message(b"1_S", EVERY).row()]))
+        self.assertEqual((south.inbox(), north.inbox()), ([Message(b"1_N", EVERY * 4).checked().row()], [Message(b"1_S", EVERY).checked().row()]))
 
 
 class Unsaid(Folder):

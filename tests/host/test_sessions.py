@@ -341,7 +341,7 @@ class Drops(Sessions):
         partner.says(PLAIN_SID)
         partner.hears_end()
         code, err = partner.ends()
-        self.says_why((code, err), LINK_DROPPED, "--drop-after", "15 bytes sent, 5 received")
+        self.says_why((code, err), LINK_DROPPED, "--drop-after", "16 bytes sent, 4 received")
 
 
 class Shown(Sessions):

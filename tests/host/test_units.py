@@ -4,7 +4,7 @@ from node import *
 
 class Units(Folder):
     def test_units(self):
-        "callsigns, partners of a base and their passwords, the line under way, blanks of an offset"
+        "callsigns, partners of a base and their passwords, the line under way, blanks of an offset, levels of packed texts, numbers in FS lines"
         host, objects, made = HOST / "host", HOST / "target" / "host-sanitized", self.folder / "units"
         library = pathlib.Path(os.environ.get("FRINGEMOLE_LIB_DIR", ROOT / "target" / "staticlib"))
         with_no_main = [path for path in objects.glob("*.o") if path.stem not in ("main", "embed")]

@@ -1,10 +1,12 @@
-/* Parts of the host that no command shows whole: callsigns, partners of a base, the line under way, blanks of an offset. Ends with 0, or
- * says what is wrong. */
+/* Parts of the host that no command shows whole: callsigns, partners of a base, the line under way, blanks of an offset, levels of packed
+ * texts, numbers in FS lines. Ends with 0, or says what is wrong. */
 #include "call.h"
 #include "fringemole.h"
 #include "heard.h"
+#include "level.h"
 #include "offset.h"
 #include "partner.h"
+#include "rest.h"
 
 #include <stdio.h>
 #include <stdlib.h>
@@ -118,12 +120,70 @@ static void offsets(void)
     }
 }
 
+static struct message packed(const char *body, size_t n, uint8_t level)
+{
+    struct message message;
+
+    memset(&message, 0, sizeof message);
+    message.form = PACKED_MESSAGE;
+    message.level = level;
+    message.body = some(body, n);
+    message.size = (uint32_t)n;
+    return message;
+}
+
+/* The check of nine digits is a known one: 31C3. */
+static void levels(void)
+{
+    static const char checked[] = "\xC3\x31" "123456789";
+    struct message zero = packed(checked + 2, 9, 0), one = packed(checked, 11, 1), other;
+    struct bytes store = { NULL, 0, 0 };
+
+    MUST(!level_fault(&zero) && !level_fault(&one));
+    other = zero;
+    level_shape(&other, 1, &store);
+    MUST(other.level == 1 && other.size == 11 && part_same(other.body, one.body));
+    level_shape(&other, 1, &store);
+    MUST(part_same(other.body, one.body));
+    level_shape(&other, 0, &store);
+    MUST(other.level == 0 && other.size == 9 && part_same(other.body, zero.body));
+    zero.size = 4000;
+    level_shape(&zero, 1, &store);
+    MUST(zero.size == 4000 && zero.body.n == 11);
+    one.form = PLAIN_TEXT;
+    level_shape(&one, 0, &store);
+    MUST(one.body.n == 11);
+    other = packed(checked, 10, 1);
+    MUST(level_fault(&other));
+    other = packed("\0\0", 2, 1);
+    MUST(!level_fault(&other));
+    other = packed("\0", 1, 1);
+    MUST(level_fault(&other));
+    other = packed("\0\0", 2, 2);
+    MUST(level_fault(&other));
+    bytes_free(&store);
+}
+
+static void rests(void)
+{
+    static const char *const before[] = { "A1Y", "a1+", "!000001h", "YA9NN!0", "A1A000000", "A12A3Y", "A10LEY" };
+    static const char *const no[] = { "", "Y", "YYYYY", "A1", "!999999", "YA1", "A0Y", "!000Y", "A1N", "A1R=LE-", "A1A2", "LY", "+-=" };
+    size_t i;
+
+    for (i = 0; i < sizeof before / sizeof *before; i++)
+        MUST(rest_stands_before(part_of(before[i])));
+    for (i = 0; i < sizeof no / sizeof *no; i++)
+        MUST(!rest_stands_before(part_of(no[i])));
+}
+
 int main(int words, char **word)
 {
     struct base *base = words == 2 ? base_open(word[1], CHANGING) : NULL;
 
     MUST(base != NULL);
     calls();
+    levels();
+    rests();
     partners(base);
     removed(base);
     lines();

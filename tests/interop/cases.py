@@ -6,7 +6,7 @@ import lzhuf
 from linfbb import FRAMED, HEAD
 from node import DECLINED, DONE, FORWARDED, LINK_DROPPED, NOT_ADMITTED, REFUSED, WAITING
 from relay import Drop, other_letter
-from world import PASSWORD, WAYS, Failed, expect, kept_in, wire
+from world import LEVELS, PASSWORD, WAYS, Failed, expect, kept_in, wire
 
 BLOCK_END = re.compile(rb"[\r\n]F> [0-9A-F]{2}(?=\r)")
 
@@ -14,7 +14,7 @@ SHORT, LONG = [], []  # (name, function, arguments); the first argument names th
 
 
 def case(name, *ways, into=SHORT):
-    """A case for each of these ways (mode and role), by default for all four."""
+    """A case for each of these ways (mode and role), by default for all six."""
     def add(function):
         for mode, role in ways or WAYS:
             into.append((f"{mode}, {role}: {name}", function, (mode, role)))
@@ -22,8 +22,8 @@ def case(name, *ways, into=SHORT):
     return add
 
 
-CALLER = [(mode, "caller") for mode in ("framed", "plain")]
-FRAMED_WAYS = [("framed", role) for role in ("caller", "called")]
+CALLER = [(mode, "caller") for mode in ("level1", "level0", "plain")]
+FRAMED_WAYS = [(mode, role) for mode in ("level1", "level0") for role in ("caller", "called")]
 
 
 def states_of(node, messages, *states):
@@ -45,7 +45,7 @@ def inbox_is(node, mode, telnet, messages):
     """The messages that LinFBB passed on, each once, with its own lines in front."""
     found = []
     for bid, title, body in node.inbox():
-        text = lzhuf.unpack(body, 0) if mode == "framed" else body
+        text = lzhuf.unpack(body, LEVELS[mode]) if mode in LEVELS else body
         # On its telnet port LinFBB adds LF after each CR, inside plain transfers too: 01 keeps them, the one after the title's CR first.
         if mode == "plain" and telnet:
             expect(f"first byte of {bid}", text[:1], b"\n")
@@ -115,7 +115,8 @@ def nothing(world, mode, role):
 def reject_and_hold(world, mode, role):
     messages = [world.message(mode, type=b"B", at=b"WW", to=to) for to in (b"REJME", b"HOLDME", b"NEWS")]
     node = world.node(*messages)
-    done(world.session(mode, role, node))
+    _, link = done(world.session(mode, role, node))
+    expect("its answer", (b"FS RHY\r" if mode == "level1" else b"FS -++\r") in link.heard["peer"], True)
     states_of(node, messages, DECLINED, FORWARDED, FORWARDED)
     at_linfbb(world, mode, messages[2:])
 
@@ -157,7 +158,7 @@ def big(world, mode, role):
 
 def opening(role):
     """Our bytes before the first turn."""
-    return b".N0DE\r[NOD-1-BFH$]\r" if role == "caller" else b"[NOD-1-BFH$]\r>\r"
+    return b".N0DE\r[NOD-1-B1FH$]\r" if role == "caller" else b"[NOD-1-B1FH$]\r>\r"
 
 
 def drop_points(role, block, transfers):
@@ -223,6 +224,63 @@ for _mode, _role in WAYS:
         LONG.append((f"{_mode}, {_role}: link dropped at {_step}/{STEPS} of our bytes", dropped_at, (_mode, _role, _step)))
 
 
+LEVEL_1_WAYS = [("level1", role) for role in ("caller", "called")]
+ASKS = re.compile(rb"FS A[1-9][0-9]*[A-Z]*\r")
+WAIT = 3  # seconds without progress, then the host ends a session
+
+
+def cut_in_first(world, mode, role, *messages):
+    """A node whose link dropped in its first transfer, after some 2,000 bytes of it."""
+    node = world.node(*messages)
+    block = b"".join(m.proposal() for m in messages) + b"F>\r"
+    said = opening(role) + block + messages[0].transfer()[:2000]
+    ended, _ = world.session(mode, role, node, drop=Drop(wire(role, said), pause=1))
+    expect("exit code of the dropped session", ended.code, LINK_DROPPED)
+    return node, block
+
+
+@case("link dropped amid a long transfer: it asks for the rest, which counts as deferred; our limit ends the wait, at each call", *LEVEL_1_WAYS)
+def asks_for_the_rest(world, mode, role):
+    message = world.message(mode, text=lines_of(mode, 4_000))
+    node, block = cut_in_first(world, mode, role, message)
+    for _ in range(2):
+        ended, link = world.session(mode, role, node, options=["--progress-limit", str(WAIT)])
+        expect(f"exit code ({ended.said.strip()})", ended.code, LINK_DROPPED)
+        expect("its answer", bool(ASKS.search(link.heard["peer"])), True)
+        expect("our last bytes", link.heard["us"].endswith(block), True)
+        states_of(node, [message], WAITING)
+    expect("at LinFBB", world.fetch(mode).get(message.bid), None)
+
+
+@case("link dropped amid a long transfer: at level 0 it takes the whole at the next call", ("level0", "caller"), ("level0", "called"))
+def takes_the_whole(world, mode, role):
+    message = world.message(mode, text=lines_of(mode, 4_000))
+    node, _ = cut_in_first(world, mode, role, message)
+    states_of(node, [message], WAITING)
+    done(world.session(mode, role, node))
+    states_of(node, [message], FORWARDED)
+    at_linfbb(world, mode, [message])
+
+
+@case("the same with another message behind it: we hang up before it takes that for the rest; at the next call the other goes first", *LEVEL_1_WAYS)
+def asks_for_the_rest_of_one(world, mode, role):
+    cut, other = world.message(mode, title=b"cut", text=lines_of(mode, 4_000)), world.message(mode, title=b"other", text=b"behind it\r\n")
+    node, block = cut_in_first(world, mode, role, cut, other)
+    ended, link = world.session(mode, role, node, options=["--progress-limit", str(WAIT)])
+    expect(f"how it ended ({ended.said.strip()})", (ended.code, "asks for the rest" in ended.said), (LINK_DROPPED, True))
+    expect("its answer", bool(re.search(rb"FS A[1-9][0-9]*Y\r", link.heard["peer"])), True)
+    expect("our last bytes", link.heard["us"].endswith(block), True)
+    states_of(node, [cut, other], WAITING, WAITING)
+    for answer, state in ((rb"FS YA[1-9][0-9]*\r", WAITING), (rb"FS [NR]A[1-9][0-9]*\r", DECLINED)):
+        world.fetch(mode)
+        ended, link = world.session(mode, role, node, options=["--progress-limit", str(WAIT)])
+        expect(f"how it ended ({ended.said.strip()})", (ended.code, "no progress" in ended.said), (LINK_DROPPED, True))
+        expect("its answer", bool(re.search(answer, link.heard["peer"])), True)
+        states_of(node, [cut, other], WAITING, state)
+    at_linfbb(world, mode, [other])
+    expect("at LinFBB", world.fetch(mode).get(cut.bid), None)
+
+
 # ---- its mail comes in
 
 BLANKS = "--blank-offset"
@@ -239,14 +297,14 @@ def incoming_mail(world, mode, count):
 
 def options_for(mode):
     """What the host needs to take LinFBB's mail in this mode."""
-    return [BLANKS] if mode == "framed" else []
+    return [BLANKS] if mode in LEVELS else []
 
 
 def kept_as_sent(node, mode, heard):
     """Each message of the inbox stands on the link byte for byte; framed, as LinFBB writes it: six bytes of offset, blocks of 250."""
     for bid, title, body in node.inbox():
         sent = title + b"\r" + body + b"\x1a\r"
-        if mode == "framed":
+        if mode in LEVELS:
             blocks = [body[at:at + 250] for at in range(0, len(body), 250)]
             sent = bytes([1, len(title) + 8]) + title + b"\0     0\0"
             sent += b"".join(bytes([2, len(block)]) + block for block in blocks) + bytes([4, -sum(body) % 256])
@@ -348,7 +406,7 @@ def dropped_while_it_sends(world, mode, role, step):
     incoming, node = incoming_mail(world, mode, 4), world.node()
     # Our bytes up to our FS line, then a part of its transfers.
     said = opening(role) + (b"FF\rFS ++++\r" if role == "caller" else b"FS ++++\r")
-    more = 1 + step * (75 if mode == "framed" else 90)
+    more = 1 + step * (75 if mode in LEVELS else 90)
     with world.box(mode).holding(*incoming):
         ended, _ = world.session(mode, role, node, drop=Drop(len(said), more), options=options_for(mode))
         expect("exit code of the dropped session", ended.code, LINK_DROPPED)
@@ -407,7 +465,7 @@ def old_mode(world, mode, role):
     states_of(node, [message], WAITING)
 
 
-@case("all its mail deferred, its FF in answer to our FF gets 5", ("framed", "caller"))
+@case("all its mail deferred, its FF in answer to our FF gets 5", ("level1", "caller"))
 def all_deferred(world, mode, role):
     node = world.node()
     with world.box(mode).holding(for_us(world, mode)):
@@ -429,7 +487,7 @@ def longer_than_announced(world, mode, role):
     expect("inbox", node.inbox(), [])
 
 
-@case("a packed empty text is passed on announced with ten digits: 5", ("framed", "caller"))
+@case("a packed empty text is passed on announced with ten digits: 5", ("level1", "caller"))
 def ten_digits(world, mode, role):
     node, empty = world.node(), for_us(world, mode, text=b"")
     with world.box(mode).holding(empty, sid=FRAMED):
@@ -438,7 +496,7 @@ def ten_digits(world, mode, role):
     expect("its proposal", b" %s 4294967295\r" % empty.bid in link.heard["peer"], True)
 
 
-@case("type T (NTS traffic) gets 5", ("framed", "caller"))
+@case("type T (NTS traffic) gets 5", ("level1", "caller"))
 def type_t(world, mode, role):
     node, traffic = world.node(), world.message(mode, type=b"T", at=b"NTSTX", to=b"75001")
     with world.box(mode).holding(traffic):

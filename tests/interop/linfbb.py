@@ -10,7 +10,7 @@ from relay import listener
 
 SETUP = os.path.join(os.path.dirname(os.path.abspath(__file__)), "../peers/linfbb-setup.sh")
 
-FRAMED, PLAIN = "[NOD-1-BFH$]", "[NOD-1-FH$]"
+FRAMED, PLAIN = "[NOD-1-B1FH$]", "[NOD-1-FH$]"
 
 # What LinFBB puts in front of a text that it passes on.
 HEAD = re.compile(rb"(?:R:[^\r]*\r\n?)+\r\n?From: [^\r]*\r\n?To  : [^\r]*\r\n?\r\n?")

@@ -10,7 +10,7 @@ def letter(message, body, size):
     """A message file for the host's import (host/letter.h)."""
     heading = b"X-File-Name: " if message.form == 2 else b"Subject: "
     lines = [b"From: " + message.sender, b"To: " + message.to + b"@" + message.at, b"X-BID: " + message.bid, heading + message.title,
-             b"X-msgtype: " + message.type, b"X-Form: " + FORMS[message.form].encode(), b"X-Size: %d" % size,
+             b"X-msgtype: " + message.type, b"X-Form: " + FORMS[message.form].encode(), b"X-Level: %d" % message.stored, b"X-Size: %d" % size,
              b"X-Length: %d" % len(body), b"", body, b"/EX", b""]
     return b"\r\n".join(lines)
 
@@ -25,10 +25,12 @@ class Message:
     sender: bytes = b"F0AAA"
     at: bytes = b"F0SRC"
     to: bytes = b"F0BBB"
+    level: int = 1  # in force on the link; and in whose form it stands on the shelf
+    stored: int = 1
 
     def body(self):
         """As it goes over the link."""
-        return lzhuf.pack(self.text, 0) if self.form else self.text
+        return lzhuf.pack(self.text, self.level) if self.form else self.text
 
     def proposal(self):
         """Our line, with CR."""
@@ -48,4 +50,5 @@ class Message:
         return out + bytes([4, -sum(body) % 256])
 
     def letter(self):
-        return letter(self, self.body(), len(self.text))
+        body = lzhuf.pack(self.text, self.stored) if self.form else self.text
+        return letter(self, body, len(self.text))

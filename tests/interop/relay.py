@@ -4,6 +4,7 @@ import re
 import select
 import socket
 import threading
+import time
 
 QUIET = 0.1  # seconds after which bytes that an edit held back go on
 
@@ -18,9 +19,11 @@ def listener(port=0):
 
 @dataclasses.dataclass
 class Drop:
-    """The link drops once `count` bytes of our node were delivered and, after these, `more` bytes of the mailbox."""
+    """The link drops once `count` bytes of our node were delivered and, after these, `more` bytes of the mailbox; `pause` seconds later, so that
+    the mailbox has read them."""
     count: int
     more: int = 0
+    pause: float = 0
 
 
 def other_letter(bid):
@@ -38,6 +41,7 @@ class Relay:
         self.we_call, self.to, self.edits = we_call, to, edits
         self.heard = {"us": b"", "peer": b""}
         self.left = {"us": drop.count, "peer": drop.more} if drop else {}
+        self.pause = drop.pause if drop else 0
         self.held = b""
         self.listener = listener(port)
         self.port = self.listener.getsockname()[1]
@@ -70,6 +74,7 @@ class Relay:
                 data = s.recv(65536)
                 dropped = self.deliver(side, to, data, not data)
                 if dropped:
+                    time.sleep(self.pause)
                     return
                 if not data:
                     del ways[s]

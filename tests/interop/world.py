@@ -8,7 +8,8 @@ from node import Node
 from relay import Relay
 
 PASSWORD = "Secret Word"
-WAYS = [(mode, role) for mode in ("framed", "plain") for role in ("caller", "called")]
+LEVELS = {"level1": 1, "level0": 0, "asked": 1}  # in force with these mailboxes; the others speak plain
+WAYS = [(mode, role) for mode in ("level1", "level0", "plain") for role in ("caller", "called")]
 
 
 class Failed(Exception):
@@ -27,9 +28,10 @@ class World:
         self.boxes, self.fetched, self.nodes, self.number = {}, {}, 0, 0
 
     def box(self, name):
-        """framed: as installed; plain: without B in its SID; old: without F; asked: says callsign and password when it calls."""
+        """level1: as installed; level0: B without a number in its SID; plain: without B; old: without F; asked: says callsign and password when it
+        calls."""
         if name not in self.boxes:
-            settings = {"framed": {}, "plain": {"comp": "NO"}, "old": {"fwd": "NO"}, "asked": {"extra": "\nV F0FBB$W" + PASSWORD + "$W"}}[name]
+            settings = {"level1": {}, "level0": {"comp": "OK 2"}, "plain": {"comp": "NO"}, "old": {"fwd": "NO"}, "asked": {"extra": "\nV F0FBB$W" + PASSWORD + "$W"}}[name]
             self.boxes[name] = Box(self.folder, "box-" + name, **settings)
         return self.boxes[name]
 
@@ -51,8 +53,9 @@ class World:
         return b"%d_N0DE" % self.number
 
     def message(self, mode, **fields):
-        """A message that goes in this mode."""
-        return Message(**{"bid": self.bid(), "form": 0 if mode == "plain" else 1, **fields})
+        """A message that goes in this mode. On the shelf every second one has the form of the other level, which the host must change."""
+        bid = self.bid()
+        return Message(**{"bid": bid, "form": int(mode in LEVELS), "level": LEVELS.get(mode, 0), "stored": self.number % 2, **fields})
 
     def session(self, mode, role, node, drop=None, edits=(), login=".N0DE", options=()):
         """A session of the node with the mailbox of this mode; gives how it ended, and the link."""

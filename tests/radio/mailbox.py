@@ -25,16 +25,16 @@ BLANKS = "--blank-offset"  # LinFBB pads the offset of a framed header, which 01
 
 def both_ways(world, name, session):
     """Mail of ours goes out and mail of LinFBB's comes in, in one session."""
-    ours = world.message("framed", title="Grüße".encode("latin-1"), text=bytes(range(0x20, 0x7F)) + b"\r\n")
-    theirs = [world.message("framed", title=b"From LinFBB", text=b"A text by radio\r", at=b"N0DE", to=b"F0CCC")]
-    box = world.box("framed")
+    ours = world.message("level1", title="Grüße".encode("latin-1"), text=bytes(range(0x20, 0x7F)) + b"\r\n")
+    theirs = [world.message("level1", title=b"From LinFBB", text=b"A text by radio\r", at=b"N0DE", to=b"F0CCC")]
+    box = world.box("level1")
     with box.holding(*theirs):
         node, began = world.node(ours), time.monotonic()
         expect("the session's end", session(node, box).code, DONE)
         took = time.monotonic() - began
         expect("states", node.states(), {ours.bid: FORWARDED})
-        inbox_is(node, "framed", False, theirs)
-    expect("at LinFBB", world.fetch("framed").get(ours.bid.upper()), [(ours.title, ours.text)])
+        inbox_is(node, "level1", False, theirs)
+    expect("at LinFBB", world.fetch("level1").get(ours.bid.upper()), [(ours.title, ours.text)])
     print("radio: LinFBB, %s: mail both ways, each once, byte for byte: %.0f s" % (name, took), flush=True)
 
 

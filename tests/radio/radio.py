@@ -115,8 +115,8 @@ def whole(folder, name="whole"):
     must(pair.endings(pair.north) == pair.endings(pair.south) == [b"FQ"], "rows:", pair.endings(pair.north), pair.endings(pair.south))
     must(pair.north.states() == {b"1_N": FORWARDED, b"2_N": FORWARDED}, "north's marks:", pair.north.states())
     must(pair.south.states() == {b"1_S": FORWARDED}, "south's marks:", pair.south.states())
-    must(pair.south.inbox() == [message.row() for message in ours], "south has", pair.south.inbox())
-    must(pair.north.inbox() == [message.row() for message in theirs], "north has", pair.north.inbox())
+    must(pair.south.inbox() == [message.checked().row() for message in ours], "south has", pair.south.inbox())
+    must(pair.north.inbox() == [message.checked().row() for message in theirs], "north has", pair.north.inbox())
     must(said(b"us:", mine) == said(b"partner:", pair.air) and said(b"partner:", mine) == said(b"us:", pair.air), "not what was said was heard")
     report(name, "3 packed messages, %d bytes of bodies both ways, %d bytes on the link, all the same: %.0f s"
            % (size(*ours, *theirs), len(said(b"us:", mine)) + len(said(b"partner:", mine)), pair.took))
@@ -146,8 +146,8 @@ def silenced(folder):
     must(code == DONE, "north's second call ended with", code, err)
     must(pair.north.states() == {b"1_N": DECLINED if b"1_N" in before else FORWARDED, b"2_N": FORWARDED}, "north's marks:", pair.north.states())
     must(pair.south.states() == {b"1_S": FORWARDED}, "south's marks:", pair.south.states())
-    must(pair.south.inbox() == [message.row() for message in ours], "south has", pair.south.inbox())
-    must(pair.north.inbox() == [message.row() for message in theirs], "north has", pair.north.inbox())
+    must(pair.south.inbox() == [message.checked().row() for message in ours], "south has", pair.south.inbox())
+    must(pair.north.inbox() == [message.checked().row() for message in theirs], "north has", pair.north.inbox())
     report("silenced", "dropped after %.0f s (%s), south had %d of 2 messages; called again %.0f s: nothing lost, nothing doubled, marks right"
            % (first, pair.endings(pair.south)[0].decode(), len(before), pair.took))
     pair.end()
@@ -172,7 +172,7 @@ class Mail:
         kept = {row[5]: row for row in rows}
         must(len(kept) == len(rows), "kept twice:", [row[5] for row in rows])
         for bid, row in kept.items():
-            must(row == self.sent[bid].row(), bid, "isn't what was sent:", row)
+            must(row == self.sent[bid].checked().row(), bid, "isn't what was sent:", row)
         for bid, state in self.node.states().items():
             must(state == WAITING or bid in kept, bid, "is marked and isn't there")
 

@@ -12,7 +12,7 @@ use borrow.Author.Tests.{eq-eqb, ne-eqb, eqb-false}
 use Rattle.grammar.specs.Bytes.{Bytes}
 use Rattle.grammar.specs.Refusals.{noForwarding}
 use Rattle.grammar.specs.Lines.{isComment}
-use Rattle.grammar.specs.Sid.{hasFeature, framed}
+use Rattle.grammar.specs.Sid.{hasFeature, framed, levelInForce}
 use Rattle.sid.specs.declared.Sid.{Sid}
 use Rattle.sid.specs.Meaning.{sidOf}
 use Rattle.transfer_step.specs.declared.Reader.{Reader}
@@ -37,29 +37,29 @@ module _ (w : Await) (y : Say) (k : Keep) (rd : Reader) where
   sid-no none r e n = ap (λ (x : Sid). refusal (x .number) w y k rd) e
   sid-no (some fs) r e n = go (hasFeature 5 fs) refl
     where
-      go : (b : Bool) → hasFeature 5 fs ≡ b → refusal (r .number) w y k rd ≡ cond b (wentOn (afterSid w) y (inMode (framed fs) k) rd) (refusal noForwarding w y k rd)
+      go : (b : Bool) → hasFeature 5 fs ≡ b → refusal (r .number) w y k rd ≡ cond b (wentOn (afterSid w) y (inMode (framed fs) (levelInForce fs) k) rd) (refusal noForwarding w y k rd)
       go true q = absurd (n (ap (λ (x : Sid). x .number) e ∙ rw q))
       go false q = ap (λ (x : Sid). refusal (x .number) w y k rd) e ∙ rw q
 
-  sid-yes : (o : Option (List ℕ)) (r : Sid) → r ≡ sidOf o → r .number ≡ 0 → wentOn (afterSid w) y (inMode (framed (r .features .levels)) k) rd ≡ sidRead o w y k rd
+  sid-yes : (o : Option (List ℕ)) (r : Sid) → r ≡ sidOf o → r .number ≡ 0 → wentOn (afterSid w) y (inMode (framed (r .features .levels)) (levelInForce (r .features .levels)) k) rd ≡ sidRead o w y k rd
   unfolding sidOf
   sid-yes none r e n = let z : ⊥ = omega (arith, ap (λ (x : Sid). x .number) e) in absurd z
   sid-yes (some fs) r e n = go (hasFeature 5 fs) refl
     where
-      go : (b : Bool) → hasFeature 5 fs ≡ b → wentOn (afterSid w) y (inMode (framed (r .features .levels)) k) rd ≡ cond b (wentOn (afterSid w) y (inMode (framed fs) k) rd) (refusal noForwarding w y k rd)
-      go true q = ap (λ (x : Sid). wentOn (afterSid w) y (inMode (framed (x .features .levels)) k) rd) e
+      go : (b : Bool) → hasFeature 5 fs ≡ b → wentOn (afterSid w) y (inMode (framed (r .features .levels)) (levelInForce (r .features .levels)) k) rd ≡ cond b (wentOn (afterSid w) y (inMode (framed fs) (levelInForce fs) k) rd) (refusal noForwarding w y k rd)
+      go true q = ap (λ (x : Sid). wentOn (afterSid w) y (inMode (framed (x .features .levels)) (levelInForce (x .features .levels)) k) rd) e
       go false q = let f : r .number ≡ noForwarding = ap (λ (x : Sid). x .number) e ∙ rw q in let z : ⊥ = omega (arith, f) in absurd z
 
-  module _ (o : Option (List ℕ)) (r : Sid) (e : r ≡ sidOf o) (n : r .number ≡ 0) (b : Bool) (f : b ≡ framed (r .features .levels)) where
-    pub sid-prompt : w .phase ≡ phaseCallerSid → wentOn (inPhase phasePrompt w) y (inMode b k) rd ≡ sidRead o w y k rd
+  module _ (o : Option (List ℕ)) (r : Sid) (e : r ≡ sidOf o) (n : r .number ≡ 0) (b : Bool) (f : b ≡ framed (r .features .levels)) (v : ℕ) (g : v ≡ levelInForce (r .features .levels)) where
+    pub sid-prompt : w .phase ≡ phaseCallerSid → wentOn (inPhase phasePrompt w) y (inMode b v k) rd ≡ sidRead o w y k rd
     sid-prompt h =
         let q : inPhase phasePrompt w ≡ afterSid w = rw (eq-eqb _ _ h) in
-        rw (q, f) (sid-yes o r e n)
+        rw (q, f, g) (sid-yes o r e n)
 
-    pub sid-turn : (w .phase ≡ phaseCallerSid → ⊥) → wentOn (toTurn false w) y (inMode b k) rd ≡ sidRead o w y k rd
+    pub sid-turn : (w .phase ≡ phaseCallerSid → ⊥) → wentOn (toTurn false w) y (inMode b v k) rd ≡ sidRead o w y k rd
     sid-turn h =
         let q : toTurn false w ≡ afterSid w = rw (ne-eqb _ _ h) in
-        rw (q, f) (sid-yes o r e n)
+        rw (q, f, g) (sid-yes o r e n)
 
   -- any line by the phase
   module _ (ln : Bytes) (n : ℕ) (table known inbox : Bytes) (store : ℕ) (j : Judged) where

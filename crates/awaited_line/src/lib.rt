@@ -23,6 +23,8 @@ fn sid_line(line: &[u8], s: Numbers) -> Verdict
     }
     let mut keep = s.keep;
     keep.framed = features::is_framed(r.features);
+    let level = features::in_force(r.features);
+    keep.terms.level = level;
     let mut t = s;
     t.keep = keep;
     if s.now.phase == phase::CALLER_SID {

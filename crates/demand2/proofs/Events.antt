@@ -11,17 +11,19 @@ use borrow.Author.Tests.{eq-eqb, lt-ltb}
 use Rattle.grammar.specs.Bytes.{Bytes, CR}
 use Rattle.grammar.specs.Fields.{Form, plain, message, file}
 use Rattle.grammar.specs.Lines.{ends, grows, overruns, trim, isComment}
+use Rattle.grammar.specs.Sid.{framed}
 use Rattle.grammar.specs.Turns.{Proposal, TurnLine, saysFF, readTurnLine, proposalLine, fixedText, ourSid, ourEnd, withCr}
-use Rattle.grammar.specs.Answers.{Sign, accept, readFs, fsLine}
+use Rattle.grammar.specs.Answers.{Sign, accept, readFs, fsLine, Level}
 use Rattle.grammar.specs.Scan.{Scan, Scanned, goes, got, scanByte}
 use Rattle.grammar.proofs.Refusal.{whole-got}
 use Rattle.mail.specs.Mail.{Record, messageOf, proposalOf, transferOf, recordAt, proposalLines, turnText, transfersText, accepted}
 use Rattle.session.specs.Choices.{Shelf, answersTo}
-use Rattle.session.specs.Session.{awaitsSid, awaitsPrompt, awaitsAnswer, Phase, aLine, newTurn, Memory, Session, withPart, withAfterCr, between, goesOn, speaking, turnMarks, answering, answered, turnJudged, answerMarks, awaitedJudged, Stepped, moved, settled, lineMoved, isPlain, keptIn, nextTransfer, transferMoved, freeStep, step, levelInForce}
+use Rattle.session.specs.Session.{awaitsSid, awaitsPrompt, awaitsAnswer, Phase, aLine, newTurn, Memory, Session, withLevel, withFramed, withTerms, withSid, withPart, withAfterCr, between, goesOn, speaking, turnMarks, answering, answered, turnJudged, answerMarks, awaitedJudged, Stepped, moved, settled, lineMoved, isPlain, keptIn, nextTransfer, transferMoved, freeStep, step, levelInForce}
 use Rattle.demand2.specs.Room.{room}
 use Rattle.demand2.specs.Marks.{withSign, AnswerLeaves, TurnLeaves}
 use Rattle.demand2.specs.Refusals.{isDropped, Heeded, awaitsLine, WholeLine, TurnSaid, SoFar, TransferByte}
-use Rattle.demand2.specs.Events.{messageFrom, withMessage, endsWithCr, proposed, blockText, transfersSaid, turnSaid, turnAwaits, weSpeak, transfersOr, EndsBlock, bare, summed, Event, lfGoes, lineGrows, ignored, sidOfCaller, sidOfCalled, textLine, prompt, proposal, ffTurn, fqTurn, blockEnd, fsLineComes, transferGrows, transferWhole}
+use Rattle.demand2.specs.Events.{messageFrom, withMessage, metBy, endsWithCr, proposed, blockText, transfersSaid, turnSaid, turnAwaits, weSpeak, transfersOr, EndsBlock, bare, summed, Event, lfGoes, lineGrows, ignored, sidOfCaller, sidOfCalled, textLine, prompt, proposal, ffTurn, fqTurn, blockEnd, fsLineComes, transferGrows, transferWhole}
+use Rattle.demand2.proofs.Limits.{level-between}
 use Rattle.demand2.proofs.Room.{fits-within}
 use Rattle.demand2.proofs.Marks.{accepted-is, answer-marks, turn-marks, answer-only, turn-only}
 use Rattle.demand2.proofs.Steps.{which-line, line-step, whole-step, transfer-step, turn-step, scan-more}
@@ -62,6 +64,9 @@ plain-is file = refl
 pub next : (E : Shelf) (s : Session) (cr : Bool) (ps : List Proposal) (m : Memory) → settled s cr (nextTransfer E ps m) ≡ moved (transfersOr E cr [] ps m)
 next E s cr [] m = speaks E s cr [] false (proposed E m) m
 next E s cr (p ∷ ps) m = refl
+
+sid-met : (fs : List ℕ) (m : Memory) → withSid fs m ≡ metBy fs m
+sid-met fs m = ap (λ (v : Level). withTerms (withLevel v (m .terms)) (withFramed (framed fs) m)) (level-between fs)
 
 -- ---------------------------------------------------------------- each event leaves its session
 
@@ -122,8 +127,10 @@ module _ (E : Shelf) (q : Bytes) (s : Session) (b : ℕ) where
     happens t (lfGoes e) = goes-lf e
     happens t (lineGrows h a e l) = goes-line h a e l
     happens t (ignored h a e c) = goes-ignored h a e c
-    happens t (sidOfCaller ln w p fs r f) = whole-step E s b (awaitsSid false) ln w p ∙ rw (w .bytes, r, f)
-    happens t (sidOfCalled ln w p fs r f) = whole-step E s b (awaitsSid true) ln w p ∙ rw (w .bytes, r, f)
+    happens t (sidOfCaller ln w p fs r f) =
+        whole-step E s b (awaitsSid false) ln w p ∙ rw (w .bytes, r, f) (ap (λ (m : Memory). moved (between (newTurn false) true [] m)) (sid-met fs (s .memory)))
+    happens t (sidOfCalled ln w p fs r f) =
+        whole-step E s b (awaitsSid true) ln w p ∙ rw (w .bytes, r, f) (ap (λ (m : Memory). moved (between (aLine awaitsPrompt) true [] m)) (sid-met fs (s .memory)))
     happens t (textLine ln w p r) = whole-step E s b awaitsPrompt ln w p ∙ rw (w .bytes, r)
     happens t (prompt ln w p r) =
         whole-step E s b awaitsPrompt ln w p ∙ rw (w .bytes, r) (speaks E s true (withCr (fixedText ourSid)) false (proposed E (s .memory)) (s .memory))

@@ -12,7 +12,7 @@ use borrow.Author.Tests.{eqb-true, eqb-false, eq-eqb}
 use Rattle.grammar.specs.Answers.{Sign, accept, decline, defer, writeSign}
 use Rattle.grammar.proofs.Basics.{or-second, no-both}
 use Rattle.mail.specs.Mail.{Message, accepted, marked, declined}
-use Rattle.session.specs.Session.{withFramed, withStates, withSending, withInbox, withDeferred, Memory, turnMarks, deferring, answerMarks}
+use Rattle.session.specs.Session.{Terms, withFramed, withTerms, withStates, withSending, withInbox, withDeferred, Memory, turnMarks, deferring, answerMarks}
 use Rattle.demand2.specs.Marks.{isIn, isSign, withSign, AnswerLeaves, TurnLeaves}
 use Rattle.demand2.specs.OurTurn.{rising}
 use Rattle.demand2.proofs.Candidates.{rising-first, rising-rest}
@@ -78,6 +78,7 @@ answer-marks is ss m =
       flags = ap length (deferring-is is ss (m .deferred)) ∙ set-length (withSign defer is ss) 1 (m .deferred);
       sending = ap (λ (l : List ℕ). m .sending ++ l) (accepted-is is ss);
       mode = refl;
+      terms = refl;
       inbox = refl;
     }
 
@@ -90,18 +91,20 @@ turn-marks m =
       sending = refl;
       deferred = refl;
       mode = refl;
+      terms = refl;
       inbox = refl;
     }
 
 -- ---------------------------------------------------------------- and no others
 
--- a memory by its five parts
-pub memory-is : (m n : Memory) → m .framed ≡ n .framed → m .states ≡ n .states → m .sending ≡ n .sending → m .inbox ≡ n .inbox
+-- a memory by its six parts
+pub memory-is : (m n : Memory) → m .framed ≡ n .framed → m .terms ≡ n .terms → m .states ≡ n .states → m .sending ≡ n .sending → m .inbox ≡ n .inbox
     → m .deferred ≡ n .deferred → m ≡ n
-memory-is m n a b c d e =
+memory-is m n a t b c d e =
     ap (λ (x : Bool). withFramed x m) a
-    ∙ ap (λ (x : List ℕ). withStates x (withFramed (n .framed) m)) b
-    ∙ ap (λ (x : List ℕ). withSending x (withStates (n .states) (withFramed (n .framed) m))) c
+    ∙ ap (λ (x : Terms). withTerms x (withFramed (n .framed) m)) t
+    ∙ ap (λ (x : List ℕ). withStates x (withTerms (n .terms) (withFramed (n .framed) m))) b
+    ∙ ap (λ (x : List ℕ). withSending x (withInbox (m .inbox) (withDeferred (m .deferred) n))) c
     ∙ ap (λ (x : List Message). withInbox x (withDeferred (m .deferred) n)) d
     ∙ ap (λ (x : List ℕ). withDeferred x n) e
 
@@ -113,7 +116,7 @@ alike f l u v p q g h = ext-getD 0 u v (p ∙ sym q) (λ k b. g k (omega arith) 
 pub answer-only : (is : List ℕ) (ss : List Sign) (m n : Memory) → AnswerLeaves is ss m n → n ≡ answerMarks is ss m
 answer-only is ss m n a =
     let z = answer-marks is ss m in
-    memory-is n (answerMarks is ss m) (a .mode)
+    memory-is n (answerMarks is ss m) (a .mode) (a .terms)
     (alike (λ (k : ℕ). cond (isIn k (withSign decline is ss)) 2 (getD (m .states) k 0)) (m .states) (n .states) (declined is ss (m .states))
     (a .records) (z .records) (a .state) (z .state))
     (a .sending ∙ sym (z .sending)) (a .inbox)
@@ -123,7 +126,7 @@ answer-only is ss m n a =
 pub turn-only : (m n : Memory) → TurnLeaves m n → n ≡ turnMarks m
 turn-only m n a =
     let z = turn-marks m in
-    memory-is n (turnMarks m) (a .mode)
+    memory-is n (turnMarks m) (a .mode) (a .terms)
     (alike (λ (k : ℕ). cond (isIn k (m .sending)) 1 (getD (m .states) k 0)) (m .states) (n .states) (marked (m .sending) (m .states))
     (a .records) (z .records) (a .state) (z .state))
     (a .sending) (a .inbox) (a .deferred)

@@ -7,7 +7,8 @@ use native.Mathlib.Omega.{arith}
 use lib.ListN.{replicate, length-replicate, getD-replicate}
 use lib.Seq.{ext-getD}
 use Rattle.grammar.specs.Bytes.{Bytes}
-use Rattle.session.specs.Session.{Phase, Memory, Session, withPhase, withPart, withAfterCr, withOut, withMemory, greeting, opened}
+use Rattle.grammar.specs.Answers.{Level}
+use Rattle.session.specs.Session.{Phase, Memory, Session, withPhase, withPart, withAfterCr, withOut, withMemory, withLevel, greeting, opened}
 use Rattle.demand2.specs.Opening.{OpenExact}
 use Rattle.demand2.proofs.Marks.{memory-is}
 
@@ -26,6 +27,7 @@ open-exact caller states =
       flags = length-replicate {A = ℕ} 64 0;
       inbox = refl;
       mode = refl;
+      level = refl;
     }
 
 -- a session by its five parts
@@ -41,7 +43,7 @@ session-is s t a b c d e =
 pub open-only : (caller : Bool) (states : List ℕ) (s : Session) → OpenExact caller states s → s ≡ opened caller states
 open-only caller states s h =
     session-is s (opened caller states) (h .awaits) (h .part) (h .noCr) (waits caller (h .called) (h .calling))
-    (memory-is (s .memory) (opened caller states .memory) (h .mode) (h .marks) (h .sending) (h .inbox)
+    (memory-is (s .memory) (opened caller states .memory) (h .mode) (ap (λ (v : Level). withLevel v (s .memory .terms)) (h .level)) (h .marks) (h .sending) (h .inbox)
     (ext-getD 0 (s .memory .deferred) (replicate 64 0) (h .flags ∙ sym (length-replicate {A = ℕ} 64 0))
     (λ k l. h .flag k (omega (arith, h .flags)) ∙ sym (getD-replicate 64 k 0 0 (omega (arith, h .flags))))))
   where

@@ -11,14 +11,13 @@ use lib.ListN.{length, drop}
 use lib.Seq.{drop-nil}
 use borrow.Author.Tests.{eq-eqb, ne-eqb}
 use Rattle.grammar.specs.Bytes.{Bytes, null}
-use Rattle.grammar.specs.Sid.{framed}
 use Rattle.grammar.specs.Turns.{Proposal}
 use Rattle.grammar.specs.Scan.{Scan, Scanned, goes, scan, scanByte, scanFrom, onward}
 use Rattle.grammar.proofs.Basics.{no-both, and-false, both}
 use Rattle.grammar.proofs.Portions.{scan-append}
 use Rattle.mail.specs.Mail.{messageOf}
 use Rattle.session.specs.Choices.{Shelf}
-use Rattle.session.specs.Session.{Awaited, awaitsPrompt, awaitsTurn, awaitsAnswer, Phase, aLine, newTurn, awaitsTransfer, leaving, over, Memory, Session, withFramed, withAfterCr, Outcome, refuses, goesOn}
+use Rattle.session.specs.Session.{Awaited, awaitsPrompt, awaitsTurn, awaitsAnswer, Phase, aLine, newTurn, awaitsTransfer, leaving, over, Memory, Session, withSid, withAfterCr, Outcome, refuses, goesOn}
 use Rattle.session.specs.Session.{speaking, turnMarks, answerMarks, Stepped, refused, settled, isPlain, keptIn, nextTransfer, step, ended, endedIn, opened}
 use Rattle.session.proofs.Ways.{Passes, toEnd, toTurn, toAnswer, toTransfer, our-turn, our-answer, next-transfer, Judged, isWrong, hearsSid, hearsText, hearsPrompt, hearsProposal, hearsFF, hearsFQ, hearsEnd, hearsFs, At, Way, isRefused, dropsLf, growsLine, ignoresLine, hearsLine, readsOn, readsLast, way}
 use Rattle.session.specs.Calls.{Received, receive, give}
@@ -69,8 +68,8 @@ module _ (E : Shelf) where
 
   judged-fair : (a : Awaited) (m : Memory) (ln : Bytes) (o : Outcome) → Judged E m ln a o → Fair E o
   judged-fair a m ln o (isWrong n w) = tt
-  judged-fair a m ln o (hearsSid true fs r f) = alive (aLine awaitsPrompt) (withFramed (framed fs) m) [] refl (λ is e. clash cc) tt
-  judged-fair a m ln o (hearsSid false fs r f) = alive (newTurn false) (withFramed (framed fs) m) [] refl (λ is e. clash cc) tt
+  judged-fair a m ln o (hearsSid true fs r f) = alive (aLine awaitsPrompt) (withSid fs m) [] refl (λ is e. clash cc) tt
+  judged-fair a m ln o (hearsSid false fs r f) = alive (newTurn false) (withSid fs m) [] refl (λ is e. clash cc) tt
   judged-fair a m ln o (hearsText r) = alive (aLine awaitsPrompt) m [] refl (λ is e. clash cc) tt
   judged-fair a m ln o (hearsPrompt r) = passes-fair m _ (our-turn E _ false m)
   judged-fair a m ln o (hearsProposal ff ps q r l) = alive (aLine (awaitsTurn ff (ps ++ (q ∷ [])) _)) m [] refl (λ is e. clash cc) tt

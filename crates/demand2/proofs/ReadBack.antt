@@ -8,7 +8,7 @@ use lib.ListN.{length}
 use Rattle.grammar.specs.Bytes.{Bytes, CR}
 use Rattle.grammar.specs.Fields.{Form, plain, message, file}
 use Rattle.grammar.specs.Turns.{inMode, proposable, blockLimit}
-use Rattle.grammar.specs.Answers.{Sign, ourProposal, ourAnswer, level0}
+use Rattle.grammar.specs.Answers.{Sign, ourProposal, ourAnswer}
 use Rattle.grammar.specs.Transfers.{sendable, writeTransfer, readTransfer}
 use Rattle.grammar.proofs.Basics.{split-mid}
 use Rattle.grammar.proofs.OurLines.{proposal-read, fs-back, GoodLine, good-line}
@@ -43,4 +43,4 @@ reads-back r p t =
 
 -- OUR FS LINE reads back
 pub answer-reads-back : (ss : List Sign) → 1 ≤ length ss → length ss ≤ blockLimit → AnswerReadsBack ss
-answer-reads-back ss l m = record { line = heard-whole _ (good-line (ourAnswer ss) (l, m)); answer = fs-back level0 ss }
+answer-reads-back ss l m = record { line = heard-whole _ (good-line (ourAnswer ss) (l, m)); answer = λ v. fs-back v ss }

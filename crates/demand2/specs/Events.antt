@@ -19,8 +19,8 @@ use Rattle.grammar.specs.Transfers.{parse, byteSum}
 use Rattle.grammar.specs.Scan.{Scan, goes, scan, scanFrom}
 use Rattle.mail.specs.Mail.{Record, Message, proposalOf, transferOf, recordAt}
 use Rattle.session.specs.Choices.{Shelf, chosen, answersTo}
-use Rattle.session.specs.Session.{awaitsSid, awaitsPrompt, awaitsTurn, awaitsAnswer, Phase, aLine, newTurn, awaitsTransfer, leaving, over, Memory, Session, withFramed, withInbox, withPhase, withPart, withAfterCr, between}
-use Rattle.demand2.specs.Limits.{lineLimit, blockLimit, letterF, levelInForce}
+use Rattle.session.specs.Session.{awaitsSid, awaitsPrompt, awaitsTurn, awaitsAnswer, Phase, aLine, newTurn, awaitsTransfer, leaving, over, Memory, Session, withLevel, withFramed, withTerms, withInbox, withPhase, withPart, withAfterCr, between}
+use Rattle.demand2.specs.Limits.{lineLimit, blockLimit, letterF, levelBetween, levelInForce}
 use Rattle.demand2.specs.Room.{Fits, room}
 use Rattle.demand2.specs.Marks.{withSign, AnswerLeaves, TurnLeaves}
 use Rattle.demand2.specs.Refusals.{isDropped, Heeded, awaitsLine, WholeLine, TurnSaid, TransferByte}
@@ -33,6 +33,10 @@ messageFrom p heading body =
 -- "A message is kept at its last byte.": after those that are kept, all else is as it was
 abbrev pub withMessage : Memory → Message → Memory
 withMessage m x = withInbox (m .inbox ++ (x ∷ [])) m
+
+-- "Partner has B: framed mode, at any level. Otherwise plain mode.", and the level in force; all else is as it was
+abbrev pub metBy : List ℕ → Memory → Memory
+metBy fs m = withTerms (withLevel (levelBetween fs) (m .terms)) (withFramed (framed fs) m)
 
 -- "One LF directly after .. the CR that closes a plain transfer, is dropped"; a framed one is closed by its checksum
 abbrev pub endsWithCr : Form → Bool
@@ -95,12 +99,12 @@ pub data Event (E : Shelf) (q : Bytes) (s : Session) (b : ℕ) : Session → Typ
   -- "A line that begins with `;` is ignored"
   ignored : Heeded s b → awaitsLine (s .phase) ≡ true → b ≡ CR → isComment (trim (s .part)) ≡ true
       → Event E q s b (between (s .phase) true [] (s .memory))
-  -- the SID: "Called: we .. await the caller's SID, then its first turn."; "Partner has B: framed mode"
+  -- the SID: "Called: we .. await the caller's SID, then its first turn."
   sidOfCaller : (line : Bytes) → WholeLine s b line → s .phase ≡ aLine (awaitsSid false) → (fs : List ℕ) → readSid line ≡ some fs → hasFeature letterF fs ≡ true
-      → Event E q s b (between (newTurn false) true [] (withFramed (framed fs) (s .memory)))
+      → Event E q s b (between (newTurn false) true [] (metBy fs (s .memory)))
   -- "Caller: we await the SID, skip text lines until the prompt"
   sidOfCalled : (line : Bytes) → WholeLine s b line → s .phase ≡ aLine (awaitsSid true) → (fs : List ℕ) → readSid line ≡ some fs → hasFeature letterF fs ≡ true
-      → Event E q s b (between (aLine awaitsPrompt) true [] (withFramed (framed fs) (s .memory)))
+      → Event E q s b (between (aLine awaitsPrompt) true [] (metBy fs (s .memory)))
   textLine : (line : Bytes) → WholeLine s b line → s .phase ≡ aLine awaitsPrompt → isPrompt line ≡ false
       → Event E q s b (between (aLine awaitsPrompt) true [] (s .memory))
   -- "then send SID and first turn"

@@ -1,12 +1,16 @@
 -- DEMAND 2, THE NUMBERS OF 01 by which lines, bodies, blocks and marks are judged, said here once for all of demand 2 and shared with no other
 -- definition. That the session's model has the same is `limits-are` of proofs/Limits.
 use mathlib.Core.Path.{_≡_}
+use mathlib.Core.Bool.{cond}
+use mathlib.Core.List.{List}
 use Prim.Native.Nat.{ℕ}
+use lib.Dec.{ltb}
+use lib.ListN.{getD}
 use Rattle.grammar.specs.Lines as lines
 use Rattle.grammar.specs.Fields as fields
 use Rattle.grammar.specs.Turns as turns
 use Rattle.grammar.specs.Sid as sid
-use Rattle.grammar.specs.Answers.{Level, level0}
+use Rattle.grammar.specs.Answers.{Level, level0, level1}
 use Rattle.mail.specs.Mail as mail
 use Rattle.phase.specs.Phase as phase
 use Rattle.session.specs.Session as model
@@ -43,9 +47,18 @@ stateForwarded = 1
 abbrev pub stateDeclined : ℕ
 stateDeclined = 2
 
--- "FS, one space, one sign a proposal: `+` accept, `-` decline, `=` defer.": no other sign is known in any session
+-- that of B
+abbrev pub letterB : ℕ
+letterB = 1
+
+-- "the level in force is the lower of the two, 0 without B" (02, Q-6), and ours is 1: 1 where the partner's B is at level 1 or above. A place holds the
+-- level and 1 more.
+abbrev pub levelBetween : List ℕ → Level
+levelBetween fs = cond (ltb 1 (getD fs letterB 0)) level1 level0
+
+-- The level at which the partner's FS line is read.
 abbrev pub levelInForce : Memory → Level
-levelInForce m = level0
+levelInForce m = m .terms .level
 
 -- The session's model, and the grammar that it reads by, have these numbers.
 pub record LimitsAre : Type 0 where
@@ -57,4 +70,6 @@ pub record LimitsAre : Type 0 where
   pub f : sid.letterF ≡ letterF
   pub forwarded : phase.stateForwarded ≡ stateForwarded
   pub declined : phase.stateDeclined ≡ stateDeclined
+  pub b : sid.letterB ≡ letterB
+  pub between : (fs : List ℕ) → sid.levelInForce fs ≡ levelBetween fs
   pub level : (m : Memory) → model.levelInForce m ≡ levelInForce m

@@ -35,6 +35,7 @@ pub record AnswerLeaves (is : List ℕ) (ss : List Sign) (before after : Memory)
   -- "Accepted records are sent in order."
   pub sending : after .sending ≡ before .sending ++ withSign accept is ss
   pub mode : after .framed ≡ before .framed
+  pub terms : after .terms ≡ before .terms
   pub inbox : after .inbox ≡ before .inbox
 
 -- The memory before and after the partner's whole valid turn, FF or `F>`.
@@ -45,4 +46,5 @@ pub record TurnLeaves (before after : Memory) : Type 0 where
   pub sending : after .sending ≡ []
   pub deferred : after .deferred ≡ before .deferred
   pub mode : after .framed ≡ before .framed
+  pub terms : after .terms ≡ before .terms
   pub inbox : after .inbox ≡ before .inbox

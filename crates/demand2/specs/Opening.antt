@@ -6,6 +6,7 @@ use Prim.Native.Nat.{ℕ, _<_}
 use lib.ListN.{length, getD}
 use Rattle.grammar.specs.Ascii.{text}
 use Rattle.grammar.specs.Turns.{withCr}
+use Rattle.grammar.specs.Answers.{level0}
 use Rattle.session.specs.Session.{awaitsSid, aLine, Session}
 use Rattle.demand2.specs.Limits.{recordLimit}
 
@@ -13,7 +14,7 @@ use Rattle.demand2.specs.Limits.{recordLimit}
 pub record OpenExact (caller : Bool) (states : List ℕ) (s : Session) : Type 0 where
   -- "Called: we send it, CR, `>`, CR, and await the caller's SID"; "Caller: we await the SID"
   pub awaits : s .phase ≡ aLine (awaitsSid caller)
-  pub called : caller ≡ false → s .out ≡ withCr (text "[NOD-1-BFH$]") ++ withCr (text ">")
+  pub called : caller ≡ false → s .out ≡ withCr (text "[NOD-1-B1FH$]") ++ withCr (text ">")
   pub calling : caller ≡ true → s .out ≡ []
   -- no line is begun, and no CR came after which an LF is dropped
   pub part : s .part ≡ []
@@ -27,3 +28,4 @@ pub record OpenExact (caller : Bool) (states : List ℕ) (s : Session) : Type 0 
   pub inbox : s .memory .inbox ≡ []
   -- "Partner has B: framed mode, .. Otherwise plain mode.": nothing is known of it yet
   pub mode : s .memory .framed ≡ false
+  pub level : s .memory .terms .level ≡ level0

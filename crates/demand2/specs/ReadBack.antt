@@ -10,7 +10,7 @@ use Rattle.grammar.specs.Bytes.{Bytes, CR, splitAt}
 use Rattle.grammar.specs.Fields.{Form, plain, message, file}
 use Rattle.grammar.specs.Lines.{trim, isComment}
 use Rattle.grammar.specs.Turns.{proposes, readTurnLine, proposalLine, withCr}
-use Rattle.grammar.specs.Answers.{Sign, readFs, fsLine, level0}
+use Rattle.grammar.specs.Answers.{Sign, readFs, fsLine, Level}
 use Rattle.grammar.specs.Transfers.{readTransfer}
 use Rattle.mail.specs.Mail.{Record, proposalOf, transferOf}
 use Rattle.demand2.specs.Limits.{lineLimit}
@@ -43,7 +43,7 @@ pub record ReadsBack (r : Record) : Type 0 where
   pub transfer : readTransfer (r .form) (transferOf r)
       ≡ some (record { heading = headingBy (r .form) (r .title) (r .name); body = r .body })
 
--- "FS, one space, one sign a proposal": our answer reads back as these signs
+-- "FS, one space, one sign a proposal": our answer reads back as these signs, at every level
 pub record AnswerReadsBack (signs : List Sign) : Type 0 where
   pub line : HeardWhole (fsLine signs)
-  pub answer : readFs level0 (length signs) (fsLine signs) ≡ some signs
+  pub answer : (v : Level) → readFs v (length signs) (fsLine signs) ≡ some signs

@@ -37,7 +37,7 @@ abbrev pub courseOf : Phase → Memory → Course
 courseOf p m = record { next = nextOf p; sent = m .sending }
 
 abbrev pub bookOf : Memory → Book
-bookOf m = record { framed = m .framed; states = m .states; kept = m .inbox }
+bookOf m = record { framed = m .framed; level = m .terms .level; states = m .states; kept = m .inbox }
 
 -- the session holds the line so far
 abbrev pub Line : Bytes → Bytes → Type 0

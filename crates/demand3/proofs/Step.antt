@@ -14,17 +14,18 @@ use Rattle.grammar.specs.Fields.{Form, plain, message, file}
 use Rattle.grammar.specs.Lines.{ends, grows, overruns, trim, isComment, isPrompt}
 use Rattle.grammar.specs.Sid.{readSid, hasFeature, framed}
 use Rattle.grammar.specs.Turns.{Proposal, TurnLine, saysFF, saysFQ, endsBlock, notAllowed, proposes, endsSummed, readTurnLine, fixedText, ourSid, ourFF, ourFQ, withCr}
-use Rattle.grammar.specs.Answers.{Sign, readFs, fsNumber, fsLine, level0}
+use Rattle.grammar.specs.Answers.{Sign, readFs, fsNumber, fsLine, Level}
 use Rattle.grammar.specs.Transfers.{readTransfer, sumRight}
 use Rattle.grammar.specs.Scan.{Scan, Scanned, goes, got, malformed, wrongSum, noRoom, scanByte, scanFrom}
 use Rattle.grammar.proofs.Refusal.{Reach, reach-step, from, contentOf, read-as}
 use Rattle.mail.specs.Mail.{Record, messageOf, turnText, transfersText, accepted}
 use Rattle.session.specs.Choices.{Shelf, answersTo}
-use Rattle.session.specs.Session.{Awaited, awaitsSid, awaitsPrompt, awaitsTurn, awaitsAnswer, Phase, aLine, newTurn, awaitsTransfer, leaving, Memory, Session, withFramed, withPart, withAfterCr, between, Outcome, refuses, goesOn, speaking, ourTurn as speakNow, turnMarks, answering, answered, turnJudged, answerMarks, answerJudged, afterSid, sidJudged, textJudged, awaitedJudged, lineJudged, refused, settled, lineMoved, keptIn, nextTransfer, transferMoved, roomFor, lineStep, phaseStep, freeStep, step, ended}
+use Rattle.session.specs.Session.{Awaited, awaitsSid, awaitsPrompt, awaitsTurn, awaitsAnswer, Phase, aLine, newTurn, awaitsTransfer, leaving, Memory, Session, withSid, withPart, withAfterCr, between, Outcome, refuses, goesOn, speaking, ourTurn as speakNow, turnMarks, answering, answered, turnJudged, answerMarks, answerJudged, afterSid, sidJudged, textJudged, awaitedJudged, lineJudged, refused, settled, lineMoved, keptIn, nextTransfer, transferMoved, roomFor, lineStep, phaseStep, freeStep, step, ended}
 use Rattle.session.specs.Session
 use Rattle.log.specs.Log.{ourNewTurn, took, ourSidLine, ourAnswer, theirText, Next, weSay, theySay, theirTransfer, Course, Book, Log, isOurs, saidOn, inOrder, said, theirsOwed, placesOf, ourProposed, Effect, effect, summedEnd, checked, rawWith, theirSaid, theirTurnLine, theirAnswered, theirSidRead, theirRead, theirLine, judgedLine}
 use Rattle.log.specs.Log
 use Rattle.log.specs.Fed.{Fed, unitByte, outOfOrder, fedByte}
+use Rattle.log.proofs.Levels.{level-alike}
 use Rattle.log.proofs.Said.{said-after}
 use Rattle.log.proofs.Spoken.{spoken, spoken-nil, spoken-append, spoken-alone, spoken-ours, withSpoken, at, AllFit, map-snoc, ff-spoken, fq-spoken, sid-spoken, turn-spoken, fs-spoken, transfers-spoken}
 use Rattle.log.specs.Effects.{forwardedSent}
@@ -128,10 +129,18 @@ module _ (E : Shelf) (S : Sound E) (part : Bytes) (a : Bool) (m : Memory) where
 
   sid-line : (c : Bool) (r : Option (List ℕ)) → AfterLine (awaitsSid c) (sidJudged c m r) (theirSidRead c (bookOf m) (m .sending) r)
   sid-line c none = wrong-line _ _ _ refl
-  sid-line c (some fs) = go c (hasFeature 5 fs)
+  sid-line c (some fs) =
+      subst
+      (λ (v : Level).
+      AfterLine (awaitsSid c) (sidJudged c m (some fs))
+      (cond (hasFeature 5 fs) (effect (metAt v) (m .sending) (theySay (Log.afterTheirSid c))) (effect (bookOf m) (m .sending) Next.over)))
+      (sym (level-alike fs)) (go c (hasFeature 5 fs))
     where
       k : Memory
-      k = withFramed (framed fs) m
+      k = withSid fs m
+
+      metAt : Level → Book
+      metAt v = record { framed = framed fs; level = v; states = m .states; kept = m .inbox }
 
       go : (c d : Bool)
           → AfterLine (awaitsSid c) (cond d (goesOn (afterSid c) k []) (refuses noForwarding))
@@ -218,7 +227,7 @@ module _ (E : Shelf) (S : Sound E) (part : Bytes) (a : Bool) (m : Memory) where
   read-line (awaitsSid c) f = sid-line c (readSid (trim part))
   read-line awaitsPrompt f = text-line (isPrompt (trim part))
   read-line (awaitsTurn ff ps raw) f = turn-line ff ps raw (readTurnLine (m .framed) (trim part)) f
-  read-line (awaitsAnswer is) f = answer-line is (fsNumber level0 (length is) (trim part)) (readFs level0 (length is) (trim part))
+  read-line (awaitsAnswer is) f = answer-line is (fsNumber (m .terms .level) (length is) (trim part)) (readFs (m .terms .level) (length is) (trim part))
 
   -- a comment, or the line
   heard : (p : Awaited) → Few p → AfterLine p (lineJudged E p m part) (theirLine (lineOf p) (bookOf m) (m .sending) part)

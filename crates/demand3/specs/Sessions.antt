@@ -88,15 +88,16 @@ proposed cs =
 abbrev pub sent : List Call → Trial
 sent cs = proposed (receiving (text "FS +\r") ∷ giving 3 ∷ receiving (text "\n") ∷ giving 99 ∷ cs)
 
--- Caller, with one packed message that waits: the partner's SID with B and its prompt.
+-- Caller, with one packed message that waits: the partner's SID and its prompt.
+abbrev pub calling : Bytes → List Call → Trial
+calling sid cs = record { table = letter message ∷ []; states = 0 ∷ []; caller = true; calls = receiving sid ∷ receiving (text "Good day\rTST>\r") ∷ giving 99 ∷ cs }
+
+-- its SID has B at level 0; at level 1
 abbrev pub framed : List Call → Trial
-framed cs =
-    record {
-      table = letter message ∷ [];
-      states = 0 ∷ [];
-      caller = true;
-      calls = receiving (text "[TST-1-BF$]\rGood day\rTST>\r") ∷ giving 99 ∷ cs;
-    }
+framed cs = calling (text "[TST-1-BF$]\r") cs
+
+abbrev pub framedAt1 : List Call → Trial
+framedAt1 cs = calling (text "[TST-1-B1F$]\r") cs
 
 abbrev pub theirs : Form → Message
 theirs f =
@@ -112,14 +113,14 @@ theirs f =
     }
 
 abbrev pub greeted : Bytes
-greeted = text "[NOD-1-BFH$]\r>\r"
+greeted = text "[NOD-1-B1FH$]\r>\r"
 
 -- what we say in a plain session up to F>, and in a framed one; and the framed transfer
 abbrev pub ours : Bytes
 ours = text "FB P A B C X1 2\rF>\r"
 
 abbrev pub framedOurs : Bytes
-framedOurs = text "[NOD-1-BFH$]\rFA P A B C X1 2\rF>\r"
+framedOurs = text "[NOD-1-B1FH$]\rFA P A B C X1 2\rF>\r"
 
 abbrev pub framedText : Bytes
 framedText = 1 ∷ 4 ∷ 84 ∷ 0 ∷ 48 ∷ 0 ∷ 2 ∷ 2 ∷ 104 ∷ 105 ∷ 4 ∷ 47 ∷ []
@@ -155,4 +156,10 @@ sessions =
     -- a packed message of the partner's, then our FF
     ∷ example (framed (receiving (text "fs +\r") ∷ giving 99 ∷ receiving (text "; hi\rfa b D E F Y1 3\rf>\r") ∷ giving 99 ∷ receiving (1 ∷ 4 ∷ 85 ∷ 0 ∷ 48 ∷ 0 ∷ 2 ∷ 3 ∷ 10 ∷ 121 ∷ 111 ∷ 4 ∷ 14 ∷ []) ∷ giving 99 ∷ []))
     (1 ∷ []) (theirs message ∷ []) (framedOurs ++ (framedText ++ text "FS +\rFF\r")) false
+    -- the signs of level 1 (02, Q-6): accepted, with an offset of 0 too; declined; deferred. At level 0 they are no signs
+    ∷ example (framedAt1 (receiving (text "FS h\r") ∷ giving 99 ∷ receiving (text "FF\r") ∷ giving 99 ∷ [])) (1 ∷ []) [] (framedOurs ++ (framedText ++ text "FQ\r")) true
+    ∷ example (framedAt1 (receiving (text "FS !00\r") ∷ giving 99 ∷ receiving (text "FF\r") ∷ giving 99 ∷ [])) (1 ∷ []) [] (framedOurs ++ (framedText ++ text "FQ\r")) true
+    ∷ example (framedAt1 (receiving (text "FS R\rFF\r") ∷ giving 99 ∷ [])) (2 ∷ []) [] (framedOurs ++ text "FQ\r") true
+    ∷ example (framedAt1 (receiving (text "FS A1536\rFF\r") ∷ giving 99 ∷ [])) (0 ∷ []) [] (framedOurs ++ text "FQ\r") true
+    ∷ example (framed (receiving (text "FS R\rFF\r") ∷ giving 99 ∷ [])) (0 ∷ []) [] framedOurs true
     ∷ []

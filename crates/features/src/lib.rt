@@ -1,7 +1,7 @@
 // The set of features that a mailbox says it has, by the fixed places of their letters.
 ghost use mathlib.Core.Path.{_≡_};
 ghost use mathlib.Core.Option.{some};
-ghost use Rattle.grammar.specs.Sid.{noFeatures, hasFeature, withFeature, readSid, framed};
+ghost use Rattle.grammar.specs.Sid.{noFeatures, hasFeature, withFeature, levelOf, readSid, framed, levelInForce};
 ghost use Rattle.grammar.specs.Turns.{ourSid, fixedText};
 
 // The features of a mailbox by the fixed places of their letters: 0 where a feature isn't there, else its level and 1 more.
@@ -25,12 +25,15 @@ impl FeatureSet {
         Self { levels: [0u8; 27] }
     }
 
-    // Ours, each at level 0: those that our SID says.
+    // The level of our B.
+    pub const OUR_LEVEL: u8 = 1;
+
+    // Ours, each at level 0 but B: those that our SID says.
     pub fn ours() -> Self
         ensures { λ r. ⌜ some (r .levels) ≡ readSid (fixedText ourSid) ⌝ }
     {
         let none = FeatureSet::none();
-        let b = none.with(FeatureSet::B, 0);
+        let b = none.with(FeatureSet::B, FeatureSet::OUR_LEVEL);
         let bf = b.with(FeatureSet::F, 0);
         let bfh = bf.with(FeatureSet::H, 0);
         bfh.with(FeatureSet::DOLLAR, 0)
@@ -63,6 +66,21 @@ impl FeatureSet {
         let level = self.levels[at];
         0 < level
     }
+
+    // The level of the feature; 0 where it isn't there.
+    pub fn level(self, letter: u8) -> u8
+        ensures { λ r. ⌜ r ≡ levelOf letter (self .levels) ⌝ }
+    {
+        let at = letter as usize;
+        if 26 < at {
+            return 0;
+        }
+        let held = self.levels[at];
+        if held < 1 {
+            return 0;
+        }
+        held - 1
+    }
 }
 
 // A partner with these features is met in framed mode.
@@ -70,4 +88,15 @@ pub fn is_framed(features: FeatureSet) -> bool
     ensures { λ r. ⌜ r ≡ framed (features .levels) ⌝ }
 {
     features.has(FeatureSet::B)
+}
+
+// The level in force with a partner that has these features: the lower of the two.
+pub fn in_force(features: FeatureSet) -> u8
+    ensures { λ r. ⌜ r ≡ levelInForce (features .levels) ⌝ }
+{
+    let theirs = features.level(FeatureSet::B);
+    if FeatureSet::OUR_LEVEL < theirs {
+        return FeatureSet::OUR_LEVEL;
+    }
+    theirs
 }

@@ -186,7 +186,7 @@ fresh-good F caller table inbox store ot oi os fits few =
     record {
       now = record { phase = phase caller; current = omega arith; proposals = omega arith; ours = none-ok; sum = omega arith; block = length-replicate {A = ℕ} 360 0; octets = octets-zeros 360 };
       say = record { first = first caller; then = omega arith; pos = omega arith; signs = none-ok };
-      keep = record { sending = none-ok; flags = length-replicate {A = ℕ} 64 0; octets = octets-zeros 64 };
+      keep = record { terms = record { level = omega arith }; sending = none-ok; flags = length-replicate {A = ℕ} 64 0; octets = octets-zeros 64 };
       reader = record { place = omega arith; len = omega arith; head = omega arith; off = omega arith; left = omega arith; sum = omega arith; body = omega arith };
       heading = record { size = length-replicate {A = ℕ} 80 0; octets = octets-zeros 80 };
       line = record { len = omega arith; size = length-replicate {A = ℕ} 256 0; octets = octets-zeros 256 };

@@ -20,7 +20,7 @@ use Rattle.entries.specs.Decoded.{placeCount}
 use Rattle.line_effect.specs.Judge.{inPhase, toTurn, toAnswer, toTransfer, saysThen, sends, readerFor}
 use Rattle.line_effect.specs.Judged.{Judged}
 use Rattle.form_test.specs.Form.{usedBy}
-use Rattle.form_closed.specs.Facts.{Octets, FiveOk, AwaitOk, SayOk, KeepOk, ReaderOk, Box, Awaited}
+use Rattle.form_closed.specs.Facts.{Octets, FiveOk, AwaitOk, SayOk, TermsOk, KeepOk, ReaderOk, Box, Awaited}
 use Rattle.form_closed.proofs.Laws.{octets-zeros}
 
 pub record JudgedOk (inbox store : Bytes) (j : Judged) : Type 0 where
@@ -66,8 +66,8 @@ to-transfer i w h g = record { phase = omega arith; current = h; proposals = g .
 pub says-then : (n : ℕ) (y : Say) → n < 256 → SayOk y → SayOk (saysThen n y)
 says-then n y h g = record { first = g .first; then = h; pos = g .pos; signs = g .signs }
 
-pub sends-ok : (f : Five) (flags : Bytes) (k : Keep) → FiveOk f → length flags ≡ 64 → Octets flags → KeepOk (sends f flags k)
-sends-ok f flags k h l o = record { sending = h; flags = l; octets = o }
+pub sends-ok : (f : Five) (flags : Bytes) (k : Keep) → TermsOk (k .terms) → FiveOk f → length flags ≡ 64 → Octets flags → KeepOk (sends f flags k)
+sends-ok f flags k t h l o = record { terms = t; sending = h; flags = l; octets = o }
 
 pub reader-ok : (w : Await) (i : ℕ) → ReaderOk (readerFor w i)
 unfolding readerFor

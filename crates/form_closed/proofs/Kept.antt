@@ -89,7 +89,7 @@ module _ (F : Fixed) (nt ni ns : ℕ) (s : Session) (table inbox st : Bytes)
       }
 
   kept-ok : KeepOk (keptKeep s)
-  kept-ok = record { sending = K .sending; flags = K .flags; octets = K .octets }
+  kept-ok = record { terms = K .terms; sending = K .sending; flags = K .flags; octets = K .octets }
 
   kept-lent : Lent nt ni ns table (keptInbox s inbox) st
   unfolding keptInbox

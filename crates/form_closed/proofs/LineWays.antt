@@ -13,7 +13,7 @@ use Rattle.grammar.specs.Fields.{after}
 use Rattle.grammar.specs.Lines.{isComment, isPrompt}
 use Rattle.grammar.specs.Sid.{readSid, hasFeature}
 use Rattle.grammar.specs.Turns.{TurnLine, saysFF, saysFQ, endsBlock, notAllowed, proposes, endsSummed, readTurnLine}
-use Rattle.grammar.specs.Answers.{readFs, level0}
+use Rattle.grammar.specs.Answers.{readFs}
 use Rattle.grammar.proofs.Basics.{by-cond}
 use Rattle.fs_line.specs.Answers.{answerNumber}
 use Rattle.transfer_step.specs.declared.Reader.{Reader}
@@ -27,12 +27,12 @@ use Rattle.line_effect.specs.declared.Marks.{Marks}
 use Rattle.line_effect.specs.Judged.{Judged}
 
 -- an FS line is refused with 5 or 7
-number-other : (n : ℕ) (ln : Bytes) → eqb (answerNumber n ln) 1 ≡ false
+number-other : (v n : ℕ) (ln : Bytes) → eqb (answerNumber v n ln) 1 ≡ false
 unfolding answerNumber
-number-other n ln =
+number-other v n ln =
     let P : ℕ → Type 0 = λ m. eqb m 1 ≡ false in
     by-cond P (ltb 5 n) (by-cond P (isSome (after (text "FS") ln)) refl refl)
-    (by-cond P (isSome (readFs level0 n ln)) refl (by-cond P (isSome (after (text "FS") ln)) refl refl))
+    (by-cond P (isSome (readFs v n ln)) refl (by-cond P (isSome (after (text "FS") ln)) refl refl))
 
 -- n: the sum of the line
 module _ (ln : Bytes) (n : ℕ) (w : Await) (y : Say) (k : Keep) (r : Reader) (table known inbox : Bytes) (store : ℕ) (P : Judged → Type 0) where
@@ -74,5 +74,5 @@ module _ (ln : Bytes) (n : ℕ) (w : Await) (y : Say) (k : Keep) (r : Reader) (t
         (by-cond P (eqb (w .phase) 2) (by-cond P (isPrompt ln) (v .goes 1 _ _ _ _) (v .goes 0 _ _ _ _))
         (by-cond P (eqb (w .phase) 3) (turn-way (readTurnLine (k .framed) ln))
         (by-cond P (eqb (w .phase) 4)
-        (by-cond P (eqb (answerNumber (w .ours .count) ln) 0) (v .goes 0 _ _ _ _) (v .refused (answerNumber (w .ours .count) ln) (number-other (w .ours .count) ln)))
+        (by-cond P (eqb (answerNumber (k .terms .level) (w .ours .count) ln) 0) (v .goes 0 _ _ _ _) (v .refused (answerNumber (k .terms .level) (w .ours .count) ln) (number-other (k .terms .level) (w .ours .count) ln)))
         (v .refused lineNotAllowed refl))))))

@@ -14,7 +14,8 @@ use Rattle.grammar.specs.Bytes.{Bytes}
 use Rattle.grammar.specs.Refusals.{notSid, noForwarding, lineNotAllowed, proposalCount, wrongBlockSum}
 use Rattle.grammar.specs.Fields.{formNumber}
 use Rattle.grammar.specs.Lines.{isComment, isPrompt}
-use Rattle.grammar.specs.Sid.{readSid, hasFeature, framed}
+use Rattle.grammar.specs.Sid.{readSid, hasFeature, framed, levelInForce}
+use Rattle.grammar.proofs.Levels.{lower-than-both}
 use Rattle.grammar.specs.Turns.{Proposal, TurnLine, saysFF, saysFQ, endsBlock, notAllowed, proposes, endsSummed, readTurnLine}
 use Rattle.grammar.proofs.AsRead.{Proper, TurnOk, turn-read-ok}
 use Rattle.fs_line.specs.Answers.{answerNumber, answerSigns}
@@ -66,17 +67,19 @@ module _ (table known inbox store : Bytes) (w : Await) (y : Say) (k : Keep) (r :
   unfolding sidLine
   sid-ok ln z = go (readSid ln)
     where
-      kept : (md : Bool) → KeepOk (inMode md k)
-      kept md = record { sending = K .sending; flags = K .flags; octets = K .octets }
+      kept : (md : Bool) (v : ℕ) → v < 256 → KeepOk (inMode md v k)
+      kept md v l = record { terms = record { level = l }; sending = K .sending; flags = K .flags; octets = K .octets }
 
-      after : (md c : Bool) → AwaitOk (cond c (inPhase 2 w) (toTurn false w)) × Awaited (cond c (inPhase 2 w) (toTurn false w)) y (inMode md k) r inbox store
-      after md true = (in-phase 2 w (omega arith) W, calm (inPhase 2 w) y (inMode md k) r inbox store z (λ e. omega arith))
-      after md false = (to-turn false w W, calm (toTurn false w) y (inMode md k) r inbox store z (λ e. omega arith))
+      after : (md : Bool) (v : ℕ) (c : Bool) → AwaitOk (cond c (inPhase 2 w) (toTurn false w)) × Awaited (cond c (inPhase 2 w) (toTurn false w)) y (inMode md v k) r inbox store
+      after md v true = (in-phase 2 w (omega arith) W, calm (inPhase 2 w) y (inMode md v k) r inbox store z (λ e. omega arith))
+      after md v false = (to-turn false w W, calm (toTurn false w) y (inMode md v k) r inbox store z (λ e. omega arith))
 
-      heard : (fs : List ℕ) (c : Bool) → JGood inbox store (cond c (wentOn (afterSid w) y (inMode (framed fs) k) r) (refusal noForwarding w y k r))
+      heard : (fs : List ℕ) (c : Bool) → JGood inbox store (cond c (wentOn (afterSid w) y (inMode (framed fs) (levelInForce fs) k) r) (refusal noForwarding w y k r))
       heard fs true =
-          let a = after (framed fs) (eqb (w .phase) 1) in
-          on (afterSid w) y (inMode (framed fs) k) r noMarks (a .0) Y (kept (framed fs)) R (box-as k (inMode (framed fs) k) inbox store refl refl B) (omega arith) not-sent (a .1)
+          let a = after (framed fs) (levelInForce fs) (eqb (w .phase) 1) in
+          let l = lower-than-both fs .0 in
+          on (afterSid w) y (inMode (framed fs) (levelInForce fs) k) r noMarks (a .0) Y (kept (framed fs) (levelInForce fs) (omega (arith, l))) R
+          (box-as k (inMode (framed fs) (levelInForce fs) k) inbox store refl refl B) (omega arith) not-sent (a .1)
       heard fs false = bad noForwarding refl
 
       go : (o : Option (List ℕ)) → JGood inbox store (sidRead o w y k r)
@@ -92,7 +95,7 @@ module _ (table known inbox store : Bytes) (w : Await) (y : Say) (k : Keep) (r :
       go false = same-on n (λ a b. z)
 
   settled-ok : KeepOk (settledKeep k)
-  settled-ok = sends-ok noFive (k .deferred) k none-ok (K .flags) (K .octets)
+  settled-ok = sends-ok noFive (k .deferred) k (K .terms) none-ok (K .flags) (K .octets)
 
   settled-box : Box (settledKeep k) inbox store
   settled-box = box-as k (settledKeep k) inbox store refl refl B
@@ -205,7 +208,7 @@ module _ (table known inbox store : Bytes) (w : Await) (y : Say) (k : Keep) (r :
       let k′ : Keep = sends (fiveOf xs) (flagged (picked 61 (held (w .ours)) ss) (k .deferred)) k in
       let y′ = said (ltb 0 (length xs)) refl in
       on (toTurn false w) (transfersAfter (fiveOf xs) y) k′ r _ (to-turn false w W) (y′ .0)
-      (sends-ok (fiveOf xs) (flagged (picked 61 (held (w .ours)) ss) (k .deferred)) k f
+      (sends-ok (fiveOf xs) (flagged (picked 61 (held (w .ours)) ss) (k .deferred)) k (K .terms) f
       (length-flagged (picked 61 (held (w .ours)) ss) (k .deferred) ∙ K .flags) (flag-octets (picked 61 (held (w .ours)) ss) (k .deferred) (K .octets)))
       R (box-as k k′ inbox store refl refl B) (omega arith) (y′ .1)
       (free (toTurn false w) (transfersAfter (fiveOf xs) y) k′ r inbox store (λ a b. a refl) (λ e. omega arith))
@@ -216,12 +219,12 @@ module _ (table known inbox store : Bytes) (w : Await) (y : Say) (k : Keep) (r :
 
   answer-ok : (ln : Bytes) → JGood inbox store (answerLine ln w y k r)
   unfolding answerLine
-  answer-ok ln = go (eqb (answerNumber (w .ours .count) ln) 0) refl
+  answer-ok ln = go (eqb (answerNumber (k .terms .level) (w .ours .count) ln) 0) refl
     where
-      go : (a : Bool) → eqb (answerNumber (w .ours .count) ln) 0 ≡ a
-          → JGood inbox store (cond a (answerTaken (answerSigns (w .ours .count) ln) w y k r) (refusal (answerNumber (w .ours .count) ln) w y k r))
-      go true e = taken-ok (answerSigns (w .ours .count) ln)
-      go false e = bad (answerNumber (w .ours .count) ln) e
+      go : (a : Bool) → eqb (answerNumber (k .terms .level) (w .ours .count) ln) 0 ≡ a
+          → JGood inbox store (cond a (answerTaken (answerSigns (k .terms .level) (w .ours .count) ln) w y k r) (refusal (answerNumber (k .terms .level) (w .ours .count) ln) w y k r))
+      go true e = taken-ok (answerSigns (k .terms .level) (w .ours .count) ln)
+      go false e = bad (answerNumber (k .terms .level) (w .ours .count) ln) e
 
   line-ok : (ln : Bytes) (s : ℕ) → ((w .phase ≡ 3 → ⊥) → w .phase ≤ 5 → k .sending .count ≡ 0) → (w .phase ≡ 5 → ⊥)
       → JGood inbox store (lineIn (w .phase) ln s w y k r table known inbox (length store))

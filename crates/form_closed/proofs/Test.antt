@@ -10,7 +10,7 @@ use borrow.Author.Tests.{eq-eqb, eqb-true, eqb-false, ltb-true, ltb-false, lt-lt
 use Rattle.grammar.specs.Bytes.{Bytes}
 use Rattle.grammar.specs.Transfers.{partOf}
 use Rattle.grammar.proofs.Basics.{and2, both, or-second}
-use Rattle.places.specs.Places.{arraysAt, blockAt, blockLen, blockSumAt, currentAt, deferredAt, deferredLen, firstAt, headingAt, headingLen, lengthAt, lineAt, lineLen, offsetAt, oursAt, phaseAt, placeAt, sendingAt, signsAt, sumAt, thenAt}
+use Rattle.places.specs.Places.{arraysAt, blockAt, blockLen, blockSumAt, currentAt, deferredAt, deferredLen, firstAt, headingAt, headingLen, lengthAt, levelAt, lineAt, lineLen, offsetAt, oursAt, phaseAt, placeAt, sendingAt, signsAt, sumAt, thenAt}
 use Rattle.layout.specs.Layout.{byteAt, le2, le4, le8}
 use Rattle.layout.proofs.Laws.{octets}
 use Rattle.session_memory.specs.State.{at, flag, held, fiveAt, arrayAt, fiveOut, loadAwait, loadSay, loadKeep, loadReading, loadLine, loadOf, smallOut, numbersOut, tailOut, arraysOut, numberPart}
@@ -153,6 +153,7 @@ form-in F sm table inbox store o ot oi os fits e =
       };
       say = record { first = b firstAt; then = b thenAt; pos = h .say .pos; signs = five-in sm signsAt o (leb-true (s .say .signs .count) 5 (n₃ .0)) (h .say .signs) };
       keep = record {
+        terms = record { level = b levelAt };
         sending = five-in sm sendingAt o (leb-true (s .keep .sending .count) 5 (n₄ .0)) (h .keep .sending);
         flags = h .keep .deferred;
         octets = array-octets deferredLen sm (arraysAt + deferredAt) o;
@@ -252,7 +253,7 @@ module _ (F : Fixed) (nt ni ns : ℕ) (c : Cs) (g : Good F nt ni ns c) where
 
   tail-octets : Octets (tailOut (c .session))
   unfolding tailOut
-  tail-octets = octets-cons (g .now .sum) octets-nil
+  tail-octets = octets-cons (g .now .sum) (octets-cons (g .keep .terms .level) octets-nil)
 
   pub part-octets : Octets (numberPart (c .session))
   part-octets =

@@ -9,6 +9,7 @@ use Rattle.transfer_step.specs.declared.Reader.{Reader}
 use Rattle.session_memory.specs.State.{held}
 use Rattle.session_memory.specs.Session.{Await}
 use Rattle.session_memory.specs.declared.Say.{Say}
+use Rattle.session_memory.specs.declared.Terms.{Terms}
 use Rattle.session_memory.specs.Session.{Keep}
 use Rattle.session_memory.specs.Session.{Line}
 use Rattle.entries.specs.Decoded.{placeCount}
@@ -57,7 +58,12 @@ pub record SayOk (y : Say) : Type 0 where
   pub pos : y .pos < wordValues
   pub signs : FiveOk (y .signs)
 
+-- any byte is a level
+pub record TermsOk (t : Terms) : Type 0 where
+  pub level : t .level < byteValues
+
 pub record KeepOk (k : Keep) : Type 0 where
+  pub terms : TermsOk (k .terms)
   pub sending : FiveOk (k .sending)
   pub flags : length (k .deferred) ≡ deferredLen
   pub octets : Octets (k .deferred)

@@ -135,15 +135,15 @@ module _ (w : Await) (y : Say) (k : Keep) (rd : Reader) where
   abbrev answerBy : ℕ → Bytes → Judged
   answerBy n ss = cond (eqb n 0) (answerTaken ss w y k rd) (refusal n w y k rd)
 
-  module _ (ln : Bytes) (j : Judged) (n : ℕ) (e : n ≡ answerNumber (w .ours .count) ln) where
-    answer-by : (ss : Bytes) → ss ≡ answerSigns (w .ours .count) ln → j ≡ answerBy n ss → j ≡ answerLine ln w y k rd
+  module _ (ln : Bytes) (j : Judged) (n : ℕ) (e : n ≡ answerNumber (k .terms .level) (w .ours .count) ln) where
+    answer-by : (ss : Bytes) → ss ≡ answerSigns (k .terms .level) (w .ours .count) ln → j ≡ answerBy n ss → j ≡ answerLine ln w y k rd
     unfolding answerLine
-    answer-by ss q f = f ∙ ap (λ (m : ℕ). answerBy m ss) e ∙ ap (answerBy (answerNumber (w .ours .count) ln)) q
+    answer-by ss q f = f ∙ ap (λ (m : ℕ). answerBy m ss) e ∙ ap (answerBy (answerNumber (k .terms .level) (w .ours .count) ln)) q
 
     pub answer-no : (n ≡ 0 → ⊥) → j ≡ refusal n w y k rd → j ≡ answerLine ln w y k rd
-    answer-no z f = answer-by (answerSigns (w .ours .count) ln) refl (rw (ne-eqb _ _ z) f)
+    answer-no z f = answer-by (answerSigns (k .terms .level) (w .ours .count) ln) refl (rw (ne-eqb _ _ z) f)
 
-    pub answer-yes : n ≡ 0 → (ss : Bytes) → ss ≡ answerSigns (w .ours .count) ln → j ≡ answerTaken ss w y k rd → j ≡ answerLine ln w y k rd
+    pub answer-yes : n ≡ 0 → (ss : Bytes) → ss ≡ answerSigns (k .terms .level) (w .ours .count) ln → j ≡ answerTaken ss w y k rd → j ≡ answerLine ln w y k rd
     answer-yes z ss q f = answer-by ss q (rw (eq-eqb _ _ z) f)
 
 -- the signs of a right FS line

@@ -144,7 +144,7 @@ pub fn answer_line(line: &[u8], s: Numbers, deferred: &mut [u8]) -> Verdict
     ensures { λ r. ⌜ ((block : Bytes) → judgedOf r block (now (deferred .exit)) ≡ answerLine (now (line .entry)) (awaitOf (s .now) block) (s .say) (keepOf (s .keep) (now (deferred .entry))) (s .reader)) ⌝ }
 {
     let ours = s.now.ours;
-    let r = fs_line::read_fs(line, ours.count as usize);
+    let r = fs_line::read_fs(line, ours.count as usize, s.keep.terms.level);
     if r.number != refusal::NONE {
         return line_effect::refusal(r.number, s);
     }

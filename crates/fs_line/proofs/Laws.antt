@@ -1,26 +1,30 @@
--- The FS line by places: FS by its two bytes, the signs by a test of every byte, since each sign stands for itself.
+-- The FS line by places: FS by its two bytes, then sign by sign, each from where the one before it ends, at the level v.
 use mathlib.Core.Path.{_≡_, refl, sym, ap, _∙_, subst}
-use mathlib.Core.Bool.{Bool, true, false, cond, _&&_}
+use mathlib.Core.Bool.{Bool, true, false, cond, _&&_, _||_}
 use mathlib.Core.Option.{Option, none, some}
-use mathlib.Core.List.{List, [], _∷_, _++_, map}
-use Prim.Native.Nat.{ℕ, zero, suc, _+_, _-_, _<_, _≤_}
+use mathlib.Core.List.{List, [], _∷_, _++_, map, append-nil}
+use mathlib.Core.Logic.{_⊎_, inl, inr}
+use Prim.Native.Nat.{ℕ, zero, suc, _+_, _*_, _-_, _<_, _≤_}
 use native.Mathlib.Omega.{arith}
 use native.Mathlib.Numerals.{add-one}
-use lib.Dec.{eqb, ltb}
-use lib.ListN.{length, getD, set, take, drop, replicate, length-map, List·getD-append}
-use lib.Seq.{take-at, take-suc, take-all, append-snoc, set-at, length-take-le}
-use borrow.Author.Tests.{eq-eqb, ne-eqb, lt-ltb, le-ltb, ltb-false, eqb-true}
+use lib.Dec.{eqb, ltb, leb}
+use lib.ListN.{length, getD, set, take, drop, replicate, length-map, length-append, length-drop, drop-of-length-le, List·getD-append}
+use lib.Seq.{take-at, append-snoc, set-at, drop-cons, drop-drop}
+use borrow.Author.Tests.{eq-eqb, ne-eqb, lt-ltb, le-ltb, lt-leb, le-leb, ltb-false, eqb-true}
 use Rattle.grammar.specs.Bytes.{Bytes, SP, every, isSome}
 use Rattle.grammar.specs.Ascii.{text}
-use Rattle.grammar.specs.Fields.{upper, after}
+use Rattle.grammar.specs.Fields.{upper, after, digit, readFrom}
 use Rattle.grammar.specs.Refusals.{badAnswer, lineNotAllowed}
 use Rattle.grammar.specs.Turns.{blockLimit}
-use Rattle.grammar.specs.Answers.{Sign, accept, decline, defer, signOf, consO, readSigns, signsRead, readFs, writeSign, fsNumber, level0}
-use Rattle.grammar.proofs.Basics.{and2}
+use Rattle.grammar.specs.Answers.{Sign, accept, decline, defer, signOf, orElse, letterSign, signByte, isOffset, offsetDigits, digitCount, offsetSign, followed, offsetRead, orOffset, signAt, consO, consNext, readSigns, signsRead, readFs, writeSign, fsNumber, level0, level1}
+use Rattle.grammar.proofs.Basics.{to-end}
 use Rattle.grammar.proofs.OurLines.{signs-back}
-use Rattle.byte.proofs.Laws.{all-more, all-stop, all-end}
+use Rattle.byte.proofs.Laws.{any2, none2, all-get, digit-is}
 use Rattle.fs_line.specs.Answers.{answered, answerNumber, answerSigns, signBytes, zeroed, signsBy}
 use Rattle.fs_line.specs.declared.Answers.{Answers}
+
+true-false : true ≡ false → ⊥
+true-false e = let z : _≡_ {A = ℕ} 1 0 = ap (λ (c : Bool). cond {A = ℕ} c 1 0) e in omega (arith, z)
 
 -- ---------------------------------------------------------------- FS
 
@@ -44,7 +48,7 @@ fs-two (a ∷ b ∷ l) h = go (eqb (upper a) 70) (eqb (upper b) 83)
     go true false = refl
     go false t = refl
 
--- ---------------------------------------------------------------- signs
+-- ---------------------------------------------------------------- a sign of one byte
 
 -- the byte is a sign
 abbrev pub isSign : ℕ → Bool
@@ -64,71 +68,289 @@ sign-from b = go (eqb b 43) (eqb b 45) (eqb b 61) refl refl refl
     go false false true e f g = sym (eqb-true b 61 g)
     go false false false e f g = tt
 
--- what is read is some signs, and they stand for the bytes s
-abbrev pub ReadAs : Bytes → Option (List Sign) → Type 0
-ReadAs s o = (isSome o ≡ true) × (signBytes o ≡ s)
+-- a letter, as a capital: Y and H accept, N and R decline, L and E defer
+pub letter-accepts : (u : ℕ) → (u ≡ 72) ⊎ (u ≡ 89) → some accept ≡ letterSign u
+letter-accepts u (inl e) = ap letterSign (sym e)
+letter-accepts u (inr e) = ap letterSign (sym e)
 
--- as many bytes as proposals, each a sign
-pub signs-read : (n : ℕ) (s : Bytes) → length s ≡ n → every isSign s ≡ true → ReadAs s (readSigns n s)
-signs-read zero [] h e = (refl, refl)
-signs-read zero (x ∷ s) h e = let z : ⊥ = omega arith in absurd z
-signs-read (suc n) [] h e = let z : ⊥ = omega arith in absurd z
-signs-read (suc n) (x ∷ s) h e =
-    let p = and2 (isSign x) (every isSign s) e in
-    go (signOf x) (readSigns n s) (p .0) (sign-from x) (signs-read n s (omega arith) (p .1))
-  where
-    go : (o : Option Sign) (t : Option (List Sign)) → isSome o ≡ true → SignFrom x o → ReadAs s t → ReadAs (x ∷ s) (consO o t)
-    go none t e f r = (e, cc)
-    go (some g) none e f r = let k = r .0 in (k, cc)
-    go (some g) (some gs) e f r = (refl, rw (f, r .1))
+pub letter-declines : (u : ℕ) → (u ≡ 78) ⊎ (u ≡ 82) → some decline ≡ letterSign u
+letter-declines u (inl e) = ap letterSign (sym e)
+letter-declines u (inr e) = ap letterSign (sym e)
 
--- another count, or a byte that is no sign
-pub signs-count : (n : ℕ) (s : Bytes) → (length s ≡ n → ⊥) → readSigns n s ≡ none
-signs-count zero [] h = absurd (h refl)
-signs-count zero (x ∷ s) h = refl
-signs-count (suc n) [] h = refl
-signs-count (suc n) (x ∷ s) h = rw (signs-count n s (λ e. h (ap (λ (k : ℕ). suc k) e))) (go (signOf x))
-  where
-    go : (o : Option Sign) → consO o none ≡ none
-    go none = refl
-    go (some s) = refl
+pub letter-defers : (u : ℕ) → (u ≡ 69) ⊎ (u ≡ 76) → some defer ≡ letterSign u
+letter-defers u (inl e) = ap letterSign (sym e)
+letter-defers u (inr e) = ap letterSign (sym e)
 
-pub signs-other : (n : ℕ) (s : Bytes) → every isSign s ≡ false → readSigns n s ≡ none
-signs-other zero [] e = cc
-signs-other zero (x ∷ s) e = refl
-signs-other (suc n) [] e = refl
-signs-other (suc n) (x ∷ s) e = go (signOf x) (signs-other n s) e
+pub letter-other : (u : ℕ) → ((u ≡ 72) ⊎ (u ≡ 89) → ⊥) → ((u ≡ 78) ⊎ (u ≡ 82) → ⊥) → ((u ≡ 69) ⊎ (u ≡ 76) → ⊥) → none ≡ letterSign u
+letter-other u a b c =
+    rw (
+      ne-eqb u 89 (λ e. a (inr e)),
+      ne-eqb u 72 (λ e. a (inl e)),
+      ne-eqb u 78 (λ e. b (inl e)),
+      ne-eqb u 82 (λ e. b (inr e)),
+      ne-eqb u 76 (λ e. c (inr e)),
+      ne-eqb u 69 (λ e. c (inl e)),
+    )
+
+or-first : (o p : Option Sign) → isSome o ≡ true → o ≡ orElse o p
+or-first none p e = absurd (true-false (sym e))
+or-first (some s) p e = refl
+
+or-second : (o p : Option Sign) → isSome o ≡ false → orElse o p ≡ p
+or-second none p e = refl
+or-second (some s) p e = absurd (true-false e)
+
+-- the sign that a byte is by itself, at the level v
+module _ (v b : ℕ) where
+  pub byte-itself : isSign b ≡ true → signOf b ≡ signByte v b
+  byte-itself e = or-first (signOf b) (cond (ltb v level1) none (letterSign (upper b))) e
+
+  module _ (e : isSign b ≡ false) where
+    byte-by : signByte v b ≡ cond (ltb v level1) none (letterSign (upper b))
+    byte-by = or-second (signOf b) (cond (ltb v level1) none (letterSign (upper b))) e
+
+    pub byte-low : v < level1 → none ≡ signByte v b
+    byte-low h = sym (byte-by ∙ rw (lt-ltb v level1 h))
+
+    pub byte-letter : level1 ≤ v → {o : Option Sign} (u : ℕ) → u ≡ upper b → o ≡ letterSign u → o ≡ signByte v b
+    byte-letter h u q f = f ∙ ap letterSign q ∙ sym (byte-by ∙ rw (le-ltb v level1 h))
+
+-- the byte in front of an offset, u as a capital
+module _ (b u : ℕ) (e : u ≡ upper b) where
+  pub offset-begins : (u ≡ 33) ⊎ (u ≡ 65) → true ≡ isOffset b
+  offset-begins h = sym (any2 h) ∙ ap (λ (x : ℕ). eqb x 33 || eqb x 65) e
+
+  pub offset-not : ((u ≡ 33) ⊎ (u ≡ 65) → ⊥) → false ≡ isOffset b
+  offset-not h = sym (none2 h) ∙ ap (λ (x : ℕ). eqb x 33 || eqb x 65) e
+
+-- ---------------------------------------------------------------- the digits of an offset
+
+-- i digits stand in front, and those behind them are counted from there
+pub count-start : (s : Bytes) → digitCount s ≡ 0 + digitCount (drop 0 s)
+count-start s = omega arith
+
+module _ (s : Bytes) (i : ℕ) (a : digitCount s ≡ i + digitCount (drop i s)) where
+  pub count-stop : i < length s → digit (getD s i 0) ≡ false → i ≡ digitCount s
+  unfolding digitCount
+  count-stop h e = let z : digitCount (drop i s) ≡ 0 = rw (drop-cons s i 0 h, e) in omega (arith, a, z)
+
+  pub count-more : i < length s → digit (getD s i 0) ≡ true → digitCount s ≡ i + 1 + digitCount (drop (i + 1) s)
+  unfolding digitCount
+  count-more h e = let z : digitCount (drop i s) ≡ suc (digitCount (drop (i + 1) s)) = rw (drop-cons s i 0 h, e, add-one i) in omega (arith, a, z)
+
+  pub count-end : length s ≤ i → i ≡ digitCount s
+  unfolding digitCount
+  count-end h = let z : digitCount (drop i s) ≡ 0 = rw (drop-of-length-le s {i = i} h) in omega (arith, a, z)
+
+-- those counted are digits
+pub counted-digits : (s : Bytes) → every digit (take (digitCount s) s) ≡ true
+unfolding digitCount
+counted-digits [] = refl
+counted-digits (x ∷ s) = go (digit x) refl (counted-digits s)
   where
-    go : (o : Option Sign) → (every isSign s ≡ false → readSigns n s ≡ none) → (isSome o && every isSign s) ≡ false → consO o (readSigns n s) ≡ none
-    go none ih e = refl
-    go (some g) ih e = rw (ih e)
+    go : (c : Bool) → digit x ≡ c → every digit (take (digitCount s) s) ≡ true → every digit (take (cond c (suc (digitCount s)) 0) (x ∷ s)) ≡ true
+    go true e h = rw (e, h)
+    go false e h = refl
+
+-- a number above 0 stays so, whatever digits follow
+grows : (a : ℕ) (s : Bytes) → 0 < a → 0 < readFrom a s
+unfolding readFrom
+grows a [] h = h
+grows a (x ∷ s) h = grows (a * 10 + (x - 48)) s (omega arith)
+
+-- the first i digits are 0
+module _ (s : Bytes) (i : ℕ) (a : readFrom 0 s ≡ readFrom 0 (drop i s)) where
+  pub zero-more : i < length s → getD s i 0 ≡ 48 → readFrom 0 s ≡ readFrom 0 (drop (i + 1) s)
+  unfolding readFrom
+  zero-more h e = a ∙ rw (drop-cons s i 0 h, e, add-one i)
+
+  pub zero-stop : i < length s → every digit s ≡ true → (getD s i 0 ≡ 48 → ⊥) → false ≡ eqb (readFrom 0 s) 0
+  unfolding readFrom
+  zero-stop h d e =
+      let x : ℕ = getD s i 0 in
+      let low = digit-is (getD s i 0) (all-get digit s i d h) .0 in
+      let more : 0 < 0 * 10 + (getD s i 0 - 48) = omega (arith, low, e) in
+      let k : readFrom 0 (drop i s) ≡ readFrom (0 * 10 + (getD s i 0 - 48)) (drop (suc i) s) = rw (drop-cons s i 0 h) in
+      let g = grows (0 * 10 + (getD s i 0 - 48)) (drop (suc i) s) more in
+      sym (ne-eqb (readFrom 0 s) 0 (λ z. omega (arith, a ∙ k, g, z)))
+
+  pub zero-end : length s ≤ i → true ≡ eqb (readFrom 0 s) 0
+  unfolding readFrom
+  zero-end h = rw (a, drop-of-length-le s {i = i} h)
+
+-- the sign that an offset of the digits w is
+module _ (w : Bytes) where
+  pub offset-none : length w < 1 → none ≡ offsetSign w
+  offset-none h = rw (lt-leb 1 (length w) h)
+
+  pub offset-long : 1 ≤ length w → offsetDigits < length w → none ≡ offsetSign w
+  offset-long k h = rw (le-leb 1 (length w) k, lt-leb (length w) offsetDigits h)
+
+  module _ (k : 1 ≤ length w) (h : length w ≤ offsetDigits) (c : Bool) (e : c ≡ eqb (readFrom 0 w) 0) where
+    pub offset-zero : c ≡ true → some accept ≡ offsetSign w
+    offset-zero f = rw (le-leb 1 (length w) k, le-leb (length w) offsetDigits h, sym e ∙ f)
+
+    pub offset-greater : c ≡ false → some defer ≡ offsetSign w
+    offset-greater f = rw (le-leb 1 (length w) k, le-leb (length w) offsetDigits h, sym e ∙ f)
+
+-- ---------------------------------------------------------------- the sign in front
+
+pub nothing-there : (v : ℕ) (s : Bytes) → length s < 1 → signAt v s ≡ none
+unfolding signAt
+nothing-there v [] h = refl
+nothing-there v (b ∷ r) h = absurd (omega arith)
+
+-- o: the sign that the first byte is by itself
+module _ (v : ℕ) (s : Bytes) (k : 1 ≤ length s) (o : Option Sign) (e : o ≡ signByte v (getD s 0 0)) where
+  at-first : signAt v s ≡ orOffset o v (getD s 0 0) (drop 1 s)
+  unfolding signAt
+  at-first = go s k e
+    where
+      go : (s : Bytes) → 1 ≤ length s → o ≡ signByte v (getD s 0 0) → signAt v s ≡ orOffset o v (getD s 0 0) (drop 1 s)
+      go [] k e = absurd (omega arith)
+      go (b ∷ r) k e = ap (λ (p : Option Sign). orOffset p v b r) (sym e)
+
+  pub one-byte : isSome o ≡ true → signAt v s ≡ followed o (drop 1 s)
+  one-byte f = at-first ∙ go o f
+    where
+      go : (p : Option Sign) → isSome p ≡ true → orOffset p v (getD s 0 0) (drop 1 s) ≡ followed p (drop 1 s)
+      go none f = absurd (true-false (sym f))
+      go (some g) f = refl
+
+  module _ (f : isSome o ≡ false) where
+    no-byte : signAt v s ≡ cond (ltb v level1) none (cond (isOffset (getD s 0 0)) (offsetRead (digitCount (drop 1 s)) (drop 1 s)) none)
+    no-byte = at-first ∙ go o f
+      where
+        go : (p : Option Sign) → isSome p ≡ false → orOffset p v (getD s 0 0) (drop 1 s)
+            ≡ cond (ltb v level1) none (cond (isOffset (getD s 0 0)) (offsetRead (digitCount (drop 1 s)) (drop 1 s)) none)
+        go none f = refl
+        go (some g) f = absurd (true-false f)
+
+    pub no-sign-low : v < level1 → signAt v s ≡ none
+    no-sign-low h = no-byte ∙ rw (lt-ltb v level1 h)
+
+    module _ (h : level1 ≤ v) where
+      pub no-offset : isOffset (getD s 0 0) ≡ false → signAt v s ≡ none
+      no-offset q = no-byte ∙ rw (le-ltb v level1 h, q)
+
+      -- n digits, which say p
+      pub an-offset : isOffset (getD s 0 0) ≡ true → (n : ℕ) → n ≡ digitCount (drop 1 s) → (p : Option Sign) → p ≡ offsetSign (take n (drop 1 s))
+          → signAt v s ≡ followed p (drop (1 + n) s)
+      an-offset q n d p g =
+          let b : cond (ltb v level1) none (cond (isOffset (getD s 0 0)) (offsetRead (digitCount (drop 1 s)) (drop 1 s)) none) ≡ offsetRead (digitCount (drop 1 s)) (drop 1 s) =
+          rw (le-ltb v level1 h, q) in
+          no-byte ∙ b ∙ ap (λ (i : ℕ). offsetRead i (drop 1 s)) (sym d) ∙ ap (λ (x : Option Sign). followed x (drop n (drop 1 s))) (sym g)
+          ∙ ap (followed p) (drop-drop n 1 s)
+
+-- by the slices of the code: r is what follows the first byte, n how many digits stand in front of it
+module _ (s : Bytes) (k : 1 ≤ length s) (n : ℕ) (d : n ≡ digitCount (take (length s - 1) (drop 1 s))) where
+  digits-there : n ≡ digitCount (drop 1 s)
+  digits-there = d ∙ ap digitCount (to-end s 1)
+
+  pub part-is : take (1 + n - 1) (drop 1 s) ≡ take n (drop 1 s)
+  part-is = let z : 1 + n - 1 ≡ n = omega arith in ap (λ (i : ℕ). take i (drop 1 s)) z
+
+  pub part-digits : every digit (take (1 + n - 1) (drop 1 s)) ≡ true
+  part-digits = ap (every digit) part-is ∙ ap (λ (i : ℕ). every digit (take i (drop 1 s))) digits-there ∙ counted-digits (drop 1 s)
+
+  pub offset-here : (v : ℕ) (o : Option Sign) → o ≡ signByte v (getD s 0 0) → isSome o ≡ false → level1 ≤ v → isOffset (getD s 0 0) ≡ true
+      → (p : Option Sign) → p ≡ offsetSign (take (1 + n - 1) (drop 1 s)) → signAt v s ≡ followed p (drop (1 + n) s)
+  offset-here v o e f h q p g = an-offset v s k o e f h q n digits-there p (g ∙ ap offsetSign part-is)
+
+-- a part of what is left stays within
+pub within : (s : Bytes) (at j : ℕ) → at ≤ length s → j ≤ length (take (length s - at) (drop at s)) → at + j ≤ length s
+within s at j h k =
+    let z : length (take (length s - at) (drop at s)) ≡ length s - at = ap length (to-end s at) ∙ length-drop at s in
+    omega (arith, z)
 
 -- ---------------------------------------------------------------- the loop over the signs
 
--- the first i bytes are signs
-module _ (s : Bytes) (n i : ℕ) (m : length s ≡ n) (h : i < n) (a : every isSign s ≡ every isSign (drop i s)) where
-  pub signs-stop : isSign (getD s i 0) ≡ false → readSigns n s ≡ none
-  signs-stop e = signs-other n s (a ∙ sym (all-stop isSign s i (omega arith) e))
+-- the signs, behind those whose bytes are l
+abbrev behind : Bytes → Option (List Sign) → Option Bytes
+behind l none = none
+behind l (some ss) = some (l ++ map writeSign ss)
 
-  pub signs-more : isSign (getD s i 0) ≡ true → every isSign s ≡ every isSign (drop (i + 1) s)
-  signs-more e = a ∙ all-more isSign s i (omega arith) e
+behind-none : (o : Option (List Sign)) → behind [] o ≡ none → o ≡ none
+behind-none none e = refl
+behind-none (some ss) e = absurd (true-false (ap (λ (x : Option Bytes). isSome x) e))
 
--- they are copied, with zeros after them
-pub copy-more : (s g : Bytes) (n i : ℕ) → n ≤ 5 → length s ≡ n → i < n → g ≡ take i s ++ replicate (5 - i) 0
-    → set g i (getD s i 0) ≡ take (i + 1) s ++ replicate (5 - (i + 1)) 0
-copy-more s g n i k m h e =
-    let z : 5 - i ≡ suc (5 - (i + 1)) = omega arith in
-    let q : length (take i s) ≡ i = length-take-le i s (omega arith) in
-    rw (e, z, set-at (take i s) 0 (replicate (5 - (i + 1)) 0) (getD s i 0) i q, add-one i, take-suc s i 0 (omega arith))
-    (sym (append-snoc (take i s) (getD s i 0) (replicate (5 - suc i) 0)))
+-- what is read is some signs, and they stand for the bytes l
+abbrev ReadAs : Bytes → Option (List Sign) → Type 0
+ReadAs l o = (isSome o ≡ true) × (signBytes o ≡ l)
 
--- all are signs, and all are copied
-pub signs-end : (s g : Bytes) (n i : ℕ) → length s ≡ n → n ≤ i → i ≤ n → g ≡ take i s ++ replicate (5 - i) 0 → every isSign s ≡ every isSign (drop i s)
-    → (0 ≡ cond (isSome (readSigns n s)) 0 badAnswer) × (g ≡ zeroed (signBytes (readSigns n s)))
-signs-end s g n i m h k e a =
-    let r = signs-read n s m (a ∙ sym (all-end isSign s i (omega arith))) in
-    let z : i ≡ length s = omega arith in
-    (rw (r .0), rw (r .1, e, z, take-all (length s) s (omega arith)))
+behind-some : (o : Option (List Sign)) (l : Bytes) → behind [] o ≡ some l → ReadAs l o
+behind-some none l e = absurd (true-false (ap (λ (x : Option Bytes). isSome x) (sym e)))
+behind-some (some ss) l e = (refl, ap got e)
+  where
+    got : Option Bytes → Bytes
+    got none = []
+    got (some x) = x
+
+-- one sign more
+behind-more : (l : Bytes) (b : ℕ) (o : Option Sign) (t : Option (List Sign)) → isSome o ≡ true → SignFrom b o → behind l (consO o t) ≡ behind (l ++ (b ∷ [])) t
+behind-more l b none t e f = absurd (true-false (sym e))
+behind-more l b (some g) none e f = refl
+behind-more l b (some g) (some ss) e f = ap (λ (x : Bytes). some x) (ap (λ (x : ℕ). l ++ (x ∷ map writeSign ss)) f ∙ sym (append-snoc l b (map writeSign ss)))
+
+-- i signs are read from the first at bytes; they are held, with zeros after them, and the rest is read from there on
+pub record Read (v n : ℕ) (s signs : Bytes) (at i : ℕ) : Type 0 where
+  pub bytes : Bytes
+  pub many : length bytes ≡ i
+  pub held : signs ≡ bytes ++ replicate (5 - i) 0
+  pub said : behind [] (readSigns v n s) ≡ behind bytes (readSigns v (n - i) (drop at s))
+
+pub read-start : (v n : ℕ) (s : Bytes) → Read v n s (replicate 5 0) 0 0
+read-start v n s = let z : n ≡ n - 0 = omega arith in record { bytes = []; many = refl; held = refl; said = ap (λ (k : ℕ). behind [] (readSigns v k s)) z }
+
+module _ (v n : ℕ) (s signs : Bytes) (at i : ℕ) (p : Read v n s signs at i) where
+  -- r: what is left; b: the byte of the next sign, if it is one; j: its length
+  module _ (h : i < n) (b j : ℕ) (r : Bytes) (q : r ≡ drop at s) (a : signAt v r ≡ followed (signOf b) (drop j r)) where
+    e : signAt v (drop at s) ≡ followed (signOf b) (drop j (drop at s))
+    e = subst (λ (x : Bytes). signAt v x ≡ followed (signOf b) (drop j x)) q a
+
+    next-read : readSigns v (n - i) (drop at s) ≡ consNext (followed (signOf b) (drop j (drop at s))) (λ r. readSigns v (n - (i + 1)) r)
+    next-read =
+        let z : n - i ≡ suc (n - (i + 1)) = omega arith in
+        ap (λ (k : ℕ). readSigns v k (drop at s)) z ∙ ap (λ (x : Option (Sign × Bytes)). consNext x (λ r. readSigns v (n - (i + 1)) r)) e
+
+    pub read-stop : isSign b ≡ false → readSigns v n s ≡ none
+    read-stop f = behind-none (readSigns v n s) (p .said ∙ ap (behind (p .bytes)) next-read ∙ go (signOf b) f)
+      where
+        go : (o : Option Sign) → isSome o ≡ false → behind (p .bytes) (consNext (followed o (drop j (drop at s))) (λ r. readSigns v (n - (i + 1)) r)) ≡ none
+        go none f = refl
+        go (some g) f = absurd (true-false f)
+
+    pub read-more : n ≤ 5 → isSign b ≡ true → Read v n s (set signs i b) (at + j) (i + 1)
+    read-more m f =
+        record {
+          bytes = p .bytes ++ (b ∷ []);
+          many = rw (length-append (p .bytes) (b ∷ []), p .many);
+          held =
+              let z : 5 - i ≡ suc (5 - (i + 1)) = omega arith in
+              rw (p .held, z, set-at (p .bytes) 0 (replicate (5 - (i + 1)) 0) b i (p .many)) (sym (append-snoc (p .bytes) b (replicate (5 - (i + 1)) 0)));
+          said =
+              p .said ∙ ap (behind (p .bytes)) next-read ∙ go (signOf b) f (sign-from b)
+              ∙ ap (λ (r : Bytes). behind (p .bytes ++ (b ∷ [])) (readSigns v (n - (i + 1)) r)) (drop-drop j at s);
+        }
+      where
+        go : (o : Option Sign) → isSome o ≡ true → SignFrom b o
+            → behind (p .bytes) (consNext (followed o (drop j (drop at s))) (λ r. readSigns v (n - (i + 1)) r)) ≡ behind (p .bytes ++ (b ∷ [])) (readSigns v (n - (i + 1)) (drop j (drop at s)))
+        go none f q = absurd (true-false (sym f))
+        go (some g) f q = behind-more (p .bytes) b (some g) (readSigns v (n - (i + 1)) (drop j (drop at s))) f q
+
+  -- all signs are read
+  module _ (h : n ≤ i) where
+    none-left : readSigns v (n - i) (drop at s) ≡ readSigns v 0 (drop at s)
+    none-left = let z : n - i ≡ 0 = omega arith in ap (λ (k : ℕ). readSigns v k (drop at s)) z
+
+    pub read-over : at < length s → readSigns v n s ≡ none
+    read-over k = behind-none (readSigns v n s) (p .said ∙ ap (behind (p .bytes)) (none-left ∙ ap (readSigns v 0) (drop-cons s at 0 k)))
+
+    pub read-end : i ≤ n → length s ≤ at → (0 ≡ cond (isSome (readSigns v n s)) 0 badAnswer) × (signs ≡ zeroed (signBytes (readSigns v n s)))
+    read-end l k =
+        let e : behind [] (readSigns v n s) ≡ some (p .bytes ++ []) = p .said ∙ ap (behind (p .bytes)) (none-left ∙ ap (readSigns v 0) (drop-of-length-le s {i = at} k)) in
+        let r = behind-some (readSigns v n s) (p .bytes) (e ∙ ap (λ (x : Bytes). some x) (append-nil (p .bytes))) in
+        (rw (r .0), p .held ∙ ap (λ (k : ℕ). p .bytes ++ replicate (5 - k) 0) (sym (p .many)) ∙ sym (ap zeroed (r .1)))
 
 -- ---------------------------------------------------------------- the whole line
 
@@ -142,40 +364,40 @@ upper-sp b = go (ltb b 97) (ltb b 123) refl
     go false true e = let h = ltb-false b 97 e in ne-eqb (b - 32) SP (λ k. omega arith) ∙ sym (ne-eqb b SP (λ k. omega arith))
 
 -- FS, a space and the signs, by places
-pub fs-after : (n : ℕ) (l : Bytes)
-    → readFs level0 n l ≡ cond (ltb (length l) 3) none (cond (isSome (after (text "FS") l)) (cond (eqb (getD l 2 0) SP) (readSigns n (drop 3 l)) none) none)
+pub fs-after : (v n : ℕ) (l : Bytes)
+    → readFs v n l ≡ cond (ltb (length l) 3) none (cond (isSome (after (text "FS") l)) (cond (eqb (getD l 2 0) SP) (readSigns v n (drop 3 l)) none) none)
 unfolding readFs
-fs-after n [] = refl
-fs-after n (a ∷ []) = go (eqb (upper a) 70)
+fs-after v n [] = refl
+fs-after v n (a ∷ []) = go (eqb (upper a) 70)
   where
-    go : (p : Bool) → signsRead level0 n (cond p none none) ≡ none
+    go : (p : Bool) → signsRead v n (cond p none none) ≡ none
     go true = refl
     go false = refl
-fs-after n (a ∷ b ∷ []) = go (eqb (upper a) 70) (eqb (upper b) 83)
+fs-after v n (a ∷ b ∷ []) = go (eqb (upper a) 70) (eqb (upper b) 83)
   where
-    go : (p q : Bool) → signsRead level0 n (cond p (cond q none none) none) ≡ none
+    go : (p q : Bool) → signsRead v n (cond p (cond q none none) none) ≡ none
     go true true = refl
     go true false = refl
     go false q = refl
-fs-after n (a ∷ b ∷ c ∷ l) = rw (le-ltb (length (a ∷ b ∷ c ∷ l)) 3 (omega arith), upper-sp c) (go (eqb (upper a) 70) (eqb (upper b) 83) (eqb c SP))
+fs-after v n (a ∷ b ∷ c ∷ l) = rw (le-ltb (length (a ∷ b ∷ c ∷ l)) 3 (omega arith), upper-sp c) (go (eqb (upper a) 70) (eqb (upper b) 83) (eqb c SP))
   where
-    go : (p q r : Bool) → signsRead level0 n (cond p (cond q (cond r (some l) none) none) none)
-        ≡ cond (isSome (cond p (cond q (some (c ∷ l)) none) none)) (cond r (readSigns n l) none) none
+    go : (p q r : Bool) → signsRead v n (cond p (cond q (cond r (some l) none) none) none)
+        ≡ cond (isSome (cond p (cond q (some (c ∷ l)) none) none)) (cond r (readSigns v n l) none) none
     go true true true = refl
     go true true false = refl
     go true false r = refl
     go false q r = refl
 
-module _ (n : ℕ) (l : Bytes) where
-  fs-none : isSome (after (text "FS") l) ≡ false → readFs level0 n l ≡ none
-  fs-none e = rw (fs-after n l, e) (go (ltb (length l) 3))
+module _ (v n : ℕ) (l : Bytes) where
+  fs-none : isSome (after (text "FS") l) ≡ false → readFs v n l ≡ none
+  fs-none e = rw (fs-after v n l, e) (go (ltb (length l) 3))
     where
       go : (t : Bool) → _≡_ {A = Option (List Sign)} (cond t none none) none
       go true = refl
       go false = refl
 
   -- a line that does not begin with FS
-  pub fs-not : isSome (after (text "FS") l) ≡ false → (answerNumber n l ≡ lineNotAllowed) × (answerSigns n l ≡ zeroed [])
+  pub fs-not : isSome (after (text "FS") l) ≡ false → (answerNumber v n l ≡ lineNotAllowed) × (answerSigns v n l ≡ zeroed [])
   unfolding answerNumber answerSigns answered
   fs-not e = rw (fs-none e, e) (go (ltb blockLimit n))
     where
@@ -184,42 +406,42 @@ module _ (n : ℕ) (l : Bytes) where
       go false = (refl, refl)
 
   -- one that does, and is wrong
-  pub fs-wrong : isSome (after (text "FS") l) ≡ true → answered n l ≡ none → (answerNumber n l ≡ badAnswer) × (answerSigns n l ≡ zeroed [])
+  pub fs-wrong : isSome (after (text "FS") l) ≡ true → answered v n l ≡ none → (answerNumber v n l ≡ badAnswer) × (answerSigns v n l ≡ zeroed [])
   unfolding answerNumber answerSigns answered
-  fs-wrong e f = rw (f, e) (go (ltb blockLimit n) (readFs level0 n l) f, refl)
+  fs-wrong e f = rw (f, e) (go (ltb blockLimit n) (readFs v n l) f, refl)
     where
       go : (t : Bool) (o : Option (List Sign)) → cond t none o ≡ none → cond t badAnswer (cond (isSome o) 0 badAnswer) ≡ badAnswer
       go true o f = refl
       go false o f = rw f
 
-  pub over-five : blockLimit < n → answered n l ≡ none
+  pub over-five : blockLimit < n → answered v n l ≡ none
   unfolding answered
   over-five h = rw (lt-ltb blockLimit n h)
 
   module _ (k : n ≤ blockLimit) where
-    pub too-short : length l < 3 → answered n l ≡ none
+    pub too-short : length l < 3 → answered v n l ≡ none
     unfolding answered
-    too-short h = rw (le-ltb blockLimit n k, fs-after n l, lt-ltb _ _ h)
+    too-short h = rw (le-ltb blockLimit n k, fs-after v n l, lt-ltb _ _ h)
 
     module _ (h : 3 ≤ length l) (e : isSome (after (text "FS") l) ≡ true) where
-      pub no-space : (getD l 2 0 ≡ SP → ⊥) → answered n l ≡ none
+      pub no-space : (getD l 2 0 ≡ SP → ⊥) → answered v n l ≡ none
       unfolding answered
-      no-space q = rw (le-ltb blockLimit n k, fs-after n l, le-ltb _ _ h, e, ne-eqb _ _ q)
+      no-space q = rw (le-ltb blockLimit n k, fs-after v n l, le-ltb _ _ h, e, ne-eqb _ _ q)
 
       -- FS and a space: the signs decide
       pub fs-signs : getD l 2 0 ≡ SP
-          → (answerNumber n l ≡ cond (isSome (readSigns n (drop 3 l))) 0 badAnswer) × (answerSigns n l ≡ zeroed (signBytes (readSigns n (drop 3 l))))
+          → (answerNumber v n l ≡ cond (isSome (readSigns v n (drop 3 l))) 0 badAnswer) × (answerSigns v n l ≡ zeroed (signBytes (readSigns v n (drop 3 l))))
       unfolding answerNumber answerSigns answered
       fs-signs q =
-          let r : readFs level0 n l ≡ readSigns n (drop 3 l) = rw (fs-after n l, le-ltb _ _ h, e, eq-eqb _ _ q) in
+          let r : readFs v n l ≡ readSigns v n (drop 3 l) = rw (fs-after v n l, le-ltb _ _ h, e, eq-eqb _ _ q) in
           rw (le-ltb blockLimit n k, r, e) (refl, refl)
 
 -- ---------------------------------------------------------------- for callers
 
 -- up to five proposals the number is the grammar's
-pub answer-number : (n : ℕ) (l : Bytes) → n ≤ blockLimit → answerNumber n l ≡ fsNumber level0 n l
+pub answer-number : (v n : ℕ) (l : Bytes) → n ≤ blockLimit → answerNumber v n l ≡ fsNumber v n l
 unfolding answerNumber
-answer-number n l k = rw (le-ltb blockLimit n k)
+answer-number v n l k = rw (le-ltb blockLimit n k)
 
 -- a number that refuses is not 0
 refusal : (t : Bool) → cond t badAnswer lineNotAllowed ≡ 0 → ⊥
@@ -231,27 +453,29 @@ abbrev pub Counted : ℕ → Option (List Sign) → Type 0
 Counted n none = Unit {0}
 Counted n (some ss) = length ss ≡ n
 
-signs-counted : (n : ℕ) (s : Bytes) → Counted n (readSigns n s)
-signs-counted zero [] = refl
-signs-counted zero (x ∷ s) = tt
-signs-counted (suc n) [] = tt
-signs-counted (suc n) (x ∷ s) = go (signOf x) (readSigns n s) (signs-counted n s)
+signs-counted : (v n : ℕ) (s : Bytes) → Counted n (readSigns v n s)
+signs-counted v zero [] = refl
+signs-counted v zero (x ∷ s) = tt
+signs-counted v (suc n) s = next (λ r. signs-counted v n r) (signAt v s)
   where
-    go : (o : Option Sign) (t : Option (List Sign)) → Counted n t → Counted (suc n) (consO o t)
-    go none t h = tt
-    go (some g) none h = tt
-    go (some g) (some gs) h = ap (λ (k : ℕ). suc k) h
+    go : (g : Sign) (t : Option (List Sign)) → Counted n t → Counted (suc n) (consO (some g) t)
+    go g none h = tt
+    go g (some gs) h = ap (λ (k : ℕ). suc k) h
 
-fs-counted : (n : ℕ) (l : Bytes) → Counted n (readFs level0 n l)
+    next : ((r : Bytes) → Counted n (readSigns v n r)) → (o : Option (Sign × Bytes)) → Counted (suc n) (consNext o (λ r. readSigns v n r))
+    next f none = tt
+    next f (some p) = go (p .0) (readSigns v n (p .1)) (f (p .1))
+
+fs-counted : (v n : ℕ) (l : Bytes) → Counted n (readFs v n l)
 unfolding readFs
-fs-counted n l = go (after (text "FS ") l)
+fs-counted v n l = go (after (text "FS ") l)
   where
-    go : (o : Option Bytes) → Counted n (signsRead level0 n o)
+    go : (o : Option Bytes) → Counted n (signsRead v n o)
     go none = tt
-    go (some s) = signs-counted n s
+    go (some s) = signs-counted v n s
 
-pub fs-length : (n : ℕ) (l : Bytes) (ss : List Sign) → readFs level0 n l ≡ some ss → length ss ≡ n
-fs-length n l ss e = subst (Counted n) e (fs-counted n l)
+pub fs-length : (v n : ℕ) (l : Bytes) (ss : List Sign) → readFs v n l ≡ some ss → length ss ≡ n
+fs-length v n l ss e = subst (Counted n) e (fs-counted v n l)
 
 -- a sign that was written is read
 sign-back : (s : Sign) → signOf (writeSign s) ≡ some s
@@ -260,11 +484,11 @@ sign-back decline = refl
 sign-back defer = refl
 
 -- the signs of an answer are those that the line gives
-pub signs-by : (n : ℕ) (l : Bytes) (a : Answers) → n ≤ blockLimit → a .number ≡ answerNumber n l → a .signs ≡ answerSigns n l → signsBy n a ≡ readFs level0 n l
+pub signs-by : (v n : ℕ) (l : Bytes) (a : Answers) → n ≤ blockLimit → a .number ≡ answerNumber v n l → a .signs ≡ answerSigns v n l → signsBy n a ≡ readFs v n l
 unfolding answerSigns answered
-signs-by n l a k e f = go (readFs level0 n l) (fs-counted n l) (e ∙ answer-number n l k) (f ∙ h)
+signs-by v n l a k e f = go (readFs v n l) (fs-counted v n l) (e ∙ answer-number v n l k) (f ∙ h)
   where
-    h : answerSigns n l ≡ zeroed (signBytes (readFs level0 n l))
+    h : answerSigns v n l ≡ zeroed (signBytes (readFs v n l))
     h = rw (le-ltb blockLimit n k)
 
     go : (o : Option (List Sign)) → Counted n o → a .number ≡ cond (isSome o) 0 (cond (isSome (after (text "FS") l)) badAnswer lineNotAllowed)
@@ -272,13 +496,13 @@ signs-by n l a k e f = go (readFs level0 n l) (fs-counted n l) (e ∙ answer-num
     go none m e f = rw (ne-eqb (a .number) 0 (λ q. refusal (isSome (after (text "FS") l)) (sym e ∙ q)))
     go (some ss) m e f =
         rw (eq-eqb (a .number) 0 e, f, take-at (map writeSign ss) (replicate (5 - length (map writeSign ss)) 0) n (length-map ss writeSign ∙ m), ← m)
-        (signs-back ss)
+        (signs-back level0 ss)
 
 -- a sign of the answer, by its place
-pub sign-at : (n : ℕ) (l : Bytes) (ss : List Sign) (i : ℕ) → n ≤ blockLimit → readFs level0 n l ≡ some ss → i < n → signOf (getD (answerSigns n l) i 0) ≡ some (getD ss i accept)
+pub sign-at : (v n : ℕ) (l : Bytes) (ss : List Sign) (i : ℕ) → n ≤ blockLimit → readFs v n l ≡ some ss → i < n → signOf (getD (answerSigns v n l) i 0) ≡ some (getD ss i accept)
 unfolding answerSigns answered
-sign-at n l ss i k e h =
-    let m = fs-length n l ss e in
+sign-at v n l ss i k e h =
+    let m = fs-length v n l ss e in
     let q : i < length (map writeSign ss) = rw (length-map ss writeSign) (omega arith) in
     rw (le-ltb blockLimit n k, e, List·getD-append (map writeSign ss) (replicate (5 - length (map writeSign ss)) 0) 0 i q) (go ss i (omega arith))
   where

@@ -9,9 +9,9 @@ use lib.ListN.{length, replicate, take}
 use Rattle.grammar.specs.Bytes.{Bytes, isSome}
 use Rattle.grammar.specs.Ascii.{text}
 use Rattle.grammar.specs.Refusals.{badAnswer, lineNotAllowed}
-use Rattle.grammar.specs.Fields.{after}
+use Rattle.grammar.specs.Fields.{after, readFrom}
 use Rattle.grammar.specs.Turns.{blockLimit}
-use Rattle.grammar.specs.Answers.{Sign, accept, decline, defer, signOf, writeSign, readSigns, readFs, fsNumber, level0, plusSign, minusSign, equalSign}
+use Rattle.grammar.specs.Answers.{Sign, accept, decline, defer, signOf, writeSign, digitCount, signAt, readSigns, readFs, fsNumber, Level, level0, level1, plusSign, minusSign, equalSign}
 use Rattle.fs_line.specs.declared.Answers.{Answers}
 use Rattle.fs_line.specs.declared.Sign as code
 
@@ -33,15 +33,15 @@ signNumber code.Sign.Other = badAnswer
 abbrev pub byteNumber : ℕ → ℕ
 byteNumber b = cond (isSome (signOf b)) 0 badAnswer
 
--- "FS, one space, one sign a proposal": the signs to n proposals, of which a block has five at most
-unfoldable pub answered : ℕ → Bytes → Option (List Sign)
-answered n ln = cond (ltb blockLimit n) none (readFs level0 n ln)
+-- "FS, one space, one sign a proposal": the signs to n proposals, of which a block has five at most, at the level v
+unfoldable pub answered : Level → ℕ → Bytes → Option (List Sign)
+answered v n ln = cond (ltb blockLimit n) none (readFs v n ln)
 
 -- "Where FS is awaited, a wrong line that begins with FS gets 7 and any other 5"; to more than five proposals every line is wrong
-unfoldable pub answerNumber : ℕ → Bytes → ℕ
-answerNumber n ln = cond (ltb blockLimit n) (cond (isSome (after (text "FS") ln)) badAnswer lineNotAllowed) (fsNumber level0 n ln)
+unfoldable pub answerNumber : Level → ℕ → Bytes → ℕ
+answerNumber v n ln = cond (ltb blockLimit n) (cond (isSome (after (text "FS") ln)) badAnswer lineNotAllowed) (fsNumber v n ln)
 
--- The signs as they stand on the line; none of a line that is refused.
+-- The signs as `+`, `-` and `=`, whatever stood on the line; none of a line that is refused.
 abbrev pub signBytes : Option (List Sign) → Bytes
 signBytes none = []
 signBytes (some ss) = map writeSign ss
@@ -51,17 +51,22 @@ abbrev pub zeroed : Bytes → Bytes
 zeroed bs = bs ++ replicate (blockLimit - length bs) 0
 
 -- "no answer of that line is recorded" where it is refused
-unfoldable pub answerSigns : ℕ → Bytes → Bytes
-answerSigns n ln = zeroed (signBytes (answered n ln))
+unfoldable pub answerSigns : Level → ℕ → Bytes → Bytes
+answerSigns v n ln = zeroed (signBytes (answered v n ln))
 
-three : answerSigns 3 (text "FS -+=") ≡ minusSign ∷ plusSign ∷ equalSign ∷ 0 ∷ 0 ∷ []
-unfolding answerSigns answered readFs
+three : answerSigns level0 3 (text "FS -+=") ≡ minusSign ∷ plusSign ∷ equalSign ∷ 0 ∷ 0 ∷ []
+unfolding answerSigns answered readFs signAt
 three = refl
 
-six : answerNumber 6 (text "fs ++++++") ≡ badAnswer
+six : answerNumber level1 6 (text "fs ++++++") ≡ badAnswer
 unfolding answerNumber
 six = refl
 
--- The signs to n proposals that an answer of the code holds.
+-- 002's own example of version 1
+five : answerSigns level1 5 (text "FS YLA3350RH") ≡ plusSign ∷ equalSign ∷ equalSign ∷ minusSign ∷ plusSign ∷ []
+unfolding answerSigns answered readFs signAt digitCount readFrom
+five = refl
+
+-- The signs to n proposals that an answer of the code holds, which writes `+`, `-` and `=` at every level.
 abbrev pub signsBy : ℕ → Answers → Option (List Sign)
-signsBy n a = cond (eqb (a .number) 0) (readSigns n (take n (a .signs))) none
+signsBy n a = cond (eqb (a .number) 0) (readSigns level0 n (take n (a .signs))) none

@@ -1,5 +1,5 @@
 -- Theorems about the grammar. What a reader of the rules wants to know first stands in Examples, Edges, OurLines, AsWritten,
--- TransferBack, Refusal, Portions, Spelling and SummedEnd; the others carry them.
+-- TransferBack, Refusal, Portions, Spelling, SummedEnd, Levels and Signs; the others carry them.
 pub mod Basics
 pub mod Fields
 pub mod Bids
@@ -18,4 +18,6 @@ pub mod Spelling
 pub mod SummedEnd
 pub mod Examples
 pub mod Edges
+pub mod Levels
+pub mod Signs
 pub mod AsWritten

@@ -13,7 +13,7 @@ use Rattle.grammar.specs.Fields.{Form, bidByte, callByte, digit, file, m
 use Rattle.grammar.specs.Lines.{isComment, isPrompt, trim}
 use Rattle.grammar.specs.Sid.{readSid, sidNumber}
 use Rattle.grammar.specs.Turns.{Proposal, endsBlock, fixedText, formLetter, inMode, isType, notAllowed, ourBlock, ourEnd, ourFF, ourFQ, ourPrompt, ourSid, proposable, proposalLine, proposes, readProposal, readSummedEnd, readTurnLine, saysFF, saysFQ, sp}
-use Rattle.grammar.specs.Answers.{OurLine, Sign, accept, decline, defer, fixedLine, fsLine, ourAnswer, ourProposal, readFs, readSigns, writeSign, written, Level, level0}
+use Rattle.grammar.specs.Answers.{OurLine, Sign, accept, decline, defer, fixedLine, fsLine, ourAnswer, ourProposal, readFs, readSigns, signAt, writeSign, written, Level}
 use Rattle.grammar.proofs.Basics.{Field, Lacks, lacks-append, all-lacks, or-second}
 use Rattle.grammar.proofs.Fields.{num-field, atByte, at-field, call-field, bid-field, Ours, ours, proposal-back}
 
@@ -63,16 +63,17 @@ kind-of md p ln q k =
 pub proposal-read : (md : Bool) (p : Proposal) → proposable p ≡ true → inMode md (p .form) ≡ true → readTurnLine md (proposalLine p) ≡ proposes p
 proposal-read md p h e = kind-of md p (proposalLine p) (proposal-starts p) (proposal-back md p (ours p h) e)
 
-pub signs-back : (ss : List Sign) → readSigns (length ss) (map writeSign ss) ≡ some ss
-signs-back [] = refl
-signs-back (accept ∷ ss) = rw (signs-back ss)
-signs-back (decline ∷ ss) = rw (signs-back ss)
-signs-back (defer ∷ ss) = rw (signs-back ss)
+pub signs-back : (v : Level) (ss : List Sign) → readSigns v (length ss) (map writeSign ss) ≡ some ss
+unfolding signAt
+signs-back v [] = refl
+signs-back v (accept ∷ ss) = rw (signs-back v ss)
+signs-back v (decline ∷ ss) = rw (signs-back v ss)
+signs-back v (defer ∷ ss) = rw (signs-back v ss)
 
--- THE ROUND TRIP of an FS line
+-- THE ROUND TRIP of an FS line, at every level
 pub fs-back : (v : Level) (ss : List Sign) → readFs v (length ss) (fsLine ss) ≡ some ss
 unfolding readFs fsLine
-fs-back level0 ss = signs-back ss
+fs-back v ss = signs-back v ss
 
 pub ff-read : (md : Bool) → readTurnLine md (fixedText ourFF) ≡ saysFF
 unfolding readTurnLine

@@ -1,6 +1,6 @@
 -- 01, "Examples at the edges": the marked (●) ones as one list of questions with their answers, and a second list of edges that the
--- other sentences of 01, and the requests of 02, draw; those of bytes stand in Edges. Both are proved by computation, each as one statement, in
--- proofs/Examples.
+-- other sentences of 01, and the requests of 02, draw; those of bytes stand in Edges, those of levels in Levels. Both are proved by computation,
+-- each as one statement, in proofs/Examples.
 use mathlib.Core.Bool.{Bool, true, false}
 use mathlib.Core.Option.{Option, none, some}
 use mathlib.Core.List.{List, [], _∷_, _++_}
@@ -10,9 +10,9 @@ use Rattle.grammar.specs.Bytes.{Bytes}
 use Rattle.grammar.specs.Ascii.{text}
 use Rattle.grammar.specs.Fields.{Form, file, message, plain, sameBid}
 use Rattle.grammar.specs.Lines.{trim, isComment, isPrompt, lineByte, lineByteNumber, LineRead, line, refused, unfinished, lineSteps}
-use Rattle.grammar.specs.Sid.{framed, readSid, sidNumber}
+use Rattle.grammar.specs.Sid.{framed, levelInForce, readSid, sidNumber}
 use Rattle.grammar.specs.Turns.{Proposal, TurnLine, endsBlock, endsSummed, notAllowed, ourBlock, proposes, readTurnLine, saysFF, saysFQ, turnLineNumber}
-use Rattle.grammar.specs.Answers.{Sign, accept, decline, defer, fsNumber, readFs, level0}
+use Rattle.grammar.specs.Answers.{Sign, accept, decline, defer, fsNumber, readFs, Level, level0}
 use Rattle.grammar.specs.Transfers.{Content, readTransfer, writeTransfer}
 use Rattle.grammar.specs.Scan.{Scanned, goes, got, inBody, inData, inHead, malformed, noRoom, scan, wrongSum}
 
@@ -21,7 +21,9 @@ pub data Question : Type 0 where
   textLine : Bytes → Question  -- a line where the prompt is awaited
   turnLine : Bool → Bytes → Question  -- a line of a turn, in plain (false) or framed (true) mode
   proposed : List ℕ → Question  -- how many of the records with these announced sizes
-  awaited : ℕ → Bytes → Question  -- a line where FS is awaited, to so many proposals
+  awaited : ℕ → Bytes → Question  -- a line where FS is awaited, to so many proposals, at level 0
+  awaitedAt : Level → ℕ → Bytes → Question  -- the same at a level
+  inForce : Bytes → Question  -- the level in force with a partner of this SID
   lineByteAt : Bool → ℕ → ℕ → Question  -- the next byte where so many of a line are there, after a CR (true) or not
   lineFrom : Bool → Bytes → Question  -- bytes where a line is awaited, after a CR (true) or not
   sent : Form → Bytes → Bytes → Question  -- a transfer as we write it: heading and data
@@ -38,6 +40,7 @@ pub data Answer : Type 0 where
   bytes : Bytes → Answer
   heard : Option Content → Scanned → Answer
   isOne : Bool → Answer
+  isLevel : Level → Answer
 
 abbrev pub sidAnswer : Option (List ℕ) → Answer
 sidAnswer none = number (sidNumber none)
@@ -50,6 +53,10 @@ abbrev pub fsAnswer : ℕ → Option (List Sign) → Answer
 fsAnswer n none = number n
 fsAnswer n (some ss) = signs ss
 
+abbrev pub levelAnswer : Option (List ℕ) → Answer
+levelAnswer none = number (sidNumber none)
+levelAnswer (some fs) = isLevel (levelInForce fs)
+
 abbrev pub itself : ℕ → ℕ
 itself n = n
 
@@ -59,6 +66,8 @@ answer (textLine ln) = textIs (isComment (trim ln)) (isPrompt (trim ln))
 answer (turnLine md ln) = lineAnswer (readTurnLine md (trim ln))
 answer (proposed sizes) = number (length (ourBlock itself 0 0 sizes))
 answer (awaited n ln) = fsAnswer (fsNumber level0 n (trim ln)) (readFs level0 n (trim ln))
+answer (awaitedAt v n ln) = fsAnswer (fsNumber v n (trim ln)) (readFs v n (trim ln))
+answer (inForce ln) = levelAnswer (readSid (trim ln))
 answer (lineByteAt afterCr n b) = number (lineByteNumber (lineByte afterCr n b))
 answer (lineFrom afterCr bs) = lineRead (lineSteps afterCr [] bs)
 answer (sent f h x) = bytes (writeTransfer f h x)
@@ -107,7 +116,7 @@ edges =
     record { asked = lineFrom true (10 ∷ 70 ∷ 13 ∷ []); told = lineRead (line (70 ∷ []) []) } ∷
     record { asked = lineFrom true (10 ∷ 10 ∷ 13 ∷ []); told = lineRead (line (10 ∷ []) []) } ∷
     record { asked = lineFrom false (10 ∷ 13 ∷ []); told = lineRead (line (10 ∷ []) []) } ∷
-    record { asked = sid (text "[NOD-1-BFH$]"); told = sidIs 0 true (0 ∷ 1 ∷ 0 ∷ 0 ∷ 0 ∷ 1 ∷ 0 ∷ 1 ∷ 0 ∷ 0 ∷ 0 ∷ 0 ∷ 0 ∷ 0 ∷ 0 ∷ 0 ∷ 0 ∷ 0 ∷ 0 ∷ 0 ∷ 0 ∷ 0 ∷ 0 ∷ 0 ∷ 0 ∷ 0 ∷ 1 ∷ []) } ∷
+    record { asked = sid (text "[NOD-1-B1FH$]"); told = sidIs 0 true (0 ∷ 2 ∷ 0 ∷ 0 ∷ 0 ∷ 1 ∷ 0 ∷ 1 ∷ 0 ∷ 0 ∷ 0 ∷ 0 ∷ 0 ∷ 0 ∷ 0 ∷ 0 ∷ 0 ∷ 0 ∷ 0 ∷ 0 ∷ 0 ∷ 0 ∷ 0 ∷ 0 ∷ 0 ∷ 0 ∷ 1 ∷ []) } ∷
     record { asked = sid (text "[A---F]"); told = sidIs 0 false (0 ∷ 0 ∷ 0 ∷ 0 ∷ 0 ∷ 1 ∷ 0 ∷ 0 ∷ 0 ∷ 0 ∷ 0 ∷ 0 ∷ 0 ∷ 0 ∷ 0 ∷ 0 ∷ 0 ∷ 0 ∷ 0 ∷ 0 ∷ 0 ∷ 0 ∷ 0 ∷ 0 ∷ 0 ∷ 0 ∷ 0 ∷ []) } ∷
     record { asked = sid (text "[A-f9B0]   "); told = sidIs 0 true (0 ∷ 1 ∷ 0 ∷ 0 ∷ 0 ∷ 10 ∷ 0 ∷ 0 ∷ 0 ∷ 0 ∷ 0 ∷ 0 ∷ 0 ∷ 0 ∷ 0 ∷ 0 ∷ 0 ∷ 0 ∷ 0 ∷ 0 ∷ 0 ∷ 0 ∷ 0 ∷ 0 ∷ 0 ∷ 0 ∷ 0 ∷ []) } ∷
     record { asked = sid (text "[A b-F$]"); told = sidIs 0 false (0 ∷ 0 ∷ 0 ∷ 0 ∷ 0 ∷ 1 ∷ 0 ∷ 0 ∷ 0 ∷ 0 ∷ 0 ∷ 0 ∷ 0 ∷ 0 ∷ 0 ∷ 0 ∷ 0 ∷ 0 ∷ 0 ∷ 0 ∷ 0 ∷ 0 ∷ 0 ∷ 0 ∷ 0 ∷ 0 ∷ 1 ∷ []) } ∷

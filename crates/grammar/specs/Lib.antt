@@ -12,4 +12,6 @@ pub mod Transfers
 pub mod Scan
 pub mod Examples
 pub mod Edges
+pub mod Levels
+pub mod Signs
 pub mod AsWritten

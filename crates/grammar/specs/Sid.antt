@@ -101,3 +101,20 @@ sidNumber (some fs) = cond (hasFeature letterF fs) 0 noForwarding
 -- "Partner has B: framed mode, at any level. Otherwise plain mode."
 abbrev pub framed : List ℕ → Bool
 framed fs = hasFeature letterB fs
+
+-- ---------------------------------------------------------------- the level in force
+
+-- The level of the letter at a place; 0 where the feature is not there.
+abbrev pub levelOf : ℕ → List ℕ → ℕ
+levelOf i fs = getD fs i 0 - 1
+
+-- "Our SID becomes `[NOD-1-B1FH$]`" (02, Q-6): the level of our B, as proofs/Levels shows
+abbrev pub ourLevel : ℕ
+ourLevel = 1
+
+abbrev pub lower : ℕ → ℕ → ℕ
+lower a b = cond (ltb a b) a b
+
+-- "the level in force is the lower of the two, 0 without B"
+unfoldable pub levelInForce : List ℕ → ℕ
+levelInForce fs = lower ourLevel (levelOf letterB fs)

@@ -141,12 +141,13 @@ unfoldable pub proposalLine : Proposal → Bytes
 proposalLine p =
     sp (70 ∷ formLetter (p .form) ∷ []) (sp (p .type ∷ []) (sp (p .from) (sp (p .at) (sp (p .to) (sp (p .bid) (decimal (p .size)))))))
 
--- The lines that we write and that never differ. "Our SID is `[NOD-1-BFH$]`. Called: we send it, CR, `>`, CR"
+-- The lines that we write and that never differ. "Our SID becomes `[NOD-1-B1FH$]`" (02, Q-6); "Called: we send it, CR,
+-- `>`, CR"
 pub data FixedLine : Type 0 where
   ourSid ourPrompt ourFF ourFQ ourEnd : FixedLine
 
 abbrev pub fixedText : FixedLine → Bytes
-fixedText ourSid = text "[NOD-1-BFH$]"
+fixedText ourSid = text "[NOD-1-B1FH$]"
 fixedText ourPrompt = text ">"
 fixedText ourFF = text "FF"
 fixedText ourFQ = text "FQ"

@@ -69,7 +69,7 @@ module _ (w : Await) (y : Say) (k : Keep) (r : Reader) where
 
     answer-kept : (ln : Bytes) → Kept w k (answerLine ln w y k r)
     unfolding answerLine
-    answer-kept ln = by (eqb (answerNumber (w .ours .count) ln) 0) (taken _ refl) (refused _)
+    answer-kept ln = by (eqb (answerNumber (k .terms .level) (w .ours .count) ln) 0) (taken _ refl) (refused _)
 
     pub judge-kept : (ln : Bytes) → Kept w k (judgeOf ln n w y k r table known inbox store)
     unfolding judgeOf

@@ -10,7 +10,7 @@ use Rattle.grammar.specs.Bytes.{Bytes}
 use Rattle.grammar.specs.Refusals.{notSid, noForwarding, lineNotAllowed, proposalCount, wrongBlockSum}
 use Rattle.grammar.specs.Fields.{formNumber}
 use Rattle.grammar.specs.Lines.{isComment, isPrompt}
-use Rattle.grammar.specs.Sid.{readSid, hasFeature, framed}
+use Rattle.grammar.specs.Sid.{readSid, hasFeature, framed, levelInForce}
 use Rattle.grammar.specs.Turns.{Proposal, TurnLine, saysFF, saysFQ, endsBlock, notAllowed, proposes, endsSummed, readTurnLine, turnLineNumber, withCr}
 use Rattle.grammar.specs.Transfers.{byteSum}
 use Rattle.grammar.specs.Answers.{accept, decline, defer, writeSign}
@@ -20,7 +20,7 @@ use Rattle.layout.specs.Layout.{byteAt, entryAt, proposalSize, proposalOut}
 use Rattle.transfer_step.specs.declared.Reader.{Reader}
 use Rattle.transfer_step.specs.Step.{startOf}
 use Rattle.session_memory.specs.State.{at, held, fiveOf, noFive}
-use Rattle.session_memory.specs.Setters.{withPhase, withFf, withCurrent, withProposals, withOurs, withSum, withFirst, withThen, withSigns, withFramed, withSending}
+use Rattle.session_memory.specs.Setters.{withPhase, withFf, withCurrent, withProposals, withOurs, withSum, withFirst, withThen, withSigns, withFramed, withLevel, withSending}
 use Rattle.session_memory.specs.declared.Five.{Five}
 use Rattle.session_memory.specs.Session.{Await}
 use Rattle.session_memory.specs.declared.Say.{Say}
@@ -69,8 +69,9 @@ saysThen n y = withThen n y
 abbrev pub saysSigns : Five → Say → Say
 saysSigns f y = withFirst pieceSigns (withSigns f y)
 
-abbrev pub inMode : Bool → Keep → Keep
-inMode md k = withFramed md k
+-- The mode and the level in force, which the partner's SID settles.
+abbrev pub inMode : Bool → ℕ → Keep → Keep
+inMode md v k = withLevel v (withFramed md k)
 
 abbrev pub sends : Five → Bytes → Keep → Keep
 sends f flags k = withSending f flags k
@@ -82,7 +83,7 @@ afterSid w = cond (eqb (w .phase) phaseCallerSid) (inPhase phasePrompt w) (toTur
 
 abbrev pub sidRead : Option (List ℕ) → Await → Say → Keep → Reader → Judged
 sidRead none w y k r = refusal notSid w y k r
-sidRead (some fs) w y k r = cond (hasFeature 5 fs) (wentOn (afterSid w) y (inMode (framed fs) k) r) (refusal noForwarding w y k r)
+sidRead (some fs) w y k r = cond (hasFeature 5 fs) (wentOn (afterSid w) y (inMode (framed fs) (levelInForce fs) k) r) (refusal noForwarding w y k r)
 
 unfoldable pub sidLine : Bytes → Await → Say → Keep → Reader → Judged
 sidLine ln w y k r = sidRead (readSid ln) w y k r
@@ -190,9 +191,9 @@ answerTaken ss w y k r =
 
 unfoldable pub answerLine : Bytes → Await → Say → Keep → Reader → Judged
 answerLine ln w y k r =
-    cond (eqb (answerNumber (w .ours .count) ln) 0)
-    (answerTaken (answerSigns (w .ours .count) ln) w y k r)
-    (refusal (answerNumber (w .ours .count) ln) w y k r)
+    cond (eqb (answerNumber (k .terms .level) (w .ours .count) ln) 0)
+    (answerTaken (answerSigns (k .terms .level) (w .ours .count) ln) w y k r)
+    (refusal (answerNumber (k .terms .level) (w .ours .count) ln) w y k r)
 
 -- ---------------------------------------------------------------- any line
 

@@ -13,7 +13,7 @@ use lib.ListN.{length}
 use Rattle.grammar.specs.Bytes.{Bytes, CR, LF, same, isSome}
 use Rattle.grammar.specs.Fields.{Form, plain, message, file}
 use Rattle.grammar.specs.Lines.{trim, isComment, isPrompt, lineLimit}
-use Rattle.grammar.specs.Sid.{readSid, hasFeature, framed, letterF}
+use Rattle.grammar.specs.Sid.{readSid, hasFeature, framed, levelOf, letterB, letterF}
 use Rattle.grammar.specs.Turns.{Proposal, TurnLine, saysFF, saysFQ, endsBlock, notAllowed, proposes, endsSummed, readTurnLine, fixedText, ourSid, ourPrompt, withCr, blockLimit}
 use Rattle.grammar.specs.Answers.{Sign, consO, readFs, Level, level0}
 use Rattle.grammar.specs.Transfers.{Content, readTransfer, sumRight}
@@ -59,9 +59,10 @@ pub record Course : Type 0 where
   pub next : Next
   pub sent : List ℕ
 
--- What only the partner's units change: the mode, "each record's state", "messages kept".
+-- What only the partner's units change: the mode, the level, "each record's state", "messages kept".
 pub record Book : Type 0 where
   pub framed : Bool
+  pub level : Level
   pub states : List ℕ
   pub kept : List Message
 
@@ -156,7 +157,7 @@ abbrev pub ourAnswered : List Proposal → Option (List Sign) → Next
 ourAnswered ps none = over
 ourAnswered ps (some ss) = theirsOwed (acceptedBy ss ps)
 
--- A line of ours. "Lines under SID and opening only choose the mode."; "Called: we send it, CR, `>`, CR"
+-- A line of ours. "Lines under SID and opening only choose the mode.", and the level; "Called: we send it, CR, `>`, CR"
 abbrev pub ourLine : List Record → Bool → Ours → Bytes → Next
 ourLine T md ourGreeting ln = cond (same ln (fixedText ourSid)) (weSay ourFirstPrompt) over
 ourLine T md ourFirstPrompt ln = cond (same ln (fixedText ourPrompt)) (theySay (theirSid false)) over
@@ -183,15 +184,27 @@ pub record Effect : Type 0 where
 abbrev pub effect : Book → List ℕ → Next → Effect
 effect k sent n = record { book = k; course = record { next = n; sent = sent } }
 
--- The book with this mode, these states, these messages.
-abbrev pub withFramed : Book → Bool → Book
-withFramed k md = record { framed = md; states = k .states; kept = k .kept }
+-- The level that a SID has at B, 0 where there is none.
+abbrev pub levelSaid : Option (List ℕ) → Level
+levelSaid none = level0
+levelSaid (some fs) = levelOf letterB fs
+
+abbrev pub lesser : Level → Level → Level
+lesser v w = cond (leb v w) v w
+
+-- "the level in force is the lower of the two, 0 without B" (02, Q-6): of what the partner's SID and our own say
+abbrev pub levelBetween : List ℕ → Level
+levelBetween fs = lesser (levelSaid (some fs)) (levelSaid (readSid (fixedText ourSid)))
+
+-- The book with the mode and the level of this SID, these states, these messages.
+abbrev pub withSid : Book → List ℕ → Book
+withSid k fs = record { framed = framed fs; level = levelBetween fs; states = k .states; kept = k .kept }
 
 abbrev pub withStates : Book → List ℕ → Book
-withStates k st = record { framed = k .framed; states = st; kept = k .kept }
+withStates k st = record { framed = k .framed; level = k .level; states = st; kept = k .kept }
 
 abbrev pub withKept : Book → List Message → Book
-withKept k ms = record { framed = k .framed; states = k .states; kept = ms }
+withKept k ms = record { framed = k .framed; level = k .level; states = k .states; kept = ms }
 
 -- The partner's FF is answered by our turn, its proposals by our FS line.
 abbrev pub afterTheirTurn : List Proposal → Next
@@ -234,9 +247,9 @@ rawWith raw ln (endsSummed h) = raw
 abbrev pub theirTurnLine : Bool → List TurnLine → Bytes → Book → List ℕ → Bytes → TurnLine → Effect
 theirTurnLine ff ls raw k sent ln t = theirSaid ff (ls ++ (t ∷ [])) (rawWith raw ln t) k sent (said ff (ls ++ (t ∷ [])))
 
--- The level at which the partner's FS line is read; ours has the signs of level 0.
+-- The level at which the partner's FS line is read; "We write only `+`, `-` and `=`", so ours is read at level 0.
 abbrev pub levelInForce : Book → Level
-levelInForce k = level0
+levelInForce k = k .level
 
 -- "The partner's makes declined records 2."
 abbrev pub theirAnswered : List ℕ → Book → List ℕ → Option (List Sign) → Effect
@@ -252,7 +265,7 @@ afterTheirSid false = theirTurn false [] []
 abbrev pub theirSidRead : Bool → Book → List ℕ → Option (List ℕ) → Effect
 theirSidRead c k sent none = effect k sent over
 theirSidRead c k sent (some fs) =
-    cond (hasFeature letterF fs) (effect (withFramed k (framed fs)) sent (theySay (afterTheirSid c))) (effect k sent over)
+    cond (hasFeature letterF fs) (effect (withSid k fs) sent (theySay (afterTheirSid c))) (effect k sent over)
 
 -- A line of the partner's that is no comment, as it came, without its CR: "Spaces at the end are removed before a line is judged."
 abbrev pub theirRead : Theirs → Book → List ℕ → Bytes → Effect
@@ -365,7 +378,7 @@ logOpened caller states =
     record {
       afterCr = false;
       course = record { next = cond caller (theySay (theirSid true)) (weSay ourGreeting); sent = [] };
-      book = record { framed = false; states = states; kept = [] };
+      book = record { framed = false; level = level0; states = states; kept = [] };
     }
 
 -- THE LOG of a trace, from open on.

@@ -122,6 +122,7 @@ module _ (role : ℕ) (F : Fixed) (m : Lent) (a : Accepted role F m) where
           shelved = record { records = refl; known = refl; places = refl; bytes = refl; table = a .table .0; inbox = a .inbox .0 };
           boxed = record { count = refl; messages = refl; laid = tt; bodies = refl; row = tt; small = omega arith; bytes = refl };
           framed = refl;
+          terms = record { level = refl };
           states = refl;
           sending = refl;
           flags = refl;

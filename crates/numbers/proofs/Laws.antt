@@ -15,6 +15,7 @@ use Rattle.layout.proofs.Places.{put-fits}
 use Rattle.session_memory.specs.State.{at, flag, fiveOut, arrayAt, fiveAt, loadOf, loadAwait, loadSay, loadKeep, loadReading, loadLine, smallOut, numbersOut, tailOut, arraysOut, numberPart, saveOf}
 use Rattle.session_memory.specs.declared.Five.{Five}
 use Rattle.session_memory.specs.declared.Say.{Say}
+use Rattle.session_memory.specs.declared.Terms.{Terms}
 use Rattle.transfer_step.specs.declared.Reader.{Reader}
 use Rattle.session_memory.proofs.Laws.{array-in, saved, same-five, same-await, same-say, same-keep, same-reading, same-line, same-session}
 use Rattle.region.specs.Region.{region, lent}
@@ -56,9 +57,9 @@ pub same-numbers-await : {a b c d e f i j : ℕ} {x y : Bool} {g h : Five} → a
     → _≡_ {A = AwaitNumbers} (record { phase = a; ff = x; current = c; proposals = e; ours = g; sum = i }) (record { phase = b; ff = y; current = d; proposals = f; ours = h; sum = j })
 same-numbers-await e₁ e₂ e₃ e₄ e₅ e₆ = rw (e₁, e₂, e₃, e₄, e₅, e₆)
 
-pub same-numbers-keep : {x y : Bool} {a b c d : ℕ} {g h : Five} → x ≡ y → a ≡ b → c ≡ d → g ≡ h
-    → _≡_ {A = KeepNumbers} (record { framed = x; kept = a; used = c; sending = g }) (record { framed = y; kept = b; used = d; sending = h })
-same-numbers-keep e₁ e₂ e₃ e₄ = rw (e₁, e₂, e₃, e₄)
+pub same-numbers-keep : {x y : Bool} {t u : Terms} {a b c d : ℕ} {g h : Five} → x ≡ y → t ≡ u → a ≡ b → c ≡ d → g ≡ h
+    → _≡_ {A = KeepNumbers} (record { framed = x; terms = t; kept = a; used = c; sending = g }) (record { framed = y; terms = u; kept = b; used = d; sending = h })
+same-numbers-keep e₁ e₂ e₃ e₄ e₅ = rw (e₁, e₂, e₃, e₄, e₅)
 
 pub same-reader : {a b c d e f g h i j k l m n : ℕ} → a ≡ b → c ≡ d → e ≡ f → g ≡ h → i ≡ j → k ≡ l → m ≡ n
     → _≡_ {A = Reader} (record { place = a; len = c; head = e; off = g; left = i; sum = k; body = m }) (record { place = b; len = d; head = f; off = h; left = j; sum = l; body = n })

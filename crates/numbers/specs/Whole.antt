@@ -6,7 +6,7 @@ use Rattle.grammar.specs.Bytes.{Bytes}
 use Rattle.places.specs.Places.{phaseAt, ffAt, framedAt, afterCrAt, firstAt, thenAt, keptAt, currentAt, proposalsAt, oursAt, sendingAt, signsAt, placeAt, lengthAt, headAt, offsetAt, sumAt, lineLengthAt, leftAt, bodyAt, posAt, usedAt, blockSumAt, deferredAt, deferredLen, headingAt, headingLen, lineAt, lineLen, blockAt, blockLen}
 use Rattle.layout.specs.Layout.{byteAt, le2At, le4At, le8At}
 use Rattle.transfer_step.specs.declared.Reader.{Reader}
-use Rattle.session_memory.specs.State.{fiveAt, smallOut, numbersOut, tailOut, numberPart}
+use Rattle.session_memory.specs.State.{fiveAt, termsAt, smallOut, numbersOut, tailOut, numberPart}
 use Rattle.session_memory.specs.Session.{Await}
 use Rattle.session_memory.specs.declared.Say.{Say}
 use Rattle.session_memory.specs.Session.{Keep}
@@ -34,7 +34,7 @@ abbrev pub awaitOf : AwaitNumbers → Bytes → Await
 awaitOf w block = record { phase = w .phase; ff = w .ff; current = w .current; proposals = w .proposals; ours = w .ours; sum = w .sum; block = block }
 
 abbrev pub keepOf : KeepNumbers → Bytes → Keep
-keepOf k deferred = record { framed = k .framed; kept = k .kept; used = k .used; sending = k .sending; deferred = deferred }
+keepOf k deferred = record { framed = k .framed; terms = k .terms; kept = k .kept; used = k .used; sending = k .sending; deferred = deferred }
 
 -- from its numbers and four arrays
 abbrev pub sessionOf : Numbers → Bytes → Bytes → Bytes → Bytes → Session
@@ -60,7 +60,7 @@ unfoldable pub sayNumbers : Bytes → Say
 sayNumbers sm = record { first = byteAt sm firstAt; then = byteAt sm thenAt; pos = le8At sm posAt; signs = fiveAt sm signsAt }
 
 unfoldable pub keepNumbers : Bytes → KeepNumbers
-keepNumbers sm = record { framed = eqb (byteAt sm framedAt) 1; kept = byteAt sm keptAt; used = le8At sm usedAt; sending = fiveAt sm sendingAt }
+keepNumbers sm = record { framed = eqb (byteAt sm framedAt) 1; terms = termsAt sm; kept = byteAt sm keptAt; used = le8At sm usedAt; sending = fiveAt sm sendingAt }
 
 unfoldable pub readerNumbers : Bytes → Reader
 readerNumbers sm =

@@ -5,6 +5,7 @@ use number_write::bytes4;
 use number_write::bytes8;
 use session_memory::Five;
 use session_memory::Say;
+use session_memory::Terms;
 use transfer_step::Reader;
 ghost use mathlib.Core.Path.{_≡_};
 ghost use Prim.Native.Nat.{_+_, _<_, _≤_};
@@ -12,7 +13,7 @@ ghost use lib.ListN.{length};
 ghost use Rattle.buffer.specs.Put.{putBytes};
 ghost use Rattle.places.specs.Places.{numbersStart, sessionLen};
 ghost use Rattle.layout.specs.Layout.{byteAt, le2At, le4At, le8At};
-ghost use Rattle.session_memory.specs.State.{at, flag, fiveAt};
+ghost use Rattle.session_memory.specs.State.{at, flag, fiveAt, termsAt};
 ghost use Rattle.numbers.specs.Whole.{awaitNumbers, sayNumbers, keepNumbers, readerNumbers, lineNumbers, numbersAt, smallBytes, largeBytes, tailBytes, numberBytes};
 
 pub struct AwaitNumbers {
@@ -26,6 +27,7 @@ pub struct AwaitNumbers {
 
 pub struct KeepNumbers {
     pub framed: bool,
+    pub terms: Terms,
     pub kept: u8,
     pub used: usize,
     pub sending: Five,
@@ -131,6 +133,16 @@ fn load_say(sm: &[u8]) -> Say
     }
 }
 
+// What is settled with the partner.
+fn load_terms(sm: &[u8]) -> Terms
+    requires { ⌜ length (now sm) ≡ sessionLen ⌝ }
+    ensures { λ r. ⌜ r ≡ termsAt (now (sm .entry)) ⌝ }
+{
+    Terms {
+        level: byte(sm, places::LEVEL),
+    }
+}
+
 // What is kept and sent.
 fn load_keep(sm: &[u8]) -> KeepNumbers
     requires { ⌜ length (now sm) ≡ sessionLen ⌝ }
@@ -138,6 +150,7 @@ fn load_keep(sm: &[u8]) -> KeepNumbers
 {
     KeepNumbers {
         framed: byte(sm, places::FRAMED) == 1,
+        terms: load_terms(sm),
         kept: byte(sm, places::KEPT),
         used: eight(sm, places::USED),
         sending: five(sm, places::SENDING),
@@ -275,10 +288,10 @@ fn large_bytes(h: Numbers) -> [u8; 24]
 }
 
 // The tail, in the order of its places.
-fn tail_bytes(h: Numbers) -> [u8; 1]
+fn tail_bytes(h: Numbers) -> [u8; 2]
     ensures { λ r. ⌜ r ≡ tailBytes h ⌝ }
 {
-    [h.now.sum]
+    [h.now.sum, h.keep.terms.level]
 }
 
 // The numbers into session memory.

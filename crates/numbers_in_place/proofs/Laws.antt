@@ -47,7 +47,7 @@ module _ (sm : Bytes) (n : length sm ≡ sessionLen) (small : (i : ℕ) → byte
 
   -- THE TAIL as it was read is written as it stands; the only law here that a later number changes
   tail-back : tailBytes (numbersAt sm) ≡ bytesFrom sm tailAt tailLen
-  unfolding tailOut numbersAt awaitNumbers
+  unfolding tailOut numbersAt awaitNumbers keepNumbers
   tail-back = refl
 
   -- up to five numbers, and the tail

@@ -14,7 +14,7 @@ use Rattle.buffer.specs.Put.{putBytes}
 use Rattle.region.specs.Region.{region, lent}
 use Rattle.transfer_step.specs.Step.{startOf}
 use Rattle.transfer_step.specs.declared.Reader.{Reader}
-use Rattle.session_memory.specs.State.{at, noFive, saveOf, freshOf}
+use Rattle.session_memory.specs.State.{at, noFive, noTerms, saveOf, freshOf}
 use Rattle.session_memory.specs.declared.Five.{Five}
 use Rattle.session_memory.specs.Session.{Session}
 use Rattle.numbers.specs.declared.Numbers.{Numbers}
@@ -48,7 +48,7 @@ pub numbers-are : (awaited first : ℕ) {f : Five} {r : Reader} → f ≡ noFive
     (record {
       now = record { phase = awaited; ff = false; current = 0; proposals = 0; ours = f; sum = 0 };
       say = record { first = first; then = 0; pos = 0; signs = f };
-      keep = record { framed = false; kept = 0; used = 0; sending = f };
+      keep = record { framed = false; terms = noTerms; kept = 0; used = 0; sending = f };
       reader = r;
       line = record { «after_cr» = false; len = 0 };
     })

@@ -2,7 +2,7 @@
 use mathlib.Core.Bool.{false}
 use Prim.Native.Nat.{ℕ}
 use Rattle.transfer_step.specs.Step.{startOf}
-use Rattle.session_memory.specs.State.{noFive}
+use Rattle.session_memory.specs.State.{noFive, noTerms}
 use Rattle.numbers.specs.declared.Numbers.{Numbers}
 
 -- what is awaited, and what is said first
@@ -11,7 +11,7 @@ freshNumbers awaited first =
     record {
       now = record { phase = awaited; ff = false; current = 0; proposals = 0; ours = noFive; sum = 0 };
       say = record { first = first; then = 0; pos = 0; signs = noFive };
-      keep = record { framed = false; kept = 0; used = 0; sending = noFive };
+      keep = record { framed = false; terms = noTerms; kept = 0; used = 0; sending = noFive };
       reader = startOf 0;
       line = record { «after_cr» = false; len = 0 };
     }

@@ -8,6 +8,7 @@ use numbers::Numbers;
 use session_memory::Five;
 use session_memory::Say;
 use session_memory::Sizes;
+use session_memory::Terms;
 ghost use mathlib.Core.Path.{_≡_};
 ghost use mathlib.Core.List.{_++_};
 ghost use lib.ListN.{length, replicate};
@@ -86,6 +87,7 @@ fn numbers_of(awaited: u8, first: u8) -> Numbers
         },
         keep: KeepNumbers {
             framed: false,
+            terms: Terms { level: 0 },
             kept: 0,
             used: 0,
             sending: none,

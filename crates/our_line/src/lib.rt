@@ -23,7 +23,7 @@ pub fn write_fixed(which: Fixed, buf: &mut [u8], c: Cursor) -> Cursor
     ensures { λ r. ⌜ Puts (now (buf .entry)) c (withCr (fixedText (fixedIs which))) r (now (buf .exit)) ⌝ }
 {
     match which {
-        Fixed::Sid => buffer::put(buf, c, b"[NOD-1-BFH$]\r"),
+        Fixed::Sid => buffer::put(buf, c, b"[NOD-1-B1FH$]\r"),
         Fixed::Prompt => buffer::put(buf, c, b">\r"),
         Fixed::FF => buffer::put(buf, c, b"FF\r"),
         Fixed::FQ => buffer::put(buf, c, b"FQ\r"),

@@ -216,8 +216,11 @@ tailAt = 116
 abbrev pub blockSumAt : ℕ
 blockSumAt = tailAt
 
+abbrev pub levelAt : ℕ
+levelAt = blockSumAt + 1
+
 abbrev pub numbersEnd : ℕ
-numbersEnd = blockSumAt + 1
+numbersEnd = levelAt + 1
 
 abbrev pub tailLen : ℕ
 tailLen = numbersEnd - tailAt

@@ -141,7 +141,9 @@ pub const TAIL: usize = 116;
 
 pub const BLOCK_SUM: usize = TAIL;
 
-pub const NUMBERS_END: usize = BLOCK_SUM + 1;
+pub const LEVEL: usize = BLOCK_SUM + 1;
+
+pub const NUMBERS_END: usize = LEVEL + 1;
 
 pub const NUMBERS_LENGTH: usize = NUMBERS_END - NUMBERS;
 

@@ -12,7 +12,7 @@ use Rattle.grammar.specs.Bytes.{Bytes, isSome}
 use Rattle.grammar.specs.Ascii.{text}
 use Rattle.grammar.specs.Refusals.{badAnswer, lineNotAllowed}
 use Rattle.grammar.specs.Fields.{after}
-use Rattle.grammar.specs.Answers.{Sign, readFs, fsNumber, writeSign, level0}
+use Rattle.grammar.specs.Answers.{Sign, readFs, fsNumber, writeSign}
 use Rattle.mail.specs.Mail.{Record, accepted, transfersText}
 use Rattle.session.specs.Choices.{Shelf}
 use Rattle.session.specs.Session as on-lists
@@ -42,10 +42,10 @@ use Rattle.represents.proofs.Leads.{Leads}
 use Rattle.represents.proofs.Proposals.{no-proposals}
 use Rattle.form_closed.proofs.Laws.{held-length}
 
--- the signs as they stand on the line
-read-signs : (n : ℕ) (ln : Bytes) → n ≤ 5 → answerSigns n ln ≡ zeroed (signBytes (readFs level0 n ln))
+-- the signs of the line
+read-signs : (v n : ℕ) (ln : Bytes) → n ≤ 5 → answerSigns v n ln ≡ zeroed (signBytes (readFs v n ln))
 unfolding answerSigns answered
-read-signs n ln few = ap (λ (c : Bool). zeroed (signBytes (cond c none (readFs level0 n ln)))) (le-ltb 5 n few)
+read-signs v n ln few = ap (λ (c : Bool). zeroed (signBytes (cond c none (readFs v n ln)))) (le-ltb 5 n few)
 
 module _ (F : Fixed) (E : Shelf) (s : Session) (a : Bool) (i st : Bytes)
     (w : Await) (y : Say) (k : Keep) (r : Reader) (t : Bytes) (m : Memory) (ready : Ready F E (s .reading .heading) i st w y k t m) where
@@ -97,14 +97,17 @@ module _ (F : Fixed) (E : Shelf) (s : Session) (a : Bool) (i st : Bytes)
   -- THE FS LINE, to as many proposals as we made
   pub fs-law : (ln : Bytes) → k .sending .count ≡ 0
       → Lead (answerLine ln w y k r)
-      (on-lists.answerJudged E (held (w .ours)) m (fsNumber level0 (length (held (w .ours))) ln) (readFs level0 (length (held (w .ours))) ln))
+      (on-lists.answerJudged E (held (w .ours)) m (fsNumber (k .terms .level) (length (held (w .ours))) ln) (readFs (k .terms .level) (length (held (w .ours))) ln))
   unfolding answerLine
   fs-law ln idle =
-      subst (λ (l : ℕ). Lead (answerLine ln w y k r) (on-lists.answerJudged E (held (w .ours)) m (fsNumber level0 l ln) (readFs level0 l ln))) (sym many)
-      (subst (λ (x : ℕ). As x (answerSigns n ln) (fsNumber level0 n ln) (readFs level0 n ln)) (sym (answer-number n ln few))
-      (subst (λ (x : Bytes). As (fsNumber level0 n ln) x (fsNumber level0 n ln) (readFs level0 n ln)) (sym (read-signs n ln few))
-      (go (isSome (after (text "FS") ln)) (readFs level0 n ln))))
+      subst (λ (l : ℕ). Lead (answerLine ln w y k r) (on-lists.answerJudged E (held (w .ours)) m (fsNumber v l ln) (readFs v l ln))) (sym many)
+      (subst (λ (x : ℕ). As x (answerSigns v n ln) (fsNumber v n ln) (readFs v n ln)) (sym (answer-number v n ln few))
+      (subst (λ (x : Bytes). As (fsNumber v n ln) x (fsNumber v n ln) (readFs v n ln)) (sym (read-signs v n ln few))
+      (go (isSome (after (text "FS") ln)) (readFs v n ln))))
     where
+      v : ℕ
+      v = k .terms .level
+
       n : ℕ
       n = w .ours .count
 

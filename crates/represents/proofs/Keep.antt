@@ -144,6 +144,7 @@ module _ (F : Fixed) (E : Shelf) {nt ni ns : ℕ} (c : Cs) (g : Good F nt ni ns 
             (ap (λ (q : Proposal). withContent q title (take n (drop (u .keep .used) st))) (sym this) ∙ ap (λ (x : Bytes). withContent p title (take n x)) (behind-back F E c g v h b))
             (box-more (u .keep .kept) (u .keep .used) (c .inbox) st (v .memory .inbox) (E .places) n entry title fitting (omega (arith, entry-size)) title-short (h .entries (u .now .current) (under .current)) (H .boxed));
         framed = H .framed;
+        terms = H .terms;
         states = H .states;
         sending = H .sending;
         flags = H .flags;

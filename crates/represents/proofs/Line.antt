@@ -12,7 +12,7 @@ use borrow.Author.Tests.{ne-eqb, ltb-true}
 use Rattle.grammar.specs.Bytes.{Bytes}
 use Rattle.grammar.specs.Refusals.{lineNotAllowed, noForwarding, proposalCount, wrongBlockSum}
 use Rattle.grammar.specs.Fields.{formIs}
-use Rattle.grammar.specs.Sid.{hasFeature, framed}
+use Rattle.grammar.specs.Sid.{hasFeature, framed, levelInForce}
 use Rattle.grammar.specs.Turns.{Proposal, TurnLine, saysFF, saysFQ, endsBlock, notAllowed, proposes, endsSummed, withCr, fixedText, ourSid}
 use Rattle.grammar.specs.Answers.{Sign, fsLine, writeSign}
 use Rattle.grammar.specs.Scan.{scanFrom}
@@ -55,7 +55,7 @@ use Rattle.represents.proofs.Choices.{answers-law}
 use Rattle.represents.proofs.Proposals.{no-proposals, proposals-length, proposals-more, entries-more, written-form, signs-back, Found, Owing, owing, owed-now, next-found, start-law, stands-fresh, proper-fits}
 use Rattle.represents.proofs.Says.{first-nothing, then-nothing, waits-not}
 use Rattle.represents.proofs.Parts.{Ready, no-entries}
-use Rattle.represents.proofs.Settle.{holds-turn, holds-mode, left, settled-is, our-turn-law, Settles}
+use Rattle.represents.proofs.Settle.{holds-turn, holds-sid, left, settled-is, our-turn-law, Settles}
 use Rattle.represents.proofs.Leads.{marking, Leads, goes-leads, goes-speaking}
 use Rattle.form_closed.specs.Facts.{FiveOk}
 use Rattle.form_closed.proofs.Laws.{five-of, signs-octets}
@@ -139,17 +139,17 @@ module _ (F : Fixed) (E : Shelf) (s : Session) (a : Bool) (i st : Bytes) where
     sid-law caller e none = (refl, refl)
     sid-law caller e (some fs) = go (hasFeature 5 fs)
       where
-        mode : (c : Bool) → Lead (wentOn (cond c (inPhase 2 w) (toTurn false w)) y (judge.inMode (framed fs) k) r) (goesOn (on-lists.afterSid c) (on-lists.withFramed (framed fs) m) [])
-        mode true = went-on (inPhase 2 w) (judge.inMode (framed fs) k) (on-lists.aLine on-lists.awaitsPrompt) (on-lists.withFramed (framed fs) m) b (holds-mode F E k t i st m h (framed fs)) refl refl (refl, tt)
+        mode : (c : Bool) → Lead (wentOn (cond c (inPhase 2 w) (toTurn false w)) y (judge.inMode (framed fs) (levelInForce fs) k) r) (goesOn (on-lists.afterSid c) (on-lists.withSid fs m) [])
+        mode true = went-on (inPhase 2 w) (judge.inMode (framed fs) (levelInForce fs) k) (on-lists.aLine on-lists.awaitsPrompt) (on-lists.withSid fs m) b (holds-sid F E k t i st m h fs) refl refl (refl, tt)
         mode false =
-            went-on (toTurn false w) (judge.inMode (framed fs) k) (on-lists.newTurn false) (on-lists.withFramed (framed fs) m) (no-entries (w .block))
-            (holds-mode F E k t i st m h (framed fs)) refl refl (refl, (refl, no-proposals (w .block), refl))
+            went-on (toTurn false w) (judge.inMode (framed fs) (levelInForce fs) k) (on-lists.newTurn false) (on-lists.withSid fs m) (no-entries (w .block))
+            (holds-sid F E k t i st m h fs) refl refl (refl, (refl, no-proposals (w .block), refl))
 
         go : (c : Bool)
-            → Lead (cond c (wentOn (judge.afterSid w) y (judge.inMode (framed fs) k) r) (refusal noForwarding w y k r))
-            (cond c (goesOn (on-lists.afterSid caller) (on-lists.withFramed (framed fs) m) []) (refuses noForwarding))
+            → Lead (cond c (wentOn (judge.afterSid w) y (judge.inMode (framed fs) (levelInForce fs) k) r) (refusal noForwarding w y k r))
+            (cond c (goesOn (on-lists.afterSid caller) (on-lists.withSid fs m) []) (refuses noForwarding))
         go true =
-            subst (λ (c : Bool). Lead (wentOn (judge.afterSid w) y (judge.inMode (framed fs) k) r) (goesOn (on-lists.afterSid c) (on-lists.withFramed (framed fs) m) [])) e
+            subst (λ (c : Bool). Lead (wentOn (judge.afterSid w) y (judge.inMode (framed fs) (levelInForce fs) k) r) (goesOn (on-lists.afterSid c) (on-lists.withSid fs m) [])) e
             (mode (eqb (w .phase) 1))
         go false = (refl, refl)
 

@@ -14,11 +14,12 @@ use Rattle.grammar.specs.Refusals.{lineTooLong}
 use Rattle.grammar.specs.Lines.{LineByte, dropped, ends, grows, overruns, lineByte, trim, isComment, isPrompt}
 use Rattle.grammar.specs.Sid.{readSid}
 use Rattle.grammar.specs.Turns.{Proposal, readTurnLine}
-use Rattle.grammar.specs.Answers.{readFs, fsNumber, level0}
+use Rattle.grammar.specs.Answers.{readFs, fsNumber}
 use Rattle.grammar.proofs.AsRead.{turn-read-ok}
 use Rattle.session.specs.Choices.{Shelf}
 use Rattle.session.specs.Session as on-lists
 use Rattle.session.specs.Session.{Memory, Phase, Outcome, goesOn}
+use Rattle.session_memory.specs.State.{held}
 use Rattle.session_memory.specs.Session.{Line}
 use Rattle.session_memory.specs.Session.{Session}
 use Rattle.line_effect.specs.Judge.{lineSum, wentOn, judgeOf, lineIn, sidLine, textLine, turnLine}
@@ -100,8 +101,9 @@ module _ (F : Fixed) (E : Shelf) {nt ni ns : ℕ} (c : Cs) (g : Good F nt ni ns 
             → on-lists.turnJudged E (readTurnLine d ln) f qs lines raw m ≡ on-lists.turnJudged E (readTurnLine e ln) g rs lines raw m
         same p q r = rw (p, q, r)
     read-law (on-lists.awaitsAnswer is) a =
-        subst (λ (js : List ℕ). Lead (judgedIn 4) (on-lists.answerJudged E js m (fsNumber level0 (length js) ln) (readFs level0 (length js) ln))) (a .1)
-        (fs-law F E s true (c .inbox) (c .store) (s .now) (s .say) (s .keep) (s .reading .reader) (c .table) m ready ln (g .awaited .quiet (λ e. omega (arith, e, a .0)) (omega (arith, a .0))))
+        subst (λ (js : List ℕ). Lead (judgedIn 4) (on-lists.answerJudged E js m (fsNumber (m .terms .level) (length js) ln) (readFs (m .terms .level) (length js) ln))) (a .1)
+        (subst (λ (v : ℕ). Lead (judgedIn 4) (on-lists.answerJudged E (held (s .now .ours)) m (fsNumber v (length (held (s .now .ours))) ln) (readFs v (length (held (s .now .ours))) ln))) (h .holds .terms .level)
+        (fs-law F E s true (c .inbox) (c .store) (s .now) (s .say) (s .keep) (s .reading .reader) (c .table) m ready ln (g .awaited .quiet (λ e. omega (arith, e, a .0)) (omega (arith, a .0)))))
 
     -- "A line that begins with `;` is ignored wherever a line is awaited"
     judge-law : (a : on-lists.Awaited) → Awaits c (on-lists.aLine a)

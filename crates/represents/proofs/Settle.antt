@@ -7,6 +7,7 @@ use native.Mathlib.Omega.{arith}
 use lib.ListN.{length, take}
 use borrow.Author.Tests.{ne-eqb}
 use Rattle.grammar.specs.Bytes.{Bytes}
+use Rattle.grammar.specs.Sid.{framed, levelInForce}
 use Rattle.grammar.specs.Answers.{Sign}
 use Rattle.mail.specs.Mail.{Record, proposalOf, recordAt, turnText, accepted, marked, declined}
 use Rattle.session.specs.Choices.{Shelf, chosen}
@@ -59,14 +60,16 @@ module _ (F : Fixed) (E : Shelf) (k : Keep) (t i st : Bytes) (m : Memory) (h : H
         shelved = shelved-mark F E t i st (held (k .sending)) 1 (h .shelved);
         boxed = h .boxed;
         framed = h .framed;
+        terms = h .terms;
         states = states-marked (held (k .sending)) t (h .shelved .table) ∙ ap (marked (held (k .sending))) (h .states)
             ∙ ap (λ (is : List ℕ). marked is (m .states)) (h .sending);
         sending = refl;
         flags = h .flags;
       }
 
-  pub holds-mode : (md : Bool) → Holds F E (judge.inMode md k) t i st (on-lists.withFramed md m)
-  holds-mode md = record { shelved = h .shelved; boxed = h .boxed; framed = refl; states = h .states; sending = h .sending; flags = h .flags }
+  -- what the partner's SID settles
+  pub holds-sid : (fs : List ℕ) → Holds F E (judge.inMode (framed fs) (levelInForce fs) k) t i st (on-lists.withSid fs m)
+  holds-sid fs = record { shelved = h .shelved; boxed = h .boxed; framed = refl; terms = record { level = refl }; states = h .states; sending = h .sending; flags = h .flags }
 
   -- the partner's signs on our records at these places
   pub holds-answer : (is : List ℕ) (ss : List Sign) (z : ℕ) → k .sending .count ≡ 0
@@ -79,6 +82,7 @@ module _ (F : Fixed) (E : Shelf) (k : Keep) (t i st : Bytes) (m : Memory) (h : H
         shelved = shelved-mark F E t i st (held (fiveOf (picked 45 is zs))) 2 (h .shelved);
         boxed = h .boxed;
         framed = h .framed;
+        terms = h .terms;
         states = ap (λ (js : List ℕ). statesOf (markAll js 2 t)) (held-five (picked 45 is zs)) ∙ states-declined is ss z t (h .shelved .table)
             ∙ ap (declined is ss) (h .states);
         sending = held-five (picked 43 is zs) ∙ picked-accepted is ss z ∙ ap (λ (js : List ℕ). js ++ accepted ss is) (sym before);

@@ -106,6 +106,7 @@ module _ (F : Fixed) (E : Shelf) {nt ni ns : ℕ} (c : Cs) (g : Good F nt ni ns 
         shelved = record { records = l .records; known = l .known; places = l .places; bytes = store-kept .size ∙ l .bytes; table = l .table; inbox = l .inbox };
         boxed = box-store (s .keep .kept) (s .keep .used) (c .inbox) (c .store) behind′ (v .memory .inbox) (g .box .used) (g .box .within) (k .boxed);
         framed = k .framed;
+        terms = k .terms;
         states = k .states;
         sending = k .sending;
         flags = k .flags;

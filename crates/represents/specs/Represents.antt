@@ -18,6 +18,7 @@ use Rattle.layout.specs.Layout.{entryAt, recordSize, entrySize, proposalSize, p
 use Rattle.transfer_read.specs.Feed.{roomOf}
 use Rattle.transfer_read.specs.Meaning.{Stands}
 use Rattle.session_memory.specs.State.{held}
+use Rattle.session_memory.specs.declared.Terms.{Terms}
 use Rattle.session_memory.specs.Session.{Await}
 use Rattle.session_memory.specs.Session.{Session}
 use Rattle.entries.specs.Decoded.{recordsOf, knownBids, proposalsOf, placeCount, recordCount}
@@ -96,11 +97,16 @@ pub record Boxed (kept used : ℕ) (i st : Bytes) (ms : List Message) : Type 0 w
   pub small : used ≤ kept * bodyLimit
   pub bytes : used ≡ bodyBytes ms
 
+-- What is settled with the partner.
+pub record Agreed (t : Terms) (u : on-lists.Terms) : Type 0 where
+  pub level : t .level ≡ u .level
+
 -- The session's memory: what is kept k, with table, inbox and store.
 pub record Holds (F : Fixed) (E : Shelf) (k : Keep) (t i st : Bytes) (m : on-lists.Memory) : Type 0 where
   pub shelved : Shelved F E t i st
   pub boxed : Boxed (k .kept) (k .used) i st (m .inbox)
   pub framed : k .framed ≡ m .framed
+  pub terms : Agreed (k .terms) (m .terms)
   pub states : statesOf t ≡ m .states
   pub sending : held (k .sending) ≡ m .sending
   pub flags : k .deferred ≡ m .deferred

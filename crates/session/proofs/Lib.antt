@@ -3,4 +3,5 @@ pub mod Choices
 pub mod Sessions
 pub mod Again
 pub mod BlockSums
+pub mod Levels
 pub mod Ways

@@ -10,14 +10,14 @@ use lib.ListN.{length}
 use Rattle.grammar.specs.Bytes.{Bytes, CR, LF, null}
 use Rattle.grammar.specs.Refusals.{lineTooLong, notSid, noForwarding, lineNotAllowed, proposalCount, badTransfer, badChecksum, storeFull, bytesWait, sessionEnded, wrongBlockSum}
 use Rattle.grammar.specs.Lines.{ends, grows, overruns, trim, isComment, isPrompt}
-use Rattle.grammar.specs.Sid.{readSid, hasFeature, framed}
+use Rattle.grammar.specs.Sid.{readSid, hasFeature}
 use Rattle.grammar.specs.Turns.{Proposal, TurnLine, saysFF, saysFQ, endsBlock, notAllowed, proposes, endsSummed, readTurnLine, fixedText, ourSid, withCr}
 use Rattle.grammar.specs.Answers.{Sign, readFs, fsNumber, fsLine}
 use Rattle.grammar.specs.Scan.{Scan, Scanned, goes, got, malformed, wrongSum, noRoom, scanByte, scanFrom}
 use Rattle.grammar.specs.Transfers.{sumRight}
 use Rattle.mail.specs.Mail.{messageOf, transfersText, accepted}
 use Rattle.session.specs.Choices.{Shelf, chosen, answersTo}
-use Rattle.session.specs.Session.{Awaited, awaitsSid, awaitsPrompt, awaitsTurn, awaitsAnswer, Phase, aLine, newTurn, awaitsTransfer, leaving, over, Memory, Session, withFramed, withPhase, withPart, withAfterCr, between, Outcome, refuses, goesOn, speaking, ourTurn, turnMarks, answering, answered, turnJudged, answerMarks, answerJudged, afterSid, sidJudged, textJudged, awaitedJudged, lineJudged, Stepped, refused, moved, settled, lineMoved, isPlain, keptIn, nextTransfer, transferMoved, roomFor, phaseStep, freeStep, step, levelInForce}
+use Rattle.session.specs.Session.{Awaited, awaitsSid, awaitsPrompt, awaitsTurn, awaitsAnswer, Phase, aLine, newTurn, awaitsTransfer, leaving, over, Memory, Session, withSid, withPhase, withPart, withAfterCr, between, Outcome, refuses, goesOn, speaking, ourTurn, turnMarks, answering, answered, turnJudged, answerMarks, answerJudged, afterSid, sidJudged, textJudged, awaitedJudged, lineJudged, Stepped, refused, moved, settled, lineMoved, isPlain, keptIn, nextTransfer, transferMoved, roomFor, phaseStep, freeStep, step, levelInForce}
 
 -- ---------------------------------------------------------------- what we say
 
@@ -79,7 +79,7 @@ pub data EndsBlock (raw : Bytes) (t : TurnLine) : Type 0 where
 pub data Judged (E : Shelf) (m : Memory) (ln : Bytes) : Awaited → Outcome → Type 0 where
   isWrong : {a : Awaited} (n : ℕ) → Wrong m ln a n → Judged E m ln a (refuses n)
   hearsSid : (c : Bool) (fs : List ℕ) → readSid (trim ln) ≡ some fs → hasFeature 5 fs ≡ true
-      → Judged E m ln (awaitsSid c) (goesOn (afterSid c) (withFramed (framed fs) m) [])
+      → Judged E m ln (awaitsSid c) (goesOn (afterSid c) (withSid fs m) [])
   hearsText : isPrompt (trim ln) ≡ false → Judged E m ln awaitsPrompt (goesOn (aLine awaitsPrompt) m [])
   hearsPrompt : isPrompt (trim ln) ≡ true → Judged E m ln awaitsPrompt (ourTurn E (withCr (fixedText ourSid)) false m)
   hearsProposal : (ff : Bool) (ps : List Proposal) {raw : Bytes} (q : Proposal) → readTurnLine (m .framed) (trim ln) ≡ proposes q
@@ -96,7 +96,7 @@ module _ (E : Shelf) (m : Memory) (ln : Bytes) where
   sid-way c none e = isWrong notSid (noSid c e)
   sid-way c (some fs) e = go (hasFeature 5 fs) refl
     where
-      go : (d : Bool) → hasFeature 5 fs ≡ d → Judged E m ln (awaitsSid c) (cond d (goesOn (afterSid c) (withFramed (framed fs) m) []) (refuses noForwarding))
+      go : (d : Bool) → hasFeature 5 fs ≡ d → Judged E m ln (awaitsSid c) (cond d (goesOn (afterSid c) (withSid fs m) []) (refuses noForwarding))
       go true f = hearsSid c fs e f
       go false f = isWrong noForwarding (noF c fs e f)
 

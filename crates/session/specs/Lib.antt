@@ -5,3 +5,4 @@ pub mod Calls
 pub mod Sessions
 pub mod Again
 pub mod BlockSums
+pub mod Levels

@@ -11,7 +11,8 @@ use Rattle.grammar.specs.Bytes.{Bytes, LF, null}
 use Rattle.grammar.specs.Refusals.{notSid, noForwarding, lineNotAllowed, proposalCount, bytesWait, sessionEnded, wrongBlockSum}
 use Rattle.grammar.specs.Fields.{Form, plain, message, file, bodyLimit}
 use Rattle.grammar.specs.Lines.{LineByte, dropped, ends, grows, overruns, lineByte, lineByteNumber, trim, isComment, isPrompt}
-use Rattle.grammar.specs.Sid.{readSid, hasFeature, framed, letterF}
+use Rattle.grammar.specs.Sid as sid
+use Rattle.grammar.specs.Sid.{readSid, hasFeature, letterF}
 use Rattle.grammar.specs.Turns.{Proposal, TurnLine, saysFF, saysFQ, endsBlock, notAllowed, proposes, endsSummed, readTurnLine, turnLineNumber, fixedText, ourSid, ourPrompt, ourFF, ourFQ, withCr, blockLimit}
 use Rattle.grammar.specs.Answers.{Sign, accept, decline, defer, readFs, fsNumber, fsLine, Level, level0}
 use Rattle.grammar.specs.Scan.{Scan, Scanned, goes, got, malformed, wrongSum, noRoom, scanFrom, scanByte, scannedNumber}
@@ -42,10 +43,15 @@ pub data Phase : Type 0 where
 abbrev pub newTurn : Bool → Phase
 newTurn ff = aLine (awaitsTurn ff [] [])
 
--- The mode; each record's state; the places of the records that the partner accepted and whose state is not set yet; the messages kept;
+-- What is settled with this partner beside the mode: the level at which its FS line is read.
+pub record Terms : Type 0 where
+  pub level : Level
+
+-- The mode; what else is settled; each record's state; the places of the records that the partner accepted and whose state is not set yet; the messages kept;
 -- a flag for each record that a table may have, 1 where a record was deferred in this session.
 pub record Memory : Type 0 where
   pub framed : Bool
+  pub terms : Terms
   pub states : List ℕ
   pub sending : List ℕ
   pub inbox : List Message
@@ -60,20 +66,26 @@ pub record Session : Type 0 where
   pub memory : Memory
 
 -- All else is as it was.
+abbrev pub withLevel : Level → Terms → Terms
+withLevel x t = record { level = x }
+
 abbrev pub withFramed : Bool → Memory → Memory
-withFramed x m = record { framed = x; states = m .states; sending = m .sending; inbox = m .inbox; deferred = m .deferred }
+withFramed x m = record { framed = x; terms = m .terms; states = m .states; sending = m .sending; inbox = m .inbox; deferred = m .deferred }
+
+abbrev pub withTerms : Terms → Memory → Memory
+withTerms x m = record { framed = m .framed; terms = x; states = m .states; sending = m .sending; inbox = m .inbox; deferred = m .deferred }
 
 abbrev pub withStates : List ℕ → Memory → Memory
-withStates x m = record { framed = m .framed; states = x; sending = m .sending; inbox = m .inbox; deferred = m .deferred }
+withStates x m = record { framed = m .framed; terms = m .terms; states = x; sending = m .sending; inbox = m .inbox; deferred = m .deferred }
 
 abbrev pub withSending : List ℕ → Memory → Memory
-withSending x m = record { framed = m .framed; states = m .states; sending = x; inbox = m .inbox; deferred = m .deferred }
+withSending x m = record { framed = m .framed; terms = m .terms; states = m .states; sending = x; inbox = m .inbox; deferred = m .deferred }
 
 abbrev pub withInbox : List Message → Memory → Memory
-withInbox x m = record { framed = m .framed; states = m .states; sending = m .sending; inbox = x; deferred = m .deferred }
+withInbox x m = record { framed = m .framed; terms = m .terms; states = m .states; sending = m .sending; inbox = x; deferred = m .deferred }
 
 abbrev pub withDeferred : List ℕ → Memory → Memory
-withDeferred x m = record { framed = m .framed; states = m .states; sending = m .sending; inbox = m .inbox; deferred = x }
+withDeferred x m = record { framed = m .framed; terms = m .terms; states = m .states; sending = m .sending; inbox = m .inbox; deferred = x }
 
 abbrev pub withPhase : Phase → Session → Session
 withPhase x s = record { phase = x; part = s .part; afterCr = s .afterCr; out = s .out; memory = s .memory }
@@ -157,7 +169,7 @@ answerMarks is ss m =
 
 -- The level at which the partner's FS line is read.
 abbrev pub levelInForce : Memory → Level
-levelInForce m = level0
+levelInForce m = m .terms .level
 
 abbrev pub answerJudged : Shelf → List ℕ → Memory → ℕ → Option (List Sign) → Outcome
 answerJudged E is m n none = refuses n
@@ -169,9 +181,13 @@ abbrev pub afterSid : Bool → Phase
 afterSid true = aLine awaitsPrompt
 afterSid false = newTurn false
 
+-- "Partner has B: framed mode, at any level. Otherwise plain mode."; "the level in force is the lower of the two, 0 without B" (02, Q-6)
+abbrev pub withSid : List ℕ → Memory → Memory
+withSid fs m = withTerms (withLevel (sid.levelInForce fs) (m .terms)) (withFramed (sid.framed fs) m)
+
 abbrev pub sidJudged : Bool → Memory → Option (List ℕ) → Outcome
 sidJudged caller m none = refuses notSid
-sidJudged caller m (some fs) = cond (hasFeature letterF fs) (goesOn (afterSid caller) (withFramed (framed fs) m) []) (refuses noForwarding)
+sidJudged caller m (some fs) = cond (hasFeature letterF fs) (goesOn (afterSid caller) (withSid fs m) []) (refuses noForwarding)
 
 -- "skip text lines until the prompt, then send SID and first turn"
 abbrev pub textJudged : Shelf → Bool → Memory → Outcome
@@ -281,4 +297,4 @@ greeting false = withCr (fixedText ourSid) ++ withCr (fixedText ourPrompt)
 abbrev pub opened : Bool → List ℕ → Session
 opened caller states =
     between (aLine (awaitsSid caller)) false (greeting caller)
-    (record { framed = false; states = states; sending = []; inbox = []; deferred = replicate recordLimit 0 })
+    (record { framed = false; terms = record { level = level0 }; states = states; sending = []; inbox = []; deferred = replicate recordLimit 0 })

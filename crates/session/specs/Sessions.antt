@@ -73,7 +73,7 @@ abbrev pub waiting : List ℕ
 waiting = 0 ∷ 0 ∷ 0 ∷ 0 ∷ 0 ∷ []
 
 abbrev pub greeted : Bytes
-greeted = text "[NOD-1-BFH$]\r>\r"
+greeted = text "[NOD-1-B1FH$]\r>\r"
 
 abbrev pub block : Bytes
 block = text "FB P A B C X1 1345\rFB P A B C X2 5346\rFB P A B C X3 8548\rF>\r"
@@ -123,7 +123,7 @@ trials =
     -- as caller: text lines are skipped, then our SID and the file, by its name
     ∷ trial true (hears (text "[TST-1-BF$]\rGood day\r>\r") ∷ takes 99 ∷ hears (text "FS +\r") ∷ takes 99 ∷ hears (text "FF\r") ∷ takes 99 ∷ [])
     ((0, 23) ∷ (0, 5) ∷ (0, 3) ∷ [])
-    (text "[NOD-1-BFH$]\rFB P A B C X5 1\rF>\r" ++ (1 ∷ 4 ∷ 78 ∷ 0 ∷ 48 ∷ 0 ∷ 2 ∷ 1 ∷ 101 ∷ 4 ∷ 155 ∷ []) ++ text "FQ\r") (0 ∷ 0 ∷ 0 ∷ 0 ∷ 1 ∷ []) [] true
+    (text "[NOD-1-B1FH$]\rFB P A B C X5 1\rF>\r" ++ (1 ∷ 4 ∷ 78 ∷ 0 ∷ 48 ∷ 0 ∷ 2 ∷ 1 ∷ 101 ∷ 4 ∷ 155 ∷ []) ++ text "FQ\r") (0 ∷ 0 ∷ 0 ∷ 0 ∷ 1 ∷ []) [] true
     -- the caller has nothing for us and we have nothing: its FQ answers our FF; after it 12
     ∷ calledFramed (hears (text "FF\r") ∷ takes 99 ∷ hears (text "FS -\r") ∷ hears (text "FA B D E F K1 1\rF>\r") ∷ takes 99 ∷ hears (text "FQ\r\n") ∷ hears (text "\n") ∷ [])
     ((0, 3) ∷ (0, 5) ∷ (0, 19) ∷ (0, 3) ∷ (12, 0) ∷ []) (text "FB P A B C X5 1\rF>\rFS -\rFF\r") (0 ∷ 0 ∷ 0 ∷ 0 ∷ 2 ∷ []) [] true

@@ -21,6 +21,7 @@ use Rattle.layout.proofs.Laws.{le2-here, le4-here, le8-here, le2-small, le4-sma
 use Rattle.session_memory.specs.declared.Five.{Five}
 use Rattle.session_memory.specs.Session.{Await}
 use Rattle.session_memory.specs.declared.Say.{Say}
+use Rattle.session_memory.specs.declared.Terms.{Terms}
 use Rattle.session_memory.specs.Session.{Keep}
 use Rattle.session_memory.specs.Session.{Reading}
 use Rattle.session_memory.specs.Session.{Line}
@@ -102,10 +103,13 @@ pub same-say : {a b c d e f : ℕ} {g h : Five} → a ≡ b → c ≡ d → e �
     → _≡_ {A = Say} (record { first = a; then = c; pos = e; signs = g }) (record { first = b; then = d; pos = f; signs = h })
 same-say e₁ e₂ e₃ e₄ = rw (e₁, e₂, e₃, e₄)
 
-pub same-keep : {x y : Bool} {a b c d : ℕ} {g h : Five} {l m : Bytes} → x ≡ y → a ≡ b → c ≡ d → g ≡ h → l ≡ m
-    → _≡_ {A = Keep} (record { framed = x; kept = a; used = c; sending = g; deferred = l })
-    (record { framed = y; kept = b; used = d; sending = h; deferred = m })
-same-keep e₁ e₂ e₃ e₄ e₅ = rw (e₁, e₂, e₃, e₄, e₅)
+pub same-terms : {a b : ℕ} → a ≡ b → _≡_ {A = Terms} (record { level = a }) (record { level = b })
+same-terms e = rw e
+
+pub same-keep : {x y : Bool} {t u : Terms} {a b c d : ℕ} {g h : Five} {l m : Bytes} → x ≡ y → t ≡ u → a ≡ b → c ≡ d → g ≡ h → l ≡ m
+    → _≡_ {A = Keep} (record { framed = x; terms = t; kept = a; used = c; sending = g; deferred = l })
+    (record { framed = y; terms = u; kept = b; used = d; sending = h; deferred = m })
+same-keep e₁ e₂ e₃ e₄ e₅ e₆ = rw (e₁, e₂, e₃, e₄, e₅, e₆)
 
 pub same-reading : {a b c d e f g h i j k l m n : ℕ} {v w : Bytes} → a ≡ b → c ≡ d → e ≡ f → g ≡ h → i ≡ j → k ≡ l → m ≡ n → v ≡ w
     → _≡_ {A = Reading}
@@ -215,9 +219,9 @@ module _ (f g t : Bytes) (n : length f ≡ numbersStart) (k : length g ≡ freeL
       (five 21 (s .say .signs) (omega arith) (h .say .signs) refl refl)
 
   keep-back : loadKeep (f ++ rest) ≡ s .keep
-  unfolding loadKeep smallOut numbersOut rest
+  unfolding loadKeep smallOut numbersOut tailOut rest
   keep-back =
-      same-keep (ap (λ (x : ℕ). eqb x 1) (byte 2) ∙ flag-back (s .keep .framed)) (byte 6)
+      same-keep (ap (λ (x : ℕ). eqb x 1) (byte 2) ∙ flag-back (s .keep .framed)) (same-terms (byte 57)) (byte 6)
       (le8-skip f rest numbersStart n 48 ∙ le8-here (s .keep .used) [] (h .keep .used))
       (five 15 (s .keep .sending) (omega arith) (h .keep .sending) refl refl) deferred-back
 

@@ -6,6 +6,7 @@ use Rattle.grammar.specs.Bytes.{Bytes}
 use Rattle.transfer_step.specs.declared.Reader.{Reader}
 use Rattle.session_memory.specs.declared.Five.{Five}
 use Rattle.session_memory.specs.declared.Say.{Say}
+use Rattle.session_memory.specs.declared.Terms.{Terms}
 
 -- What is awaited. phase: crates/phase; ff: our turn just now was FF; ours: the records that we proposed; proposals: how many of the partner's are in
 -- block; sum: of their lines as received, modulo 256; current: the one whose transfer is under way.
@@ -18,9 +19,10 @@ pub record Await : Type 0 where
   pub sum : ℕ
   pub block : Bytes
 
--- The mode, the messages kept and the store bytes that they use, the records being sent, a flag for each record deferred.
+-- The mode, what else is settled with this partner, the messages kept and the store bytes that they use, the records being sent, a flag for each record deferred.
 pub record Keep : Type 0 where
   pub framed : Bool
+  pub terms : Terms
   pub kept : ℕ
   pub used : ℕ
   pub sending : Five

@@ -6,6 +6,7 @@ use Rattle.transfer_step.specs.declared.Reader.{Reader}
 use Rattle.session_memory.specs.declared.Five.{Five}
 use Rattle.session_memory.specs.Session.{Await}
 use Rattle.session_memory.specs.declared.Say.{Say}
+use Rattle.session_memory.specs.declared.Terms.{Terms}
 use Rattle.session_memory.specs.Session.{Keep}
 use Rattle.session_memory.specs.Session.{Reading}
 use Rattle.session_memory.specs.Session.{Line}
@@ -50,15 +51,23 @@ withSigns x y = record { first = y .first; then = y .then; pos = y .pos; signs =
 -- ---------------------------------------------------------------- what is kept, sent and deferred
 
 abbrev pub withFramed : Bool → Keep → Keep
-withFramed x k = record { framed = x; kept = k .kept; used = k .used; sending = k .sending; deferred = k .deferred }
+withFramed x k = record { framed = x; terms = k .terms; kept = k .kept; used = k .used; sending = k .sending; deferred = k .deferred }
+
+-- what is settled with this partner
+abbrev pub withTerms : Terms → Keep → Keep
+withTerms x k = record { framed = k .framed; terms = x; kept = k .kept; used = k .used; sending = k .sending; deferred = k .deferred }
+
+-- the level in force, and nothing else of the terms
+abbrev pub withLevel : ℕ → Keep → Keep
+withLevel x k = withTerms (record { level = x }) k
 
 -- how many messages, and how many store bytes they use
 abbrev pub withKept : ℕ → ℕ → Keep → Keep
-withKept x u k = record { framed = k .framed; kept = x; used = u; sending = k .sending; deferred = k .deferred }
+withKept x u k = record { framed = k .framed; terms = k .terms; kept = x; used = u; sending = k .sending; deferred = k .deferred }
 
 -- the records being sent, and the flags of the deferred ones
 abbrev pub withSending : Five → Bytes → Keep → Keep
-withSending x flags k = record { framed = k .framed; kept = k .kept; used = k .used; sending = x; deferred = flags }
+withSending x flags k = record { framed = k .framed; terms = k .terms; kept = k .kept; used = k .used; sending = x; deferred = flags }
 
 -- ---------------------------------------------------------------- the transfer and the line under way
 

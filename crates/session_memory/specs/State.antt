@@ -10,12 +10,13 @@ use Rattle.grammar.specs.Ascii.{text}
 use Rattle.grammar.specs.Transfers.{partOf}
 use Rattle.buffer.specs.Put.{putBytes}
 use Rattle.buffer.specs.declared.Cursor.{Cursor}
-use Rattle.places.specs.Places.{markAt, sizeTable, sizeTitles, sizeNames, sizeBodies, sizeKnown, sizeInbox, sizeStore, numbersStart, phaseAt, ffAt, framedAt, afterCrAt, firstAt, thenAt, keptAt, currentAt, proposalsAt, oursAt, sendingAt, signsAt, placeAt, lengthAt, headAt, offsetAt, sumAt, lineLengthAt, leftAt, bodyAt, posAt, usedAt, blockSumAt, arraysAt, deferredLen, headingLen, lineLen, blockLen, deferredAt, headingAt, lineAt, blockAt, sessionLen}
+use Rattle.places.specs.Places.{markAt, sizeTable, sizeTitles, sizeNames, sizeBodies, sizeKnown, sizeInbox, sizeStore, numbersStart, phaseAt, ffAt, framedAt, afterCrAt, firstAt, thenAt, keptAt, currentAt, proposalsAt, oursAt, sendingAt, signsAt, placeAt, lengthAt, headAt, offsetAt, sumAt, lineLengthAt, leftAt, bodyAt, posAt, usedAt, blockSumAt, levelAt, arraysAt, deferredLen, headingLen, lineLen, blockLen, deferredAt, headingAt, lineAt, blockAt, sessionLen}
 use Rattle.layout.specs.Layout.{byteAt, le2At, le4At, le8At, le2, le4, le8}
 use Rattle.transfer_step.specs.Step.{startOf}
 use Rattle.session_memory.specs.declared.Five.{Five}
 use Rattle.session_memory.specs.Session.{Await}
 use Rattle.session_memory.specs.declared.Say.{Say}
+use Rattle.session_memory.specs.declared.Terms.{Terms}
 use Rattle.session_memory.specs.Session.{Keep}
 use Rattle.session_memory.specs.Session.{Reading}
 use Rattle.session_memory.specs.Session.{Line}
@@ -60,9 +61,13 @@ loadAwait sm =
 unfoldable pub loadSay : Bytes → Say
 loadSay sm = record { first = byteAt sm firstAt; then = byteAt sm thenAt; pos = le8At sm posAt; signs = fiveAt sm signsAt }
 
+-- what is settled with the partner
+abbrev pub termsAt : Bytes → Terms
+termsAt sm = record { level = byteAt sm levelAt }
+
 unfoldable pub loadKeep : Bytes → Keep
 loadKeep sm =
-    record { framed = eqb (byteAt sm framedAt) 1; kept = byteAt sm keptAt; used = le8At sm usedAt; sending = fiveAt sm sendingAt; deferred = arrayAt deferredLen sm (arraysAt + deferredAt) }
+    record { framed = eqb (byteAt sm framedAt) 1; terms = termsAt sm; kept = byteAt sm keptAt; used = le8At sm usedAt; sending = fiveAt sm sendingAt; deferred = arrayAt deferredLen sm (arraysAt + deferredAt) }
 
 unfoldable pub loadReading : Bytes → Reading
 loadReading sm =
@@ -113,9 +118,12 @@ unfoldable pub numbersOut : Session → Bytes
 numbersOut s =
     le2 (s .line .len) ++ (le2 (s .reading .reader .left) ++ (le4 (s .reading .reader .body) ++ (le8 (s .say .pos) ++ le8 (s .keep .used))))
 
+abbrev pub termsOut : Terms → Bytes
+termsOut t = t .level ∷ []
+
 -- The tail: numbers that came later, in the order of their places.
 unfoldable pub tailOut : Session → Bytes
-tailOut s = s .now .sum ∷ []
+tailOut s = s .now .sum ∷ termsOut (s .keep .terms)
 
 unfoldable pub arraysOut : Session → Bytes
 arraysOut s = s .keep .deferred ++ (s .reading .heading ++ (s .line .bytes ++ s .now .block))
@@ -135,13 +143,17 @@ sizesOut z =
 unfoldable pub saveSizes : Bytes → Sizes → Bytes
 saveSizes sm z = putBytes sm (at markAt) (sizesOut z)
 
+-- Nothing is settled before the partner's SID.
+abbrev pub noTerms : Terms
+noTerms = record { level = 0 }
+
 -- The state right after an accepted open.
 unfoldable pub freshOf : Bool → Session
 freshOf caller =
     record {
       now = record { phase = flag caller; ff = false; current = 0; proposals = 0; ours = noFive; sum = 0; block = replicate blockLen 0 };
       say = record { first = cond caller 0 1; then = 0; pos = 0; signs = noFive };
-      keep = record { framed = false; kept = 0; used = 0; sending = noFive; deferred = replicate deferredLen 0 };
+      keep = record { framed = false; terms = noTerms; kept = 0; used = 0; sending = noFive; deferred = replicate deferredLen 0 };
       reading = record { reader = startOf 0; heading = replicate headingLen 0 };
       line = record { «after_cr» = false; len = 0; bytes = replicate lineLen 0 };
     }

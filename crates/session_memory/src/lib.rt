@@ -14,6 +14,11 @@ pub struct Say {
     pub signs: Five,
 }
 
+// What is settled with this partner beside the mode. level: the level in force for FS lines; 0 is level 0, every other number counts as level 1.
+pub struct Terms {
+    pub level: u8,
+}
+
 // The sizes of the lent buffers, as open keeps them.
 pub struct Sizes {
     pub table: usize,

@@ -13,7 +13,7 @@ ghost use Rattle.layout.specs.Layout.{fieldIn, entryAt, recordOf};
 ghost use Rattle.places.specs.Places.{recordLen};
 
 // Our SID, the prompt, and `FF`, `FQ` or `F>`, each with its CR.
-pub const SID: usize = 13;
+pub const SID: usize = 14;
 
 pub const PROMPT: usize = 2;
 

@@ -23,12 +23,12 @@ use Rattle.grammar.proofs.OurLines.{GoodLine, good-line, proposal-read, fs-back
 use Rattle.grammar.proofs.TransferBack.{transfer-back}
 use Rattle.mail.specs.Mail.{Record, Message, proposalOf, headingFor, transferOf, recordAt, accepted, marked, declined}
 use Rattle.session.specs.Choices.{Shelf, answersTo}
-use Rattle.session.specs.Session.{awaitsSid, awaitsPrompt, awaitsTurn, awaitsAnswer, Phase, aLine, newTurn, over, awaitsTransfer, Memory, Session, withFramed, between, Stepped, moved, step, turnMarks, answerMarks, levelInForce, greeting}
+use Rattle.session.specs.Session.{awaitsSid, awaitsPrompt, awaitsTurn, awaitsAnswer, Phase, aLine, newTurn, over, awaitsTransfer, Memory, Session, between, Stepped, moved, step, turnMarks, answerMarks, levelInForce, greeting}
 use Rattle.session.proofs.Choices.{Places, chosen-places, one-sign-each}
 use Rattle.log.proofs.Spoken.{Fit, AllFit}
 use Rattle.demand2.specs.Refusals.{WholeLine}
 use Rattle.demand2.specs.Marks.{isSign, withSign}
-use Rattle.demand2.specs.Events.{messageFrom, withMessage, endsWithCr, proposed, blockText, transfersSaid, turnSaid, turnAwaits, weSpeak, transfersOr, EndsBlock, bare, Event, sidOfCaller, sidOfCalled, prompt, proposal, ffTurn, fqTurn, blockEnd, fsLineComes}
+use Rattle.demand2.specs.Events.{messageFrom, withMessage, metBy, endsWithCr, proposed, blockText, transfersSaid, turnSaid, turnAwaits, weSpeak, transfersOr, EndsBlock, bare, Event, sidOfCaller, sidOfCalled, prompt, proposal, ffTurn, fqTurn, blockEnd, fsLineComes}
 use Rattle.demand2.specs.Units.{lineBegun}
 use Rattle.demand2.specs.OurTurn.{rising, OurBlock}
 use Rattle.demand2.proofs.Marks.{accepted-is, answer-marks, turn-marks}
@@ -135,7 +135,7 @@ transfer-head file h x e = (refl, λ r. refl)
 sid-features : (fs : List ℕ) × (readSid (fixedText ourSid) ≡ some fs) × (hasFeature 5 fs ≡ true) × (framed fs ≡ true)
 unfolding readSid
 sid-features =
-    (0 ∷ 1 ∷ 0 ∷ 0 ∷ 0 ∷ 1 ∷ 0 ∷ 1 ∷ 0 ∷ 0 ∷ 0 ∷ 0 ∷ 0 ∷ 0 ∷ 0 ∷ 0 ∷ 0 ∷ 0 ∷ 0 ∷ 0 ∷ 0 ∷ 0 ∷ 0 ∷ 0 ∷ 0 ∷ 0 ∷ 1 ∷ [], refl, refl, refl)
+    (0 ∷ 2 ∷ 0 ∷ 0 ∷ 0 ∷ 1 ∷ 0 ∷ 1 ∷ 0 ∷ 0 ∷ 0 ∷ 0 ∷ 0 ∷ 0 ∷ 0 ∷ 0 ∷ 0 ∷ 0 ∷ 0 ∷ 0 ∷ 0 ∷ 0 ∷ 0 ∷ 0 ∷ 0 ∷ 0 ∷ 1 ∷ [], refl, refl, refl)
 
 sendable-at : (T : List Record) (j : ℕ) → allSendable T ≡ true → j < length T
     → sendable (recordAt T j .form) (headingFor (recordAt T j .form) (recordAt T j)) (recordAt T j .body) ≡ true
@@ -395,30 +395,30 @@ module _ (E F : Shelf) (SE : Sound E) (SF : Sound F) (s t : List ℕ) (p : Phase
       (sm ∙ sym (append-assoc done (j ∷ []) (k ∷ ks))) sn (all-kept n j done a) (kept-claims n j c))
 
   -- SIDs
-  same-claims : (n : Memory) (x : Bool) → P n → P (withFramed x n)
-  same-claims n x c = record { ours = c .ours; theirs = c .theirs }
+  same-claims : (n : Memory) (fs : List ℕ) → P n → P (metBy fs n)
+  same-claims n fs c = record { ours = c .ours; theirs = c .theirs }
 
   sid-heard : (n : Memory) (cr : Bool) → p ≡ turnAwaits false (proposed E m) → m .framed ≡ true → m .sending ≡ [] → n .sending ≡ [] → P n
       → Hears F P Q (begun (awaitsSid false) n cr []) (withCr (fixedText ourSid) ++ turnSaid E false (proposed E m))
   sid-heard n cr e fm sm sn c =
       let fs = sid-features in
       hears-line F P Q (awaitsSid false) n c (fixedText ourSid) cr (turnSaid E false (proposed E m)) (good-line (fixedLine ourSid) tt) refl
-      (λ d w. on (begun (awaitsSid false) n d (fixedText ourSid)) (begun (awaitsTurn false [] []) (withFramed (framed (fs .0)) n) true []) CR (turnSaid E false (proposed E m))
+      (λ d w. on (begun (awaitsSid false) n d (fixedText ourSid)) (begun (awaitsTurn false [] []) (metBy (fs .0) n) true []) CR (turnSaid E false (proposed E m))
       (happens F [] (begun (awaitsSid false) n d (fixedText ourSid)) CR tt _ (sidOfCaller (fixedText ourSid) w refl (fs .0) (fs .1) (fs .2)))
-      (turn-heard false (withFramed (framed (fs .0)) n) true e fm (fs .3) sm (subst (AllHas (F .table) (m .inbox)) (sym sn) tt) (λ x. absurd (no-both false x refl)) (same-claims n (framed (fs .0)) c)))
+      (turn-heard false (metBy (fs .0) n) true e fm (fs .3) sm (subst (AllHas (F .table) (m .inbox)) (sym sn) tt) (λ x. absurd (no-both false x refl)) (same-claims n (fs .0) c)))
 
   greeting-heard : (n : Memory) (cr : Bool) → p ≡ aLine (awaitsSid false) → m .sending ≡ [] → n .sending ≡ [] → P n
       → Hears F P Q (begun (awaitsSid true) n cr []) (greeting false)
   greeting-heard n cr e sm sn c =
       let fs = sid-features in
-      let n′ : Memory = withFramed (framed (fs .0)) n in
+      let n′ : Memory = metBy (fs .0) n in
       hears-line F P Q (awaitsSid true) n c (fixedText ourSid) cr (withCr (fixedText ourPrompt)) (good-line (fixedLine ourSid) tt) refl
       (λ d w. on (begun (awaitsSid true) n d (fixedText ourSid)) (begun awaitsPrompt n′ true []) CR (withCr (fixedText ourPrompt))
       (happens F [] (begun (awaitsSid true) n d (fixedText ourSid)) CR tt _ (sidOfCalled (fixedText ourSid) w refl (fs .0) (fs .1) (fs .2)))
-      (hears-line F P Q awaitsPrompt n′ (same-claims n (framed (fs .0)) c) (fixedText ourPrompt) true [] (good-line (fixedLine ourPrompt) tt) refl
+      (hears-line F P Q awaitsPrompt n′ (same-claims n (fs .0) c) (fixedText ourPrompt) true [] (good-line (fixedLine ourPrompt) tt) refl
       (λ d w. on (begun awaitsPrompt n′ d (fixedText ourPrompt)) (weSpeak F true false (withCr (fixedText ourSid)) n′) CR []
       (happens F [] (begun awaitsPrompt n′ d (fixedText ourPrompt)) CR tt _ (prompt (fixedText ourPrompt) w refl prompt-read))
-      (inl (record { fresh = refl; loud = refl; claims = same-claims n (framed (fs .0)) c; kind = signsOn refl refl e (fs .3) sn sm })))))
+      (inl (record { fresh = refl; loud = refl; claims = same-claims n (fs .0) c; kind = signsOn refl refl e (fs .3) sn sm })))))
 
   -- EVERY HANDOVER IS HEARD
   pub handover-heard : (o : Bytes) (q : Phase) (n : Memory) (cr : Bool) → Handover E F p m o q n → P n → Hears F P Q (lineBegun q n cr []) o

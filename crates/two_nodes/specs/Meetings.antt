@@ -32,7 +32,7 @@ abbrev pub transfer : Bytes → Bytes → ℕ → Bytes
 transfer h blocks sum = 1 ∷ (length h + 3) ∷ (h ++ 0 ∷ 48 ∷ 0 ∷ (blocks ++ 4 ∷ sum ∷ []))
 
 abbrev pub ourSidLine : Bytes
-ourSidLine = text "[NOD-1-BFH$]\r"
+ourSidLine = text "[NOD-1-B1FH$]\r"
 
 -- a node that has nothing to send
 abbrev pub reader : Node

@@ -130,10 +130,10 @@ pub extern "C" fn words_read_turn_line(line: &[u8], framed: u8, out: &mut [u64; 
 
 // What a line, its spaces at the end removed, says where FS to so many proposals is awaited: 01's number, and the sign bytes.
 #[no_mangle]
-pub extern "C" fn words_read_fs(line: &[u8], proposals: usize, signs: &mut [u8; 5]) -> u8
-    ensures { λ r. ⌜ (r ≡ answerNumber proposals (now (line .entry))) × (now (signs .exit) ≡ answerSigns proposals (now (line .entry))) ⌝ }
+pub extern "C" fn words_read_fs(level: u8, line: &[u8], proposals: usize, signs: &mut [u8; 5]) -> u8
+    ensures { λ r. ⌜ (r ≡ answerNumber level proposals (now (line .entry))) × (now (signs .exit) ≡ answerSigns level proposals (now (line .entry))) ⌝ }
 {
-    let answers = fs_line::read_fs(line, proposals);
+    let answers = fs_line::read_fs(line, proposals, level);
     let bytes = answers.signs;
     *signs = bytes;
     answers.number

@@ -99,7 +99,7 @@ mod tests {
         assert!(capture.we_called());
         assert_eq!(capture.bytes(false), b"[A-F]\r\n>\r");
         assert_eq!(capture.sid(true), Some(b"[B-F]".to_vec()));
-        assert_eq!(capture.with_our_sid(), b"[NOD-1-BFH$]\r");
+        assert_eq!(capture.with_our_sid(), b"[NOD-1-B1FH$]\r");
     }
 }
 

@@ -88,7 +88,7 @@ mod tests {
     fn b_goes_where_the_stand_in_had_none() {
         let edited = plain(&capture(b"[F-7-AB1F$]\rhi\r>\r", b"[NOD-1-FH$]\r")).unwrap();
         assert_eq!(edited.bytes(false), b"[F-7-AF$]\rhi\r>\r");
-        assert!(plain(&capture(b"[F-7-AB1F$]\r", b"[NOD-1-BFH$]\r")).is_none());
+        assert!(plain(&capture(b"[F-7-AB1F$]\r", b"[NOD-1-B1FH$]\r")).is_none());
         assert!(plain(&capture(b"[F-7-AF$]\r", b"[NOD-1-FH$]\r")).is_none());
     }
 

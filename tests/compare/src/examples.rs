@@ -165,7 +165,7 @@ fn session(words: &dyn Words) -> bool {
     }
     println!("  in  \"{}\"", received.escape_ascii());
     println!("  out \"{}\"", out.escape_ascii());
-    out == b"[NOD-1-BFH$]\r>\rFQ\r"
+    out == b"[NOD-1-B1FH$]\r>\rFQ\r"
 }
 
 /// Prints and checks the examples. True if all are as 01 has them.

@@ -11,7 +11,7 @@ use compare::words::{self, Fields, Room, Transfer};
 use second::field::BODY_LIMIT;
 use second::proposal::{self, Proposal, TurnLine};
 use second::record::{Form, Kind};
-use second::sid::{self, Mode};
+use second::sid::{self, Level, Mode};
 use second::transfer::whole::{read_framed, read_plain};
 use second::transfer::writer::Writer;
 use second::transfer::Outcome;
@@ -99,13 +99,14 @@ pub fn answers(run: &mut Run) -> Checked {
     let input = || Input::new().bytes("signs", &signs);
 
     let text = written(20, |room| words::write_fs(room, &signs));
-    let read = fs::read(without_cr(&text), signs.len());
+    let level = random.pick(&[0, 1, 9]);
+    let read = fs::read(without_cr(&text), signs.len(), Level::numbered(level));
     let bytes = read.map(|signs| signs.iter().map(|sign| sign.byte()).collect());
     same(FS, bytes, Ok(signs.clone()), input)?;
 
     let text = fs::write_bytes(&signs);
     let mut out = [0xA5; 5];
-    let number = words::read_fs(without_cr(&text), signs.len(), &mut out);
+    let number = words::read_fs(level, without_cr(&text), signs.len(), &mut out);
     same(FS, (number, &out[..signs.len()]), (0, &signs[..]), input)
 }
 

@@ -41,7 +41,7 @@ fn check(run: &mut Run, line: &[u8]) -> Checked {
 /// examples, every letter with every level, every pair of letters.
 pub fn limits(run: &mut Run) -> Checked {
     every_short_sid(run)?;
-    for example in [&b"[BayCom-1.40P-AB1D1FHMRW$]"[..], b"[A-F]", b"[NOD-1-BFH$]", b"[A---F]"] {
+    for example in [&b"[BayCom-1.40P-AB1D1FHMRW$]"[..], b"[A-F]", b"[NOD-1-B1FH$]", b"[A---F]"] {
         for place in 0..example.len() {
             for byte in 0..=255 {
                 let mut line = example.to_vec();

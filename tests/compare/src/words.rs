@@ -17,7 +17,13 @@ mod c {
         pub fn words_line_byte(after_cr: u8, len: usize, byte: u8) -> u8;
         pub fn words_read_sid(line: *const u8, n: usize, levels: *mut u8) -> u8;
         pub fn words_read_turn_line(line: *const u8, n: usize, framed: u8, out: *mut u64) -> u8;
-        pub fn words_read_fs(line: *const u8, n: usize, proposals: usize, signs: *mut u8) -> u8;
+        pub fn words_read_fs(
+            level: u8,
+            line: *const u8,
+            n: usize,
+            proposals: usize,
+            signs: *mut u8,
+        ) -> u8;
         pub fn words_transfer_start(form: u8, state: *mut u64);
         pub fn words_transfer_feed(
             state: *mut u64,
@@ -134,8 +140,8 @@ pub fn read_turn_line(line: &[u8], framed: u8, out: &mut [u64; 11]) -> u8 {
     unsafe { c::words_read_turn_line(line.as_ptr(), line.len(), framed, out.as_mut_ptr()) }
 }
 
-pub fn read_fs(line: &[u8], proposals: usize, signs: &mut [u8; 5]) -> u8 {
-    unsafe { c::words_read_fs(line.as_ptr(), line.len(), proposals, signs.as_mut_ptr()) }
+pub fn read_fs(level: u8, line: &[u8], proposals: usize, signs: &mut [u8; 5]) -> u8 {
+    unsafe { c::words_read_fs(level, line.as_ptr(), line.len(), proposals, signs.as_mut_ptr()) }
 }
 
 /// A transfer under way in the library: the eight numbers that it keeps,

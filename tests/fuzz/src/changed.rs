@@ -10,7 +10,7 @@ use crate::sessions::Driver;
 use crate::tally::Tally;
 use inputs::random::Random;
 use inputs::{byte, damaged, fs_line, line, proposal_fields, short_turn_line, sid, spaced};
-use second::layout::{RECORD_BYTES, SESSION_FREE};
+use second::layout::{RECORD_BYTES, SESSION_FREE, SESSION_LEVEL};
 use second::refusal::ANSWERS;
 use second::session::Reply;
 use std::fmt::{self, Display};
@@ -135,7 +135,7 @@ impl Alone<'_> {
     fn session_field(&mut self) -> (usize, Vec<u8>) {
         let small = self.random.pick(&[0, 0, 1, 2, 3, 4, 5, 6, 7, 63, 64, 80, 81, 88, 255]);
         let large = self.random.pick(&[0, 1, 255, 256, 257, 65_535, 65_536, usize::MAX]);
-        match self.random.below(12) {
+        match self.random.below(13) {
             0 => {
                 let at = self.random.pick(&[form::LINE_BYTES, form::BLOCK_LEFT]);
                 (at, large.to_le_bytes()[..2].to_vec())
@@ -149,6 +149,7 @@ impl Alone<'_> {
             7 => (form::GIVEN, self.near(form::waiting(&self.memory).len()).to_vec()),
             8 => (form::BODY_BYTES, self.near(form::room(&self.memory))[..4].to_vec()),
             9 => (form::BLOCK_SUM, vec![self.random.byte()]),
+            10 => (SESSION_LEVEL, vec![self.random.byte()]),
             _ => (self.random.within(form::AWAITED, form::SUM), vec![small]),
         }
     }

@@ -7,10 +7,13 @@ use crate::library;
 use crate::report::{Call, Checked, History};
 use inputs::random::Random;
 use second::host::Buffers;
-use second::layout::{read_message, write_message, MESSAGE_BYTES, RECORD_BYTES, SESSION_KEPT};
+use second::layout::{
+    read_message, write_message, MESSAGE_BYTES, RECORD_BYTES, SESSION_KEPT, SESSION_LEVEL,
+};
 use second::log::{self, Kept, Trace};
 use second::memory::{self, Record};
 use second::session::{self, Reply, Session};
+use second::sid::Level;
 
 /// The second implementation after an accepted open.
 #[derive(Clone, Debug)]
@@ -34,13 +37,21 @@ pub struct Pair {
     /// last call left it.
     expected: Memory,
     second: Option<Second>,
+    /// The number that somebody has put in the place of level 1.
+    relevelled: Option<u8>,
     history: History,
 }
 
 impl Pair {
     pub fn new(random: &mut Random, host: &Buffers) -> Pair {
         let lent = Memory::new(random, host);
-        Pair { expected: lent.clone(), lent, second: None, history: History::default() }
+        Pair {
+            expected: lent.clone(),
+            lent,
+            second: None,
+            relevelled: None,
+            history: History::default(),
+        }
     }
 
     /// The second implementation's session, if open accepted one.
@@ -70,6 +81,7 @@ impl Pair {
         let expected = match session::open(role, &self.expected.second()) {
             Err(refused) => refused,
             Ok((session, memory)) => {
+                self.relevelled = None;
                 self.second = Some(Second {
                     we_called: role == 1,
                     opened: memory.table.clone(),
@@ -84,6 +96,19 @@ impl Pair {
         };
         self.compare(reply, expected, expected.answer != 0)?;
         Ok(reply)
+    }
+
+    /// Puts another number for level 1 into session memory: any but 0 counts as 1.
+    pub fn relevel(&mut self, number: u8) {
+        let level = self.second.as_ref().map(|second| second.session.level());
+        if level != Some(Level::One) || number == 0 {
+            return;
+        }
+        let (buffer, place) = (SESSION, SESSION_LEVEL);
+        self.history.begin(Call::Change { buffer, place, bytes: vec![number] });
+        self.lent.part_mut(SESSION)[SESSION_LEVEL] = number;
+        self.expected.part_mut(SESSION)[SESSION_LEVEL] = number;
+        self.relevelled = Some(number);
     }
 
     /// Receives a portion, on buffers of another size if `resize` says so.
@@ -180,6 +205,11 @@ impl Pair {
         let kept = self.second.as_ref().map(|second| second.session.kept());
         if kept.map_or(false, |kept| usize::from(self.lent.part(SESSION)[SESSION_KEPT]) != kept) {
             return self.differs(format!("count of messages kept: expected {kept:?}"));
+        }
+        let level = self.second.as_ref().map(|second| second.session.level().number());
+        let level = self.relevelled.or(level);
+        if level.map_or(false, |level| self.lent.part(SESSION)[SESSION_LEVEL] != level) {
+            return self.differs(format!("level in force: expected {level:?}"));
         }
         Ok(())
     }

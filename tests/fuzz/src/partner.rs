@@ -4,12 +4,13 @@
 
 use inputs::random::Random;
 use inputs::{at, bid, body_of, call, either_case, fs_line, heading, line, respelt, spaced};
+use second::fs::{self, Sign};
 use second::host::Buffers;
 use second::line::with_cr;
 use second::memory::Memory;
 use second::record::Form;
 use second::session::{Offer, Phase, Role, Session};
-use second::sid::Mode;
+use second::sid::{Level, Mode};
 use second::transfer::checksum;
 
 /// The longest body that is sent unless `long` says otherwise.
@@ -30,6 +31,8 @@ pub struct Partner {
     ff: usize,
     /// Which signs it likes to give.
     signs: &'static [u8],
+    /// Says them as level 1 has it, where that is in force.
+    later: bool,
     /// Ends its blocks with a bare `F>` once in so many, else with `F> HH`.
     bare: usize,
     /// Sends the longest bodies.
@@ -55,6 +58,7 @@ impl Partner {
             lf: random.pick(&[None, None, Some(1), Some(3)]),
             chatter: random.pick(&[4, 20, 20, 1_000]),
             signs: random.pick(&[&b"+"[..], b"+-=", b"++-=", b"+++-", b"-", b"="]),
+            later: !random.once_in(3),
             bare: random.pick(&[1, 2, usize::MAX]),
             long: host.store.len() > 65_000 && random.once_in(2),
             fresh: 0,
@@ -99,9 +103,10 @@ impl Partner {
             Phase::Prompt => self.greeting(random, &mut out),
             Phase::Turn { .. } => self.turn(random, &mut out, session, memory),
             Phase::Answer { proposed } => {
-                let line = self.fs(random, proposed.len());
+                let line = self.fs(random, proposed.len(), session.level());
                 self.line(random, &mut out, &line);
-                if more && !line.contains(&b'+') {
+                let signs = fs::read(&line, proposed.len(), session.level());
+                if more && signs.map_or(false, |signs| !signs.contains(&Sign::Accept)) {
                     self.turn(random, &mut out, session, memory);
                 }
             }
@@ -306,10 +311,38 @@ impl Partner {
         [vec![b'0'; zeros], digits].concat()
     }
 
-    fn fs(&self, random: &mut Random, proposals: usize) -> Vec<u8> {
+    /// An FS line by the level in force; a slip takes signs of the other, or a number with
+    /// too many digits or none.
+    fn fs(&self, random: &mut Random, proposals: usize, level: Level) -> Vec<u8> {
+        let later = (level == Level::One && self.later) != self.slips(random, 60);
         let mut line = vec![either_case(random, b'F'), either_case(random, b'S'), b' '];
-        line.extend((0..proposals).map(|_| random.pick(self.signs)));
+        for _ in 0..proposals {
+            let sign = random.pick(self.signs);
+            match later {
+                true => self.later_sign(random, &mut line, sign),
+                false => line.push(sign),
+            }
+        }
         line
+    }
+
+    /// One of the ways in which level 1 says a sign.
+    fn later_sign(&self, random: &mut Random, line: &mut Vec<u8>, sign: u8) {
+        let mark = match sign {
+            b'+' => random.pick(b"+YHA!"),
+            b'-' => random.pick(b"-NR"),
+            _ => random.pick(b"=LEA!"),
+        };
+        line.push(either_case(random, mark));
+        if b"A!".contains(&mark) {
+            let most = if self.slips(random, 20) { 8 } else { 6 };
+            let digits = if self.slips(random, 40) { 0 } else { random.within(1, most) };
+            let mut number = vec![b'0'; digits];
+            if sign != b'+' && digits > 0 {
+                number[random.below(digits)] = random.pick(b"123456789");
+            }
+            line.extend(number);
+        }
     }
 
     /// A transfer that is owed, with the body announced, or a longer or shorter one.

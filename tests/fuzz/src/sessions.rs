@@ -152,6 +152,10 @@ impl<'a> Driver<'a> {
         if self.random.once_in(25) {
             self.noise()?;
         }
+        if self.random.once_in(100) {
+            let number = self.random.byte();
+            self.pair.relevel(number);
+        }
         let second = match self.second() {
             Some(second) => second,
             None => return Ok(false),

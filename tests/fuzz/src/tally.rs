@@ -15,6 +15,8 @@ use std::fmt::{self, Display};
 /// From so many sessions on, whatever [`Tally::never_met`] lists must have come.
 pub const ENOUGH: u64 = 20_000;
 
+/// What stands for a sign at level 1.
+const MARKS: &[u8] = b"+-=YNLHREA!";
 const LONGEST: [&str; 4] = ["65,534 kept", "65,535 kept", "65,534 forwarded", "65,535 forwarded"];
 const KINDS: [&str; 4] = ["called plain", "called framed", "caller plain", "caller framed"];
 const PLACES: [&str; 4] = ["the table", "the known list", "the inbox", "the block"];
@@ -47,6 +49,10 @@ pub struct Tally {
     records: [u64; 3],
     /// Our signs: `+`, `-`, `=`.
     signs: [u64; 3],
+    /// The partner's signs taken, by `MARKS`.
+    marks: [u64; MARKS.len()],
+    /// Sessions with a whole turn at level 0 and 1.
+    levels: [u64; 2],
     /// The partner's blocks taken: ended with `F>`, with `F> HH`.
     blocks: [u64; 2],
     /// Sessions that ended by FQ: ours, the partner's.
@@ -116,6 +122,9 @@ impl Tally {
         for sign in session.signs_given() {
             self.signs[place(&[Sign::Accept, Sign::Decline, Sign::Defer], sign)] += 1;
         }
+        for mark in session.marks_heard() {
+            self.marks[place(MARKS, mark)] += 1;
+        }
         if session.is_over() && !refused {
             // Before the partner's FQ our last line was FF.
             self.quits[usize::from(!ours.ends_with(b"FQ\r"))] += 1;
@@ -133,6 +142,7 @@ impl Tally {
         let (role, mode) = (second.session.role(), second.session.mode());
         if second.session.turns() > 0 {
             let caller = usize::from(role == Role::Caller);
+            self.levels[usize::from(second.session.level().number())] += 1;
             self.kinds[2 * caller + usize::from(mode == Mode::Framed)] += 1;
         }
     }
@@ -170,6 +180,8 @@ impl Tally {
             ("our records", named(&["forwarded", "declined", "deferred"], &self.records)),
             ("the longest bodies", named(&LONGEST, &self.longest)),
             ("our signs", named(&["+", "-", "="], &self.signs)),
+            ("the partner's signs", marked(&self.marks)),
+            ("at level", numbered(&self.levels)),
             ("the partner's blocks", named(&["bare", "with their checksum"], &self.blocks)),
             ("ended by FQ", named(&["ours", "the partner's"], &self.quits)),
             ("with a turn", named(&KINDS, &self.kinds)),
@@ -214,6 +226,10 @@ fn bucket(turns: usize) -> usize {
 
 fn numbered(times: &[u64]) -> Vec<(String, u64)> {
     times.iter().enumerate().map(|(number, times)| (number.to_string(), *times)).collect()
+}
+
+fn marked(times: &[u64]) -> Vec<(String, u64)> {
+    MARKS.iter().map(|&mark| char::from(mark).to_string()).zip(times.iter().copied()).collect()
 }
 
 fn named(names: &[&str], times: &[u64]) -> Vec<(String, u64)> {

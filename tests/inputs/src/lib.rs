@@ -224,8 +224,25 @@ pub fn short_turn_line(random: &mut Random) -> Vec<u8> {
 /// An FS line with so many signs.
 pub fn fs_line(random: &mut Random, signs: usize) -> Vec<u8> {
     let mut line = vec![either_case(random, b'F'), either_case(random, b'S'), b' '];
-    line.extend((0..signs).map(|_| random.pick(b"+-=")));
+    let later = random.once_in(2);
+    for _ in 0..signs {
+        match later {
+            true => later_sign(random, &mut line),
+            false => line.push(random.pick(b"+-=")),
+        }
+    }
     line
+}
+
+/// A sign of either level; letters in either case, a number at times too long or absent.
+pub fn later_sign(random: &mut Random, line: &mut Vec<u8>) {
+    let sign = random.pick(b"+-=YNLHREYNLHREA!A!");
+    line.push(either_case(random, sign));
+    if b"A!".contains(&sign) {
+        let digits = if random.once_in(8) { random.pick(&[0, 7]) } else { random.within(1, 6) };
+        let zeros = random.once_in(2);
+        line.extend((0..digits).map(|_| if zeros { b'0' } else { random.pick(b"0123456789") }));
+    }
 }
 
 /// Any line: of letters, of bytes, of spaces and `>`, up to 300 bytes.

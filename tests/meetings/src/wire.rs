@@ -77,9 +77,9 @@ mod tests {
 
     #[test]
     fn the_signs_go_with_the_bids_of_their_block() {
-        let ours = b"[NOD-1-BFH$]\rFA P A B C X1 2\rFB B A B C X2 70000\rF>\r\
+        let ours = b"[NOD-1-B1FH$]\rFA P A B C X1 2\rFB B A B C X2 70000\rF>\r\
             \x01\x04T\x000\x00\x02\x02\r=\x04\xB6FA P A B C X3 2\rF>\r";
-        let theirs = b"[NOD-1-BFH$]\r>\rFS +=\rFS =\rFF\r";
+        let theirs = b"[NOD-1-B1FH$]\r>\rFS +=\rFS =\rFF\r";
         assert_eq!(deferred(ours, theirs), [b"X2".to_vec(), b"X3".to_vec()]);
         assert_eq!(deferred(ours, &theirs[..24]), [b"X2".to_vec()]);
         assert_eq!(deferred(&ours[..51], theirs), Vec::<Vec<u8>>::new());

@@ -8,6 +8,7 @@ mod paper002;
 mod paper003;
 mod paper01;
 mod request5;
+mod request6;
 
 /// What one side says, whole, while the other listens.
 #[derive(Clone, Debug, PartialEq, Eq)]
@@ -24,7 +25,7 @@ fn partner(bytes: impl AsRef<[u8]>) -> Said {
     Said::Partner(bytes.as_ref().to_vec())
 }
 
-const OUR_SID: &[u8] = b"[NOD-1-BFH$]\r";
+const OUR_SID: &[u8] = b"[NOD-1-B1FH$]\r";
 
 /// Where the first line that isn't a `;` line ends, its LF included.
 fn sid_line_end(bytes: &[u8]) -> usize {
@@ -173,5 +174,5 @@ fn both_roles(examples: Vec<Example>) -> Vec<Example> {
 
 /// Every session, the shortest papers first.
 pub fn all() -> Vec<Example> {
-    [paper01::all(), paper002::all(), paper003::all(), request5::all()].concat()
+    [paper01::all(), paper002::all(), paper003::all(), request5::all(), request6::all()].concat()
 }

@@ -20,8 +20,10 @@ pub const KNOWN_BYTES: usize = 13;
 pub const MESSAGE_BYTES: usize = 155;
 /// "A host needs one number of it: the count of messages kept, at 66."
 pub const SESSION_KEPT: usize = 66;
-/// "Bytes 116 to 159 and 920 to 1,023 are free: no call reads or writes them".
-pub const SESSION_FREE: [Range<usize>; 2] = [117..160, 920..SESSION_BYTES];
+/// The level in force, at 117: 0, or any other number for 1.
+pub const SESSION_LEVEL: usize = 117;
+/// "Bytes 118 to 159 and 920 to 1,023 are free: no call reads or writes them".
+pub const SESSION_FREE: [Range<usize>; 2] = [118..160, 920..SESSION_BYTES];
 
 /// An entry being written.
 #[derive(Default)]

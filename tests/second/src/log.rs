@@ -12,7 +12,7 @@ use crate::fs::{self, Sign};
 use crate::line::{is_prompt, trimmed, with_cr};
 use crate::memory::{Envelope, Record, State, Stores};
 use crate::proposal::{self, is_checksum_of, Proposal, TurnLine, BLOCK_LIMIT};
-use crate::sid::{self, Mode};
+use crate::sid::{self, FeatureSet, Level, Mode};
 use crate::transfer::writer::{write_framed, write_plain};
 
 mod link;
@@ -45,7 +45,8 @@ pub struct Log {
 pub fn read(we_called: bool, table: &[Record], stores: &Stores, trace: &Trace) -> Log {
     let log = Log { states: table.iter().map(|record| record.state).collect(), kept: Vec::new() };
     let link = Link::new(trace);
-    let mut reading = Reading { link, table, stores, mode: Mode::Plain, sent: Vec::new(), log };
+    let (mode, level) = (Mode::Plain, Level::Zero);
+    let mut reading = Reading { link, table, stores, mode, level, sent: Vec::new(), log };
     // Nothing left, FQ, or a thing forbidden: the log is what it is by then.
     let _ = reading.follow(we_called);
     reading.log
@@ -63,6 +64,8 @@ struct Reading<'a> {
     table: &'a [Record],
     stores: &'a Stores,
     mode: Mode,
+    /// At which the partner's FS lines are read.
+    level: Level,
     /// Records sent.
     sent: Vec<usize>,
     log: Log,
@@ -94,18 +97,34 @@ impl<'a> Reading<'a> {
         }
     }
 
-    /// "Lines under SID and opening only choose the mode." Says whose turn is
-    /// first.
+    /// "Lines under SID and opening only choose the mode", and the two SIDs together the
+    /// level in force. Says whose turn is first.
     fn opening(&mut self, we_called: bool) -> Option<Side> {
         if we_called {
-            self.mode = sid::judge(self.link.line(Side::Partner)?).ok()?.mode();
+            let partner = self.partner_features()?;
             while !is_prompt(self.link.line(Side::Partner)?) {}
-            self.link.exactly(Side::Us, &[sid::OURS, b"\r"].concat())?;
+            let ours = self.our_features()?;
+            self.level = Level::in_force(&ours, &partner);
             return Some(Side::Us);
         }
-        self.link.exactly(Side::Us, &[sid::OURS, b"\r>\r"].concat())?;
-        self.mode = sid::judge(self.link.line(Side::Partner)?).ok()?.mode();
+        let ours = self.our_features()?;
+        self.link.exactly(Side::Us, b">\r")?;
+        let partner = self.partner_features()?;
+        self.level = Level::in_force(&ours, &partner);
         Some(Side::Partner)
+    }
+
+    /// What the partner's SID line shows; it chooses the mode.
+    fn partner_features(&mut self) -> Option<FeatureSet> {
+        let features = sid::judge(self.link.line(Side::Partner)?).ok()?;
+        self.mode = features.mode();
+        Some(features)
+    }
+
+    /// What our SID line shows, once it went over the link as we write it.
+    fn our_features(&mut self) -> Option<FeatureSet> {
+        self.link.exactly(Side::Us, &[sid::OURS, b"\r"].concat())?;
+        sid::read(sid::OURS)
     }
 
     /// Cuts the next whole turn: "`FF`, or one to five proposals and `F>`". "A turn
@@ -152,7 +171,12 @@ impl<'a> Reading<'a> {
             Side::Partner => Some(Vec::new()),
         };
         let ours = ours?;
-        let signs = fs::read(self.link.line(side.other())?, proposals.len()).ok()?;
+        // "We write only `+`, `-` and `=`."
+        let level = match side {
+            Side::Us => self.level,
+            Side::Partner => Level::Zero,
+        };
+        let signs = fs::read(self.link.line(side.other())?, proposals.len(), level).ok()?;
         match side {
             Side::Us => self.our_transfers(&ours, &signs),
             Side::Partner => self.partner_transfers(proposals, &signs),

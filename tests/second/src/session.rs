@@ -21,7 +21,7 @@
 use crate::buffer;
 use crate::fs::Sign;
 use crate::memory::{Envelope, Memory, Sizes};
-use crate::sid::Mode;
+use crate::sid::{Level, Mode};
 use crate::transfer::reader::Reader;
 use std::collections::VecDeque;
 
@@ -110,6 +110,8 @@ pub struct Session {
     sizes: Sizes,
     phase: Phase,
     mode: Mode,
+    /// The level in force, by which FS lines are read.
+    level: Level,
     /// Our turn just now was FF.
     our_ff: bool,
     /// The byte before was a CR after which an LF is dropped.
@@ -127,10 +129,11 @@ pub struct Session {
     kept: usize,
     used: usize,
     /// Whole turns of either side, blocks of the partner's that ended bare and with their
-    /// checksum, and our signs: nothing turns on them.
+    /// checksum, our signs, and the marks of the partner's: nothing turns on them.
     turns: usize,
     blocks: [usize; 2],
     signs: Vec<Sign>,
+    marks: Vec<u8>,
 }
 
 impl Session {
@@ -144,6 +147,10 @@ impl Session {
 
     pub fn mode(&self) -> Mode {
         self.mode
+    }
+
+    pub fn level(&self) -> Level {
+        self.level
     }
 
     /// Our turn just now was FF, so the partner may say FQ and not FF.
@@ -184,6 +191,11 @@ impl Session {
     /// All signs that we gave.
     pub fn signs_given(&self) -> &[Sign] {
         &self.signs
+    }
+
+    /// The marks of all signs that the partner gave, letters as capitals.
+    pub fn marks_heard(&self) -> &[u8] {
+        &self.marks
     }
 
     pub fn inside(&self) -> Inside {

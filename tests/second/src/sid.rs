@@ -3,7 +3,7 @@
 use crate::refusal::Refusal;
 
 /// Our own SID.
-pub const OURS: &[u8] = b"[NOD-1-BFH$]";
+pub const OURS: &[u8] = b"[NOD-1-B1FH$]";
 
 /// A feature: a letter, or `$`.
 ///
@@ -29,6 +29,44 @@ impl Feature {
 pub enum Mode {
     Plain,
     Framed,
+}
+
+/// Which signs the partner may answer with.
+#[derive(Clone, Copy, Debug, PartialEq, Eq)]
+pub enum Level {
+    Zero,
+    One,
+}
+
+impl Level {
+    /// "the level in force is the lower of the two, 0 without B"
+    pub fn in_force(ours: &FeatureSet, partner: &FeatureSet) -> Level {
+        let level = |set: &FeatureSet| set.level(Feature::FRAMED).unwrap_or(0);
+        Level::numbered(level(ours).min(level(partner)))
+    }
+
+    /// The level in force with a partner who shows this SID.
+    pub fn with(partner: &FeatureSet) -> Level {
+        let ours = read(OURS).expect("our SID is one");
+        Level::in_force(&ours, partner)
+    }
+
+    /// 0 is level 0, any other number counts as 1 (DECISIONS 101).
+    pub fn numbered(number: u8) -> Level {
+        if number == 0 {
+            Level::Zero
+        } else {
+            Level::One
+        }
+    }
+
+    /// As it stands in session memory.
+    pub fn number(self) -> u8 {
+        match self {
+            Level::Zero => 0,
+            Level::One => 1,
+        }
+    }
 }
 
 /// The features of a SID, each with its level.
@@ -172,9 +210,28 @@ mod tests {
     #[test]
     fn our_sid_is_valid() {
         let ours = judge(OURS).unwrap();
-        for feature in [Feature::FRAMED, Feature::FORWARDING, Feature::HIERARCHY, Feature::BID] {
+        for feature in [Feature::FORWARDING, Feature::HIERARCHY, Feature::BID] {
             assert_eq!(ours.level(feature), Some(0));
         }
+        assert_eq!(ours.level(Feature::FRAMED), Some(1));
+    }
+
+    #[test]
+    fn the_lower_level_of_b_is_in_force() {
+        let with = |partner: &[u8]| Level::with(&read(partner).unwrap()).number();
+        assert_eq!(with(b"[A-F]"), 0);
+        assert_eq!(with(b"[A-F9H1$]"), 0);
+        assert_eq!(with(b"[A-BF]"), 0);
+        assert_eq!(with(b"[A-B0F]"), 0);
+        assert_eq!(with(b"[A-F1B]"), 0);
+        assert_eq!(with(b"[A-AB1F]"), 1);
+        assert_eq!(with(b"[A-Fb1]"), 1);
+        assert_eq!(with(b"[A-B2F]"), 1);
+        assert_eq!(with(b"[A-B9F]"), 1);
+        let set = |line: &[u8]| read(line).unwrap();
+        let in_force = |ours, theirs| Level::in_force(&set(ours), &set(theirs)).number();
+        assert_eq!(in_force(b"[A-BF]", b"[A-B1F]"), 0);
+        assert_eq!(in_force(b"[A-F]", b"[A-B1F]"), 0);
     }
 
     #[test]

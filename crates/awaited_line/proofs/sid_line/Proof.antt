@@ -21,15 +21,18 @@ returns c = λ block deferred. c .refusal .ensures block deferred ∙ sid-no _ _
 is-framed-requires : tie.Need-is-framed-requires
 is-framed-requires c κs = search needs
 
+in-force-requires : tie.Need-in-force-requires
+in-force-requires c κs = search needs
+
 went-requires : tie.Need-went-requires
 went-requires c κs = search needs
 
 returns-2 : tie.Need-returns-2
 unfolding sidLine
 returns-2 c = λ block deferred.
-    let a = c .before .before .before .before .before .before .before .before .before .before .args in
+    let a = c .before .before .before .before .before .before .before .before .before .before .before .before .args in
     c .went .ensures block deferred
-    ∙ sid-prompt (awaitOf (a .s .now) block) (a .s .say) (keepOf (a .s .keep) deferred) (a .s .reader) _ _ (c .before .before .before .before .before .before .before .before .read-sid .ensures) (c .before .before .before .before .before .before .if1 .left) _ (c .before .before .before .before .is-framed .ensures) (c .before .before .if2 .taken)
+    ∙ sid-prompt (awaitOf (a .s .now) block) (a .s .say) (keepOf (a .s .keep) deferred) (a .s .reader) _ _ (c .before .before .before .before .before .before .before .before .before .before .read-sid .ensures) (c .before .before .before .before .before .before .before .before .if1 .left) _ (c .before .before .before .before .before .before .is-framed .ensures) _ (c .before .before .before .before .before .in-force .ensures) (c .before .before .if2 .taken)
 
 to-turn-requires : tie.Need-to-turn-requires
 to-turn-requires c κs = search needs
@@ -40,10 +43,10 @@ went-requires-2 c κs = search needs
 returns-3 : tie.Need-returns-3
 unfolding sidLine
 returns-3 c = λ block deferred.
-    let a = c .before .before .before .before .before .before .before .before .before .before .before .args in
+    let a = c .before .before .before .before .before .before .before .before .before .before .before .before .before .args in
     c .went2 .ensures block deferred
-    ∙ ap (λ (v : Await). wentOn v (a .s .say) (inMode (c .before .before .before .before .before .is-framed .result) (keepOf (a .s .keep) deferred)) (a .s .reader)) (c .before .to-turn .ensures block)
-    ∙ sid-turn (awaitOf (a .s .now) block) (a .s .say) (keepOf (a .s .keep) deferred) (a .s .reader) _ _ (c .before .before .before .before .before .before .before .before .before .read-sid .ensures) (c .before .before .before .before .before .before .before .if1 .left) _ (c .before .before .before .before .before .is-framed .ensures) (c .before .before .before .if2 .left)
+    ∙ ap (λ (v : Await). wentOn v (a .s .say) (inMode (c .before .before .before .before .before .before .before .is-framed .result) (c .before .before .before .before .before .before .in-force .result) (keepOf (a .s .keep) deferred)) (a .s .reader)) (c .before .to-turn .ensures block)
+    ∙ sid-turn (awaitOf (a .s .now) block) (a .s .say) (keepOf (a .s .keep) deferred) (a .s .reader) _ _ (c .before .before .before .before .before .before .before .before .before .before .before .read-sid .ensures) (c .before .before .before .before .before .before .before .before .before .if1 .left) _ (c .before .before .before .before .before .before .before .is-framed .ensures) _ (c .before .before .before .before .before .before .in-force .ensures) (c .before .before .before .if2 .left)
 
 pub sid-line-spec : {M : Type 1} → statement M
 sid-line-spec =
@@ -53,6 +56,7 @@ sid-line-spec =
     refusal-requires
     returns
     is-framed-requires
+    in-force-requires
     went-requires
     returns-2
     to-turn-requires

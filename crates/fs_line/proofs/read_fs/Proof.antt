@@ -15,7 +15,7 @@ refused-requires c κs = search needs
 
 returns : tie.Need-returns
 returns c = let a = c .before .before .before .before .args in
-    let w = fs-not (a .n) (a .line .now) (sym (c .before .before .begins-fs .ensures) ∙ not-true _ (c .before .if1 .taken)) in
+    let w = fs-not (a .level) (a .n) (a .line .now) (sym (c .before .before .begins-fs .ensures) ∙ not-true _ (c .before .if1 .taken)) in
     rw (w .0, w .1) (c .refused .ensures)
 
 refused-requires-2 : tie.Need-refused-requires-2
@@ -23,7 +23,7 @@ refused-requires-2 c κs = search needs
 
 returns-2 : tie.Need-returns-2
 returns-2 c = let a = c .before .before .before .before .before .args in
-    let w = fs-wrong (a .n) (a .line .now) (sym (c .before .before .before .begins-fs .ensures) ∙ not-false _ (c .before .before .if1 .left)) (over-five (a .n) (a .line .now) (c .before .if2 .taken)) in
+    let w = fs-wrong (a .level) (a .n) (a .line .now) (sym (c .before .before .before .begins-fs .ensures) ∙ not-false _ (c .before .before .if1 .left)) (over-five (a .level) (a .n) (a .line .now) (c .before .if2 .taken)) in
     rw (w .0, w .1) (c .refused2 .ensures)
 
 refused-requires-3 : tie.Need-refused-requires-3
@@ -31,7 +31,7 @@ refused-requires-3 c κs = search needs
 
 returns-3 : tie.Need-returns-3
 returns-3 c = let a = c .before .before .before .before .before .before .args in
-    let w = fs-wrong (a .n) (a .line .now) (sym (c .before .before .before .before .begins-fs .ensures) ∙ not-false _ (c .before .before .before .if1 .left)) (too-short (a .n) (a .line .now) (c .before .before .if2 .left) (c .before .if3 .taken)) in
+    let w = fs-wrong (a .level) (a .n) (a .line .now) (sym (c .before .before .before .before .begins-fs .ensures) ∙ not-false _ (c .before .before .before .if1 .left)) (too-short (a .level) (a .n) (a .line .now) (c .before .before .if2 .left) (c .before .if3 .taken)) in
     rw (w .0, w .1) (c .refused3 .ensures)
 
 shared-slice-read-if4 : tie.Need-shared-slice-read-if4
@@ -43,7 +43,7 @@ refused-requires-4 c κs = search needs
 returns-4 : tie.Need-returns-4
 returns-4 c = let a = c .before .before .before .before .before .before .before .before .args in
     let e = sym (c .before .before .before .before .before .before .begins-fs .ensures) ∙ not-false _ (c .before .before .before .before .before .if1 .left) in
-    let w = fs-wrong (a .n) (a .line .now) e (no-space (a .n) (a .line .now) (c .before .before .before .before .if2 .left) (c .before .before .before .if3 .left) e (c .before .if4 .taken)) in
+    let w = fs-wrong (a .level) (a .n) (a .line .now) e (no-space (a .level) (a .n) (a .line .now) (c .before .before .before .before .if2 .left) (c .before .before .before .if3 .left) e (c .before .if4 .taken)) in
     rw (w .0, w .1) (c .refused4 .ensures)
 
 sub-read-signs : tie.Need-sub-read-signs
@@ -61,7 +61,7 @@ read-signs-requires c κs = search needs
 returns-5 : tie.Need-returns-5
 returns-5 c = let a = c .before .before .before .before .before .before .before .before .before .args in
     let e = sym (c .before .before .before .before .before .before .before .begins-fs .ensures) ∙ not-false _ (c .before .before .before .before .before .before .if1 .left) in
-    let w = fs-signs (a .n) (a .line .now) (c .before .before .before .before .before .if2 .left) (c .before .before .before .before .if3 .left) e (c .before .before .if4 .left) in
+    let w = fs-signs (a .level) (a .n) (a .line .now) (c .before .before .before .before .before .if2 .left) (c .before .before .before .before .if3 .left) e (c .before .before .if4 .left) in
     rw (w .0, w .1, ← to-end (a .line .now) 3) (c .read-signs .ensures)
 
 pub read-fs-spec : {M : Type 1} → statement M

@@ -13,6 +13,9 @@ byte-requires c κs = search needs
 byte-requires-2 : tie.Need-byte-requires-2
 byte-requires-2 c κs = search needs
 
+load-terms-requires : tie.Need-load-terms-requires
+load-terms-requires c κs = search needs
+
 eight-requires : tie.Need-eight-requires
 eight-requires c κs = search needs
 
@@ -21,8 +24,8 @@ five-requires c κs = search needs
 
 returns : tie.Need-returns
 unfolding keepNumbers
-returns c = same-numbers-keep (ap (λ (x : ℕ). eqb x 1) (c .before .before .before .byte .ensures)) (c .before .before .byte2 .ensures) (c .before .eight .ensures) (c .five .ensures)
+returns c = same-numbers-keep (ap (λ (x : ℕ). eqb x 1) (c .before .before .before .before .byte .ensures)) (c .before .before .before .load-terms .ensures) (c .before .before .byte2 .ensures) (c .before .eight .ensures) (c .five .ensures)
 
 pub load-keep-spec : {M : Type 1} → statement M
 load-keep-spec =
-    tie.close (tie.spec byte-requires byte-requires-2 eight-requires five-requires returns)
+    tie.close (tie.spec byte-requires load-terms-requires byte-requires-2 eight-requires five-requires returns)

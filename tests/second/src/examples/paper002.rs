@@ -78,7 +78,7 @@ fn long_session_called() -> Example {
         "002, long session, called end",
         false,
         vec![
-            us("[NOD-1-BFH$]\r>\r"),
+            us("[NOD-1-B1FH$]\r>\r"),
             partner([b"[FBB-5.11-FHM$] \r", BLOCK_SPACES.as_bytes()].concat()),
             us("FS +-+\r"),
             partner(
@@ -111,7 +111,7 @@ fn long_session_caller() -> Example {
         true,
         vec![
             partner("[FBB-5.11-FHM$]\rWelcome, Jean-Paul. \r> \r"),
-            us([b"[NOD-1-BFH$]\r", BLOCK.as_bytes()].concat()),
+            us([b"[NOD-1-B1FH$]\r", BLOCK.as_bytes()].concat()),
             partner("FS +-+ \r"),
             us("Title 1st message\rText 1st message ......\r\x1A\r\
                 Title 3rd message\rText 3rd message ......\r\x1A\r"),
@@ -135,7 +135,7 @@ fn block_answered() -> Example {
         true,
         vec![
             partner("[FBB-5.11-FHM$]\r>\r"),
-            us([b"[NOD-1-BFH$]\r", BLOCK.as_bytes()].concat()),
+            us([b"[NOD-1-B1FH$]\r", BLOCK.as_bytes()].concat()),
             partner("FS -+= \r"),
             us("Title 2nd message\rText 2nd message ......\r\x1A\r"),
             partner("FF\r"),
@@ -151,7 +151,7 @@ fn block_answering() -> Example {
         "002, a block to answer",
         false,
         vec![
-            us("[NOD-1-BFH$]\r>\r"),
+            us("[NOD-1-B1FH$]\r>\r"),
             partner(["[FBB-5.11-FHM$]\r", BLOCK].concat()),
             us("FS -+=\r"),
             partner("Title 2nd message\rText 2nd message ......\r\x1A\r"),
@@ -170,7 +170,7 @@ fn version_0_called() -> Example {
         "002, version 0, called end",
         false,
         vec![
-            us("[NOD-1-BFH$]\r>\r"),
+            us("[NOD-1-B1FH$]\r>\r"),
             partner([b"[FBB-5.15-BFHM$]\r", PACKED, b"\rF>\r"].concat()),
             us("FS +\r"),
             partner(b"\x01\x10Title message\x000\x00\x02\x03abc\x02\x01d\x04\x76"),
@@ -191,7 +191,7 @@ fn version_1_caller() -> Example {
         true,
         vec![
             partner("[FBB-5.15-B1FHLM$]\rWelcome, Jean-Paul.\r>\r"),
-            us([b"[NOD-1-BFH$]\r", PACKED, b"\rF>\r"].concat()),
+            us([b"[NOD-1-B1FH$]\r", PACKED, b"\rF>\r"].concat()),
             partner("FS +\r"),
             us(b"\x01\x10Title message\x000\x00\x02\x04abcd\x04\x76"),
             partner("FF\r"),
@@ -203,7 +203,7 @@ fn version_1_caller() -> Example {
 
 /// "If F6FBB had sent the SID [FBB-5.10-MH$]": not this protocol.
 fn no_f_called() -> Example {
-    let script = vec![us("[NOD-1-BFH$]\r>\r"), partner("[FBB-5.10-MH$]\r")];
+    let script = vec![us("[NOD-1-B1FH$]\r>\r"), partner("[FBB-5.10-MH$]\r")];
     Example::new("002, no F, called end", false, script).refused(4)
 }
 
@@ -217,14 +217,14 @@ fn no_f_caller() -> Example {
 /// "ALL the fields are necessary."
 fn field_missing() -> Example {
     let proposal = "[FBB-5.11-FHM$]\rFB P F6FBB FC1GHV FC1MVP 24657_F6FBB\r";
-    let script = vec![us("[NOD-1-BFH$]\r>\r"), partner(proposal)];
+    let script = vec![us("[NOD-1-B1FH$]\r>\r"), partner(proposal)];
     Example::new("002, a field is missing", false, script).refused(5)
 }
 
 /// FF: "This line must not to be followed by a F>."
 fn ff_and_block_end() -> Example {
     let script = vec![
-        us("[NOD-1-BFH$]\r>\r"),
+        us("[NOD-1-B1FH$]\r>\r"),
         partner("[FBB-5.11-FHM$]\rFF\r"),
         us([FOURTH, b"\rF>\r"].concat()),
         partner("F>\r"),
@@ -238,7 +238,7 @@ fn ff_and_block_end() -> Example {
 fn new_answers() -> Example {
     let script = vec![
         partner("[FBB-5.15-FHLM$]\r>\r"),
-        us([b"[NOD-1-BFH$]\r", BLOCK.as_bytes()].concat()),
+        us([b"[NOD-1-B1FH$]\r", BLOCK.as_bytes()].concat()),
         partner("FS YLA3350RH\r"),
     ];
     Example::new("002, new answers", true, script)
@@ -249,7 +249,7 @@ fn new_answers() -> Example {
 /// "In case of a checksum error, the message or the file is ignored".
 fn checksum_error() -> Example {
     let script = vec![
-        us("[NOD-1-BFH$]\r>\r"),
+        us("[NOD-1-B1FH$]\r>\r"),
         partner([b"[FBB-5.15-BFHM$]\r", PACKED, b"\rF>\r"].concat()),
         us("FS +\r"),
         partner(b"\x01\x10Title message\x000\x00\x02\x04abcd\x04\x77"),
@@ -262,7 +262,7 @@ fn checksum_error() -> Example {
 fn checksum_comment() -> Example {
     let script = vec![
         partner("[FBB-5.15-BFHM$]\r>\r"),
-        us([b"[NOD-1-BFH$]\r", PACKED, b"\rF>\r"].concat()),
+        us([b"[NOD-1-B1FH$]\r", PACKED, b"\rF>\r"].concat()),
         partner("FS +\r"),
         us(b"\x01\x10Title message\x000\x00\x02\x04abcd\x04\x76"),
         partner("*** Erreur checksum\r"),

@@ -16,7 +16,7 @@ fn slave_without_f() -> Example {
 
 /// The same with us as its slave.
 fn master_without_f() -> Example {
-    let script = vec![us("[NOD-1-BFH$]\r>\r"), partner("[RLI-19.18-HIX$]\r")];
+    let script = vec![us("[NOD-1-B1FH$]\r>\r"), partner("[RLI-19.18-HIX$]\r")];
     Example::new("003, introduction, master calls itself RLI", false, script).refused(4)
 }
 
@@ -34,7 +34,7 @@ fn old_system() -> Example {
 /// Its send command to an end that forwards by 002.
 fn send_command() -> Example {
     let line = "SB WANT @ ALLCAN < N6ZFJ $4567_N0ARY\r";
-    let script = vec![us("[NOD-1-BFH$]\r>\r"), partner(["[RLI-19.18-FHIX$]\r", line].concat())];
+    let script = vec![us("[NOD-1-B1FH$]\r>\r"), partner(["[RLI-19.18-FHIX$]\r", line].concat())];
     Example::new("003, send command", false, script).refused(5)
 }
 
@@ -47,7 +47,7 @@ fn null_command() -> Example {
         true,
         vec![
             partner([null, "[ZXF-3.21-FHI$]\r\n", null, "\r\nN9ZZZ >\r\n"].concat()),
-            us("[NOD-1-BFH$]\rFF\r"),
+            us("[NOD-1-B1FH$]\rFF\r"),
             partner([null, "FB P W5SMM W0RLI W0RLI 1_W5SMM 3\r\n", null, "F>\r\n"].concat()),
             us("FS +\r"),
             partner("message subject\r73\r\x1A\r\n"),

@@ -23,12 +23,12 @@ pub(super) fn all() -> Vec<Example> {
 }
 
 /// "Whole session, called, empty table. In: `[TST-1-F$]` CR `FF` CR, after our
-/// prompt was taken. Out in all: `[NOD-1-BFH$]` CR `>` CR `FQ` CR."
+/// prompt was taken. Out in all: `[NOD-1-B1FH$]` CR `>` CR `FQ` CR."
 fn whole_session() -> Example {
     Example::new(
         "01, whole session",
         false,
-        vec![us("[NOD-1-BFH$]\r>\r"), partner("[TST-1-F$]\rFF\r"), us("FQ\r")],
+        vec![us("[NOD-1-B1FH$]\r>\r"), partner("[TST-1-F$]\rFF\r"), us("FQ\r")],
     )
 }
 
@@ -37,7 +37,7 @@ fn nothing_to_say() -> Example {
     Example::new(
         "01, whole session from the calling end",
         true,
-        vec![partner("[TST-1-F$]\r>\r"), us("[NOD-1-BFH$]\rFF\r"), partner("FQ\r")],
+        vec![partner("[TST-1-F$]\r>\r"), us("[NOD-1-B1FH$]\rFF\r"), partner("FQ\r")],
     )
 }
 
@@ -54,7 +54,7 @@ fn framed() -> Example {
         true,
         vec![
             partner("[BayCom-1.40P-AB1D1FHMRW$]\rHello\rde FC1GHV >\r"),
-            us("[NOD-1-BFH$]\rFA P F6FBB FC1GHV FC1MVP 1_F6FBB 2\r\
+            us("[NOD-1-B1FH$]\rFA P F6FBB FC1GHV FC1MVP 1_F6FBB 2\r\
                 FB B F6FBB FRA FBB 2_F6FBB 0\rF>\r"),
             partner("FS ++\r"),
             us(transfers),
@@ -76,7 +76,7 @@ fn fq_after_transfers() -> Example {
         true,
         vec![
             partner("[TST-1-F$]\r>\r"),
-            us("[NOD-1-BFH$]\rFB P F6FBB FC1GHV FC1MVP 1_F6FBB 2\rF>\r"),
+            us("[NOD-1-B1FH$]\rFB P F6FBB FC1GHV FC1MVP 1_F6FBB 2\rF>\r"),
             partner("FS +\r"),
             us("HI\rAB\x1A\r"),
             partner("FQ\r"),
@@ -104,7 +104,7 @@ const LF_TRANSFERS: &str = "HI\r\nAB\x1A\r\nHI\r\n\x1A \r\n";
 
 fn first_lf_called() -> Example {
     let script = vec![
-        us("[NOD-1-BFH$]\r>\r"),
+        us("[NOD-1-B1FH$]\r>\r"),
         partner(["[TST-1-F$]\r\n", LF_BLOCK].concat()),
         us("FS ++\r"),
         partner(LF_TRANSFERS),
@@ -120,7 +120,7 @@ fn first_lf_called() -> Example {
 fn first_lf_caller() -> Example {
     let script = vec![
         partner("[TST-1-F$]\r\n>\r\n"),
-        us([b"[NOD-1-BFH$]\r", OURS, b"\rF>\r"].concat()),
+        us([b"[NOD-1-B1FH$]\r", OURS, b"\rF>\r"].concat()),
         partner("FS +\r\n"),
         us("HI\r\n\n\x1A\r"),
         partner(LF_BLOCK),
@@ -152,7 +152,7 @@ fn accents(we_called: bool, script: Vec<Said>) -> Example {
 
 fn accents_called() -> Example {
     let script = vec![
-        us("[NOD-1-BFH$]\r>\r"),
+        us("[NOD-1-B1FH$]\r>\r"),
         partner([b"[TST-1-F$]\r", ACCENT_BLOCK].concat()),
         us("FS -++\r"),
         partner([ACCENT_TRANSFER, b"Ete\rAB\x1A\r"].concat()),
@@ -168,7 +168,7 @@ fn accents_called() -> Example {
 fn accents_caller() -> Example {
     let script = vec![
         partner("[TST-1-F$]\r>\r"),
-        us([b"[NOD-1-BFH$]\r", ACCENT_LINE, b"\rF>\r"].concat()),
+        us([b"[NOD-1-B1FH$]\r", ACCENT_LINE, b"\rF>\r"].concat()),
         partner("FS +\r"),
         us(ACCENT_TRANSFER),
         partner(ACCENT_BLOCK),
@@ -190,7 +190,7 @@ fn line_of_256_called() -> Example {
     let lines = ["[TST-1-F$]", "; hello", "FB P A B C 1_A 2", "F>"];
     let lines: String = lines.map(|line| padded(line, 256) + "\r").concat();
     let script = vec![
-        us("[NOD-1-BFH$]\r>\r"),
+        us("[NOD-1-B1FH$]\r>\r"),
         partner(lines),
         us("FS +\r"),
         partner("HI\rAB\x1A\r"),
@@ -205,7 +205,7 @@ fn line_of_256_caller() -> Example {
     let lines = ["[TST-1-F$]", "hello", ">"].map(|line| padded(line, 256) + "\r").concat();
     let script = vec![
         partner(lines),
-        us([b"[NOD-1-BFH$]\r", OURS, b"\rF>\r"].concat()),
+        us([b"[NOD-1-B1FH$]\r", OURS, b"\rF>\r"].concat()),
         partner(padded("FS +", 256) + "\r"),
         us("HI\rAB\x1A\r"),
         partner(padded("FF", 256) + "\r"),
@@ -218,7 +218,7 @@ fn line_of_256_caller() -> Example {
 /// "257: refusal 2": at the 257th byte, though it is a space and no CR came.
 fn line_of_257_called() -> Example {
     let script =
-        vec![us("[NOD-1-BFH$]\r>\r"), partner(["[TST-1-F$]\r", &padded("FF", 257)].concat())];
+        vec![us("[NOD-1-B1FH$]\r>\r"), partner(["[TST-1-F$]\r", &padded("FF", 257)].concat())];
     Example::new("01, a line of 257 bytes, called", false, script).refused(2)
 }
 
@@ -230,6 +230,6 @@ fn line_of_257_caller() -> Example {
 
 /// A `;` line that is ignored otherwise.
 fn comment_of_257() -> Example {
-    let script = vec![us("[NOD-1-BFH$]\r>\r"), partner(padded("; hello", 257))];
+    let script = vec![us("[NOD-1-B1FH$]\r>\r"), partner(padded("; hello", 257))];
     Example::new("01, a ; line of 257 bytes", false, script).refused(2)
 }

@@ -21,7 +21,7 @@ const THEIR_END: &str = "F> 92\r";
 fn after_ours(name: &'static str, turn: impl AsRef<[u8]>) -> Example {
     let script = vec![
         partner("[TST-1-F$]\r>\r"),
-        us([b"[NOD-1-BFH$]\r", OURS, b"\rF>\r"].concat()),
+        us([b"[NOD-1-B1FH$]\r", OURS, b"\rF>\r"].concat()),
         partner("FS +\r"),
         us("HI\rAB\x1A\r"),
         partner(turn),
@@ -81,7 +81,7 @@ fn three_digits() -> Example {
 /// checksum are those of tests/peers/captures/called-plain.
 fn linfbb() -> Example {
     let script = vec![
-        us("[NOD-1-BFH$]\r>\r"),
+        us("[NOD-1-B1FH$]\r>\r"),
         partner(
             "[FBB-7.0.11-AFHM$]\r\nFB P F0AAA N0DE.TST.FRA.EU N0DE 303_F0SRC 20\r\n\
             FB B F0BBB WW TEST 304_F0SRC 20\r\nF> F0\r\n",

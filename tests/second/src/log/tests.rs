@@ -5,7 +5,7 @@ use crate::host::{Buffers, Letter};
 use crate::memory::State::{Declined, Forwarded, Waiting};
 use crate::session::open;
 
-const GREETING: &[u8] = b"[NOD-1-BFH$]\r>\r";
+const GREETING: &[u8] = b"[NOD-1-B1FH$]\r>\r";
 const PROPOSALS: &[u8] = b"FB P US THEM YOU 1_US 4\rFB P US THEM YOU 2_US 4\rF>\r";
 const TRANSFERS: &[u8] = b"T1\rtext\x1A\rT2\rtext\x1A\r";
 
@@ -129,6 +129,19 @@ fn a_block_may_end_with_its_checksum() {
     };
     assert_eq!(kept(b"F> 33\r"), 1);
     assert_eq!(kept(b"F> 32\r"), 0);
+}
+
+/// The level in force is found from the two SIDs, and is the partner's to use alone.
+#[test]
+fn the_level_follows_the_two_sids() {
+    let after = |sid: &[u8], ours: &[u8]| {
+        let sid = [sid, b"FA P A B C 1 1\rF>\r"].concat();
+        let block = Them(b"\x01\x04H\x000\x00\x02\x01A\x04\xBF");
+        log(&[Us(GREETING), Them(&sid), Us(ours), block]).kept.len()
+    };
+    assert_eq!(after(b"[TST-1-B1F$]\r", b"FS +\r"), 1);
+    assert_eq!(after(b"[TST-1-B1F$]\r", b"FS Y\r"), 0);
+    assert_eq!(after(b"[TST-1-BF$]\r", b"FS +\r"), 1);
 }
 
 /// A block of ours that ends with a checksum, though a right one, is forbidden.

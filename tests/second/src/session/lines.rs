@@ -6,7 +6,7 @@ use crate::line::{is_comment, is_prompt, trimmed, with_cr};
 use crate::memory::{Envelope, Memory, State};
 use crate::proposal::{self, is_checksum_of, TurnLine, BLOCK_LIMIT};
 use crate::refusal::Refusal;
-use crate::sid;
+use crate::sid::{self, Level};
 use crate::transfer::writer::{write_framed, write_plain};
 
 type Judged = Result<(), Refusal>;
@@ -40,7 +40,9 @@ impl Session {
     /// "Called: we [...] await the caller's SID, then its first turn. Caller: we
     /// await the SID, skip text lines until the prompt".
     fn judge_sid(&mut self, line: &[u8]) -> Judged {
-        self.mode = sid::judge(line)?.mode();
+        let features = sid::judge(line)?;
+        self.mode = features.mode();
+        self.level = Level::with(&features);
         self.phase = match self.role {
             Role::Called => Phase::new_turn(),
             Role::Caller => Phase::Prompt,
@@ -108,7 +110,8 @@ impl Session {
     /// Accepted records are sent in order." Refusal 7: "no answer of that line is
     /// recorded".
     fn judge_fs(&mut self, memory: &mut Memory, line: &[u8], proposed: &[usize]) -> Judged {
-        let signs = fs::read(line, proposed.len())?;
+        let signs = fs::read(line, proposed.len(), self.level)?;
+        self.marks.extend(fs::marks(line));
         for (&place, sign) in proposed.iter().zip(signs) {
             match sign {
                 Sign::Accept => self.send(memory, place),

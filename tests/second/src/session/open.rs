@@ -4,7 +4,7 @@ use super::{Phase, Reply, Role, Session};
 use crate::field::{is_bid, same_bid};
 use crate::layout::{self, KNOWN_BYTES, MESSAGE_BYTES, RECORD_BYTES, SESSION_BYTES};
 use crate::memory::{Memory, Record, Sizes, Stores, KNOWN_LIMIT, MESSAGE_LIMIT, RECORD_LIMIT};
-use crate::sid::{self, Mode};
+use crate::sid::{self, Level, Mode};
 
 /// The buffers that a host lends, as bytes. Of session memory only the size
 /// counts here.
@@ -102,6 +102,7 @@ fn start(role: Role, sizes: Sizes) -> Session {
         sizes,
         phase: Phase::Sid,
         mode: Mode::Plain,
+        level: Level::Zero,
         our_ff: false,
         after_cr: false,
         line: Vec::new(),
@@ -114,5 +115,6 @@ fn start(role: Role, sizes: Sizes) -> Session {
         turns: 0,
         blocks: [0; 2],
         signs: Vec::new(),
+        marks: Vec::new(),
     }
 }

@@ -29,7 +29,7 @@ impl End {
     /// A called end that has heard a partner without B and awaits its turn.
     pub fn called(buffers: &Buffers) -> End {
         let mut end = End::open(CALLED, buffers);
-        assert_eq!(end.say(), b"[NOD-1-BFH$]\r>\r");
+        assert_eq!(end.say(), b"[NOD-1-B1FH$]\r>\r");
         assert_eq!(end.hear(b"[TST-1-F$]\r"), Reply::ok(11));
         end
     }

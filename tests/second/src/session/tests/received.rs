@@ -146,7 +146,7 @@ fn other_sizes_get_1() {
         assert_eq!(&buffer, b"....");
     }
     end.memory.sizes = sizes;
-    end.says(b"[NOD-1-BFH$]\r>\r");
+    end.says(b"[NOD-1-B1FH$]\r>\r");
     end.refuses(b"x\r", 3);
     // DECISIONS 51: also on a session that has ended.
     end.memory.sizes = changed[1];

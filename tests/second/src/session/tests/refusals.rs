@@ -121,7 +121,7 @@ fn r5_turn_line_not_allowed() {
 fn r5_ff_and_fq_after_our_ff() {
     let after_ff = || {
         let mut end = End::caller(&empty());
-        end.says(b"[NOD-1-BFH$]\rFF\r");
+        end.says(b"[NOD-1-B1FH$]\rFF\r");
         end
     };
     after_ff().refuses(b"FF\r", 5);
@@ -279,7 +279,7 @@ fn r11_bytes_wait() {
     let mut end = End::open(CALLED, &empty());
     end.refuses(b"[", 11);
     let mut end = End::open(CALLED, &empty());
-    assert_eq!(end.say_up_to(14), b"[NOD-1-BFH$]\r>");
+    assert_eq!(end.say_up_to(15), b"[NOD-1-B1FH$]\r>");
     end.refuses(b"\n", 11);
     // DECISIONS 50: within the same receive; the rest isn't consumed.
     let mut end = End::called(&empty());

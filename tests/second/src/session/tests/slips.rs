@@ -7,7 +7,7 @@ use crate::memory::State::{Forwarded, Waiting};
 /// transfers given.
 fn sent(given: usize) -> End {
     let mut end = End::caller(&plain_table(&[5, 5]));
-    end.says(&[b"[NOD-1-BFH$]\r", &proposals(&[(1, 5), (2, 5)])[..]].concat());
+    end.says(&[b"[NOD-1-B1FH$]\r", &proposals(&[(1, 5), (2, 5)])[..]].concat());
     end.hears(b"FS ++\r");
     assert_eq!(end.say_up_to(given).len(), given);
     end

@@ -110,7 +110,7 @@ fn the_form_is_a_turn_line_and_nothing_else() {
     end.hears(b"[TST-1-F$]\rF> 12\r");
     end.says(b"");
     end.hears(b">\r");
-    end.says(&[b"[NOD-1-BFH$]\r", &proposals(&[(1, 5)])[..]].concat());
+    end.says(&[b"[NOD-1-B1FH$]\r", &proposals(&[(1, 5)])[..]].concat());
     end.refuses(b"F> 12\r", 5);
 }
 

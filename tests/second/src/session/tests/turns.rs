@@ -68,7 +68,7 @@ fn only_waiting_records_of_the_mode_are_proposed() {
 fn blocks_of_five_until_none_remains() {
     let mut end = End::caller(&plain_table(&[1; 7]));
     let first: Vec<(usize, u32)> = (1..=5).map(|place| (place, 1)).collect();
-    end.says(&[b"[NOD-1-BFH$]\r", &proposals(&first)[..]].concat());
+    end.says(&[b"[NOD-1-B1FH$]\r", &proposals(&first)[..]].concat());
     end.hears(b"FS +++++\r");
     end.says(&transfers(&[1, 2, 3, 4, 5]));
     end.hears(b"FF\r");
@@ -128,7 +128,7 @@ fn the_calling_end_waits_for_the_prompt() {
     end.hears(b"; hello\r[TST-1-F$]\r\nFS +\r\n\r\n>>\r\nF6FBB> x\r\n; no prompt>\r\n");
     end.says(b"");
     end.hears(b"de F6FBB  >  \r\n");
-    end.says(b"[NOD-1-BFH$]\rFB P US THEM YOU 1_US 7\rF>\r");
+    end.says(b"[NOD-1-B1FH$]\rFB P US THEM YOU 1_US 7\rF>\r");
 }
 
 /// DECISIONS 41: "A prompt may hold any bytes; `F>` is one."
@@ -137,7 +137,7 @@ fn any_line_with_one_mark_at_its_end_is_a_prompt() {
     for prompt in [&b"F>\r"[..], b">\r", b"\xFF\t>  \r", b"FS +>\r"] {
         let mut end = End::open(CALLER, &plain_table(&[]));
         end.hears(&[b"[TST-1-F$]\r", prompt].concat());
-        end.says(b"[NOD-1-BFH$]\rFF\r");
+        end.says(b"[NOD-1-B1FH$]\rFF\r");
     }
 }
 
@@ -163,7 +163,7 @@ fn framed_mode_at_any_level() {
     for sid in [&b"[TST-1-BF]\r>\r"[..], b"[TST-1-b9F]\r>\r", b"[TST-fB1]\r>\r"] {
         let mut end = End::open(CALLER, &packed_table(&[5]));
         end.hears(sid);
-        end.says(b"[NOD-1-BFH$]\rFA P US THEM YOU 1_US 5\rF>\r");
+        end.says(b"[NOD-1-B1FH$]\rFA P US THEM YOU 1_US 5\rF>\r");
         end.hears(b"FS +\r");
         end.says(b"\x01\x05T1\x000\x00\x02\x05text\r\x04\x2E");
     }
@@ -180,8 +180,8 @@ fn give_writes_from_a_place_to_the_end() {
     assert_eq!(give(&mut buffer[..6], 2), Reply::ok(4));
     assert_eq!(&buffer, b"..[NOD....");
     assert_eq!(give(&mut buffer, 0), Reply::ok(10));
-    assert_eq!(&buffer, b"-1-BFH$]\r>");
-    assert_eq!(give(&mut buffer, 4), Reply::ok(1));
-    assert_eq!(&buffer, b"-1-B\rH$]\r>");
+    assert_eq!(&buffer, b"-1-B1FH$]\r");
+    assert_eq!(give(&mut buffer, 4), Reply::ok(2));
+    assert_eq!(&buffer, b"-1-B>\rH$]\r");
     assert_eq!(give(&mut buffer, 0), Reply::ok(0));
 }

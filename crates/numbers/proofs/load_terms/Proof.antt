@@ -1,0 +1,13 @@
+use Rattle.session_memory.proofs.Laws.{same-terms}
+use borrow.Author.Needs.{needs}
+use Rattle.numbers.proofs.load_terms.Statement.{statement}
+use Rattle.numbers.proofs.load_terms.Tie as tie
+
+byte-requires : tie.Need-byte-requires
+byte-requires c κs = search needs
+
+returns : tie.Need-returns
+returns c = same-terms (c .byte .ensures)
+
+pub load-terms-spec : {M : Type 1} → statement M
+load-terms-spec = tie.close (tie.spec byte-requires returns)
