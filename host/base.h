@@ -4,6 +4,7 @@
  *   inbox    one row a message that the library kept; when it came, from whom, in which session, and whether it is a copy of a BID
  *            that the base had already
  *   known    BIDs of all that ever was in one of them, for good; what was seen last has the greatest number
+ *   home     home mailboxes by the white pages (home.h)
  *   partner  who may call (partner.h)
  *   session  one row a session (history.h)
  *   station  our callsign and the partner's, either may be empty

@@ -49,6 +49,8 @@ static const struct command commands[] = {
     { "export", 1, 1, boxes_export },
     { "list", 0, 0, boxes_list },
     { "trace", 1, 9999, boxes_trace },
+    { "whitepages", 0, 9999, boxes_whitepages },
+    { "home", 1, 1, boxes_home },
     { "sessions", 0, 0, boxes_sessions },
     { "release", 1, 9999, boxes_release },
     { "partners", 0, 0, partners_list },

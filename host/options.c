@@ -21,6 +21,9 @@ static const char commands_help[] =
     "  export FOLDER        write each message of the inbox to a file of its own\n"
     "  list                 show both boxes\n"
     "  trace BID|FILE..     show a message's way by its routing headers, copies side by side\n"
+    "  whitepages FILE|BID..\n"
+    "                       keep and show the home mailboxes that a mail of white pages names\n"
+    "  home CALL            where CALL's mail goes, by the newest white page\n"
     "  sessions             show what each session did, the newest first\n"
     "  release BID..        let held messages go\n"
     "  admit CALL [FILE]    CALL may call; its password is FILE's first line (-: standard input)\n"
@@ -70,10 +73,15 @@ static const char options_help_text[] =
     "Options of the others\n"
     "  --call CALL          init: our callsign, for BIDs of messages that have none\n"
     "  --partner CALL       init: the partner's callsign, for X-Forwarded-To\n"
-    "  --text               import, trace: line ends of plain bodies become CR, as on the air\n"
-    "  --as-is              import, trace: plain bodies whose lines end with LF stay as they are\n"
+    "  --text               import, trace, whitepages: line ends of plain bodies become CR,\n"
+    "                       as on the air\n"
+    "  --as-is              import, trace, whitepages: plain bodies whose lines end with LF\n"
+    "                       stay as they are\n"
     "  --level NUMBER       import: of packed texts that don't say theirs, 0 or 1 (0)\n"
-    "  --outbox             export: the outbox instead\n";
+    "  --outbox             export: the outbox instead\n"
+    "  --older              home: the older white pages, too\n"
+    "  --date YYMMDD        whitepages: only show this date of the old white pages in seconds\n"
+    "  --seconds NUMBER     whitepages: only show these seconds as such a date\n";
 
 static const char ends_help[] =
     "\n"
@@ -86,8 +94,9 @@ static const char ends_help[] =
     "  3  bad base: not there, not a base, in use, a message that breaks the rules\n"
     "  4  bad port\n"
     "  5  link dropped, or the partner silent too long\n"
-    "  6  refusal; its number is said\n"
-    "  7  bad message file; files that another message's BID or text kept from their place\n"
+    "  6  refusal, of a session or of a date; its number is said\n"
+    "  7  bad message file; files that another message's BID or text kept from their place;\n"
+    "     a mail of white pages that can't be read\n"
     "  8  the caller is no partner\n"
     "SIGINT and SIGTERM end it by themselves (a shell shows 130 and 143).\n"
     "\n"
@@ -121,6 +130,9 @@ static const struct option table[] = {
     OPTION("--as-is", FLAG, as_is),
     OPTION("--level", NUMBER, level),
     OPTION("--outbox", FLAG, outbox),
+    OPTION("--older", FLAG, older),
+    OPTION("--date", TEXT, date),
+    OPTION("--seconds", TEXT, seconds),
     OPTION("--caller", FLAG, caller),
     OPTION("--called", FLAG, called),
     OPTION("--telnet", FLAG, telnet),

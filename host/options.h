@@ -13,6 +13,9 @@ struct options {
     /* import, export */
     bool text, as_is, outbox;
     long level; /* of packed texts that don't say theirs */
+    /* whitepages, home */
+    const char *date, *seconds;
+    bool older;
     /* sessions */
     bool caller, called, telnet, blank_offset, once, progress, flow, anyone, listen;
     bool asks;        /* no option: callers from outside must log in */

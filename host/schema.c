@@ -80,7 +80,20 @@ static const char to_4[] =
     "ALTER TABLE inbox ADD COLUMN level INTEGER NOT NULL DEFAULT 0;"
     "ALTER TABLE session ADD COLUMN level INTEGER;"; /* in force; NULL if no SID came, or nobody noted it */
 
-static const char *const steps[BASE_VERSION] = { to_1, to_2, to_3, to_4 };
+/* Home mailboxes, as white pages name them (home.h). */
+static const char to_5[] =
+    "CREATE TABLE home (number INTEGER PRIMARY KEY AUTOINCREMENT,"
+    " station BLOB NOT NULL,"   /* whose: the call's capitals without SSID */
+    " call BLOB NOT NULL, mailbox BLOB NOT NULL, bid BLOB NOT NULL,"
+    " stamp INTEGER NOT NULL,"  /* seconds since 1970 */
+    " origin BLOB NOT NULL, hops INTEGER," /* NULL where the old white pages don't tell */
+    " name BLOB NOT NULL, zip BLOB NOT NULL, town BLOB NOT NULL,"
+    " old INTEGER NOT NULL,"    /* 1: of the old white pages, its date was converted */
+    " source BLOB NOT NULL, inbox INTEGER NOT NULL," /* 0: a file's name, 1: the BID of a message of the inbox */
+    " came INTEGER NOT NULL);"  /* when it was read */
+    "CREATE INDEX home_station ON home (station, stamp);";
+
+static const char *const steps[BASE_VERSION] = { to_1, to_2, to_3, to_4, to_5 };
 
 /* Of a file without our mark. */
 static int nothing_yet(struct base *base, long long mark)

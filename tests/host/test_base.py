@@ -18,13 +18,13 @@ class Bases(Folder):
         other = self.folder / "other.base"
         sqlite3.connect(other).executescript("CREATE TABLE a (b); PRAGMA application_id = 7")
         newer = self.node("newer")
-        newer.ask("PRAGMA user_version = 5")
+        newer.ask("PRAGMA user_version = 99")
         missing = self.node("missing")
         missing.path.unlink()
         (self.folder / "folder.base").mkdir()
         half = self.node("half").path.read_bytes()
         bad = {"no message base": [self.made("text", b"not a base\n" * 100), Node(self.folder, "other"), self.made("empty", b"")],
-               "version 5": [newer], "make a base with init": [missing], "unable to open": [Node(self.folder, "folder")],
+               "version 99": [newer], "make a base with init": [missing], "unable to open": [Node(self.folder, "folder")],
                "half.base: ": [self.made("half", half[:len(half) // 2])]}
         for why, nodes in bad.items():
             for node in nodes:

@@ -4,7 +4,7 @@ from node import *
 VERSION_1 = (ROOT / "tests" / "host" / "version1.sql").read_text()
 VERSION_2 = (ROOT / "tests" / "host" / "version2.sql").read_text()
 VERSION_3 = (ROOT / "tests" / "host" / "version3.sql").read_text()
-TODAY = 4
+TODAY = 5
 
 
 def shape(node):

@@ -165,7 +165,7 @@ class Narrow(Timed):
             made.append(self.folder / (source.stem + ".i"))
             made[-1].write_text("\n".join(lines) + "\n")
         library = pathlib.Path(os.environ.get("FRINGEMOLE_LIB_DIR", ROOT / "target" / "staticlib"))
-        subprocess.run(["cc", "-std=gnu99", "-w", "-O0", "-fsanitize=signed-integer-overflow", "-fno-sanitize-recover=all", "-o", self.folder / "narrow", *made, library / "libfringemole.a", library / "libfringemole_route.a", "-lsqlite3"], check=True)
+        subprocess.run(["cc", "-std=gnu99", "-w", "-O0", "-fsanitize=signed-integer-overflow", "-fno-sanitize-recover=all", "-o", self.folder / "narrow", *made, library / "libfringemole.a", library / "libfringemole_route.a", library / "libfringemole_pages.a", "-lsqlite3"], check=True)
         return self.folder / "narrow"
 
     def test_uptime(self):

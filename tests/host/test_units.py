@@ -9,6 +9,6 @@ class Units(Folder):
         library = pathlib.Path(os.environ.get("FRINGEMOLE_LIB_DIR", ROOT / "target" / "staticlib"))
         with_no_main = [path for path in objects.glob("*.o") if path.stem not in ("main", "embed")]
         subprocess.run(["cc", "-std=c99", "-g", "-fsanitize=address,undefined", "-fno-sanitize-recover=all", "-I", host, "-I", ROOT / "include",
-                        "-o", made, ROOT / "tests" / "host" / "units.c", *with_no_main, library / "libfringemole.a", library / "libfringemole_route.a", "-lsqlite3"], check=True)
+                        "-o", made, ROOT / "tests" / "host" / "units.c", *with_no_main, library / "libfringemole.a", library / "libfringemole_route.a", library / "libfringemole_pages.a", "-lsqlite3"], check=True)
         done = subprocess.run([made, self.node().path], capture_output=True, text=True)
         self.assertEqual((done.returncode, done.stdout + done.stderr), (0, ""))

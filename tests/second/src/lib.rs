@@ -26,6 +26,7 @@ pub mod layout;
 pub mod line;
 pub mod log;
 pub mod memory;
+pub mod pages;
 pub mod proposal;
 pub mod record;
 pub mod refusal;

@@ -34,7 +34,7 @@ pub fn lines(body: &[u8]) -> Vec<Range<usize>> {
 }
 
 /// The calendar's own rule, though 2100 cannot come up.
-fn days_of(year: u16, month: u8) -> u8 {
+pub(crate) fn days_of(year: u16, month: u8) -> u8 {
     match month {
         4 | 6 | 9 | 11 => 30,
         2 if year % 4 == 0 && (year % 100 != 0 || year % 400 == 0) => 29,

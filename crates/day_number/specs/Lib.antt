@@ -1,0 +1,2 @@
+-- What a month is said to be.
+pub mod Meaning

@@ -1,0 +1,12 @@
+-- A year's days, and the month of one of them.
+use mathlib.Core.Path.{_≡_}
+use mathlib.Core.Bool.{Bool, cond}
+use Prim.Native.Nat.{ℕ, _≤_}
+use Rattle.dates.specs.Dates.{startOf, monthOf}
+
+abbrev pub yearLength : Bool → ℕ
+yearLength leap = cond leap 366 365
+
+-- It is one of the twelve, and starts by that day.
+abbrev pub MonthIs : Bool → ℕ → ℕ → Type 0
+MonthIs leap day r = (r ≡ monthOf leap day) × (1 ≤ r) × (r ≤ 12) × (startOf leap r ≤ day)

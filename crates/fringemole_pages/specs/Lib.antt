@@ -1,0 +1,2 @@
+-- What the numbers of the C interface mean.
+pub mod Numbers

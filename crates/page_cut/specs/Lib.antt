@@ -1,0 +1,2 @@
+-- What the pieces of this crate are.
+pub mod Pieces
