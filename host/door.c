@@ -1,5 +1,6 @@
 #include "door.h"
 #include "fringemole.h"
+#include "reason.h"
 #include "refusal.h"
 #include "stop.h"
 
@@ -20,9 +21,22 @@
 
 /* ---- in a caller's process */
 
+/* A caller whose SID isn't one hears why, and hasn't come to the base. */
+static void refuse(struct link *link, const struct fringemole_memory *lent, const struct heard *heard, unsigned refusal)
+{
+    struct reason theirs = { { 0 }, 0 };
+
+    patience_part(&link->patience);
+    reason_last(&theirs, heard);
+    reason_say(link, lent);
+    say("refusal %u: %s", refusal, refusal_words(refusal));
+    reason_tell(&theirs);
+}
+
 bool door_hear_sid(struct link *link, const struct options *options, uint8_t role, enum exit_code *code)
 {
     uint8_t session[FRINGEMOLE_SESSION_SIZE], bytes[LINK_PORTION];
+    struct heard heard = { { 0 }, 0, false, false };
     struct fringemole_memory lent;
     struct fringemole_reply reply;
 
@@ -31,7 +45,8 @@ bool door_hear_sid(struct link *link, const struct options *options, uint8_t rol
     lent.session_len = sizeof session;
     link_keep(link);
     *code = LINK_DROPPED;
-    for (reply = fringemole_open_in(&lent, role); reply.answer == FRINGEMOLE_OK; reply = fringemole_receive_in(&lent, bytes, reply.count)) {
+    reply = fringemole_open_in(&lent, role);
+    while (reply.answer == FRINGEMOLE_OK) {
         long n;
         if (session[FRINGEMOLE_SESSION_PHASE] > FRINGEMOLE_LAST_SID_PHASE) {
             link_rewind(link, options);
@@ -45,9 +60,10 @@ bool door_hear_sid(struct link *link, const struct options *options, uint8_t rol
             say("a caller left without a SID%s%s", link->over ? ": " : "", link->over ? link->over : "");
             return false;
         }
-        reply.count = (size_t)n;
+        reply = fringemole_receive_in(&lent, bytes, (size_t)n);
+        heard_add(&heard, (struct part){ bytes, reply.count });
     }
-    say("refusal %u: %s", reply.answer, refusal_words(reply.answer));
+    refuse(link, &lent, &heard, reply.answer);
     *code = REFUSED;
     return false;
 }

@@ -30,18 +30,17 @@ int main(void)
 {
     struct fringemole_memory m = { session, sizeof session, table, sizeof table, titles, sizeof titles - 1, NULL, 0, bodies,
         sizeof bodies - 1, NULL, 0, inbox, sizeof inbox, store, sizeof store };
-    struct fringemole_reply reply;
+    struct fringemole_reply reply, given;
     uint8_t out[256], in;
-    int i;
+    int i, byte;
 
     fill_table();
     reply = fringemole_open_in(&m, FRINGEMOLE_CALLED);
-    while (reply.answer == FRINGEMOLE_OK) {
-        int byte;
-        while ((reply = fringemole_give_in(&m, out, sizeof out, 0)).count > 0)
-            fwrite(out, 1, reply.count, stdout);
+    for (;;) {
+        while ((given = fringemole_give_in(&m, out, sizeof out, 0)).count > 0) /* what we have to say: after a refusal, why */
+            fwrite(out, 1, given.count, stdout);
         fflush(stdout);
-        if (fringemole_receive_in(&m, NULL, 0).answer == FRINGEMOLE_ENDED || (byte = getchar()) == EOF)
+        if (fringemole_receive_in(&m, NULL, 0).answer != FRINGEMOLE_OK || (byte = getchar()) == EOF)
             break;
         in = (uint8_t)byte;
         reply = fringemole_receive_in(&m, &in, 1);

@@ -9,7 +9,7 @@
 struct heard {
     uint8_t line[2 * HEARD_MOST];
     size_t n;
-    bool over; /* its CR has come: the next byte begins another */
+    bool over, lf; /* its CR has come: the next byte begins another, but for one LF, which has come too */
 };
 
 /* Bytes that the library consumed. */

@@ -10,7 +10,7 @@ struct history {
     uint8_t role;                   /* FRINGEMOLE_CALLED or _CALLER */
     struct part ending;             /* in a word or two: FQ, refused, silent .. */
     unsigned refusal;               /* its number, or 0 */
-    struct part line;               /* what the partner sent of the line that was refused */
+    struct part line;               /* what the partner sent of the line that was refused, or its reason, a line that begins with *** */
     int level;                      /* in force; below 0: no SID came */
     unsigned long forwarded, declined, deferred, kept, sent, received;
 };

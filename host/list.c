@@ -3,6 +3,7 @@
 #include "boxes.h"
 #include "history.h"
 #include "level.h"
+#include "reason.h"
 #include "refusal.h"
 #include "show.h"
 #include "text.h"
@@ -96,10 +97,11 @@ static bool show_session(void *shown, const struct history *session)
     printf("%9lu %8lu %8lu %4lu %7lu %8lu  ", session->forwarded, session->declined, session->deferred, session->kept, session->sent,
         session->received);
     text_show(stdout, session->ended ? session->ending : part_of("not ended"));
-    if (session->refusal) {
-        printf(", %u: %s: ", session->refusal, refusal_words(session->refusal));
-        text_show(stdout, session->line);
-    }
+    if (session->refusal)
+        printf(", %u: %s: ", session->refusal, reason_is(session->line) ? "the partner says why" : refusal_words(session->refusal));
+    else if (session->line.n)
+        printf(", the partner says why: ");
+    text_show(stdout, session->line);
     putchar('\n');
     return show_goes_on();
 }

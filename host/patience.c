@@ -25,6 +25,7 @@ void patience_start(struct patience *patience, const struct options *options)
     patience->sid = options->sid_limit * SECOND;
     patience->progress = options->progress_limit * SECOND;
     patience->session = options->session_limit * SECOND;
+    patience->linger = options->linger * SECOND;
     patience->step = (uint64_t)options->least_rate * (uint64_t)options->progress_limit;
     if (!patience->step)
         patience->step = 1;
@@ -46,6 +47,14 @@ void patience_watch(struct patience *patience, const uint8_t *session, bool spok
     }
     patience->awaited = awaited;
     patience->kept = kept;
+}
+
+void patience_part(struct patience *patience)
+{
+    milliseconds most = moment_now() - patience->began + patience->linger;
+
+    if (patience->linger && (!patience->session || most < patience->session))
+        patience->session = most;
 }
 
 void patience_look(struct patience *patience, const struct port *port)

@@ -12,6 +12,7 @@
 struct patience {
     /* Limits; 0: none. */
     milliseconds silence, sid, progress, session;
+    milliseconds linger; /* for a last word */
     uint64_t step; /* bytes of transfers that count as progress */
     /* What was seen. */
     milliseconds began, moved;
@@ -24,6 +25,8 @@ struct patience {
 void patience_start(struct patience *patience, const struct options *options);
 /* Looks at session memory, after a give. `spoke`: we have begun to say something. */
 void patience_watch(struct patience *patience, const uint8_t *session, bool spoke);
+/* The session is given up: what is still said or heard has no more time than a hang-up. */
+void patience_part(struct patience *patience);
 /* Looks at what has left. */
 void patience_look(struct patience *patience, const struct port *port);
 /* Which limit is reached, in words; NULL if none is. */

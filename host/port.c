@@ -135,14 +135,20 @@ static void see_off(struct port *port, milliseconds end)
 
 void port_hang_up(struct port *port, milliseconds time)
 {
+    milliseconds end;
+
     if (port->kind == TNC) {
         agw_hang_up(port->agw, time);
         return;
     }
+    end = moment_now() + time;
+    /* LinFBB drops a line that it finds together with the end of the link. */
+    if (port->kind == STREAM && port->told_why)
+        see_off(port, end);
     if (port->kind == STREAM)
         shutdown(port->out, SHUT_WR);
     if (port->kind != PIPE)
-        see_off(port, moment_now() + time);
+        see_off(port, end);
     if (port->kind == LINE && port->held == 0)
         tcdrain(port->out); /* what the device itself still has */
     port_drop(port);

@@ -16,6 +16,7 @@ struct port {
     struct termios before; /* a line's mode when it was opened */
     bool carrier;          /* the line has one, and its loss ends the link */
     size_t portion;        /* the most bytes that one write may have */
+    bool told_why;         /* our last word says why we hang up, and the partner should have read it by then */
     /* What has left: bytes that the system took less those that it still holds. */
     uint64_t taken, left;
     size_t held;

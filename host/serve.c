@@ -112,11 +112,13 @@ static enum exit_code hold(struct port *port, const struct options *options, uin
     if (is_admitted(&link, options, &caller)
         && (talk == NO_DOOR || (door_hear_sid(&link, options, role, &code) && door_enter(talk)))) {
         code = run_session(&link, options, role, &caller);
-        over = link.left_until_drop == 0 || link.over;
+        over = false;
         if (talk != NO_DOOR)
             door_leave(talk);
     }
-    if (over)
+    if (code == REFUSED)
+        over = false; /* whoever was told why, at the door too, should have time to read it */
+    if (over || link.left_until_drop == 0 || link.over)
         port_drop(&link.port);
     else
         port_hang_up(&link.port, options->linger * SECOND);

@@ -4,6 +4,7 @@
 #include "lend.h"
 #include "level.h"
 #include "offset.h"
+#include "reason.h"
 #include "refusal.h"
 #include "rest.h"
 
@@ -25,6 +26,7 @@ struct session {
     struct shelf shelf;
     struct passage passage;
     struct heard heard;     /* the partner's line under way */
+    struct reason reason;   /* why the partner gives up */
     struct history history; /* the row that tells of it */
     bool blank_offset;
     const struct session_terms *terms;
@@ -44,18 +46,35 @@ static enum exit_code ended(struct session *session, const char *how, enum exit_
     return code;
 }
 
-static enum exit_code refused(struct session *session, unsigned number)
+/* The partner's reason, if it told one, to the operator; and to the row, instead of this line. */
+static void note_line(struct session *session, struct part line)
 {
-    enum exit_code code = ended(session, "refused", REFUSED);
+    struct part reason = { session->reason.line, session->reason.n };
 
+    session->history.line = reason.n ? reason : line;
+    reason_tell(&session->reason);
+}
+
+/* What it changed is saved. We say why; if it is the partner's reason that was refused, that is heard to its end; then we hang up. */
+static enum exit_code refused(struct session *session, unsigned number, struct part come)
+{
+    enum exit_code code;
+
+    patience_part(&session->link->patience);
+    reason_say(session->link, &session->shelf.lent);
+    reason_hear(&session->reason, session->link, &session->heard, number, come);
+    code = ended(session, "refused", REFUSED);
     session->history.refusal = number;
-    session->history.line = heard_line(&session->heard);
     say("refusal %u: %s", number, refusal_words(number));
+    note_line(session, heard_line(&session->heard));
     return code;
 }
 
+/* In a transfer a line that begins with *** may be the sender's text. */
 static enum exit_code dropped(struct session *session, const char *how)
 {
+    if (session->shelf.session[FRINGEMOLE_SESSION_PHASE] != FRINGEMOLE_TRANSFER_PHASE)
+        reason_last(&session->reason, &session->heard);
     if (session->link->left_until_drop == 0)
         how = "--drop-after";
     else if (session->link->over)
@@ -64,6 +83,7 @@ static enum exit_code dropped(struct session *session, const char *how)
         how = port_end(&session->link->port);
     ended(session, how, LINK_DROPPED);
     say("the link dropped: %s", how);
+    note_line(session, part_of(""));
     return LINK_DROPPED;
 }
 
@@ -151,18 +171,20 @@ static bool hear_level(struct session *session, struct part bytes, struct fringe
 static enum exit_code take(struct session *session, struct part bytes, bool *over)
 {
     struct fringemole_reply reply;
+    struct part come;
 
     rest_hear(&session->rest, session->shelf.session, bytes);
     reply = receive(session, bytes);
     *over = true;
     if (!session->level_shown && !hear_level(session, bytes, &reply))
         return ended(session, "nothing can be lent", BAD_BASE);
+    come = (struct part){ bytes.at + reply.count, bytes.n - reply.count };
     bytes.n = reply.count;
     heard_add(&session->heard, bytes);
     if (!shelf_save(&session->shelf, session->base, &session->passage))
         return not_saved(session);
     if (reply.answer != FRINGEMOLE_OK)
-        return refused(session, reply.answer);
+        return refused(session, reply.answer, come);
     if (rest_is_asked(&session->rest, session->shelf.session))
         return asked_for_rest(session);
     *over = false;
@@ -181,7 +203,7 @@ static enum exit_code converse(struct session *session)
         enum exit_code code;
         long n;
         if (given.answer != FRINGEMOLE_OK)
-            return refused(session, given.answer);
+            return refused(session, given.answer, part_of(""));
         patience_watch(&link->patience, session->shelf.session, given.count > 0 && !speaking);
         session->greeted += session->level_shown ? 0 : given.count;
         speaking = given.count == sizeof out;

@@ -11,7 +11,8 @@
  *     FRINGEMOLE_BYTES_WAIT and ends the session.
  *  2. receive(NULL, 0): FRINGEMOLE_ENDED says that the session has ended. An end by FQ, the partner's or ours, is no refusal: the call
  *     that ends it answers FRINGEMOLE_OK.
- *  3. read bytes from the link and receive them, in whatever portions. Any answer but FRINGEMOLE_OK: hang up.
+ *  3. read bytes from the link and receive them, in whatever portions. Any answer but FRINGEMOLE_OK: save, give what waits (one line that
+ *     tells the partner why, or nothing), then hang up.
  *  4. save what has changed, states in the table and messages kept in the inbox, before you give more.
  * If the link drops, save and stop; what stands in table and inbox is right at every moment. */
 #ifndef FRINGEMOLE_H
@@ -149,7 +150,9 @@ struct fringemole_reply fringemole_open(uint8_t role,
     const uint8_t *store, size_t store_len);
 
 /* Bytes from the link. After any answer but 0 and 1 the session is over; after 0 it is if bytes are left over (FQ came), or if the next
- * receive(NULL, 0) says FRINGEMOLE_ENDED. No bytes on a live session: 0, and nothing changes. */
+ * receive(NULL, 0) says FRINGEMOLE_ENDED. After 2 to 10 and from 13 on give still hands over one line with its CR: "*** Checksum error" for
+ * FRINGEMOLE_BAD_CHECKSUM, else "*** Protocol error"; bytes that arrive meanwhile get FRINGEMOLE_ENDED and change nothing. No bytes on a
+ * live session: 0, and nothing changes. */
 struct fringemole_reply fringemole_receive(
     uint8_t *session, size_t session_len,
     uint8_t *table, size_t table_len,

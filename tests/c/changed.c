@@ -18,6 +18,8 @@ static unsigned long session_number, call_number;
 static unsigned long calls, answers[FRINGEMOLE_LAST + 1];
 /* Calls of receive without bytes. */
 static unsigned long empties;
+/* Calls of give on an ended session that gave bytes of the line that says why. */
+static unsigned long reasons;
 
 static void must(int right, const char *what)
 {
@@ -163,8 +165,26 @@ static void only_changed(const struct fringemole_memory *m, const struct before 
 
 /* Nobody has written since a call that didn't answer 1. */
 static int intact;
-/* A call ended the session or found it ended, and nobody has written since. */
+/* A call ended the session or found it ended, and nobody has written since; then: what is left of the line that says why. */
 static int over;
+static const char *reason = "";
+
+/* The line after this answer of receive. */
+static const char *reason_after(unsigned answer)
+{
+    if (answer <= FRINGEMOLE_BAD_MEMORY || answer == FRINGEMOLE_BYTES_WAIT || answer == FRINGEMOLE_ENDED) {
+        return "";
+    }
+    return answer == FRINGEMOLE_BAD_CHECKSUM ? "*** Checksum error\r" : "*** Protocol error\r";
+}
+
+/* The line that an ended session still has to give, by session memory. */
+static const char *reason_left(const uint8_t *session)
+{
+    const char *line = session[FIRST] == PROTOCOL_LINE ? "*** Protocol error\r" : "*** Checksum error\r";
+
+    return session[FIRST] == 0 ? "" : line + session[GIVEN];
+}
 
 static void check_reply(struct fringemole_reply reply, size_t most)
 {
@@ -191,12 +211,18 @@ static void give(struct fringemole_memory *m, size_t room, size_t place)
     reply = fringemole_give_in(m, buffer, room, place);
     check_reply(reply, most);
     must(reply.answer <= FRINGEMOLE_BAD_MEMORY, "give refused");
-    must(!over || reply.count == 0, "bytes given on an ended session");
+    if (over) {
+        size_t left = strlen(reason);
+        must(reply.count == (left < most ? left : most), "an ended session gives the rest of its line, as far as it fits, and no more");
+        must(reply.count == 0 || memcmp(buffer + place, reason, reply.count) == 0, "another line on an ended session");
+        reason += reply.count;
+        reasons += reply.count > 0;
+    }
     for (i = 0; i < room; i++) {
         must(buffer[i] == 0xA5 || (place <= i && i < place + reply.count), "give wrote outside its count");
     }
-    /* "Give on an ended session writes nothing": not into session memory either. */
-    only_changed(m, &copy, reply.answer == FRINGEMOLE_BAD_MEMORY || most == 0 || over ? 0 : SESSION_ONLY);
+    /* "Give on an ended session writes nothing", once the line is taken: not into session memory either. */
+    only_changed(m, &copy, reply.answer == FRINGEMOLE_BAD_MEMORY || most == 0 || (over && reply.count == 0) ? 0 : SESSION_ONLY);
     intact = reply.answer != FRINGEMOLE_BAD_MEMORY;
     free(buffer);
     forget(&copy);
@@ -221,6 +247,8 @@ static int receive(struct fringemole_memory *m, const uint8_t *bytes, size_t n)
     intact = reply.answer != FRINGEMOLE_BAD_MEMORY;
     /* "Receive consumes every byte lent to it, unless it answers 1 or 12 or the session ends on the way". */
     over = reply.answer > FRINGEMOLE_BAD_MEMORY || (reply.answer == FRINGEMOLE_OK && reply.count < n);
+    reason = over ? reason_left(m->session) : "";
+    must(!over || reply.answer == FRINGEMOLE_ENDED || strcmp(reason, reason_after(reply.answer)) == 0, "not the line that says why");
     empties += n == 0;
     free(portion);
     forget(&copy);
@@ -284,6 +312,9 @@ static void step(struct fringemole_memory *m)
         /* What a call leaves passes the form test: this give may not answer 1. */
         give(m, 0, below(2));
     }
+    if (over && once_in(2)) {
+        give(m, below(30), below(3));
+    }
 }
 
 /* A session that starts well, and then memory changes, at the latest after its end. */
@@ -325,14 +356,14 @@ int main(int argc, char **argv)
         stream = seed + session_number * 0xD1342543DE82EF95u;
         play();
     }
-    printf("c: changed memory: seed 0x%llx, %lu sessions, %lu calls, %lu of them receive without bytes; answers",
-        (unsigned long long)seed, sessions, calls, empties);
+    printf("c: changed memory: seed 0x%llx, %lu sessions, %lu calls, %lu of them receive without bytes, %lu of them give why; answers",
+        (unsigned long long)seed, sessions, calls, empties, reasons);
     for (i = 0; i <= FRINGEMOLE_LAST; i++) {
         printf(" %lu: %lu%s", i, answers[i], i < FRINGEMOLE_LAST ? "," : "\n");
     }
     for (i = 0; sessions >= 1000 && i <= FRINGEMOLE_LAST; i++) {
-        if (answers[i] == 0) {
-            puts("c: changed memory: a number never came");
+        if (answers[i] == 0 || reasons == 0) {
+            puts("c: changed memory: a number or a line never came");
             return 1;
         }
     }

@@ -9,6 +9,8 @@
 /* In session memory (docs/MEMORY.md). */
 #define AWAITED 60
 #define FRAMED 62
+#define FIRST 64
+#define PROTOCOL_LINE 4 /* at FIRST */
 #define OUR_PROPOSALS 69
 #define READING_SUM 91
 #define LINE_BYTES 92

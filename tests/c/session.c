@@ -232,11 +232,38 @@ static void block_sums(void)
             SAYS(&m, "FS +\r");
         } else {
             hears(&m, BYTES("FB P A B C 1_B 2\r\nF> 92\rmore"), FRINGEMOLE_WRONG_BLOCK_SUM, 24);
-            SAYS(&m, "");
+            SAYS(&m, "*** Protocol error\r");
         }
         stands("forwarded by a valid turn alone", m.table[FRINGEMOLE_RECORD_STATE] == right);
         take_back(&m);
     }
+}
+
+/* 02, Q-1: after a refusal one line says why, whatever arrives meanwhile; then nothing more. */
+static void reasons(void)
+{
+    struct fringemole_memory m = memory_with(PLACES, ROOM);
+    uint8_t *buffer = lend(9);
+
+    puts("# why, before hanging up");
+    opens(&m, FRINGEMOLE_CALLED, FRINGEMOLE_OK, 0);
+    SAYS(&m, "[NOD-1-B1FH$]\r>\r");
+    HEARS(&m, "[TST-1-B1F$]\rFA B FC1GHV F6FBB.FRA ALL 1_THEM 2\rF>\r");
+    SAYS(&m, "FS +\r");
+    hears(&m, BYTES("\x01\x05HI\x00\x30\x00\x02\x02" "AB\x04\x7E" "more"), FRINGEMOLE_BAD_CHECKSUM, 13);
+    hears(&m, BYTES(""), FRINGEMOLE_ENDED, 0);
+    stands("its first nine bytes", is(fringemole_give_in(&m, buffer, 9, 0), FRINGEMOLE_OK, 0, 9) && memcmp(buffer, "*** Check", 9) == 0);
+    hears(&m, BYTES("\n"), FRINGEMOLE_ENDED, 0);
+    hears(&m, BYTES("FF\r"), FRINGEMOLE_ENDED, 0);
+    SAYS(&m, "sum error\r");
+    hears(&m, BYTES(""), FRINGEMOLE_ENDED, 0);
+    opens(&m, FRINGEMOLE_CALLED, FRINGEMOLE_OK, 0);
+    SAYS(&m, "[NOD-1-B1FH$]\r>\r");
+    hears(&m, BYTES("hello\r"), FRINGEMOLE_NOT_SID, 6);
+    opens(&m, FRINGEMOLE_CALLED, FRINGEMOLE_OK, 0);
+    SAYS(&m, "[NOD-1-B1FH$]\r>\r");
+    free(buffer);
+    take_back(&m);
 }
 
 /* Refusals of each call. */
@@ -269,6 +296,7 @@ int main(void)
     plain_exchange();
     framed_exchange();
     block_sums();
+    reasons();
     refusals();
     printf("c: %u steps, 0 wrong\n", steps);
     return 0;

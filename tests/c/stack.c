@@ -189,6 +189,7 @@ static void exchange(uint8_t as, uint8_t form, size_t portion)
     says(portion, "F");
     hears("FS ++\r", 6, portion, FRINGEMOLE_BAD_ANSWER);
     hears("x", 1, portion, FRINGEMOLE_ENDED);
+    says(portion, "*** Protocol error\r");
     tear_down();
 }
 

@@ -28,11 +28,17 @@ DONE, FAILED, BAD_USAGE, BAD_BASE, BAD_PORT, LINK_DROPPED, REFUSED, BAD_FILE, NO
 WAITING, FORWARDED, DECLINED, HELD = range(4)
 OUR_SID = b"[NOD-1-B1FH$]\r"
 GREETING = OUR_SID + b">\r"
+PROTOCOL_ERROR, CHECKSUM_ERROR = b"*** Protocol error\r", b"*** Checksum error\r"
 
 # Where these tests run in the background SIGINT is ignored, and nodes would inherit that.
 signal.signal(signal.SIGINT, signal.default_int_handler)
 
 COLUMNS = 'form, type, "from", at, "to", bid, title, name, body'
+
+
+def reason(refusal):
+    """What we say after it, before we hang up."""
+    return {9: CHECKSUM_ERROR, 11: b""}.get(refusal, PROTOCOL_ERROR)
 
 
 class Message:

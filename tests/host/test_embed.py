@@ -22,11 +22,12 @@ class Embed(Folder):
             self.assertEqual(partner.ends(), (0, "answer 0; our message's state is 1\nkept: From them\n"))
 
     def test_refusal(self):
-        "the example ends with the library's number"
+        "the example says why, and ends with the library's number"
         process = subprocess.Popen([HOST / "target" / "host" / "embed"], stdin=subprocess.PIPE, stdout=subprocess.PIPE, stderr=subprocess.PIPE)
         partner = Partner.of_process(process)
         partner.hears(GREETING)
         partner.says(b"Hello\r")
+        partner.hears(PROTOCOL_ERROR)
         self.assertEqual(partner.ends()[0], 3)
 
 

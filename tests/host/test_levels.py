@@ -121,6 +121,7 @@ class GoOut(Levels):
         node = self.node().add(*mail())
         for said, number in ((b"[TST-1-BFF$]\r", 3), (FRAMED_SID + b"FX\r", 5), (LEVEL_1 + b"FX\r", 5), (FRAMED_SID + b"FF\rF", 11)):
             partner = self.called(node, said)
+            partner.hears(reason(number))
             self.says_why(partner.ends(), REFUSED, "refusal %d" % number)
         self.assertEqual(self.levels(node)[0], (None,))
 

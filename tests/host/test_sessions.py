@@ -228,7 +228,7 @@ class Limits(Sessions):
 
 class Refusals(Sessions):
     def refused(self, number, said, heard=b"", sid=PLAIN_SID, options=(), messages=()):
-        """Says it all; the node answers with no more than `heard`, the number and a hang-up."""
+        """Says it all; the node answers with no more than `heard`, its reason, the number and a hang-up."""
         node = self.node("node%d" % number).add(*messages)
         partner = node.stdio(*options)
         partner.hears(GREETING)
@@ -236,12 +236,13 @@ class Refusals(Sessions):
         for ours, theirs in zip(said, heard or [b""] * len(said)):
             partner.says(ours)
             partner.hears(theirs)
+        partner.hears(reason(number))
         partner.hears_end()
         self.says_why(partner.ends(), REFUSED, "refusal %d: " % number)
         return node
 
     def test_each(self):
-        "each number from 2 to 11, and 13, is said, nothing more is sent, and the node hangs up"
+        "each number from 2 to 11, and 13, is said, nothing but the reason is sent, and the node hangs up"
         ours = Message(b"1_US", form="plain")
         self.refused(2, [b"x" * 257])
         self.refused(3, [], sid=b"Hello\r")

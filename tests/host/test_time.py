@@ -268,7 +268,7 @@ class Held(Timed):
 
     def test_after_the_end(self):
         "a partner who talks on after a refusal, or after FQ, is left after --linger"
-        for number, (last, answer, code) in enumerate(((b"nonsense\r", b"", REFUSED), (b"FF\r", b"FQ\r", DONE))):
+        for number, (last, answer, code) in enumerate(((b"nonsense\r", PROTOCOL_ERROR, REFUSED), (b"FF\r", b"FQ\r", DONE))):
             with self.subTest(last):
                 listener, port = self.node("node%d" % number).listen("--once", "--linger", "1")
                 with socket.create_connection(("127.0.0.1", port)) as link:

@@ -5,7 +5,7 @@ import time
 import lzhuf
 from linfbb import FRAMED, HEAD
 from node import DECLINED, DONE, FORWARDED, LINK_DROPPED, NOT_ADMITTED, REFUSED, WAITING
-from relay import Drop, other_letter
+from relay import Drop, other_letter, wrong_data, wrong_line
 from world import LEVELS, PASSWORD, WAYS, Failed, expect, kept_in, wire
 
 BLOCK_END = re.compile(rb"[\r\n]F> [0-9A-F]{2}(?=\r)")
@@ -375,7 +375,8 @@ def changed_letter(world, mode, role):
         ended, link = world.session(mode, role, node, edits=[other_letter(incoming[1].bid)], options=options_for(mode))
         refused(ended, 13)
         expect("its last line", bool(BLOCK_END.search(link.heard["peer"])), True)
-        expect("our last line", link.heard["us"].endswith(outgoing.transfer() if role == "caller" else b">\r"), True)
+        last = outgoing.transfer() if role == "caller" else b">\r"
+        expect("our last line", link.heard["us"].endswith(last + b"*** Protocol error\r"), True)
         expect("inbox", node.inbox(), [])
         # As caller we had sent our mail, but a turn with a wrong checksum is none.
         states_of(node, [outgoing], WAITING)
@@ -437,6 +438,69 @@ def blanks_and_zeros(world, mode, role):
     expect("titles", [title for _, title, _ in node.inbox()], [message.title for message in incoming])
 
 
+# ---- it hears why we hang up
+
+PROTOCOL_ERROR, CHECKSUM_ERROR = b"*** Protocol error", b"*** Checksum error"
+
+
+def told_why(world, mode, role, number, reason, edits, options):
+    """A refusal that LinFBB's own console shows as its operator sees it; the mail comes at the next call."""
+    incoming, node = incoming_mail(world, mode, 2), world.node()
+    with world.box(mode).holding(*incoming):
+        with world.box(mode).watched() as shown:
+            ended, link = world.session(mode, role, node, edits=edits, options=options)
+            refused(ended, number)
+            expect("our last line", link.heard["us"].endswith(reason + b"\r"), True)
+            console = shown()
+            expect(f"at LinFBB's console ({console[-600:]!r})", reason in console, True)
+        expect("inbox", node.inbox(), [])
+        done(world.session(mode, role, node, options=options_for(mode)))
+    inbox_is(node, mode, role == "called", incoming)
+
+
+@case("a wrong line put in on the way: 5, and its console shows our reason")
+def told_of_a_line(world, mode, role):
+    told_why(world, mode, role, 5, PROTOCOL_ERROR, [wrong_line()], options_for(mode))
+
+
+@case("a byte of its transfer changed on the way: 9, and its console shows our reason", *FRAMED_WAYS)
+def told_of_a_checksum(world, mode, role):
+    told_why(world, mode, role, 9, CHECKSUM_ERROR, [wrong_data(b"for us 0")], options_for(mode))
+
+
+@case("its blank-padded offset: its console shows our reason", *FRAMED_WAYS)
+def told_of_an_offset(world, mode, role):
+    told_why(world, mode, role, 8, PROTOCOL_ERROR, (), ())
+
+
+def tells_why(world, mode, role, spoil, reason):
+    """What we say is spoilt on the way: our operator reads LinFBB's reason, and the mail goes at the next call."""
+    message = world.message(mode, text=b"good\r\n")
+    node = world.node(message)
+    ended, link = world.session(mode, role, node, spoil=spoil)
+    refused(ended, 5)
+    said = re.search(rb"\*\*\* [^\r]*", link.heard["peer"])
+    expect(f"its reason ({link.heard['peer'][-100:]!r})", said is not None and said.group().startswith(reason), True)
+    expect(f"what our operator reads ({ended.said})", "the partner says why: " + said.group().decode() in ended.said, True)
+    expect("the session's row", node.rows("SELECT refusal, line FROM session"), [(5, said.group() + b"\r")])
+    states_of(node, [message], WAITING)
+    world.fetch(mode)
+    done(world.session(mode, role, node))
+    states_of(node, [message], FORWARDED)
+
+
+@case("a line of ours spoilt on the way: its reason is told to our operator")
+def tells_of_a_line(world, mode, role):
+    tells_why(world, mode, role, lambda data: re.sub(rb"F[AB] P F0AAA ", b"FX P F0AAA ", data), PROTOCOL_ERROR)
+
+
+@case("a byte of our transfer spoilt on the way: its reason is told to our operator", *FRAMED_WAYS)
+def tells_of_a_checksum(world, mode, role):
+    def spoil(data):
+        return re.sub(rb"(\0000\0\x02.)(.)", lambda found: found.group(1) + bytes([found.group(2)[0] ^ 1]), data, flags=re.S)
+    tells_why(world, mode, role, spoil, CHECKSUM_ERROR)
+
+
 # ---- where LinFBB leaves 01 (docs/INTEROP.md)
 
 @case("its blank-padded offset gets 8, and the message comes once the host takes blanks for zeros", *FRAMED_WAYS)
@@ -471,7 +535,7 @@ def all_deferred(world, mode, role):
     with world.box(mode).holding(for_us(world, mode)):
         ended, link = world.session(mode, role, node, options=["--room", "0"])
     refused(ended, 5)
-    expect("our answer", link.heard["us"][-8:], b"FS =\rFF\r")
+    expect("our answer", link.heard["us"].endswith(b"FS =\rFF\r*** Protocol error\r"), True)
     expect("its last line", link.heard["peer"][-3:], b"FF\r")
 
 
@@ -483,7 +547,7 @@ def longer_than_announced(world, mode, role):
         ended, link = world.session(mode, role, node, options=["--room", "60"])
     refused(ended, 10)
     expect("its proposal", b" %s %d\r" % (message.bid, len(message.text)) in link.heard["peer"], True)
-    expect("our answer", link.heard["us"][-5:], b"FS +\r")
+    expect("our answer", link.heard["us"].endswith(b"FS +\r*** Protocol error\r"), True)
     expect("inbox", node.inbox(), [])
 
 

@@ -4,6 +4,7 @@ import os
 import random
 import re
 import subprocess
+import time
 
 import partner
 from relay import listener
@@ -14,6 +15,9 @@ FRAMED, PLAIN = "[NOD-1-B1FH$]", "[NOD-1-FH$]"
 
 # What LinFBB puts in front of a text that it passes on.
 HEAD = re.compile(rb"(?:R:[^\r]*\r\n?)+\r\n?From: [^\r]*\r\n?To  : [^\r]*\r\n?\r\n?")
+
+
+CONSOLE_PATIENCE = 10  # seconds until the console shows what happens
 
 
 def free_port():
@@ -36,8 +40,9 @@ def partner_message(message):
 class Box:
     def __init__(self, folder, name, comp="OK 3", fwd="OK 160", extra=""):
         self.folder = os.path.join(folder, name)
-        self.port, self.call_port = free_port(), free_port()
-        env = dict(os.environ, TELNET_PORT=str(self.port), CALL_PORT=str(self.call_port), FBBCOMP=comp, FBBFWD=fwd,
+        self.port, self.call_port, self.console_port = free_port(), free_port(), free_port()
+        self.console_word = "%016x" % random.SystemRandom().getrandbits(64)
+        env = dict(os.environ, CONSOLE_PORT=str(self.console_port), CONSOLE_WORD=self.console_word, TELNET_PORT=str(self.port), CALL_PORT=str(self.call_port), FBBCOMP=comp, FBBFWD=fwd,
                    SECURITY="8 12 59", SOURCE_EXTRA="G WW", FWD_EXTRA="Z 75*" + extra)
         done = subprocess.run([SETUP, "start", self.folder], env=env, stdout=subprocess.PIPE, stderr=subprocess.PIPE)
         if done.returncode != 0:
@@ -95,6 +100,29 @@ class Box:
         finally:
             with open(path, "w") as file:
                 file.write(trusting)
+
+    @contextlib.contextmanager
+    def watched(self):
+        """Gives a function that tells what LinFBB's own console has shown of its sessions since, once the last of them is over."""
+        path = os.path.join(self.folder, "console")
+        words = ["-r", "-f", "-m", "0", "-h", "127.0.0.1", "-p", str(self.console_port), "-i", "F0CON", "-w", self.console_word]
+
+        def shown(until=b" Disconnect "):
+            end = time.monotonic() + CONSOLE_PATIENCE
+            while True:
+                with open(path, "rb") as file:
+                    text = file.read()
+                if text.count(until) >= max(1, text.count(b" Connect ")) or time.monotonic() > end:
+                    return text
+                time.sleep(0.05)
+        with open(path, "wb") as file:
+            console = subprocess.Popen(["xfbbC", *words], stdin=subprocess.DEVNULL, stdout=file, stderr=subprocess.STDOUT)
+        try:
+            shown(b"Monitoring channel")
+            yield shown
+        finally:
+            console.kill()
+            console.wait()
 
     def call_us(self):
         """Makes LinFBB call us at call_port now, mail or not (sysop command FR)."""

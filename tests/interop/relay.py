@@ -34,11 +34,26 @@ def other_letter(bid):
     return re.compile(b" " + re.escape(bid) + b"(?= )"), b" " + wrong, re.compile(b"(?:" + beginnings + b")$")
 
 
+def wrong_line():
+    """An edit: a letter of the command of a proposal."""
+    return re.compile(rb"F[AB] P F0AAA "), b"FX P F0AAA ", re.compile(rb"F(?:[AB](?: (?:P(?: (?:F(?:0A{0,3})?)?)?)?)?)?$")
+
+
+def wrong_data(title):
+    """An edit: the first data byte of a framed transfer."""
+    def wrong(found):
+        return found.group(1) + bytes([found.group(2)[0] ^ 1])
+    beginnings = b"|".join(re.escape(title[:n]) for n in range(1, len(title) + 1))
+    head = re.escape(title) + rb"\0     0\0\x02."
+    partial = re.escape(title) + rb"\0 {0,5}(?:     0(?:\0(?:\x02.?)?)?)?"
+    return re.compile(b"(" + head + b")(.)", re.S), wrong, re.compile(b"(?:" + beginnings + b"|" + partial + b")$", re.S)
+
+
 class Relay:
     """One session between our node and the mailbox."""
 
-    def __init__(self, we_call, to, port=0, drop=None, edits=()):
-        self.we_call, self.to, self.edits = we_call, to, edits
+    def __init__(self, we_call, to, port=0, drop=None, edits=(), spoil=None):
+        self.we_call, self.to, self.edits, self.spoil = we_call, to, edits, spoil
         self.heard = {"us": b"", "peer": b""}
         self.left = {"us": drop.count, "peer": drop.more} if drop else {}
         self.pause = drop.pause if drop else 0
@@ -84,6 +99,8 @@ class Relay:
         """True if the link drops now."""
         if side == "peer" and self.edits:
             data = self.edit(data, flush)
+        if side == "us" and self.spoil:
+            data = self.spoil(data)
         cut = len(data)
         # What the mailbox says counts once our node has been heard so far.
         if self.left and (side == "us" or self.left["us"] == 0):

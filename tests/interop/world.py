@@ -57,17 +57,18 @@ class World:
         bid = self.bid()
         return Message(**{"bid": bid, "form": int(mode in LEVELS), "level": LEVELS.get(mode, 0), "stored": self.number % 2, **fields})
 
-    def session(self, mode, role, node, drop=None, edits=(), login=".N0DE", options=()):
-        """A session of the node with the mailbox of this mode; gives how it ended, and the link."""
+    def session(self, mode, role, node, drop=None, edits=(), spoil=None, login=".N0DE", options=()):
+        """A session of the node with the mailbox of this mode; gives how it ended, and the link. edits: of what the mailbox says; spoil: a
+        function of what we say."""
         box = self.box(mode)
         if role == "caller":
             telnet = [] if login.startswith(".") else ["--telnet"]
-            relay = Relay(True, box.port, drop=drop, edits=edits)
+            relay = Relay(True, box.port, drop=drop, edits=edits, spoil=spoil)
             ended = node.call(relay.port, "--login", login, *telnet, *options)
         else:
             self.waiting = node
             port = node.listen(*options) if mode == "asked" else node.listen("--telnet", *options)
-            relay = Relay(False, port, box.call_port, drop=drop, edits=edits)
+            relay = Relay(False, port, box.call_port, drop=drop, edits=edits, spoil=spoil)
             box.call_us()
             ended = node.ended()
         relay.close()

@@ -18,6 +18,8 @@
 #   SECURITY      value of fbb.conf's security; 8 12 59 lets all callers give the
 #                 sysop's commands, FR (call a partner now) among them    (default 0 4 59)
 #   SOURCE_EXTRA  extra lines for F0SRC's forward block           (default none)
+#   CONSOLE_PORT  where its console listens for xfbbC, on all addresses: xfbbd has no other
+#                 way; F0CON may look on with CONSOLE_WORD        (default none)
 #
 # Besides PARTNER a second mailbox F0SRC is declared, to bring messages in by forwarding at once
 # (the file FOLDER/var/mail/mail.in is read at each full minute only).
@@ -33,6 +35,7 @@ MXBLOC=${MXBLOC:-10}
 CALLOUT=${CALLOUT:-0}
 SECURITY=${SECURITY:-0 4 59}
 SOURCE_EXTRA=${SOURCE_EXTRA:-}
+CONSOLE_PORT=${CONSOLE_PORT:-}
 BBS=F0FBB.TST.FRA.EU
 
 install_pkg() {
@@ -137,6 +140,7 @@ CONF
 
         # loopback callers need no password
         printf 'password\n127.0.0.1 +\n' > "$d/etc/passwd.sys"
+        [ -z "$CONSOLE_PORT" ] || printf 'F0CON 63 1023 %s\n' "$CONSOLE_WORD" >> "$d/etc/passwd.sys"
         # the package's own rules hold each bulletin; ours reject TO=REJME and hold TO=HOLDME
         printf 'R B * * REJME * 0\nH B * * HOLDME * 0\n' > "$d/etc/reject.sys"
         # English for all
@@ -159,7 +163,9 @@ CONF
         fi
     fi
     # -n: no console server, so the telnet port is the only listener
-    ( ulimit -f 200000; exec setsid nohup xfbbd -v -n </dev/null >"$d/xfbbd.log" 2>&1 ) &
+    local console=(-n)
+    [ -z "$CONSOLE_PORT" ] || console=(-p "$CONSOLE_PORT")
+    ( ulimit -f 200000; exec setsid nohup xfbbd -v "${console[@]}" </dev/null >"$d/xfbbd.log" 2>&1 ) &
     echo $! > "$d/xfbbd.pid"
     local i
     for i in $(seq 1 300); do
@@ -192,5 +198,5 @@ stop() {
 case "${1:-}" in
     start) shift; start "$@" ;;
     stop) shift; stop "$@" ;;
-    *) sed -n '2,23p' "$0"; exit 2 ;;
+    *) sed -n '2,25p' "$0"; exit 2 ;;
 esac

@@ -7,19 +7,21 @@ use lib.ListN.{length}
 use Rattle.grammar.specs.Bytes.{Bytes}
 use Rattle.grammar.specs.Turns.{Proposal}
 use Rattle.session.specs.Choices.{Shelf, answersTo}
-use Rattle.session.specs.Session.{Memory, Session}
+use Rattle.session.specs.Session.{leaving, over, Memory, Session}
 use Rattle.session.specs.Calls.{Received}
 use Rattle.demand2.specs.Limits.{blockLimit}
+use Rattle.demand2.specs.Refusals.{Over, closed, fqGiven}
 use Rattle.demand2.specs.ReadBack.{AnswerReadsBack}
 use Rattle.demand2.specs.Reached.{Reached, AnswerExact}
 use Rattle.demand2.specs.NextByte.{NextByte}
 use Rattle.demand2.proofs.Marks.{answer-only, turn-only}
 use Rattle.demand2.proofs.Events.{happens}
 use Rattle.demand2.proofs.Refusals.{apart, complete}
-use Rattle.demand2.proofs.Ended.{over-ended, live-exact, twelve}
+use Rattle.demand2.proofs.Ended.{live-exact, twelve}
 use Rattle.demand2.proofs.OurTurn.{block-only, turn-exact}
 use Rattle.demand2.proofs.OurAnswers.{answers-exact}
-use Rattle.demand2.proofs.Portions.{receive-byte, two-portions, counted, no-bytes, two-rooms, handed-out, fq-given, nothing-given}
+use Rattle.demand2.proofs.Portions.{receive-byte, two-portions, counted, no-bytes, two-rooms, handed-out, fq-given}
+use Rattle.demand2.proofs.Reasons.{into-nothing, says-why, quiet-end}
 use Rattle.demand2.proofs.Reached.{reached-sound, exact-reached}
 use Rattle.demand2.proofs.Answered.{answer-reached}
 use Rattle.demand2.proofs.ReadBack.{answer-reads-back}
@@ -31,6 +33,11 @@ module _ (E : Shelf) (s : Session) (q : Bytes) (R : Reached E s q) where
   signs-back p ps l =
       let e = answers-exact E (s .memory .inbox) (p ∷ ps) .each in
       answer-reads-back (answersTo E (s .memory .inbox) (p ∷ ps)) (omega (arith, e)) (omega (arith, e, l))
+
+  -- our FQ is given
+  nothing-left : s .phase ≡ leaving → Over s → s .out ≡ []
+  nothing-left p (fqGiven e o) = o
+  nothing-left p (closed e) = let y : leaving ≡ over = sym p ∙ e in let z : _≡_ {A = ℕ} 0 1 = cc in absurd (omega arith)
 
   -- THE PAGE
   pub next-byte : NextByte E q s
@@ -59,6 +66,8 @@ module _ (E : Shelf) (s : Session) (q : Bytes) (R : Reached E s q) where
         noBytes = λ L. no-bytes E s L;
         gives = λ room. handed-out s room;
         rooms = λ a b. two-rooms s a b;
-        nothing = λ o room. nothing-given s room (S .silent (over-ended s o));
+        why = λ L b n h. says-why E q s b L (S .soFar) n h;
+        quiet = λ L b e o rooms. quiet-end E q s b L (S .soFar) e o rooms;
+        nothing = λ p o rooms. into-nothing s rooms (nothing-left p o);
         farewell = λ e room. fq-given s room e;
       }

@@ -5,8 +5,8 @@ use mathlib.Core.List.{[], _∷_, _++_}
 use Prim.Native.Nat.{ℕ, suc, _+_, _≤_}
 use native.Mathlib.Omega.{arith}
 use lib.Dec.{eqb}
-use lib.ListN.{length, take, drop, length-take, take-append-drop, length-append}
-use lib.Seq.{take-nil, take-add, drop-drop}
+use lib.ListN.{length, drop, length-take, take-append-drop, length-append}
+use lib.Seq.{take-add, drop-drop}
 use borrow.Author.Tests.{eqb-true, not-true, not-false}
 use Rattle.grammar.specs.Bytes.{Bytes, null}
 use Rattle.grammar.specs.Refusals.{sessionEnded}
@@ -265,7 +265,3 @@ handed-out s room =
 pub fq-given : (s : Session) (room : ℕ) → s .phase ≡ leaving → ended (give s room) ≡ null (drop room (s .out))
 unfolding give
 fq-given s room e = ap (λ (p : Phase). endedIn p (drop room (s .out))) e
-
--- nothing waits where nothing is said: "Give on an ended session writes nothing"
-pub nothing-given : (s : Session) (room : ℕ) → s .out ≡ [] → handedOut s room ≡ []
-nothing-given s room e = ap (take room) e ∙ take-nil room

@@ -8,10 +8,11 @@ use Prim.Native.Nat.{ℕ, zero, suc, _+_}
 use native.Mathlib.Omega.{arith}
 use lib.Dec.{eqb}
 use lib.ListN.{length, drop}
-use lib.Seq.{drop-nil}
+use lib.Seq.{drop-drop}
 use borrow.Author.Tests.{eq-eqb, ne-eqb}
 use Rattle.grammar.specs.Bytes.{Bytes, null}
-use Rattle.grammar.specs.Turns.{Proposal}
+use Rattle.grammar.specs.Turns.{Proposal, fixedText, withCr, protocolError, checksumError}
+use Rattle.grammar.specs.Errors.{isSilent, errorText}
 use Rattle.grammar.specs.Scan.{Scan, Scanned, goes, scan, scanByte, scanFrom, onward}
 use Rattle.grammar.proofs.Basics.{no-both, and-false, both}
 use Rattle.grammar.proofs.Portions.{scan-append}
@@ -22,7 +23,7 @@ use Rattle.session.specs.Session.{speaking, turnMarks, answerMarks, Stepped, re
 use Rattle.session.proofs.Ways.{Passes, toEnd, toTurn, toAnswer, toTransfer, our-turn, our-answer, next-transfer, Judged, isWrong, hearsSid, hearsText, hearsPrompt, hearsProposal, hearsFF, hearsFQ, hearsEnd, hearsFs, At, Way, isRefused, dropsLf, growsLine, ignoresLine, hearsLine, readsOn, readsLast, way}
 use Rattle.session.specs.Calls.{Received, receive, give}
 use Rattle.demand2.specs.Room.{room}
-use Rattle.demand2.specs.Refusals.{isDropped, SoFar, Exact, Live}
+use Rattle.demand2.specs.Refusals.{isDropped, SoFar, Refusal, no2, no9, no11, reasonFor, Exact, Live}
 use Rattle.demand2.specs.Events.{Event, proposed}
 use Rattle.demand2.specs.OurTurn.{OurBlock}
 use Rattle.demand2.specs.Portions.{livesOn}
@@ -36,6 +37,23 @@ use Rattle.demand2.proofs.Portions.{ended-receive, no-bytes, receive-by
 null-nil : (o : Bytes) → null o ≡ true → o ≡ []
 null-nil [] e = refl
 null-nil (x ∷ o) e = cc
+
+-- the rest of a line that says why
+abbrev Parting : Bytes → Type 0
+Parting o = (n : Refusal) × (k : ℕ) × (o ≡ drop k (reasonFor n))
+
+nothing-left : {o : Bytes} → o ≡ [] → Parting o
+nothing-left e = (no11, 0, e)
+
+-- the reason for a number
+reason-of : (n : ℕ) → (r : Refusal) × (errorText n ≡ reasonFor r)
+unfolding errorText
+reason-of n = go (isSilent n) (eqb n 9)
+  where
+    go : (a b : Bool) → (r : Refusal) × (cond a [] (withCr (fixedText (cond b checksumError protocolError))) ≡ reasonFor r)
+    go true b = (no11, refl)
+    go false true = (no9, refl)
+    go false false = (no2, refl)
 
 -- facts that clash: `clash cc`
 clash : {A : Type 0} → true ≡ false → A
@@ -81,11 +99,11 @@ module _ (E : Shelf) where
   -- ---------------------------------------------------------------- the session after it, with no byte of a transfer
 
   refused-sound : (s : Session) (n : ℕ) → Sound E (refused s n .session) []
-  refused-sound s n = record { soFar = tt; between = λ e. refl; asked = λ is e. clash cc; silent = λ e. refl }
+  refused-sound s n = record { soFar = tt; between = λ e. refl; asked = λ is e. clash cc; parting = λ e. (reason-of n .0, 0, reason-of n .1) }
 
   settled-sound : (s : Session) (c : Bool) (o : Outcome) → Fair E o → Sound E (settled s c o .session) []
   settled-sound s c (refuses n) h = refused-sound s n
-  settled-sound s c (goesOn p m o) h = record { soFar = h .0; between = λ e. refl; asked = h .1; silent = h .2 }
+  settled-sound s c (goesOn p m o) h = record { soFar = h .0; between = λ e. refl; asked = h .1; parting = λ e. nothing-left (h .2 e) }
 
   -- ---------------------------------------------------------------- the bytes so far
 
@@ -144,12 +162,12 @@ module _ (E : Shelf) where
     way-sound h o (isRefused n k w) = heeds (refused s n .session) k (refuses-sound n)
     way-sound h o (dropsLf e) =
         subst (λ (c : Bool). Sound E (withAfterCr false s) (cond c q (with (withAfterCr false s)))) (sym e)
-        (record { soFar = h .soFar; between = h .between; asked = h .asked; silent = h .silent })
+        (record { soFar = h .soFar; between = h .between; asked = h .asked; parting = h .parting })
     way-sound h o (growsLine a w x y) =
         let k = subst (Sound E s) (h .between (ap owed (w .awaited))) h in
-        after-line a w (o .session) (record { soFar = k .soFar; between = k .between; asked = k .asked; silent = k .silent })
+        after-line a w (o .session) (record { soFar = k .soFar; between = k .between; asked = k .asked; parting = k .parting })
     way-sound h o (ignoresLine a w x y) =
-        after-line a w (o .session) (record { soFar = tt; between = λ e. refl; asked = λ is e. h .asked is (w .awaited ∙ e); silent = λ e. refl })
+        after-line a w (o .session) (record { soFar = tt; between = λ e. refl; asked = λ is e. h .asked is (w .awaited ∙ e); parting = λ e. nothing-left refl })
     way-sound h o (hearsLine a w x y z j) = after-line a w (settled s true z .session) (settled-sound s true z (judged-fair a (s .memory) (s .part) z j))
     way-sound h o (readsOn p ps sc on w e) =
         let f = ap (λ (n : ℕ). scanByte n sc b) (sym (room-is E (s .memory))) ∙ e in
@@ -160,7 +178,7 @@ module _ (E : Shelf) where
           soFar = more-so-far (room E (s .memory .inbox)) p sc on q b (subst (λ (r : Phase). SoFar E r (s .memory) q) (w .awaited) (h .soFar)) f;
           between = λ x. absurd (omega arith);
           asked = λ is e. clash cc;
-          silent = λ x. absurd (no-both false x refl);
+          parting = λ x. absurd (no-both false x refl);
         }))
     way-sound h o (readsLast p ps sc g x w e) =
         let m = keptIn (s .memory) (messageOf p (record { heading = g; body = x })) in
@@ -203,13 +221,13 @@ module _ (E : Shelf) where
   give-sound : (s : Session) (q : Bytes) (room : ℕ) → Sound E s q → Sound E (give s room) q
   unfolding give
   give-sound s q room h =
-      record { soFar = h .soFar; between = h .between; asked = h .asked; silent = λ e. go (s .phase) (s .out) e (h .silent) }
+      record { soFar = h .soFar; between = h .between; asked = h .asked; parting = λ e. go (s .phase) (s .out) e (h .parting) }
     where
-      go : (p : Phase) (o : Bytes) → endedIn p (drop room o) ≡ true → (endedIn p o ≡ true → o ≡ []) → drop room o ≡ []
-      go (aLine a) o e k = cc
-      go (awaitsTransfer p ps sc) o e k = cc
-      go leaving o e k = null-nil (drop room o) e
-      go over o e k = ap (drop room) (k refl) ∙ drop-nil room
+      go : (p : Phase) (o : Bytes) → endedIn p (drop room o) ≡ true → (endedIn p o ≡ true → Parting o) → Parting (drop room o)
+      go (aLine a) o e k = absurd (no-both false e refl)
+      go (awaitsTransfer p ps sc) o e k = absurd (no-both false e refl)
+      go leaving o e k = nothing-left (null-nil (drop room o) e)
+      go over o e k = let x = k refl in (x .0, x .1 + room, ap (drop room) (x .2) ∙ drop-drop room (x .1) (reasonFor (x .0)))
 
   open-sound : (caller : Bool) (states : List ℕ) → Sound E (opened caller states) []
   open-sound caller states =
@@ -217,7 +235,7 @@ module _ (E : Shelf) where
         soFar = tt;
         between = λ e. refl;
         asked = λ is e. clash cc;
-        silent = λ e. absurd (no-both false e refl);
+        parting = λ e. absurd (no-both false e refl);
       }
 
   -- ---------------------------------------------------------------- all of them

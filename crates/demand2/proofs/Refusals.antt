@@ -12,6 +12,7 @@ use borrow.Author.Tests.{eqb-true, eqb-false, ltb-true, ltb-false, not-true}
 use Rattle.grammar.specs.Bytes.{Bytes, CR}
 use Rattle.grammar.specs.Lines.{trim}
 use Rattle.grammar.specs.Turns.{Proposal, TurnLine, saysFF, saysFQ, endsBlock, notAllowed, proposes, endsSummed, readTurnLine}
+use Rattle.grammar.specs.Errors.{errorText}
 use Rattle.grammar.specs.Transfers.{Parsed, parse}
 use Rattle.grammar.specs.Scan.{Scan, Scanned, goes, got, malformed, wrongSum, noRoom, scan, scanByte, bodyOf, isBodyByte}
 use Rattle.grammar.proofs.Basics.{and2, no-both, and-false}
@@ -21,7 +22,7 @@ use Rattle.session.specs.Choices.{Shelf}
 use Rattle.session.specs.Session.{Awaited, awaitsTurn, Phase, aLine, awaitsTransfer, leaving, over, Session, between, Outcome, turnMarks, answerMarks, Stepped, roomFor, step, ended, endedIn}
 use Rattle.session.proofs.Ways.{Wrong, noSid, noF, noTurnLine, ffAfterFf, ffInBlock, fqFirst, fqInBlock, emptyBlock, emptySummed, tooMany, wrongHex, noAnswer, EndsBlock as Ends, bare as justEnds, summed as endsWith, Judged, isWrong, hearsSid, hearsText, hearsPrompt, hearsProposal, hearsFF, hearsFQ, hearsEnd, hearsFs, At, Why, waits, hasLeft, isOver, tooLong, unread, unsummed, unkept, Way, isRefused, dropsLf, growsLine, ignoresLine, hearsLine, readsOn, readsLast, way}
 use Rattle.demand2.specs.Room.{room}
-use Rattle.demand2.specs.Refusals.{Heeded, awaitsLine, WholeLine, isAllowed, isMiscounted, beginsFs, inTurn, forAnswer, SoFar, TransferByte, Refusal, no2, no3, no4, no5, no6, no7, no8, no9, no10, no11, no13, numberOf, Situation, Exact, Live}
+use Rattle.demand2.specs.Refusals.{Heeded, awaitsLine, WholeLine, isAllowed, isMiscounted, beginsFs, inTurn, forAnswer, SoFar, TransferByte, Refusal, no2, no3, no4, no5, no6, no7, no8, no9, no10, no11, no13, numberOf, Situation, reasonFor, Exact, Live}
 use Rattle.demand2.specs.Events.{EndsBlock, bare, summed, Event, lfGoes, lineGrows, ignored, sidOfCaller, sidOfCalled, textLine, prompt, proposal, ffTurn, fqTurn, blockEnd, fsLineComes, transferGrows, transferWhole}
 use Rattle.demand2.proofs.Room.{room-is, at-full, within-fits}
 use Rattle.demand2.proofs.Marks.{answer-marks, turn-marks}
@@ -206,6 +207,21 @@ some-number no10 = (omega arith, λ e. omega arith)
 some-number no11 = (omega arith, λ e. omega arith)
 some-number no13 = (omega arith, λ e. omega arith)
 
+-- the model says it in the same words
+pub reason-is : (n : Refusal) → errorText (numberOf n) ≡ reasonFor n
+unfolding errorText
+reason-is no2 = refl
+reason-is no3 = refl
+reason-is no4 = refl
+reason-is no5 = refl
+reason-is no6 = refl
+reason-is no7 = refl
+reason-is no8 = refl
+reason-is no9 = refl
+reason-is no10 = refl
+reason-is no11 = refl
+reason-is no13 = refl
+
 -- REFUSALS ARE EXACT
 pub exact : (E : Shelf) (q : Bytes) (s : Session) (b : ℕ) → Live s → SoFar E (s .phase) (s .memory) q → Exact E q s b
 exact E q s b L S = record { given = given; only = only; none = none₀; else = else; leaves = leaves }
@@ -213,8 +229,8 @@ exact E q s b L S = record { given = given; only = only; none = none₀; else = 
     given : (n : Refusal) → Situation E q s b n → step E s b .answer ≡ numberOf n
     given n h = ap (λ (x : Stepped). x .answer) (refuses-with E s b q S n h)
 
-    leaves : (n : Refusal) → Situation E q s b n → step E s b .session ≡ between over false [] (s .memory)
-    leaves n h = ap (λ (x : Stepped). x .session) (refuses-with E s b q S n h)
+    leaves : (n : Refusal) → Situation E q s b n → step E s b .session ≡ between over false (reasonFor n) (s .memory)
+    leaves n h = ap (λ (x : Stepped). x .session) (refuses-with E s b q S n h) ∙ ap (λ (o : Bytes). between over false o (s .memory)) (reason-is n)
 
     zero-event : (t : Session) → Event E q s b t → step E s b .answer ≡ 0
     zero-event t h = ap (λ (x : Stepped). x .answer) (happens E q s b S t h)

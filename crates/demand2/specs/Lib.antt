@@ -21,6 +21,8 @@
 -- a consumed count not equal to the   Portions.counted (all, or up to and with the byte that ended the session), count-most, two-portions
 -- bytes dealt with                    (counts of portions add up), no-bytes; Ended.twelve (count 0)
 -- a given count not equal to them     Portions.handed-out (`count`), two-rooms
+-- one that says not why, or says more  Refusals.exact (`leaves`), Reasons.says-why (the line, in whatever rooms, and 12 for what arrives), quiet-end (an end
+-- after the end                       with 0 is silent), Reached.reached-sound (`parting`: after an end nothing but the rest of one line)
 -- one that does something else with   Refusals.complete with Events.happens: a byte that is answered 0 is one of the fourteen events, and the
 -- a byte                              session after it is the event's. Portions.receive-byte: receive on one byte is its step; with two-portions this
 --                                     settles receive
@@ -35,6 +37,7 @@ pub mod Events
 pub mod OurTurn
 pub mod OurAnswers
 pub mod Portions
+pub mod Reasons
 pub mod Units
 pub mod Opening
 pub mod Reached

@@ -11,7 +11,7 @@ use Rattle.grammar.specs.Turns.{Proposal}
 use Rattle.grammar.specs.Answers.{Sign, readFs}
 use Rattle.session.specs.Choices.{Shelf, answersTo}
 use Rattle.session.specs.Session.{awaitsAnswer, aLine, leaving, Memory, Session, moved, step, ended}
-use Rattle.session.specs.Calls.{receive, give, handedOut}
+use Rattle.session.specs.Calls.{receive, give}
 use Rattle.demand2.specs.Limits.{blockLimit, levelInForce}
 use Rattle.demand2.specs.Refusals.{awaitsLine, WholeLine, Refusal, Situation, Exact, Over, Live, LiveExact, Exact12}
 use Rattle.demand2.specs.Marks.{AnswerLeaves, TurnLeaves}
@@ -19,6 +19,7 @@ use Rattle.demand2.specs.Events.{Event, proposed}
 use Rattle.demand2.specs.OurTurn.{OurBlock, TurnExact}
 use Rattle.demand2.specs.OurAnswers.{AnswersExact}
 use Rattle.demand2.specs.Portions.{ByteReceived, andThen, Counted, GivenTogether, GivenOut}
+use Rattle.demand2.specs.Reasons.{handedInto, SaysWhy}
 use Rattle.demand2.specs.Units.{LineWhole, TransferKept}
 use Rattle.demand2.specs.Reached.{Sound, AnswerExact}
 use Rattle.demand2.specs.ReadBack.{AnswerReadsBack}
@@ -30,7 +31,7 @@ pub record EventExact (E : Shelf) (q : Bytes) (s : Session) (b : ℕ) : Type 0 w
 
 -- E: what the session was opened with; q: the bytes so far of the transfer under way; s: the session just before the byte
 pub record NextByte (E : Shelf) (q : Bytes) (s : Session) : Type 0 where
-  -- q is what the reading of the transfer has come from; our block is asked for; after the end nothing waits
+  -- q is what the reading of the transfer has come from; our block is asked for; after the end nothing waits but the rest of one line
   pub sound : Sound E s q
   -- ---------------------------------------------------------------- THE NEXT BYTE
   -- 12: "receive on an ended session", and which sessions have ended
@@ -68,6 +69,9 @@ pub record NextByte (E : Shelf) (q : Bytes) (s : Session) : Type 0 where
   -- "It writes as many waiting bytes as fit", in whatever rooms
   pub gives : (room : ℕ) → GivenOut s room
   pub rooms : (a b : ℕ) → GivenTogether s a b
-  -- "Give on an ended session writes nothing"; "Our FQ ends it when give has handed out its CR."
-  pub nothing : Over s → (room : ℕ) → handedOut s room ≡ []
+  -- after a refusal the line that says why, and 12 for all that arrives; "01's silence after an end holds after an end with 0 or 11" (02, Q-1)
+  pub why : Live s → (b : ℕ) (n : Refusal) → Situation E q s b n → SaysWhy E s b n
+  pub quiet : Live s → (b : ℕ) → step E s b .answer ≡ 0 → Over (step E s b .session) → (rooms : List ℕ) → handedInto (step E s b .session) rooms ≡ []
+  -- "Our FQ ends it when give has handed out its CR.", and nothing is given after it
+  pub nothing : s .phase ≡ leaving → Over s → (rooms : List ℕ) → handedInto s rooms ≡ []
   pub farewell : s .phase ≡ leaving → (room : ℕ) → ended (give s room) ≡ null (drop room (s .out))

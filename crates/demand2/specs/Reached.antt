@@ -5,14 +5,14 @@ use mathlib.Core.Bool.{Bool, true, cond, not, _&&_}
 use mathlib.Core.List.{List, [], _∷_, _++_}
 use Prim.Native.Nat.{ℕ, suc}
 use lib.Dec.{eqb}
-use lib.ListN.{length}
+use lib.ListN.{length, drop}
 use Rattle.grammar.specs.Bytes.{Bytes}
 use Rattle.grammar.specs.Answers.{Sign}
 use Rattle.session.specs.Choices.{Shelf}
 use Rattle.session.specs.Session.{awaitsAnswer, Phase, aLine, awaitsTransfer, leaving, over, Memory, Session, opened, ended}
 use Rattle.session.specs.Calls.{receive, give}
 use Rattle.demand2.specs.Limits.{recordLimit}
-use Rattle.demand2.specs.Refusals.{isDropped, SoFar}
+use Rattle.demand2.specs.Refusals.{isDropped, SoFar, Refusal, reasonFor}
 use Rattle.demand2.specs.Marks.{isIn, withSign, AnswerLeaves}
 use Rattle.demand2.specs.OurTurn.{OurBlock}
 
@@ -45,8 +45,8 @@ pub record Sound (E : Shelf) (s : Session) (q : Bytes) : Type 0 where
   pub between : owed (s .phase) ≡ 0 → q ≡ []
   -- the records whose FS line is awaited are those of our block: places of the table in order, each waiting and not deferred
   pub asked : (is : List ℕ) → s .phase ≡ aLine (awaitsAnswer is) → OurBlock (E .table) (s .memory .framed) (s .memory .states) (s .memory .deferred) is
-  -- after the end nothing waits: "After a refusal nothing more is sent"; "Give on an ended session writes nothing"
-  pub silent : ended s ≡ true → s .out ≡ []
+  -- after the end nothing is ever given but the rest of the one line that says why (02, Q-1)
+  pub parting : ended s ≡ true → (n : Refusal) × (k : ℕ) × (s .out ≡ drop k (reasonFor n))
 
 -- The partner's valid FS line in such a session: these signs answer our block of the records at `is`, and the memory after it is as Marks says, for all
 -- 64 flags; no record is given two signs.

@@ -235,14 +235,29 @@ Situation E q s b no10 = NoRoom E s b
 Situation E q s b no11 = BytesWait s b
 Situation E q s b no13 = WrongBlockSum s b
 
+-- "After refusals 2 to 10, give must still hand over one line and CR: `*** Checksum error` for 9, `*** Protocol error` for the others."; "later refusals of
+-- a partner's line count as protocol errors"; nothing after 11 (02, Q-1)
+abbrev pub reasonFor : Refusal → Bytes
+reasonFor no2 = text "*** Protocol error\r"
+reasonFor no3 = text "*** Protocol error\r"
+reasonFor no4 = text "*** Protocol error\r"
+reasonFor no5 = text "*** Protocol error\r"
+reasonFor no6 = text "*** Protocol error\r"
+reasonFor no7 = text "*** Protocol error\r"
+reasonFor no8 = text "*** Protocol error\r"
+reasonFor no9 = text "*** Checksum error\r"
+reasonFor no10 = text "*** Protocol error\r"
+reasonFor no11 = []
+reasonFor no13 = text "*** Protocol error\r"
+
 -- THE STATEMENT, for a byte that comes to a live session: each number exactly in its situation, 0 exactly where none of them holds; and
--- "Table marks and kept messages stand as they did just before the refused byte", nothing waits, the session is over.
+-- "Table marks and kept messages stand as they did just before the refused byte", nothing waits but the line that says why, the session is over.
 pub record Exact (E : Shelf) (q : Bytes) (s : Session) (b : ℕ) : Type 0 where
   pub given : (n : Refusal) → Situation E q s b n → step E s b .answer ≡ numberOf n
   pub only : (n : Refusal) → step E s b .answer ≡ numberOf n → Situation E q s b n
   pub none : step E s b .answer ≡ 0 → (n : Refusal) → Situation E q s b n → ⊥
   pub else : ((n : Refusal) → Situation E q s b n → ⊥) → step E s b .answer ≡ 0
-  pub leaves : (n : Refusal) → Situation E q s b n → step E s b .session ≡ between over false [] (s .memory)
+  pub leaves : (n : Refusal) → Situation E q s b n → step E s b .session ≡ between over false (reasonFor n) (s .memory)
 
 -- ---------------------------------------------------------------- 12
 

@@ -1,23 +1,23 @@
 -- THE INVARIANT between the session and the log: fed with the bytes that wait for give, the log's course is the one that the session's phase
--- stands for; its book is the session's; and the session holds what came of the partner's unit. Or the session has ended, and the books agree.
-use mathlib.Core.Path.{_≡_, refl, sym, ap, _∙_}
-use mathlib.Core.Bool.{Bool, true}
+-- stands for; its book is the session's; and the session holds what came of the partner's unit. Or the session was refused a byte: the books agree, and
+-- a byte of ours, of the line that says why, is none that the log awaits.
+use mathlib.Core.Path.{_≡_, refl, sym, _∙_, subst}
+use mathlib.Core.Bool.{Bool, false, cond}
 use mathlib.Core.Option.{Option, none, some}
-use mathlib.Core.List.{List, [], map}
+use mathlib.Core.List.{List, [], _∷_, map}
 use Prim.Native.Nat.{ℕ, _≤_}
 use native.Mathlib.Omega.{arith}
 use lib.ListN.{length, take, drop, take-append-drop}
-use lib.Seq.{take-nil, drop-nil}
 use Rattle.grammar.specs.Bytes.{Bytes}
 use Rattle.grammar.specs.Turns.{proposes}
 use Rattle.grammar.specs.Scan.{goes}
 use Rattle.grammar.proofs.Refusal.{Reach}
 use Rattle.mail.specs.Mail.{Record}
 use Rattle.session.specs.Choices.{Shelf}
-use Rattle.session.specs.Session.{Awaited, awaitsSid, awaitsPrompt, awaitsTurn, awaitsAnswer, Phase, aLine, awaitsTransfer, leaving, Memory, Session, roomFor, ended}
+use Rattle.session.specs.Session.{Awaited, awaitsSid, awaitsPrompt, awaitsTurn, awaitsAnswer, Phase, aLine, awaitsTransfer, leaving, Memory, Session, roomFor}
 use Rattle.session.specs.Calls.{give, handedOut}
-use Rattle.log.specs.Log.{gave, Theirs, theirText, theirSid, theirTurn, theirAnswer, Next, theySay, theirTransfer, Course, Book}
-use Rattle.log.specs.Fed.{Fed, fedAll}
+use Rattle.log.specs.Log.{gave, Theirs, theirText, theirSid, theirTurn, theirAnswer, Next, theySay, theirTransfer, Course, Book, isOurs}
+use Rattle.log.specs.Fed.{Fed, unitByte, outOfOrder, fedAll}
 use Rattle.log.proofs.Spoken.{spoken, spoken-append, spoken-none, gave-spoken}
 
 -- the line that is awaited, for the log
@@ -68,8 +68,8 @@ pub record Live (E : Shelf) (s : Session) (f : Fed) : Type 0 where
   pub pending : Pending E (s .memory) (s .phase) (s .part) unit
 
 pub record Gone (s : Session) (f : Fed) : Type 0 where
-  pub done : ended s ≡ true
-  pub silent : s .out ≡ []
+  pub done : s .phase ≡ Phase.over
+  pub theirs : isOurs (f .log .course .next) ≡ false
   pub book : f .log .book ≡ bookOf (s .memory)
 
 pub data Inv (E : Shelf) (s : Session) (f : Fed) : Type 0 where
@@ -105,16 +105,21 @@ give-live E s f room h = go (spoken T md (some (f .log .course, f .raw)) (take r
         rw (gave-spoken T (take room (s .out)) f p e)
         (live (record { unit = h .unit; course = k; book = h .book; afterCr = h .afterCr; pending = h .pending }))
 
+-- bytes of ours that the log does not await change nothing in its book, and it awaits none after them
+abbrev Aside : Book → Fed → Type 0
+Aside k g = (isOurs (g .log .course .next) ≡ false) × (g .log .book ≡ k)
+
+gave-out : (T : List Record) (o : Bytes) (f : Fed) → isOurs (f .log .course .next) ≡ false → Aside (f .log .book) (fedAll T f (map gave o))
+gave-out T [] f e = (e, refl)
+gave-out T (b ∷ o) f e =
+    subst (λ (c : Bool). Aside (f .log .book) (fedAll T (cond c (unitByte T (f .log) (f .raw) b (f .log .afterCr)) (outOfOrder f)) (map gave o))) (sym e)
+    (gave-out T o (outOfOrder f) refl)
+
 give-gone : (E : Shelf) (s : Session) (f : Fed) (room : ℕ) → Gone s f → Inv E (give s room) (fedAll (E .table) f (map gave (handedOut s room)))
 unfolding give
 give-gone E s f room h =
-    rw (ap (take room) (h .silent) ∙ take-nil room)
-    (gone
-    (record {
-      done = rw (h .silent) (rw (drop-nil {A = ℕ} room) (rw (h .silent) at (h .done)));
-      silent = rw (h .silent) (drop-nil room);
-      book = h .book;
-    }))
+    let k = gave-out (E .table) (take room (s .out)) f (h .theirs) in
+    gone (record { done = h .done; theirs = k .0; book = k .1 ∙ h .book })
 
 pub give-inv : (E : Shelf) (s : Session) (f : Fed) (room : ℕ) → Inv E s f → Inv E (give s room) (fedAll (E .table) f (map gave (handedOut s room)))
 give-inv E s f room (live h) = give-live E s f room h

@@ -5,6 +5,7 @@ use Rattle.grammar.specs.Fields.{isAt, isBid, isCall, isSize, readFrom, hexDigi
 use Rattle.grammar.specs.Lines.{trim, isComment, isPrompt}
 use Rattle.grammar.specs.Sid.{levelInForce, readSid}
 use Rattle.grammar.specs.Turns.{readProposal, readSummedEnd, readTurnLine, proposalLine}
+use Rattle.grammar.specs.Errors.{errorText}
 use Rattle.grammar.specs.Answers.{digitCount, readFs, signAt, fsLine}
 use Rattle.grammar.specs.Transfers.{parse, readTransfer, writeTransfer}
 use Rattle.mail.specs.Mail.{turnText, transfersText}
@@ -15,10 +16,10 @@ use Rattle.demand3.specs.Sessions.{Trial, Left, left, logged, sessions}
 
 -- by the session
 pub as-left : map (λ (e : Trial × Left). left (e .0)) sessions ≡ map (λ (e : Trial × Left). e .1) sessions
-unfolding isAt isBid isCall isSize readFrom hexDigit twoHex words writeNum sameBid trim isComment isPrompt readSid levelInForce readProposal readSummedEnd readTurnLine proposalLine readFs signAt digitCount fsLine parse readTransfer writeTransfer turnText transfersText chosen answersTo receive give
+unfolding isAt isBid isCall isSize readFrom hexDigit twoHex words writeNum sameBid trim isComment isPrompt readSid levelInForce readProposal readSummedEnd readTurnLine proposalLine errorText readFs signAt digitCount fsLine parse readTransfer writeTransfer turnText transfersText chosen answersTo receive give
 as-left = refl
 
 -- and by the log
 pub as-logged : map (λ (e : Trial × Left). logged (e .0)) sessions ≡ map (λ (e : Trial × Left). e .1) sessions
-unfolding isAt isBid isCall isSize readFrom hexDigit twoHex words writeNum sameBid trim isComment isPrompt readSid levelInForce readProposal readSummedEnd readTurnLine proposalLine readFs signAt digitCount fsLine parse readTransfer writeTransfer turnText transfersText chosen answersTo receive give said log
+unfolding isAt isBid isCall isSize readFrom hexDigit twoHex words writeNum sameBid trim isComment isPrompt readSid levelInForce readProposal readSummedEnd readTurnLine proposalLine errorText readFs signAt digitCount fsLine parse readTransfer writeTransfer turnText transfersText chosen answersTo receive give said log
 as-logged = refl

@@ -9,7 +9,7 @@ use lib.Dec.{eqb, ltb}
 use lib.ListN.{length, length-append, length-map}
 use borrow.Author.Tests.{ltb-true, le-leb}
 use Rattle.grammar.specs.Bytes.{Bytes, CR, LF}
-use Rattle.grammar.specs.Refusals.{noForwarding, proposalCount, wrongBlockSum}
+use Rattle.grammar.specs.Refusals.{lineTooLong, noForwarding, proposalCount, badTransfer, badChecksum, storeFull, bytesWait, sessionEnded, wrongBlockSum}
 use Rattle.grammar.specs.Fields.{Form, plain, message, file}
 use Rattle.grammar.specs.Lines.{ends, grows, overruns, trim, isComment, isPrompt}
 use Rattle.grammar.specs.Sid.{readSid, hasFeature, framed}
@@ -20,7 +20,7 @@ use Rattle.grammar.specs.Scan.{Scan, Scanned, goes, got, malformed, wrongSum, n
 use Rattle.grammar.proofs.Refusal.{Reach, reach-step, from, contentOf, read-as}
 use Rattle.mail.specs.Mail.{Record, messageOf, turnText, transfersText, accepted}
 use Rattle.session.specs.Choices.{Shelf, answersTo}
-use Rattle.session.specs.Session.{Awaited, awaitsSid, awaitsPrompt, awaitsTurn, awaitsAnswer, Phase, aLine, newTurn, awaitsTransfer, leaving, Memory, Session, withSid, withPart, withAfterCr, between, Outcome, refuses, goesOn, speaking, ourTurn as speakNow, turnMarks, answering, answered, turnJudged, answerMarks, answerJudged, afterSid, sidJudged, textJudged, awaitedJudged, lineJudged, refused, settled, lineMoved, keptIn, nextTransfer, transferMoved, roomFor, lineStep, phaseStep, freeStep, step, ended}
+use Rattle.session.specs.Session.{Awaited, awaitsSid, awaitsPrompt, awaitsTurn, awaitsAnswer, Phase, aLine, newTurn, awaitsTransfer, leaving, Memory, Session, withSid, withPart, withAfterCr, between, Outcome, refuses, goesOn, speaking, ourTurn as speakNow, turnMarks, answering, answered, turnJudged, answerMarks, answerJudged, afterSid, sidJudged, textJudged, awaitedJudged, lineJudged, refused, settled, lineMoved, keptIn, nextTransfer, transferMoved, roomFor, lineStep, phaseStep, freeStep, step, ended, endedIn}
 use Rattle.session.specs.Session
 use Rattle.log.specs.Log.{ourNewTurn, took, ourSidLine, ourAnswer, theirText, Next, weSay, theySay, theirTransfer, Course, Book, Log, isOurs, saidOn, inOrder, said, theirsOwed, placesOf, ourProposed, Effect, effect, summedEnd, checked, rawWith, theirSaid, theirTurnLine, theirAnswered, theirSidRead, theirRead, theirLine, judgedLine}
 use Rattle.log.specs.Log
@@ -33,9 +33,9 @@ use Rattle.demand3.proofs.Effects.{marked-alike, declined-alike, accept
 use Rattle.demand3.proofs.Choice.{Sound, ourChoice, proposalsAt}
 use Rattle.demand3.proofs.Inv.{lineOf, Few, nextOf, courseOf, bookOf, no-line, Pending, Live, Inv, live, gone}
 
--- a refusal that leaves the log's book; whatever its number, the session is the same
-refusal : (E : Shelf) (s : Session) (f : Fed) → f .log .book ≡ bookOf (s .memory) → Inv E (refused s 0 .session) f
-refusal E s f h = gone (record { done = refl; silent = refl; book = h })
+-- a refusal with the number n that leaves the log's book; the log awaits no byte of ours
+refusal : (E : Shelf) (s : Session) (n : ℕ) (f : Fed) → isOurs (f .log .course .next) ≡ false → f .log .book ≡ bookOf (s .memory) → Inv E (refused s n .session) f
+refusal E s n f t h = gone (record { done = refl; theirs = t; book = h })
 
 -- ---------------------------------------------------------------- what we say
 
@@ -118,9 +118,9 @@ module _ (E : Shelf) (S : Sound E) (part : Bytes) (a : Bool) (m : Memory) where
   AfterLine : Awaited → Outcome → Effect → Type 0
   AfterLine p o e = Inv E (settled (idle (aLine p) part a m) true o .session) (effected e)
 
-  wrong-line : (p : Awaited) (n : ℕ) (e : Effect) → e .book ≡ bookOf m → AfterLine p (refuses n) e
+  wrong-line : (p : Awaited) (n : ℕ) (e : Effect) → isOurs (e .course .next) ≡ false → e .book ≡ bookOf m → AfterLine p (refuses n) e
   unfolding AfterLine
-  wrong-line p n e h = refusal E (idle (aLine p) part a m) (effected e) h
+  wrong-line p n e t h = refusal E (idle (aLine p) part a m) n (effected e) t h
 
   -- with nothing to say
   quiet : (p : Awaited) (q : Phase) (k : Memory) → Pending E k q [] [] → AfterLine p (goesOn q k []) (effect (bookOf k) (k .sending) (nextOf q))
@@ -128,7 +128,7 @@ module _ (E : Shelf) (S : Sound E) (part : Bytes) (a : Bool) (m : Memory) where
   quiet p q k h = says E (idle (aLine p) part a m) true q k [] (courseOf q k) (spoken-nil (E .table) (k .framed) (some (courseOf q k, []))) h
 
   sid-line : (c : Bool) (r : Option (List ℕ)) → AfterLine (awaitsSid c) (sidJudged c m r) (theirSidRead c (bookOf m) (m .sending) r)
-  sid-line c none = wrong-line _ _ _ refl
+  sid-line c none = wrong-line _ _ _ refl refl
   sid-line c (some fs) =
       subst
       (λ (v : Level).
@@ -147,7 +147,7 @@ module _ (E : Shelf) (S : Sound E) (part : Bytes) (a : Bool) (m : Memory) where
           (cond d (effect (bookOf k) (m .sending) (theySay (Log.afterTheirSid c))) (effect (bookOf m) (m .sending) Next.over))
       go true true = quiet _ (aLine awaitsPrompt) k (no-line, tt)
       go false true = quiet _ (newTurn false) k (no-line, omega arith)
-      go c false = wrong-line _ _ _ refl
+      go c false = wrong-line _ _ _ refl refl
 
   text-line : (c : Bool)
       → AfterLine awaitsPrompt (textJudged E c m) (cond c (effect (bookOf m) (m .sending) (weSay ourSidLine)) (effect (bookOf m) (m .sending) (theySay theirText)))
@@ -184,37 +184,37 @@ module _ (E : Shelf) (S : Sound E) (part : Bytes) (a : Bool) (m : Memory) where
       five ff ps q true e =
           rw (map-snoc ps q)
           (quiet _ (aLine (awaitsTurn ff (ps ++ (q ∷ [])) (raw ++ withCr part))) m (no-line, simp length-append (omega (arith, ltb-true (length ps) 5 e))))
-      five ff ps q false e = wrong-line _ _ _ refl
+      five ff ps q false e = wrong-line _ _ _ refl refl
 
       -- the checksum is right or wrong
       summed-end : (ff : Bool) (p : Proposal) (ps : List Proposal) → length (p ∷ ps) ≤ 5 → (c : Bool)
           → AfterLine (awaitsTurn ff (p ∷ ps) raw) (cond c (answered E (p ∷ ps) (turnMarks m)) (refuses wrongBlockSum)) (says-now ff (p ∷ ps) (summedEnd c))
       summed-end ff p ps h true = after-block _ p ps h
-      summed-end ff p ps h false = wrong-line _ _ _ refl
+      summed-end ff p ps h false = wrong-line _ _ _ refl refl
 
       summed-alone : (ff c : Bool) (n : ℕ) → AfterLine (awaitsTurn ff [] raw) (refuses n) (says-now ff [] (summedEnd c))
-      summed-alone ff true n = wrong-line _ _ _ refl
-      summed-alone ff false n = wrong-line _ _ _ refl
+      summed-alone ff true n = wrong-line _ _ _ refl refl
+      summed-alone ff false n = wrong-line _ _ _ refl refl
 
       go : (ff : Bool) (ps : List Proposal) (l : TurnLine) → length ps ≤ 5
           → AfterLine (awaitsTurn ff ps raw) (turnJudged E l ff ps raw part m) (says-now ff ps (checked raw l))
-      go true [] saysFF h = wrong-line _ _ _ refl
+      go true [] saysFF h = wrong-line _ _ _ refl refl
       go false [] saysFF h = after-ff _
-      go ff (p ∷ ps) saysFF h = wrong-line _ _ _ refl
+      go ff (p ∷ ps) saysFF h = wrong-line _ _ _ refl refl
       go true [] saysFQ h = quiet _ Phase.over m tt
-      go false [] saysFQ h = wrong-line _ _ _ refl
-      go ff (p ∷ ps) saysFQ h = wrong-line _ _ _ refl
-      go ff [] endsBlock h = wrong-line _ _ _ refl
+      go false [] saysFQ h = wrong-line _ _ _ refl refl
+      go ff (p ∷ ps) saysFQ h = wrong-line _ _ _ refl refl
+      go ff [] endsBlock h = wrong-line _ _ _ refl refl
       go ff (p ∷ ps) endsBlock h = after-block _ p ps h
-      go ff [] notAllowed h = wrong-line _ _ _ refl
-      go ff (p ∷ ps) notAllowed h = wrong-line _ _ _ refl
+      go ff [] notAllowed h = wrong-line _ _ _ refl refl
+      go ff (p ∷ ps) notAllowed h = wrong-line _ _ _ refl refl
       go ff ps (proposes q) h = five ff ps q (ltb (length ps) 5) refl
       go ff [] (endsSummed n) h = summed-alone ff (sumRight raw n) _
       go ff (p ∷ ps) (endsSummed n) h = summed-end ff p ps h (sumRight raw n)
 
   answer-line : (is : List ℕ) (n : ℕ) (r : Option (List Sign)) → AfterLine (awaitsAnswer is) (answerJudged E is m n r) (theirAnswered is (bookOf m) (m .sending) r)
   unfolding AfterLine
-  answer-line is n none = wrong-line (awaitsAnswer is) n _ refl
+  answer-line is n none = wrong-line (awaitsAnswer is) n _ refl refl
   answer-line is n (some ss) =
       rw (← declined-alike is ss (m .states)) (rw (← accepted-alike ss is)
       (says E (idle (aLine (awaitsAnswer is)) part a m) true (newTurn false) (answerMarks is ss m) (transfersText (E .table) (accepted ss is))
@@ -259,7 +259,7 @@ module _ (E : Shelf) (S : Sound E) (part : Bytes) (a : Bool) (m : Memory) where
             afterCr = refl;
             pending = ((refl, simp length-append (omega (arith, ltb-true (length part) 256 e))), f);
           })
-      go false false e = refusal E (idle (aLine p) part a m) (twin (aLine p) false m (part ++ (b ∷ []))) refl
+      go false false e = refusal E (idle (aLine p) part a m) lineTooLong (twin (aLine p) false m (part ++ (b ∷ []))) refl refl
 
   -- a byte of a transfer
   next-transfer : (p : Phase) (c : Bool) (ps : List Proposal) (k : Memory)
@@ -297,16 +297,16 @@ module _ (E : Shelf) (S : Sound E) (part : Bytes) (a : Bool) (m : Memory) where
           (rw (plain-alike (p .form))
           (rw (← message-alike p (record { heading = t; body = x }))
           (next-transfer (awaitsTransfer p ps sc) (Log.isPlain (p .form)) ps (keptIn m (messageOf p (record { heading = t; body = x }))))))
-      go malformed e k = rw e (refusal E (idle here part a m) (twin here false m (u ++ (b ∷ []))) refl)
-      go wrongSum e k = rw e (refusal E (idle here part a m) (twin here false m (u ++ (b ∷ []))) refl)
-      go noRoom e k = rw e (refusal E (idle here part a m) (twin here false m (u ++ (b ∷ []))) refl)
+      go malformed e k = rw e (refusal E (idle here part a m) badTransfer (twin here false m (u ++ (b ∷ []))) refl refl)
+      go wrongSum e k = rw e (refusal E (idle here part a m) badChecksum (twin here false m (u ++ (b ∷ []))) refl refl)
+      go noRoom e k = rw e (refusal E (idle here part a m) storeFull (twin here false m (u ++ (b ∷ []))) refl refl)
 
   phase-byte : (p : Phase) (u : Bytes) (b : ℕ) → Pending E m p part u
       → Inv E (phaseStep E p (idle p part a m) b .session) (tookFree (E .table) (twin p a m u) b)
   phase-byte (aLine p) u b h = rw (h .0 .0) (line-byte p b (h .0 .1) (h .1))
   phase-byte (awaitsTransfer p ps sc) u b h = transfer-byte p ps sc u b h
-  phase-byte leaving u b h = refusal E (idle leaving part a m) (twin leaving false m (u ++ (b ∷ []))) refl
-  phase-byte Phase.over u b h = refusal E (idle Phase.over part a m) (twin Phase.over false m (u ++ (b ∷ []))) refl
+  phase-byte leaving u b h = refusal E (idle leaving part a m) sessionEnded (twin leaving false m (u ++ (b ∷ []))) refl refl
+  phase-byte Phase.over u b h = refusal E (idle Phase.over part a m) sessionEnded (twin Phase.over false m (u ++ (b ∷ []))) refl refl
 
 -- ---------------------------------------------------------------- any byte
 
@@ -325,7 +325,7 @@ free-byte E S p part a [] m f b h =
     (phase-byte E S part a m p (h .unit) b (h .pending))
 free-byte E S p part a (x ∷ o) m f b h =
     rw (spoken-ours (E .table) (f .log .book .framed) (f .log .course, f .raw) (courseOf p m, h .unit) x o (h .course))
-    (refusal E (holding p part a (x ∷ o) m) (outOfOrder f) (h .book))
+    (refusal E (holding p part a (x ∷ o) m) bytesWait (outOfOrder f) refl (h .book))
 
 drop-lf : (E : Shelf) (s : Session) (f : Fed) → Live E s f → Live E (withAfterCr false s) (record { log = Log.withAfterCr (f .log) false; raw = f .raw })
 drop-lf E s f h = record { unit = h .unit; course = h .course; book = h .book; afterCr = refl; pending = h .pending }
@@ -344,4 +344,4 @@ live-byte E S s f b h = go (s .afterCr && eqb b LF) (f .log .afterCr && eqb b LF
 -- THE STEP
 pub step-inv : (E : Shelf) → Sound E → (s : Session) (f : Fed) (b : ℕ) → ended s ≡ false → Inv E s f → Inv E (step E s b .session) (fedByte (E .table) f (took b))
 step-inv E S s f b e (live h) = live-byte E S s f b h
-step-inv E S s f b e (gone h) = absurd (let k : true ≡ false = sym (h .done) ∙ e in let z : _≡_ {A = ℕ} 0 1 = cc in omega arith)
+step-inv E S s f b e (gone h) = absurd (let k : true ≡ false = sym (ap (λ (p : Phase). endedIn p (s .out)) (h .done)) ∙ e in let z : _≡_ {A = ℕ} 0 1 = cc in omega arith)

@@ -139,9 +139,12 @@ sessions =
     ∷ example (sent (receiving (text "FB B D E F Y1 3\r") ∷ [])) (0 ∷ []) [] (greeted ++ (ours ++ text "T\rhi\u{1a}\r")) false
     -- but at its F>
     ∷ example (sent (receiving (text "FB B D E F Y1 3\rF>\r") ∷ giving 99 ∷ [])) (1 ∷ []) [] (greeted ++ (ours ++ text "T\rhi\u{1a}\rFS +\r")) false
-    -- or at its F> with the right checksum (02, Q-5); with a wrong one nothing is marked and nothing said
+    -- or at its F> with the right checksum (02, Q-5); with a wrong one nothing is marked, and we say why (02, Q-1)
     ∷ example (sent (receiving (text ";\rFB B D E F Y1 3\r\nF> DD\r") ∷ giving 99 ∷ [])) (1 ∷ []) [] (greeted ++ (ours ++ text "T\rhi\u{1a}\rFS +\r")) false
-    ∷ example (sent (receiving (text "FB B D E F Y1 3\rF> DE\r") ∷ giving 99 ∷ receiving (text "FF\r") ∷ [])) (0 ∷ []) [] (greeted ++ (ours ++ text "T\rhi\u{1a}\r")) true
+    ∷ example (sent (receiving (text "FB B D E F Y1 3\rF> DE\r") ∷ giving 99 ∷ receiving (text "FF\r") ∷ [])) (0 ∷ []) [] (greeted ++ (ours ++ text "T\rhi\u{1a}\r*** Protocol error\r")) true
+    -- the link drops in the middle of the line, and bytes arrive meanwhile: the same marks and messages
+    ∷ example (sent (receiving (text "FB B D E F Y1 3\rF>\r") ∷ giving 99 ∷ receiving (text "U\r\nyo\u{1a}\r") ∷ giving 99 ∷ receiving (text "FB") ∷ receiving (text "\r") ∷ giving 5 ∷ receiving (text "FF\r") ∷ giving 4 ∷ []))
+    (1 ∷ []) (theirs plain ∷ []) (greeted ++ (ours ++ text "T\rhi\u{1a}\rFS +\rFF\r*** Proto")) true
     -- a body's first LF is kept, one after the transfer is dropped; then our turn, with nothing to propose
     ∷ example (sent (receiving (text "FB B D E F Y1 3\rF>\r") ∷ giving 99 ∷ receiving (text "U\r\nyo\u{1a} \r\n") ∷ giving 99 ∷ receiving (text "FQ\rFF\r") ∷ []))
     (1 ∷ []) (theirs plain ∷ []) (greeted ++ (ours ++ text "T\rhi\u{1a}\rFS +\rFF\r")) true
@@ -156,10 +159,10 @@ sessions =
     -- a packed message of the partner's, then our FF
     ∷ example (framed (receiving (text "fs +\r") ∷ giving 99 ∷ receiving (text "; hi\rfa b D E F Y1 3\rf>\r") ∷ giving 99 ∷ receiving (1 ∷ 4 ∷ 85 ∷ 0 ∷ 48 ∷ 0 ∷ 2 ∷ 3 ∷ 10 ∷ 121 ∷ 111 ∷ 4 ∷ 14 ∷ []) ∷ giving 99 ∷ []))
     (1 ∷ []) (theirs message ∷ []) (framedOurs ++ (framedText ++ text "FS +\rFF\r")) false
-    -- the signs of level 1 (02, Q-6): accepted, with an offset of 0 too; declined; deferred. At level 0 they are no signs
+    -- the signs of level 1 (02, Q-6): accepted, with an offset of 0 too; declined; deferred. At level 0 they are no signs, and we say why
     ∷ example (framedAt1 (receiving (text "FS h\r") ∷ giving 99 ∷ receiving (text "FF\r") ∷ giving 99 ∷ [])) (1 ∷ []) [] (framedOurs ++ (framedText ++ text "FQ\r")) true
     ∷ example (framedAt1 (receiving (text "FS !00\r") ∷ giving 99 ∷ receiving (text "FF\r") ∷ giving 99 ∷ [])) (1 ∷ []) [] (framedOurs ++ (framedText ++ text "FQ\r")) true
     ∷ example (framedAt1 (receiving (text "FS R\rFF\r") ∷ giving 99 ∷ [])) (2 ∷ []) [] (framedOurs ++ text "FQ\r") true
     ∷ example (framedAt1 (receiving (text "FS A1536\rFF\r") ∷ giving 99 ∷ [])) (0 ∷ []) [] (framedOurs ++ text "FQ\r") true
-    ∷ example (framed (receiving (text "FS R\rFF\r") ∷ giving 99 ∷ [])) (0 ∷ []) [] framedOurs true
+    ∷ example (framed (receiving (text "FS R\rFF\r") ∷ giving 99 ∷ [])) (0 ∷ []) [] (framedOurs ++ text "*** Protocol error\r") true
     ∷ []

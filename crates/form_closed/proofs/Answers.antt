@@ -25,7 +25,7 @@ use Rattle.session_memory.specs.Session.{Session}
 use Rattle.line_effect.specs.Judge.{nextAccepted, judgeOf}
 use Rattle.line_effect.specs.Judged.{Judged}
 use Rattle.waiting.specs.Waiting.{waitingOf}
-use Rattle.pending.specs.Pending.{waits, overOf, hasToGive}
+use Rattle.pending.specs.Pending.{waits, overOf}
 use Rattle.form_test.specs.Form.{formOf}
 use Rattle.receive_defined.specs.Receiving.{Cs, cs, Moved, Settled, settleOf, lineMoved, lineStepOf, keepOf, transferMoved, transferStep, transferStepOf, byteOf, Run, stops, receiveFrom, unchanged, saved, receiveOf}
 use Rattle.give.specs.Giving.{reply, giveOf, handing, Given}
@@ -120,7 +120,7 @@ module _ (F : Fixed) (sm table inbox store : Bytes) where
   -- GIVE ANSWERS 1 EXACTLY where the test fails
   pub give-exactly : (buf : Bytes) (place : ℕ) → eqb (giveOf sm table (F .titles) (F .names) (F .bodies) (F .known) inbox store buf place .reply .answer) 1 ≡ not test
   unfolding giveOf
-  give-exactly buf place = go test (hasToGive (loadOf sm)) (ltb place (length buf))
+  give-exactly buf place = go test (waits (loadOf sm .say)) (ltb place (length buf))
     where
       w : Bytes
       w = waitingOf (loadOf sm) table (F .titles) (F .names) (F .bodies)

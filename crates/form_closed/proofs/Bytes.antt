@@ -9,7 +9,7 @@ use lib.Dec.{eqb, ltb}
 use lib.ListN.{length, take, drop, length-drop, length-set}
 use borrow.Author.Tests.{eqb-true, eqb-false, ltb-true}
 use Rattle.grammar.specs.Bytes.{Bytes, CR, LF}
-use Rattle.grammar.specs.Refusals.{bytesWait}
+use Rattle.grammar.specs.Refusals.{lineTooLong, badTransfer, badChecksum, storeFull, bytesWait}
 use Rattle.grammar.specs.Lines.{LineByte, ends, grows, overruns, trim}
 use Rattle.grammar.proofs.Basics.{no-both}
 use Rattle.transfer_step.specs.declared.Stepped.{Stepped}
@@ -34,9 +34,9 @@ use Rattle.form_closed.proofs.Waiting.{waits-none}
 -- ---------------------------------------------------------------- a byte
 
 module _ (F : Fixed) (nt ni ns : ℕ) (c : Cs) (b : ℕ) (G : Good F nt ni ns c) (O : b < 256) where
-  refused : Good F nt ni ns (cs (refusedOf (c .session)) (c .table) (c .inbox) (c .store))
-  refused =
-      refused-good F nt ni ns (c .session) (c .table) (c .inbox) (c .store) (G .now) (G .say) (G .keep) (G .reader) (G .heading) (G .line) (G .box) (G .lent)
+  refused : (n : ℕ) → Good F nt ni ns (cs (refusedOf n (c .session)) (c .table) (c .inbox) (c .store))
+  refused n =
+      refused-good F nt ni ns n (c .session) (c .table) (c .inbox) (c .store) (G .now) (G .say) (G .keep) (G .reader) (G .heading) (G .line) (G .box) (G .lent)
 
   -- after a byte of a transfer: s the session, st the store
   module _ (E : waits (c .session .say) ≡ false) (P : c .session .now .phase ≡ 5) where
@@ -93,10 +93,10 @@ module _ (F : Fixed) (nt ni ns : ℕ) (c : Cs) (b : ℕ) (G : Good F nt ni ns c)
               storeOctets = stored-octets (c .session .keep .used) (t .put) (c .session .reading .reader) b (c .store) O (G .lent .storeOctets);
             }
 
-        ended : Good F nt ni ns (cs (refusedOf (reading (c .session) (t .reader) (headingPut (t .put) (c .session .reading .reader) b (c .session .reading .heading)))) (c .table) (c .inbox)
+        ended : (n : ℕ) → Good F nt ni ns (cs (refusedOf n (reading (c .session) (t .reader) (headingPut (t .put) (c .session .reading .reader) b (c .session .reading .heading)))) (c .table) (c .inbox)
             (stored (c .session .keep .used) (t .put) (c .session .reading .reader) b (c .store)))
-        ended =
-            refused-good F nt ni ns (reading (c .session) (t .reader) (headingPut (t .put) (c .session .reading .reader) b (c .session .reading .heading))) (c .table) (c .inbox)
+        ended n =
+            refused-good F nt ni ns n (reading (c .session) (t .reader) (headingPut (t .put) (c .session .reading .reader) b (c .session .reading .heading))) (c .table) (c .inbox)
             (stored (c .session .keep .used) (t .put) (c .session .reading .reader) b (c .store)) (G .now) (G .say) (G .keep) (h .0) H L B M
 
         go : (o : Outcome)
@@ -111,16 +111,16 @@ module _ (F : Fixed) (nt ni ns : ℕ) (c : Cs) (b : ℕ) (G : Good F nt ni ns c)
               heading = H;
               line = L;
               box = B;
-              awaited = record { quiet = λ a k. Z; under = λ e. U′ };
+              awaited = record { quiet = λ a k. Z; under = λ e. U′; closed = λ l. absurd (omega arith) };
               waiting = λ e. absurd (no-both (waits (c .session .say)) e E);
               lent = M;
             }
         go Whole =
             keep-ok F nt ni ns (reading (c .session) (t .reader) (headingPut (t .put) (c .session .reading .reader) b (c .session .reading .heading))) (c .table) (c .inbox)
             (stored (c .session .keep .used) (t .put) (c .session .reading .reader) b (c .store)) (G .now) (G .say) (G .keep) (h .0) H L B U′ Z (waits-none (c .session .say) E .1) M
-        go Malformed = ended
-        go WrongSum = ended
-        go NoRoom = ended
+        go Malformed = ended badTransfer
+        go WrongSum = ended badChecksum
+        go NoRoom = ended storeFull
 
     transfer-ok : Good F nt ni ns (transferStepOf c b .cs)
     unfolding transferStepOf
@@ -143,8 +143,8 @@ module _ (F : Fixed) (nt ni ns : ℕ) (c : Cs) (b : ℕ) (G : Good F nt ni ns c)
           (judgeOf (trim (take (c .session .line .len) (c .session .line .bytes))) (lineSum (take (c .session .line .len) (c .session .line .bytes))) (c .session .now) (c .session .say) (c .session .keep) (c .session .reading .reader) (c .table) known (c .inbox) (length (c .store)))
           true (c .inbox) (c .store) (G .heading) (G .line) (c .table) (G .lent)
           (judge-ok (c .table) known (c .inbox) (c .store) (c .session .now) (c .session .say) (c .session .keep) (c .session .reading .reader)
-          (G .now) (G .say) (G .keep) (G .reader) (G .box) (waits-none (c .session .say) E .1) (trim (take (c .session .line .len) (c .session .line .bytes))) (lineSum (take (c .session .line .len) (c .session .line .bytes))) (G .awaited .quiet) N)
-          (λ x. refused)
+          (G .now) (G .say) (G .keep) (G .reader) (G .box) (waits-none (c .session .say) E .0) (waits-none (c .session .say) E .1) (trim (take (c .session .line .len) (c .session .line .bytes))) (lineSum (take (c .session .line .len) (c .session .line .bytes))) (G .awaited .quiet) N)
+          (λ x. refused _)
       go false true q =
           record {
             now = G .now;
@@ -162,7 +162,7 @@ module _ (F : Fixed) (nt ni ns : ℕ) (c : Cs) (b : ℕ) (G : Good F nt ni ns c)
             waiting = λ e. absurd (no-both (waits (c .session .say)) e E);
             lent = G .lent;
           }
-      go false false q = refused
+      go false false q = refused lineTooLong
 
   lf-ok : Good F nt ni ns (cs (lfDropped (c .session)) (c .table) (c .inbox) (c .store))
   unfolding waitingOf
@@ -186,9 +186,9 @@ module _ (F : Fixed) (nt ni ns : ℕ) (c : Cs) (b : ℕ) (G : Good F nt ni ns c)
     where
       go : (x y z : Bool) → waits (c .session .say) ≡ y → eqb (c .session .now .phase) 5 ≡ z
           → Good F nt ni ns (cond x (moved 0 (cs (lfDropped (c .session)) (c .table) (c .inbox) (c .store)))
-          (cond y (moved bytesWait (cs (refusedOf (c .session)) (c .table) (c .inbox) (c .store))) (cond z (transferStepOf c b) (lineByteOf known c b))) .cs)
+          (cond y (moved bytesWait (cs (refusedOf bytesWait (c .session)) (c .table) (c .inbox) (c .store))) (cond z (transferStepOf c b) (lineByteOf known c b))) .cs)
       go true y z e f = lf-ok
-      go false true z e f = refused
+      go false true z e f = refused bytesWait
       go false false true e f = transfer-ok e (eqb-true (c .session .now .phase) 5 f)
       go false false false e f = line-ok known e (eqb-false (c .session .now .phase) 5 f)
 

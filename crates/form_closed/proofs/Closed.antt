@@ -22,14 +22,14 @@ use Rattle.session_memory.specs.declared.Sizes.{Sizes}
 use Rattle.session_memory.proofs.Laws.{sizes-length, Sized, sizes-saved, load-sizes, Shaped}
 use Rattle.entries.specs.Decoded.{placeCount}
 use Rattle.waiting.specs.Waiting.{waitingOf}
-use Rattle.pending.specs.Pending.{waits, silentOf, overOf, hasToGive}
+use Rattle.pending.specs.Pending.{waits, silentOf, overOf}
 use Rattle.waiting.proofs.Short.{record-short, waiting-short}
 use Rattle.form_test.specs.Form.{usedBy, markOk, sameSizes, lentSizes, formOf}
 use Rattle.give.specs.Giving.{Given, reply, handedOf, handing, giveOf}
 use Rattle.open.specs.Opening.{knownOk, entriesOk, sizesOk, tableFault, Opened, opened, openOf}
 use Rattle.receive_defined.specs.Receiving.{Cs, cs, receiveFrom, Received, unchanged, saved, receiveOf}
 use Rattle.form_closed.specs.Fixed.{Fixed}
-use Rattle.form_closed.specs.Facts.{Octets, Good, Awaited}
+use Rattle.form_closed.specs.Facts.{Octets, Good, Last, Awaited}
 use Rattle.form_closed.proofs.Laws.{octets-append, octets-put, octets-le8, octets-zeros, octets-nil}
 use Rattle.form_closed.proofs.Waiting.{waiting-some}
 use Rattle.form_closed.proofs.Judged.{none-ok, still-awaited}
@@ -86,8 +86,8 @@ module _ (F : Fixed) (nt ni ns : ℕ) (c : Cs) (g : Good F nt ni ns c) (n : ℕ)
           let r = record-short (c .table) (F .titles) (F .names) (F .bodies) o in
           omega (arith, waiting-short (c .table) (F .titles) (F .names) (F .bodies) r (c .session) (g .now .ours .size) (g .say .signs .size) (g .keep .sending .size))
 
-      awaited : (first then pos : ℕ) → Awaited (c .session .now) (record { first = first; then = then; pos = pos; signs = c .session .say .signs }) (c .session .keep) (c .session .reading .reader) (c .inbox) (c .store)
-      awaited first then pos = still-awaited (c .session .now) (c .session .say) (c .session .keep) (c .session .reading .reader) (c .inbox) (c .store) first then pos (g .awaited)
+      awaited : (first then pos : ℕ) → (6 < c .session .now .phase → Last first then) → Awaited (c .session .now) (record { first = first; then = then; pos = pos; signs = c .session .say .signs }) (c .session .keep) (c .session .reading .reader) (c .inbox) (c .store)
+      awaited first then pos l = still-awaited (c .session .now) (c .session .say) (c .session .keep) (c .session .reading .reader) (c .inbox) (c .store) first then pos l (g .awaited)
 
       more : Session
       more =
@@ -110,7 +110,7 @@ module _ (F : Fixed) (nt ni ns : ℕ) (c : Cs) (g : Good F nt ni ns c) (n : ℕ)
             heading = g .heading;
             line = g .line;
             box = g .box;
-            awaited = awaited (c .session .say .first) (c .session .say .then) (c .session .say .pos + n);
+            awaited = awaited (c .session .say .first) (c .session .say .then) (c .session .say .pos + n) (g .awaited .closed);
             waiting = λ w. l;
             lent = g .lent;
           }
@@ -123,7 +123,7 @@ module _ (F : Fixed) (nt ni ns : ℕ) (c : Cs) (g : Good F nt ni ns c) (n : ℕ)
             heading = g .heading;
             line = g .line;
             box = g .box;
-            awaited = awaited 0 0 0;
+            awaited = awaited 0 0 0 (λ l. (refl, refl));
             waiting = λ w. absurd (no-both false w refl);
             lent = g .lent;
           }
@@ -140,7 +140,7 @@ module _ (F : Fixed) (sm table inbox store buf : Bytes) (place : ℕ) where
   -- GIVE: what it leaves passes the test
   pub give-closed : InForm F sm table inbox store → InForm F (given .sm) table inbox store
   unfolding giveOf
-  give-closed I = rw (I .form) (go (hasToGive (loadOf sm)) (ltb place (length buf)))
+  give-closed I = rw (I .form) (go (waits (loadOf sm .say)) (ltb place (length buf)))
     where
       w : Bytes
       w = waitingOf (loadOf sm) table (F .titles) (F .names) (F .bodies)
@@ -191,7 +191,7 @@ fresh-good F caller table inbox store ot oi os fits few =
       heading = record { size = length-replicate {A = ℕ} 80 0; octets = octets-zeros 80 };
       line = record { len = omega arith; size = length-replicate {A = ℕ} 256 0; octets = octets-zeros 256 };
       box = record { limit = few; placed = omega arith; used = refl; within = omega arith };
-      awaited = record { quiet = λ a b. refl; under = λ e. absurd (five caller e) };
+      awaited = record { quiet = λ a b. refl; under = λ e. absurd (five caller e); closed = λ l. absurd (live caller l) };
       waiting = λ e. waiting-some (freshOf caller) table (F .titles) (F .names) (F .bodies) none-ok (λ l. absurd (omega arith)) e;
       lent = record { table = refl; inbox = refl; store = refl; fits = fits; tableOctets = ot; inboxOctets = oi; storeOctets = os };
     }
@@ -203,6 +203,10 @@ fresh-good F caller table inbox store ot oi os fits few =
     first : (c : Bool) → cond c 0 1 < 256
     first true = omega arith
     first false = omega arith
+
+    live : (c : Bool) → 6 < flag c → ⊥
+    live true l = omega arith
+    live false l = omega arith
 
     five : (c : Bool) → flag c ≡ 5 → ⊥
     five true e = omega arith

@@ -18,7 +18,7 @@ use Rattle.session_memory.specs.Session.{Session}
 use Rattle.session_memory.specs.declared.Sizes.{Sizes}
 use Rattle.session_memory.proofs.Laws.{Shaped, free-kept, end-kept, sizes-length}
 use Rattle.waiting.specs.Waiting.{waitingOf}
-use Rattle.pending.specs.Pending.{overOf, hasToGive}
+use Rattle.pending.specs.Pending.{waits, overOf}
 use Rattle.form_test.specs.Form.{lentSizes, formOf}
 use Rattle.give.specs.Giving.{Given, reply, handedOf, handing, giveOf}
 use Rattle.open.specs.Opening.{knownOk, sizesOk, tableFault, Opened, opened, openOf}
@@ -99,7 +99,7 @@ module _ (F : Fixed) (sm table inbox store : Bytes) (o : Octets sm) (ot : Octets
     -- GIVE
     pub give-free : FreeStays sm (giveOf sm table (F .titles) (F .names) (F .bodies) (F .known) inbox store buf place .sm)
     unfolding giveOf given
-    give-free = go test refl (hasToGive (loadOf sm)) (ltb place (length buf))
+    give-free = go test refl (waits (loadOf sm .say)) (ltb place (length buf))
       where
         go : (t : Bool) → test ≡ t → (a b : Bool) → FreeStays sm (given t a b .sm)
         go true e true true =

@@ -20,7 +20,7 @@ use Rattle.entries.specs.Decoded.{placeCount}
 use Rattle.line_effect.specs.Judge.{inPhase, toTurn, toAnswer, toTransfer, saysThen, sends, readerFor}
 use Rattle.line_effect.specs.Judged.{Judged}
 use Rattle.form_test.specs.Form.{usedBy}
-use Rattle.form_closed.specs.Facts.{Octets, FiveOk, AwaitOk, SayOk, TermsOk, KeepOk, ReaderOk, Box, Awaited}
+use Rattle.form_closed.specs.Facts.{Octets, FiveOk, AwaitOk, SayOk, TermsOk, KeepOk, ReaderOk, Box, Last, Awaited}
 use Rattle.form_closed.proofs.Laws.{octets-zeros}
 
 pub record JudgedOk (inbox store : Bytes) (j : Judged) : Type 0 where
@@ -83,20 +83,22 @@ reader-body w i = refl
 
 -- the partner's turn is awaited, or nothing any more: nothing is to be shown
 pub free : (w : Await) (y : Say) (k : Keep) (r : Reader) (inbox store : Bytes) → ((w .phase ≡ 3 → ⊥) → w .phase ≤ 5 → ⊥) → (w .phase ≡ 5 → ⊥)
-    → Awaited w y k r inbox store
-free w y k r inbox store h n = record { quiet = λ a b. absurd (h a b); under = λ e. absurd (n e) }
+    → (6 < w .phase → Last (y .first) (y .then)) → Awaited w y k r inbox store
+free w y k r inbox store h n l = record { quiet = λ a b. absurd (h a b); under = λ e. absurd (n e); closed = l }
 
--- nothing is being sent, and no transfer is awaited
-pub calm : (w : Await) (y : Say) (k : Keep) (r : Reader) (inbox store : Bytes) → k .sending .count ≡ 0 → (w .phase ≡ 5 → ⊥) → Awaited w y k r inbox store
-calm w y k r inbox store z n = record { quiet = λ a b. z; under = λ e. absurd (n e) }
+-- nothing is being sent, no transfer is awaited, and the session is not closed
+pub calm : (w : Await) (y : Say) (k : Keep) (r : Reader) (inbox store : Bytes) → k .sending .count ≡ 0 → (w .phase ≡ 5 → ⊥) → w .phase ≤ 6
+    → Awaited w y k r inbox store
+calm w y k r inbox store z n l = record { quiet = λ a b. z; under = λ e. absurd (n e); closed = λ c. absurd (omega arith) }
 
 -- whatever of our signs is said, or given, the same is awaited
-pub still-awaited : (w : Await) (y : Say) (k : Keep) (r : Reader) (inbox store : Bytes) (first then pos : ℕ) → Awaited w y k r inbox store
-    → Awaited w (record { first = first; then = then; pos = pos; signs = y .signs }) k r inbox store
-still-awaited w y k r inbox store first then pos h =
+pub still-awaited : (w : Await) (y : Say) (k : Keep) (r : Reader) (inbox store : Bytes) (first then pos : ℕ) → (6 < w .phase → Last first then)
+    → Awaited w y k r inbox store → Awaited w (record { first = first; then = then; pos = pos; signs = y .signs }) k r inbox store
+still-awaited w y k r inbox store first then pos l h =
     record {
       quiet = h .quiet;
       under = λ e. let u = h .under e in record { current = u .current; signs = u .signs; plus = u .plus; places = u .places; short = u .short; room = u .room };
+      closed = l;
     }
 
 pub no-refusal : {A : Type 0} (c : Bool) → c ≡ false → c ≡ true → A

@@ -151,6 +151,7 @@ module _ (F : Fixed) (nt ni ns : ℕ) (s : Session) (table inbox st : Bytes)
             short = omega (arith, z);
             room = omega (arith, z, U .room);
           };
+          closed = λ c. absurd (omega arith);
         };
       }
 

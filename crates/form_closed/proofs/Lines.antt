@@ -1,7 +1,7 @@
 -- A whole line keeps the facts of the form test: whatever is awaited, what the line is judged to come to is in order (`judge-ok`). Idea: a fact
 -- is lost only where the phase changes, and there it is shown anew: a transfer begins only where our answer had a place for it, records are
 -- sent only from the FS line to the end of the partner's turn.
-use mathlib.Core.Path.{_≡_, refl, sym, _∙_, subst}
+use mathlib.Core.Path.{_≡_, refl, sym, ap, _∙_, subst}
 use mathlib.Core.Bool.{Bool, true, false, cond}
 use mathlib.Core.Option.{Option, none, some}
 use mathlib.Core.List.{List}
@@ -32,16 +32,20 @@ use Rattle.our_answer.specs.Answers.{answersOf}
 use Rattle.entries.specs.Decoded.{placeCount}
 use Rattle.line_effect.specs.Judge.{noMarks, judged, refusal, wentOn, inPhase, toTurn, toTransfer, saysFirst, saysThen, saysSigns, inMode, sends, afterSid, sidRead, sidLine, textLine, turnMarks, settledKeep, nextAccepted, readerFor, answered, endLine, summedLine, withProposal, proposalLine, ffLine, fqLine, turnRead, turnLine, picked, flagged, transfersAfter, answerTaken, answerLine, lineIn, judgeOf}
 use Rattle.line_effect.specs.declared.Marks.{Marks}
-use Rattle.form_test.specs.Form.{pluses}
+use Rattle.form_test.specs.Form.{pluses, isLast}
 use Rattle.form_closed.proofs.Laws.{octets-put, flag-octets, picked-octets, five-of, held-length, held-octets, next-found, length-flagged, picked-few}
-use Rattle.form_closed.specs.Facts.{AwaitOk, SayOk, KeepOk, ReaderOk, Box, Awaited}
+use Rattle.form_closed.specs.Facts.{AwaitOk, SayOk, KeepOk, ReaderOk, Box, Last, Awaited}
 use Rattle.form_closed.proofs.Proposals.{proposal-octets}
 use Rattle.form_closed.proofs.Choices.{AnswersOk, answers-ok}
 use Rattle.form_closed.proofs.Judged.{JGood, box-as, none-ok, in-phase, to-turn, to-transfer, says-then, sends-ok, reader-ok, reader-body, free, calm, no-refusal}
 
 -- s: what a line is judged in; nothing waits, and no transfer is awaited
 module _ (table known inbox store : Bytes) (w : Await) (y : Say) (k : Keep) (r : Reader)
-    (W : AwaitOk w) (Y : SayOk y) (K : KeepOk k) (R : ReaderOk r) (B : Box k inbox store) (T : y .then ≡ 0) where
+    (W : AwaitOk w) (Y : SayOk y) (K : KeepOk k) (R : ReaderOk r) (B : Box k inbox store) (N : y .first ≡ 0) (T : y .then ≡ 0) where
+  -- so nothing waits either way
+  silent : Last (y .first) (y .then)
+  silent = (T, ap isLast N)
+
   bad : (n : ℕ) → eqb n 0 ≡ false → JGood inbox store (refusal n w y k r)
   bad n f e = no-refusal (eqb n 0) f e
 
@@ -61,7 +65,7 @@ module _ (table known inbox store : Bytes) (w : Await) (y : Say) (k : Keep) (r :
   not-sent l = absurd (omega arith)
 
   same-on : (w .phase ≡ 5 → ⊥) → ((w .phase ≡ 3 → ⊥) → w .phase ≤ 5 → k .sending .count ≡ 0) → JGood inbox store (wentOn w y k r)
-  same-on n q = on w y k r noMarks W Y K R B (omega arith) not-sent (record { quiet = q; under = λ e. absurd (n e) })
+  same-on n q = on w y k r noMarks W Y K R B (omega arith) not-sent (record { quiet = q; under = λ e. absurd (n e); closed = λ l. silent })
 
   sid-ok : (ln : Bytes) → k .sending .count ≡ 0 → JGood inbox store (sidLine ln w y k r)
   unfolding sidLine
@@ -71,8 +75,8 @@ module _ (table known inbox store : Bytes) (w : Await) (y : Say) (k : Keep) (r :
       kept md v l = record { terms = record { level = l }; sending = K .sending; flags = K .flags; octets = K .octets }
 
       after : (md : Bool) (v : ℕ) (c : Bool) → AwaitOk (cond c (inPhase 2 w) (toTurn false w)) × Awaited (cond c (inPhase 2 w) (toTurn false w)) y (inMode md v k) r inbox store
-      after md v true = (in-phase 2 w (omega arith) W, calm (inPhase 2 w) y (inMode md v k) r inbox store z (λ e. omega arith))
-      after md v false = (to-turn false w W, calm (toTurn false w) y (inMode md v k) r inbox store z (λ e. omega arith))
+      after md v true = (in-phase 2 w (omega arith) W, calm (inPhase 2 w) y (inMode md v k) r inbox store z (λ e. omega arith) (omega arith))
+      after md v false = (to-turn false w W, calm (toTurn false w) y (inMode md v k) r inbox store z (λ e. omega arith) (omega arith))
 
       heard : (fs : List ℕ) (c : Bool) → JGood inbox store (cond c (wentOn (afterSid w) y (inMode (framed fs) (levelInForce fs) k) r) (refusal noForwarding w y k r))
       heard fs true =
@@ -115,7 +119,7 @@ module _ (table known inbox store : Bytes) (w : Await) (y : Say) (k : Keep) (r :
     where
       go : (a b : Bool) → JGood inbox store (cond a (cond b (wentOn (inPhase 7 w) y k r) (refusal lineNotAllowed w y k r)) (refusal lineNotAllowed w y k r))
       go true true =
-          on (inPhase 7 w) y k r noMarks (in-phase 7 w (omega arith) W) Y K R B (omega arith) not-sent (free (inPhase 7 w) y k r inbox store (λ a b. omega arith) (λ e. omega arith))
+          on (inPhase 7 w) y k r noMarks (in-phase 7 w (omega arith) W) Y K R B (omega arith) not-sent (free (inPhase 7 w) y k r inbox store (λ a b. omega arith) (λ e. omega arith) (λ l. silent))
       go true false = bad lineNotAllowed refl
       go false b = bad lineNotAllowed refl
 
@@ -141,7 +145,7 @@ module _ (table known inbox store : Bytes) (w : Await) (y : Say) (k : Keep) (r :
       go : (a : Bool) → ltb (w .proposals) 5 ≡ a → JGood inbox store (cond a (wentOn (withProposal q n w) y k r) (refusal proposalCount w y k r))
       go true e =
           on (withProposal q n w) y k r noMarks (more (ltb-true (w .proposals) 5 e)) Y K R B (omega arith) not-sent
-          (free (withProposal q n w) y k r inbox store (λ a b. a p) (λ x. omega arith))
+          (free (withProposal q n w) y k r inbox store (λ a b. a p) (λ x. omega arith) (λ l. silent))
       go false e = bad proposalCount refl
 
   answered-ok : (f : Five) → AnswersOk w k inbox f → JGood inbox store (answered f (nextAccepted f 0) w y k r)
@@ -165,6 +169,7 @@ module _ (table known inbox store : Bytes) (w : Await) (y : Say) (k : Keep) (r :
           (record {
             quiet = λ a b. refl;
             under = λ u. record { current = l; signs = h .each; plus = x .plus; places = m; short = omega (arith, reader-body w (nextAccepted f 0)); room = v };
+            closed = λ c. absurd (omega arith);
           })
 
   end-ok : JGood inbox store (endLine w y k r table known inbox (length store))
@@ -211,7 +216,7 @@ module _ (table known inbox store : Bytes) (w : Await) (y : Say) (k : Keep) (r :
       (sends-ok (fiveOf xs) (flagged (picked 61 (held (w .ours)) ss) (k .deferred)) k (K .terms) f
       (length-flagged (picked 61 (held (w .ours)) ss) (k .deferred) ∙ K .flags) (flag-octets (picked 61 (held (w .ours)) ss) (k .deferred) (K .octets)))
       R (box-as k k′ inbox store refl refl B) (omega arith) (y′ .1)
-      (free (toTurn false w) (transfersAfter (fiveOf xs) y) k′ r inbox store (λ a b. a refl) (λ e. omega arith))
+      (free (toTurn false w) (transfersAfter (fiveOf xs) y) k′ r inbox store (λ a b. a refl) (λ e. omega arith) (λ l. absurd (omega arith)))
     where
       said : (a : Bool) → ltb 0 (length (picked 43 (held (w .ours)) ss)) ≡ a → SayOk (cond a (saysThen 4 y) y) × (3 < cond a (saysThen 4 y) y .then → 0 < length (picked 43 (held (w .ours)) ss))
       said true e = (says-then 4 y (omega arith) Y, λ u. ltb-true 0 (length (picked 43 (held (w .ours)) ss)) e)

@@ -7,6 +7,7 @@ use Prim.Native.Nat.{ℕ, _≤_, _<_}
 use native.Mathlib.Omega.{arith}
 use lib.Dec.{eqb}
 use Rattle.grammar.specs.Bytes.{Bytes}
+use Rattle.grammar.specs.Errors.{isSilent}
 use Rattle.transfer_step.specs.declared.Reader.{Reader}
 use Rattle.session_memory.specs.State.{held}
 use Rattle.session_memory.specs.Session.{Await}
@@ -18,8 +19,9 @@ use Rattle.line_effect.specs.Judge.{inPhase, toTurn, toAnswer, saysThen}
 use Rattle.our_turn.specs.Turn.{spoken, speakOf}
 use Rattle.line_effect.specs.Judged.{Judged}
 use Rattle.our_turn.specs.Turn.{Spoken}
-use Rattle.pending.specs.Pending.{waits}
+use Rattle.pending.specs.Pending.{errorPiece}
 use Rattle.receive_defined.specs.Receiving.{cs, refusedOf, settledOf, spokenOf, Settled, settled, settleOf}
+use Rattle.form_test.specs.Form.{isLast}
 use Rattle.marking.specs.States.{markAll}
 use Rattle.form_closed.specs.Fixed.{Fixed}
 use Rattle.form_closed.proofs.Laws.{mark-octets}
@@ -27,7 +29,7 @@ use Rattle.marking.proofs.States.{length-mark}
 use Rattle.form_closed.proofs.Waiting.{waiting-some}
 use Rattle.form_closed.specs.Facts.{AwaitOk, SayOk, KeepOk, ReaderOk, HeadingOk, LineOk, Box, Awaited, Lent, Good}
 use Rattle.form_closed.proofs.Choices.{choose-ok}
-use Rattle.form_closed.proofs.Judged.{JudgedOk, JGood, in-phase, to-turn, to-answer, says-then, free, calm, no-refusal, still-awaited}
+use Rattle.form_closed.proofs.Judged.{JudgedOk, JGood, in-phase, to-turn, to-answer, says-then, free, calm, still-awaited}
 
 -- ---------------------------------------------------------------- our turn
 
@@ -50,41 +52,51 @@ speak-ok w y k table inbox store ff W Y z = go (eqb (chooseOf table (k .framed) 
           now = in-phase 6 w (omega arith) W;
           say = says-then 2 y (omega arith) Y;
           then = omega arith;
-          awaited = λ r. calm (inPhase 6 w) (saysThen 2 y) k r inbox store z (λ e. omega arith);
+          awaited = λ r. calm (inPhase 6 w) (saysThen 2 y) k r inbox store z (λ e. omega arith) (omega arith);
         }
     go true false =
         record {
           now = to-turn true w W;
           say = says-then 1 y (omega arith) Y;
           then = omega arith;
-          awaited = λ r. calm (toTurn true w) (saysThen 1 y) k r inbox store z (λ e. omega arith);
+          awaited = λ r. calm (toTurn true w) (saysThen 1 y) k r inbox store z (λ e. omega arith) (omega arith);
         }
     go false b =
         record {
           now = to-answer (chooseOf table (k .framed) (k .deferred)) w (choose-ok table (k .framed) (k .deferred)) W;
           say = says-then 3 y (omega arith) Y;
           then = omega arith;
-          awaited = λ r. calm (toAnswer (chooseOf table (k .framed) (k .deferred)) w) (saysThen 3 y) k r inbox store z (λ e. omega arith);
+          awaited = λ r. calm (toAnswer (chooseOf table (k .framed) (k .deferred)) w) (saysThen 3 y) k r inbox store z (λ e. omega arith) (omega arith);
         }
 
 -- ---------------------------------------------------------------- the session after it
 
--- a refusal: the session is over, nothing waits
-pub refused-good : (F : Fixed) (nt ni ns : ℕ) (s : Session) (table inbox store : Bytes) → AwaitOk (s .now) → SayOk (s .say) → KeepOk (s .keep)
+-- the line that says why is one of the two, or none
+error-last : (n : ℕ) → (errorPiece n < 256) × (isLast (errorPiece n) ≡ true)
+unfolding errorPiece
+error-last n = go (isSilent n) (eqb n 9)
+  where
+    go : (a b : Bool) → (cond a 0 (cond b 5 4) < 256) × (isLast (cond a 0 (cond b 5 4)) ≡ true)
+    go true b = (omega arith, refl)
+    go false true = (omega arith, refl)
+    go false false = (omega arith, refl)
+
+-- a refusal with number n: the session is over, and nothing waits but the line that says why
+pub refused-good : (F : Fixed) (nt ni ns : ℕ) (n : ℕ) (s : Session) (table inbox store : Bytes) → AwaitOk (s .now) → SayOk (s .say) → KeepOk (s .keep)
     → ReaderOk (s .reading .reader) → HeadingOk (s .reading .heading) → LineOk (s .line) → Box (s .keep) inbox store → Lent nt ni ns table inbox store
-    → Good F nt ni ns (cs (refusedOf s) table inbox store)
-unfolding refusedOf waits
-refused-good F nt ni ns s table inbox store W Y K R H L B M =
+    → Good F nt ni ns (cs (refusedOf n s) table inbox store)
+unfolding refusedOf
+refused-good F nt ni ns n s table inbox store W Y K R H L B M =
     record {
       now = in-phase 7 (s .now) (omega arith) W;
-      say = record { first = omega arith; then = omega arith; pos = omega arith; signs = Y .signs };
+      say = record { first = error-last n .0; then = omega arith; pos = omega arith; signs = Y .signs };
       keep = K;
       reader = R;
       heading = H;
       line = record { len = omega arith; size = L .size; octets = L .octets };
       box = B;
-      awaited = free (inPhase 7 (s .now)) (record { first = 0; then = 0; pos = 0; signs = s .say .signs }) (s .keep) (s .reading .reader) inbox store (λ a b. omega arith) (λ e. omega arith);
-      waiting = λ e. no-refusal false refl e;
+      awaited = free (inPhase 7 (s .now)) (record { first = errorPiece n; then = 0; pos = 0; signs = s .say .signs }) (s .keep) (s .reading .reader) inbox store (λ a b. omega arith) (λ e. omega arith) (λ l. (refl, error-last n .1));
+      waiting = λ e. waiting-some (refusedOf n s) table (F .titles) (F .names) (F .bodies) (K .sending) (λ l. absurd (omega arith)) e;
       lent = M;
     }
 
@@ -101,7 +113,7 @@ module _ (F : Fixed) (nt ni ns : ℕ) (s : Session) (j : Judged) (afterCr : Bool
         heading = H;
         line = record { len = omega arith; size = L .size; octets = L .octets };
         box = J .box;
-        awaited = still-awaited w y (j .keep) (j .reader) inbox store (y .first) (y .then) 0 A;
+        awaited = still-awaited w y (j .keep) (j .reader) inbox store (y .first) (y .then) 0 (A .closed) A;
         waiting = λ e. waiting-some (settledOf s j afterCr w y) table (F .titles) (F .names) (F .bodies) (J .keep .sending) t e;
         lent = M;
       }
@@ -132,14 +144,14 @@ module _ (F : Fixed) (nt ni ns : ℕ) (s : Session) (j : Judged) (afterCr : Bool
       }
 
   pub settle-ok : (table : Bytes) → Lent nt ni ns table inbox store → JGood inbox store j
-      → (eqb (j .answer) 0 ≡ false → Good F nt ni ns (cs (refusedOf s) table inbox store))
+      → (eqb (j .answer) 0 ≡ false → Good F nt ni ns (cs (refusedOf (j .answer) s) table inbox store))
       → Good F nt ni ns (cs (settleOf s j afterCr table .session) (settleOf s j afterCr table .table) inbox store)
   unfolding settleOf
   settle-ok table M J X = go (eqb (j .answer) 0) refl
     where
       out : Bool → Settled
       out a = cond a (settled 0 (spokenOf s j afterCr (markAll (held (j .marks .places)) (j .marks .state) table)) (markAll (held (j .marks .places)) (j .marks .state) table))
-          (settled (j .answer) (refusedOf s) table)
+          (settled (j .answer) (refusedOf (j .answer) s) table)
 
       go : (a : Bool) → eqb (j .answer) 0 ≡ a → Good F nt ni ns (cs (out a .session) (out a .table) inbox store)
       go true e =

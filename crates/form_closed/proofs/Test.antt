@@ -1,6 +1,6 @@
 -- The form test says its facts, and back: `form-in`, `form-out`; and a state with these facts can be saved (`shaped`, `part-octets`, `arrays-octets`). Idea: the
 -- test is taken apart and put together again, conjunct by conjunct. Assumes nothing.
-use mathlib.Core.Path.{_≡_, refl, ap}
+use mathlib.Core.Path.{_≡_, refl, sym, ap, _∙_}
 use mathlib.Core.Bool.{Bool, true, false, cond, not, _&&_, _||_}
 use Prim.Native.Nat.{ℕ, _+_, _≤_, _<_}
 use native.Mathlib.Omega.{arith}
@@ -20,10 +20,10 @@ use Rattle.session_memory.proofs.Laws.{Shaped, load-shaped}
 use Rattle.entries.specs.Decoded.{placeCount}
 use Rattle.waiting.specs.Waiting.{waitingOf}
 use Rattle.pending.specs.Pending.{waits}
-use Rattle.form_test.specs.Form.{countsOk, usedBy, inboxOk, waitingOk, pluses, transferOk, phaseOk, stateOk}
+use Rattle.form_test.specs.Form.{countsOk, usedBy, inboxOk, waitingOk, pluses, transferOk, isLast, closedOk, phaseOk, stateOk}
 use Rattle.receive_defined.specs.Receiving.{Cs, cs}
 use Rattle.form_closed.specs.Fixed.{Fixed}
-use Rattle.form_closed.specs.Facts.{Octets, FiveOk, Box, Under, Awaited, Good}
+use Rattle.form_closed.specs.Facts.{Octets, FiveOk, Box, Under, Last, Awaited, Good}
 use Rattle.form_closed.proofs.Laws.{octets-nil, octets-cons, octets-append, octets-zeros, octets-part, octets-put, octets-le2, octets-le4, octets-le8}
 
 -- ---------------------------------------------------------------- the test says so, and back
@@ -84,21 +84,38 @@ module _ (s : Session) (inbox store : Bytes) where
   abbrev AwaitedS : Type 0
   AwaitedS = Awaited (s .now) (s .say) (s .keep) (s .reading .reader) inbox store
 
+  closed-in : closedOk s ≡ true → 6 < s .now .phase → Last (s .say .first) (s .say .then)
+  unfolding closedOk
+  closed-in e l =
+      let f : eqb (s .say .then) 0 && isLast (s .say .first) ≡ true = ap (λ (c : Bool). cond c (eqb (s .say .then) 0 && isLast (s .say .first)) true) (sym (lt-ltb 6 (s .now .phase) l)) ∙ e in
+      let d = and2 (eqb (s .say .then) 0) _ f in
+      (eqb-true (s .say .then) 0 (d .0), d .1)
+
+  closed-out : (6 < s .now .phase → Last (s .say .first) (s .say .then)) → closedOk s ≡ true
+  unfolding closedOk
+  closed-out h = go (ltb 6 (s .now .phase)) refl
+    where
+      go : (c : Bool) → ltb 6 (s .now .phase) ≡ c → cond c (eqb (s .say .then) 0 && isLast (s .say .first)) true ≡ true
+      go true e = let l = h (ltb-true 6 (s .now .phase) e) in both (eqb (s .say .then) 0) _ (eq-eqb (s .say .then) 0 (l .0)) (l .1)
+      go false e = refl
+
   awaited-in : phaseOk s inbox store ≡ true → AwaitedS
   unfolding phaseOk
   awaited-in e = go (eqb (s .now .phase) 3) (ltb 5 (s .now .phase)) (eqb (s .now .phase) 5) refl refl refl e
     where
       go : (a b c : Bool) → eqb (s .now .phase) 3 ≡ a → ltb 5 (s .now .phase) ≡ b → eqb (s .now .phase) 5 ≡ c
-          → cond a true (cond b true (eqb (s .keep .sending .count) 0 && cond c (transferOk s inbox store) true)) ≡ true → AwaitedS
-      go true b c p q r e = let z = eqb-true (s .now .phase) 3 p in record { quiet = λ n l. absurd (n z); under = λ f. absurd (omega arith) }
-      go false true c p q r e = let z = ltb-true 5 (s .now .phase) q in record { quiet = λ n l. absurd (omega arith); under = λ f. absurd (omega arith) }
+          → cond a true (cond b (closedOk s) (eqb (s .keep .sending .count) 0 && cond c (transferOk s inbox store) true)) ≡ true → AwaitedS
+      go true b c p q r e = let z = eqb-true (s .now .phase) 3 p in record { quiet = λ n l. absurd (n z); under = λ f. absurd (omega arith); closed = λ l. absurd (omega arith) }
+      go false true c p q r e = let z = ltb-true 5 (s .now .phase) q in record { quiet = λ n l. absurd (omega arith); under = λ f. absurd (omega arith); closed = closed-in e }
       go false false true p q r e =
           let d = and2 (eqb (s .keep .sending .count) 0) _ e in
-          record { quiet = λ n l. eqb-true (s .keep .sending .count) 0 (d .0); under = λ f. under-in (d .1) }
+          let w = ltb-false 5 (s .now .phase) q in
+          record { quiet = λ n l. eqb-true (s .keep .sending .count) 0 (d .0); under = λ f. under-in (d .1); closed = λ l. absurd (omega arith) }
       go false false false p q r e =
           let d = and2 (eqb (s .keep .sending .count) 0) _ e in
           let z = eqb-false (s .now .phase) 5 r in
-          record { quiet = λ n l. eqb-true (s .keep .sending .count) 0 (d .0); under = λ f. absurd (z f) }
+          let w = ltb-false 5 (s .now .phase) q in
+          record { quiet = λ n l. eqb-true (s .keep .sending .count) 0 (d .0); under = λ f. absurd (z f); closed = λ l. absurd (omega arith) }
 
   awaited-out : AwaitedS → phaseOk s inbox store ≡ true
   unfolding phaseOk
@@ -109,9 +126,9 @@ module _ (s : Session) (inbox store : Bytes) where
       last false r = refl
 
       go : (a b c : Bool) → eqb (s .now .phase) 3 ≡ a → ltb 5 (s .now .phase) ≡ b → eqb (s .now .phase) 5 ≡ c
-          → cond a true (cond b true (eqb (s .keep .sending .count) 0 && cond c (transferOk s inbox store) true)) ≡ true
+          → cond a true (cond b (closedOk s) (eqb (s .keep .sending .count) 0 && cond c (transferOk s inbox store) true)) ≡ true
       go true b c p q r = refl
-      go false true c p q r = refl
+      go false true c p q r = closed-out (h .closed)
       go false false c p q r =
           both (eqb (s .keep .sending .count) 0) _
           (eq-eqb (s .keep .sending .count) 0 (h .quiet (eqb-false (s .now .phase) 3 p) (ltb-false 5 (s .now .phase) q)))

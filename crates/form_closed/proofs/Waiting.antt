@@ -8,7 +8,7 @@ use lib.Dec.{eqb}
 use lib.ListN.{length, length-append}
 use borrow.Author.Tests.{not-true, eqb-false, eqb-true}
 use Rattle.grammar.specs.Bytes.{Bytes}
-use Rattle.grammar.specs.Turns.{withCr, fixedText, ourSid, ourPrompt, ourFF, ourFQ, Proposal}
+use Rattle.grammar.specs.Turns.{withCr, fixedText, ourSid, ourPrompt, ourFF, ourFQ, protocolError, checksumError, Proposal}
 use Rattle.mail.specs.Mail as mail
 use Rattle.mail.specs.Mail.{Record, turnText}
 use Rattle.layout.specs.Layout.{entryAt, recordSize, recordOf}
@@ -46,14 +46,17 @@ some-transfer file h x = omega arith
 
 first-some : (first : ℕ) (signs : Five) → eqb first 0 ≡ false → 0 < length (firstText first signs)
 unfolding firstText fsText
-first-some first signs e = go (eqb first 0) (eqb first 1) (eqb first 2) e
+first-some first signs e = go (eqb first 0) (eqb first 1) (eqb first 2) (eqb first 4) (eqb first 5) e
   where
-    go : (a b c : Bool) → a ≡ false
-        → 0 < length (cond a [] (cond b (withCr (fixedText ourSid) ++ withCr (fixedText ourPrompt)) (cond c (withCr (fixedText ourSid)) (fsText (held signs)))))
-    go true b c e = let z : _≡_ {A = ℕ} 0 1 = cc in absurd (omega arith)
-    go false true c e = omega arith
-    go false false true e = omega arith
-    go false false false e = omega arith
+    go : (a b c d f : Bool) → a ≡ false
+        → 0 < length (cond a [] (cond b (withCr (fixedText ourSid) ++ withCr (fixedText ourPrompt)) (cond c (withCr (fixedText ourSid))
+        (cond d (withCr (fixedText protocolError)) (cond f (withCr (fixedText checksumError)) (fsText (held signs)))))))
+    go true b c d f e = let z : _≡_ {A = ℕ} 0 1 = cc in absurd (omega arith)
+    go false true c d f e = omega arith
+    go false false true d f e = omega arith
+    go false false false true f e = omega arith
+    go false false false false true e = omega arith
+    go false false false false false e = omega arith
 
 sending-some : (table ti na bo : Bytes) (is : List ℕ) → 0 < length is → 0 < length (sendingText table ti na bo is)
 unfolding sendingText

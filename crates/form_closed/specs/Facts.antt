@@ -15,14 +15,14 @@ use Rattle.session_memory.specs.Session.{Line}
 use Rattle.entries.specs.Decoded.{placeCount}
 use Rattle.waiting.specs.Waiting.{waitingOf}
 use Rattle.pending.specs.Pending.{waits}
-use Rattle.form_test.specs.Form.{usedBy, pluses}
+use Rattle.form_test.specs.Form.{usedBy, pluses, isLast}
 use Rattle.receive_defined.specs.Receiving.{Cs}
 use Rattle.form_closed.specs.Fixed.{Fixed}
 use Rattle.session_memory.specs.declared.Five.{Five}
 use Rattle.grammar.specs.Fields.{bodyLimit}
 use Rattle.grammar.specs.Turns.{blockLimit}
 use Rattle.grammar.specs.Answers.{plusSign}
-use Rattle.phase.specs.Phase.{phaseTurn, phaseTransfer}
+use Rattle.phase.specs.Phase.{phaseTurn, phaseTransfer, phaseLeaving, pieceNone}
 use Rattle.places.specs.Places.{deferredLen, headingLen, lineLen, blockLen}
 use Rattle.mail.specs.Mail.{placeLimit}
 
@@ -102,10 +102,15 @@ pub record Under (w : Await) (y : Say) (k : Keep) (r : Reader) (inbox store : By
   pub short : r .body ≤ bodyLimit
   pub room : k .used + r .body ≤ length store
 
--- Records are being sent only while the partner's turn, our leaving or nothing is awaited.
+-- Nothing waits, or the line that says why we hang up.
+abbrev pub Last : ℕ → ℕ → Type 0
+Last first then = (then ≡ pieceNone) × (isLast first ≡ true)
+
+-- Records are being sent only while the partner's turn, our leaving or nothing is awaited; a session that is closed has only its last line to give.
 pub record Awaited (w : Await) (y : Say) (k : Keep) (r : Reader) (inbox store : Bytes) : Type 0 where
   pub quiet : (w .phase ≡ phaseTurn → ⊥) → w .phase ≤ phaseTransfer → k .sending .count ≡ 0
   pub under : w .phase ≡ phaseTransfer → Under w y k r inbox store
+  pub closed : phaseLeaving < w .phase → Last (y .first) (y .then)
 
 -- Lent memory of these sizes, in bytes.
 pub record Lent (nt ni ns : ℕ) (t i s : Bytes) : Type 0 where

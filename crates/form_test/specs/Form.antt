@@ -17,7 +17,7 @@ use Rattle.waiting.specs.Pieces.{piecesOf}
 use Rattle.give_place.specs.Located.{At}
 use Rattle.give_place.specs.declared.Place.{Place}
 use Rattle.pending.specs.Pending.{waits}
-use Rattle.phase.specs.Phase.{phaseTurn, phaseTransfer}
+use Rattle.phase.specs.Phase.{phaseTurn, phaseTransfer, isClosed, pieceNone, pieceProtocolError, pieceChecksumError}
 use Rattle.places.specs.Places.{lineLen, headingLen}
 use Rattle.grammar.specs.Turns.{blockLimit}
 use Rattle.grammar.specs.Answers.{plusSign}
@@ -73,11 +73,19 @@ transferOk s inbox store =
     && (leb (s .keep .kept + pluses (drop (s .now .current) (held (s .say .signs)))) (placeCount inbox)
     && (leb (s .reading .reader .body) bodyLimit && leb (s .keep .used + s .reading .reader .body) (length store)))))
 
+-- A line that says why we hang up (02, Q-1), or nothing
+abbrev pub isLast : ℕ → Bool
+isLast first = eqb first pieceNone || (eqb first pieceProtocolError || eqb first pieceChecksumError)
+
+-- A session that is closed has nothing to give but that line.
+unfoldable pub closedOk : Session → Bool
+closedOk s = cond (isClosed (s .now .phase)) (eqb (s .say .then) pieceNone && isLast (s .say .first)) true
+
 -- Records are being sent only while the partner's turn, our leaving or nothing is awaited.
 unfoldable pub phaseOk : Session → Bytes → Bytes → Bool
 phaseOk s inbox store =
     cond (eqb (s .now .phase) phaseTurn) true
-    (cond (ltb phaseTransfer (s .now .phase)) true
+    (cond (ltb phaseTransfer (s .now .phase)) (closedOk s)
     (eqb (s .keep .sending .count) 0 && cond (eqb (s .now .phase) phaseTransfer) (transferOk s inbox store) true))
 
 -- The state, read from session memory.

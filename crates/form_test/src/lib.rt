@@ -12,7 +12,7 @@ ghost use lib.ListN.{length, drop};
 ghost use Rattle.places.specs.Places.{entryLen};
 ghost use Rattle.session_memory.specs.State.{sessionSize, held, loadOf, loadSizes};
 ghost use Rattle.pending.specs.Pending.{waits};
-ghost use Rattle.form_test.specs.Form.{markOk, sameSizes, countsOk, usedBy, inboxOk, waitingOk, pluses, transferOk, phaseOk, lentSizes, formOf, Next};
+ghost use Rattle.form_test.specs.Form.{markOk, sameSizes, countsOk, usedBy, inboxOk, waitingOk, pluses, transferOk, isLast, closedOk, phaseOk, lentSizes, formOf, Next};
 
 // The mark FM01 as a number, little end first.
 const FM01: u32 = 825249094;
@@ -165,6 +165,33 @@ fn transfer_ok(sm: &[u8], inbox: &[u8], store: &[u8]) -> bool
     body_ok(eight(sm, places::USED), four(sm, places::BODY), store.len())
 }
 
+// Nothing, or a line that says why we hang up.
+fn is_last(first: u8) -> bool
+    ensures { λ r. ⌜ r ≡ isLast first ⌝ }
+{
+    if first == phase::PIECE_NONE {
+        return true;
+    }
+    if first == phase::PIECE_PROTOCOL_ERROR {
+        return true;
+    }
+    first == phase::PIECE_CHECKSUM_ERROR
+}
+
+// A session that is closed has nothing to give but that line.
+fn closed_ok(sm: &[u8]) -> bool
+    requires { ⌜ length (now sm) ≡ sessionSize ⌝ }
+    ensures { λ r. ⌜ r ≡ closedOk (loadOf (now (sm .entry))) ⌝ }
+{
+    if !phase::is_closed(sm[places::PHASE]) {
+        return true;
+    }
+    if sm[places::THEN] != phase::PIECE_NONE {
+        return false;
+    }
+    is_last(sm[places::FIRST])
+}
+
 // Records are being sent only in phase 3 and from phase 6 on; a transfer is under way in phase 5.
 fn phase_ok(sm: &[u8], inbox: &[u8], store: &[u8]) -> bool
     requires { ⌜ length (now sm) ≡ sessionSize ⌝ }
@@ -175,7 +202,7 @@ fn phase_ok(sm: &[u8], inbox: &[u8], store: &[u8]) -> bool
         return true;
     }
     if phase::TRANSFER < awaited {
-        return true;
+        return closed_ok(sm);
     }
     if sm[places::SENDING] != 0 {
         return false;

@@ -1,17 +1,17 @@
 -- Laws of give on plain values: what is handed out from a place in what waits, what is kept of it, and one law for each answer.
 use mathlib.Core.Path.{_≡_, refl, sym, ap, subst, _∙_}
-use mathlib.Core.Bool.{Bool, true, false, cond, not, _&&_}
+use mathlib.Core.Bool.{Bool, true, false, not}
 use mathlib.Core.List.{List}
-use Prim.Native.Nat.{ℕ, _+_, _-_, _<_, _≤_, min}
+use Prim.Native.Nat.{ℕ, _+_, _-_, _<_, _≤_}
 use native.Mathlib.Omega.{arith}
 use lib.Dec.{eqb, ltb}
 use lib.ListN.{length, take, drop, length-drop}
-use borrow.Author.Tests.{eq-eqb, ne-eqb, eqb-true, eqb-false, lt-ltb, le-ltb, ltb-true, ltb-false, not-true, not-false}
+use borrow.Author.Tests.{eqb-true, lt-ltb, le-ltb, ltb-true, ltb-false, not-true, not-false}
 use Rattle.grammar.specs.Bytes.{Bytes}
 use Rattle.grammar.specs.Refusals.{badMemory}
 use Rattle.grammar.proofs.Basics.{and2}
 use Rattle.layout.specs.Layout.{byteAt, le8At}
-use Rattle.places.specs.Places.{sessionLen, phaseAt, firstAt, thenAt, posAt, oursAt, sendingAt, signsAt}
+use Rattle.places.specs.Places.{sessionLen, firstAt, thenAt, posAt, oursAt, sendingAt, signsAt}
 use Rattle.places.specs.Places as places
 use Rattle.buffer.specs.Put.{Puts, cut, wrote, putBytes}
 use Rattle.buffer.specs.declared.Cursor.{Cursor}
@@ -23,12 +23,12 @@ use Rattle.session_memory.proofs.Laws.{array-length}
 use Rattle.numbers.specs.Whole.{wholeOf, numbersAt, sayNumbers, numberBytes}
 use Rattle.numbers.proofs.Laws.{load-whole}
 use Rattle.numbers_in_place.specs.Changed.{withSay}
-use Rattle.numbers_in_place.proofs.Arrays.{arraysIn, saved-numbers}
+use Rattle.numbers_in_place.proofs.Arrays.{saved-numbers}
 use Rattle.waiting.specs.Waiting.{waitingOf}
 use Rattle.waiting.specs.Pieces.{joined, piecesOf}
 use Rattle.waiting.proofs.Pieces.{pieces-joined}
 use Rattle.waiting.proofs.Short.{record-short, waiting-short}
-use Rattle.pending.specs.Pending.{waits, overOf, hasToGive, silentOf}
+use Rattle.pending.specs.Pending.{waits, silentOf}
 use Rattle.give_place.specs.Located.{At}
 use Rattle.give_place.specs.declared.Place.{Place}
 use Rattle.form_test.specs.Form.{formOf, Next}
@@ -146,33 +146,6 @@ pub form-size : (sm table titles names bodies known inbox store : Bytes) → for
 unfolding formOf
 form-size sm table titles names bodies known inbox store e = eqb-true (length sm) sessionLen (and2 (eqb (length sm) sessionLen) _ e .0)
 
--- whether something is to be given
-module _ (s : Session) {b : Bool} (w : b ≡ waits (s .say)) where
-  silent-not : b ≡ false → hasToGive s ≡ false
-  unfolding hasToGive
-  silent-not e = ap (λ (x : Bool). cond (overOf s) false x) (sym w ∙ e) ∙ same (overOf s)
-    where
-      same : (c : Bool) → cond c false false ≡ false
-      same true = refl
-      same false = refl
-
-  ended-not : 6 < s .now .phase → hasToGive s ≡ false
-  unfolding hasToGive overOf
-  ended-not h = rw (le-ltb (s .now .phase) 6 (omega arith), ne-eqb (s .now .phase) 6 (λ e. omega arith))
-
-  due : b ≡ true → s .now .phase ≤ 6 → hasToGive s ≡ true
-  unfolding hasToGive overOf
-  due e h = go (ltb (s .now .phase) 6) refl
-    where
-      v : waits (s .say) ≡ true
-      v = sym w ∙ e
-
-      go : (c : Bool) → ltb (s .now .phase) 6 ≡ c → hasToGive s ≡ true
-      go true f = rw (f, v)
-      go false f =
-          let k = ltb-false (s .now .phase) 6 f in
-          simp (f, eq-eqb (s .now .phase) 6 (omega arith), v)
-
 abbrev given : Reply → Bytes → Bytes → Given
 given r m b = record { reply = r; sm = m; buf = b }
 
@@ -202,7 +175,7 @@ module _ (sm table titles names bodies known inbox store buf : Bytes) (place : �
     pub size : length sm ≡ sessionLen
     size = form-size sm table titles names bodies known inbox store passes
 
-    quiet : {r : Reply} → r ≡ reply 0 0 0 → hasToGive (loadOf sm) ≡ false → given r sm buf ≡ giveOf sm table titles names bodies known inbox store buf place
+    quiet : {r : Reply} → r ≡ reply 0 0 0 → waits (loadOf sm .say) ≡ false → given r sm buf ≡ giveOf sm table titles names bodies known inbox store buf place
     unfolding giveOf
     quiet t o = rw (passes, o, t)
 
@@ -215,17 +188,11 @@ module _ (sm table titles names bodies known inbox store buf : Bytes) (place : �
 
       -- nothing waits
       pub give-silent : {r : Reply} → r ≡ reply 0 0 0 → not (p .left) ≡ true → given r sm buf ≡ giveOf sm table titles names bodies known inbox store buf place
-      give-silent t l = quiet t (silent-not (loadOf sm) (next .0) (not-true (p .left) l))
+      give-silent t l = quiet t (sym (next .0) ∙ not-true (p .left) l)
 
-      -- the session has ended
-      pub give-ended : {r : Reply} → r ≡ reply 0 0 0 → 6 < byteAt sm phaseAt → given r sm buf ≡ giveOf sm table titles names bodies known inbox store buf place
-      unfolding loadOf loadAwait
-      give-ended t h = quiet t (ended-not (loadOf sm) (next .0) h)
-
-      module _ (l : not (p .left) ≡ false) (h : byteAt sm phaseAt ≤ 6) where
-        to-give : hasToGive (loadOf sm) ≡ true
-        unfolding loadOf loadAwait
-        to-give = due (loadOf sm) (next .0) (not-false (p .left) l) h
+      module _ (l : not (p .left) ≡ false) where
+        to-give : waits (loadOf sm .say) ≡ true
+        to-give = sym (next .0) ∙ not-false (p .left) l
 
         -- no room
         pub give-full : {r : Reply} → r ≡ reply 0 0 0 → length buf ≤ place → given r sm buf ≡ giveOf sm table titles names bodies known inbox store buf place

@@ -11,7 +11,7 @@ use Rattle.session_memory.specs.State.{loadOf, saveOf}
 use Rattle.session_memory.specs.Setters.{withPos, withSay}
 use Rattle.session_memory.specs.Session.{Session}
 use Rattle.waiting.specs.Waiting.{waitingOf}
-use Rattle.pending.specs.Pending.{hasToGive, silentOf}
+use Rattle.pending.specs.Pending.{waits, silentOf}
 use Rattle.form_test.specs.Form.{formOf}
 use Rattle.give.specs.declared.Reply.{Reply}
 use Rattle.give.specs.declared.Handout.{Handout}
@@ -51,11 +51,12 @@ Hands s w buf place r e =
 abbrev pub leftOf : Bool → ℕ → Session → Session
 leftOf left pos s = cond left (withSay (withPos pos (s .say)) s) (silentOf s)
 
--- "a place beyond the end writes nothing and reports 0"; "Give on an ended session writes nothing and answers 0 with count 0."
+-- "a place beyond the end writes nothing and reports 0". "Give on an ended session writes nothing and answers 0 with count 0.", but for the line that
+-- says why (02, Q-1): by the form test nothing else waits in it
 unfoldable pub giveOf : Bytes → Bytes → Bytes → Bytes → Bytes → Bytes → Bytes → Bytes → Bytes → ℕ → Given
 giveOf sm table titles names bodies known inbox store buf place =
     cond (formOf sm table titles names bodies known inbox store)
-    (cond (hasToGive (loadOf sm))
+    (cond (waits (loadOf sm .say))
     (cond (ltb place (length buf))
     (handing (loadOf sm) (waitingOf (loadOf sm) table titles names bodies) sm buf place)
     (record { reply = reply 0 0 0; sm = sm; buf = buf }))

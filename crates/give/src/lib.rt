@@ -134,9 +134,6 @@ pub fn give<'a>(
     if !p.left {
         return given(0);
     }
-    if phase::LEAVING < sm[places::PHASE] {
-        return given(0);
-    }
     if buf.len() <= place {
         return given(0);
     }

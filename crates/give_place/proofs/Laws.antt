@@ -32,9 +32,9 @@ fs-length : (signs : Five) → length (signs .items) ≡ 5 → {n : ℕ} → n �
 unfolding fsText
 fs-length signs h q = simp (length-append, length-take) (omega arith)
 
-pub signs-length : (k : ℕ) (signs : Five) → length (signs .items) ≡ 5 → (k ≡ 0 → ⊥) → (k ≡ 1 → ⊥) → (k ≡ 2 → ⊥) → {n : ℕ} → n ≡ min 5 (signs .count)
+pub signs-length : (k : ℕ) (signs : Five) → length (signs .items) ≡ 5 → (k ≡ 0 → ⊥) → (k ≡ 1 → ⊥) → (k ≡ 2 → ⊥) → (k ≡ 4 → ⊥) → (k ≡ 5 → ⊥) → {n : ℕ} → n ≡ min 5 (signs .count)
     → 4 + n ≡ length (firstText k signs)
-signs-length k signs h h₀ h₁ h₂ q = fs-length signs h q ∙ ap length (first-signs k signs h₀ h₁ h₂ {x = held signs} refl)
+signs-length k signs h h₀ h₁ h₂ h₄ h₅ q = fs-length signs h q ∙ ap length (first-signs k signs h₀ h₁ h₂ h₄ h₅ {x = held signs} refl)
 
 -- a piece of our block
 module _ (sm table : Bytes) (k : ℕ) (p : 1 ≤ k) {n : ℕ} (q : n ≡ min 5 (byteAt sm oursAt)) where

@@ -33,6 +33,12 @@ fn first_length(sm: &[u8]) -> usize
     if first == phase::PIECE_SID {
         return text_length::SID;
     }
+    if first == phase::PIECE_PROTOCOL_ERROR {
+        return text_length::ERROR;
+    }
+    if first == phase::PIECE_CHECKSUM_ERROR {
+        return text_length::ERROR;
+    }
     text_length::FS + in_use(sm[places::SIGNS]) as usize
 }
 

@@ -12,7 +12,7 @@ use Rattle.grammar.specs.Bytes.{Bytes, CR, SP, every, same}
 use Rattle.grammar.specs.Fields.{Form, bidByte, callByte, digit, file, message, plain, upper, writeNum}
 use Rattle.grammar.specs.Lines.{isComment, isPrompt, trim}
 use Rattle.grammar.specs.Sid.{readSid, sidNumber}
-use Rattle.grammar.specs.Turns.{Proposal, endsBlock, fixedText, formLetter, inMode, isType, notAllowed, ourBlock, ourEnd, ourFF, ourFQ, ourPrompt, ourSid, proposable, proposalLine, proposes, readProposal, readSummedEnd, readTurnLine, saysFF, saysFQ, sp}
+use Rattle.grammar.specs.Turns.{Proposal, endsBlock, fixedText, formLetter, inMode, isType, notAllowed, ourBlock, ourEnd, ourFF, ourFQ, ourPrompt, ourSid, protocolError, checksumError, proposable, proposalLine, proposes, readProposal, readSummedEnd, readTurnLine, saysFF, saysFQ, sp}
 use Rattle.grammar.specs.Answers.{OurLine, Sign, accept, decline, defer, fixedLine, fsLine, ourAnswer, ourProposal, readFs, readSigns, signAt, writeSign, written, Level}
 use Rattle.grammar.proofs.Basics.{Field, Lacks, lacks-append, all-lacks, or-second}
 use Rattle.grammar.proofs.Fields.{num-field, atByte, at-field, call-field, bid-field, Ours, ours, proposal-back}
@@ -227,6 +227,8 @@ good-line (fixedLine ourPrompt) h = closed-good (fixedText ourPrompt) refl (omeg
 good-line (fixedLine ourFF) h = closed-good (fixedText ourFF) refl (omega arith) refl refl
 good-line (fixedLine ourFQ) h = closed-good (fixedText ourFQ) refl (omega arith) refl refl
 good-line (fixedLine ourEnd) h = closed-good (fixedText ourEnd) refl (omega arith) refl refl
+good-line (fixedLine protocolError) h = closed-good (fixedText protocolError) refl (omega arith) refl refl
+good-line (fixedLine checksumError) h = closed-good (fixedText checksumError) refl (omega arith) refl refl
 good-line (ourProposal p) h =
     let o = ours p h in
     let s = prop-short p o in

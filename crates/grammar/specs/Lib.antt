@@ -7,6 +7,7 @@ pub mod Bids
 pub mod Lines
 pub mod Sid
 pub mod Turns
+pub mod Errors
 pub mod Answers
 pub mod Transfers
 pub mod Scan

@@ -142,9 +142,9 @@ proposalLine p =
     sp (70 ∷ formLetter (p .form) ∷ []) (sp (p .type ∷ []) (sp (p .from) (sp (p .at) (sp (p .to) (sp (p .bid) (decimal (p .size)))))))
 
 -- The lines that we write and that never differ. "Our SID becomes `[NOD-1-B1FH$]`" (02, Q-6); "Called: we send it, CR,
--- `>`, CR"
+-- `>`, CR"; "`*** Checksum error` for 9, `*** Protocol error` for the others" (02, Q-1)
 pub data FixedLine : Type 0 where
-  ourSid ourPrompt ourFF ourFQ ourEnd : FixedLine
+  ourSid ourPrompt ourFF ourFQ ourEnd protocolError checksumError : FixedLine
 
 abbrev pub fixedText : FixedLine → Bytes
 fixedText ourSid = text "[NOD-1-B1FH$]"
@@ -152,6 +152,8 @@ fixedText ourPrompt = text ">"
 fixedText ourFF = text "FF"
 fixedText ourFQ = text "FQ"
 fixedText ourEnd = text "F>"
+fixedText protocolError = text "*** Protocol error"
+fixedText checksumError = text "*** Checksum error"
 
 -- "A line ends with CR."
 abbrev pub withCr : Bytes → Bytes

@@ -115,7 +115,7 @@ pub fn line_byte(
         },
         LineByte::Overruns => Left {
             answer: refusal::LINE_TOO_LONG,
-            session: settling::refused(s),
+            session: settling::refused(refusal::LINE_TOO_LONG, s),
         },
     }
 }

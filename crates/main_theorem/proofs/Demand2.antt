@@ -26,7 +26,7 @@ use Rattle.main_theorem.proofs.Accepted.{table-reads-back}
 use Rattle.main_theorem.proofs.Opening.{freshCs, accepted}
 use Rattle.main_theorem.proofs.Held.{Held}
 use Rattle.main_theorem.proofs.Giving.{GaveAs, give-law}
-use Rattle.main_theorem.proofs.Run.{TookAs, receive-law, received-over, given-over, received-none}
+use Rattle.main_theorem.proofs.Run.{TookAs, receive-law, received-over, given-none, received-none}
 use Rattle.main_theorem.proofs.Demand3.{ran}
 
 -- every list of calls leads to a session that is reached
@@ -59,14 +59,14 @@ module _ (role : ℕ) (M : Memory) (e : openedBy role M .reply .answer ≡ 0) (c
   gave b place =
       give-law (fixedIn M) (shelfIn M) (freshCs role (lentIn M)) (sizesOf (fixedIn M) (lentIn M)) end after held (b .bytes) place
 
-  -- after the end, and no bytes before it
+  -- after the end, where nothing waits, and no bytes before it
   over-receive : Over after → (b : Buffer) → received (fixedIn M) end (b .bytes) ≡ unchangedBy (reply sessionEnded 0 0) end
   over-receive o b =
       received-over (fixedIn M) (shelfIn M) (freshCs role (lentIn M)) (sizesOf (fixedIn M) (lentIn M)) end after held (over-ended after o) (b .bytes)
 
-  over-give : Over after → (b : Buffer) (place : ℕ) → given (fixedIn M) end (b .bytes) place ≡ record { reply = reply 0 0 0; sm = end .sm; buf = b .bytes }
-  over-give o b place =
-      given-over (fixedIn M) (shelfIn M) (freshCs role (lentIn M)) (sizesOf (fixedIn M) (lentIn M)) end after held (over-ended after o) (b .bytes) place
+  none-give : after .out ≡ [] → (b : Buffer) (place : ℕ) → given (fixedIn M) end (b .bytes) place ≡ record { reply = reply 0 0 0; sm = end .sm; buf = b .bytes }
+  none-give o b place =
+      given-none (fixedIn M) (shelfIn M) (freshCs role (lentIn M)) (sizesOf (fixedIn M) (lentIn M)) end after held o (b .bytes) place
 
   none-receive : Live after → received (fixedIn M) end [] ≡ unchangedBy (reply 0 0 0) end
   none-receive l = received-none (fixedIn M) (shelfIn M) (freshCs role (lentIn M)) (sizesOf (fixedIn M) (lentIn M)) end after held l
@@ -88,7 +88,7 @@ demand-2-lent role M e cs =
       gives = λ b place. gave role M e cs b place .replies;
       writes = λ b place. gave role M e cs b place .buffer;
       endedReceive = over-receive role M e cs;
-      endedGive = over-give role M e cs;
+      silentGive = none-give role M e cs;
       noBytes = none-receive role M e cs;
       readsBack = table-reads-back (M .table .bytes) (M .titles .bytes) (M .names .bytes) (M .bodies .bytes) (accepted role (fixedIn M) (lentIn M) e .fault);
     }

@@ -23,7 +23,7 @@ use Rattle.session_memory.specs.State.{loadOf, saveOf}
 use Rattle.session_memory.specs.Session.{Session}
 use Rattle.session_memory.specs.declared.Sizes.{Sizes}
 use Rattle.waiting.specs.Waiting.{waitingOf, firstText, thenText}
-use Rattle.pending.specs.Pending.{waits, overOf, hasToGive, silentOf}
+use Rattle.pending.specs.Pending.{waits, silentOf}
 use Rattle.give.specs.Giving.{Given, reply, handedOf, handing, giveOf}
 use Rattle.receive_defined.specs.Receiving.{Cs, cs}
 use Rattle.form_closed.specs.Fixed.{Fixed}
@@ -31,7 +31,7 @@ use Rattle.represents.specs.Represents.{Says, Awaits, Represents}
 use Rattle.represents.specs.Frame.{Spared}
 use Rattle.main_theorem.specs.Calls.{Lent, withSession, given}
 use Rattle.marking.proofs.States.{only-same}
-use Rattle.represents.proofs.Byte.{waits-law, over-law}
+use Rattle.represents.proofs.Byte.{waits-law}
 use Rattle.main_theorem.proofs.Held.{csOf, Held, saved-held, held-good}
 use Rattle.form_closed.proofs.Closed.{handed-ok}
 
@@ -75,13 +75,12 @@ csSaying c first then pos = cs (saying (c .session) first then pos) (c .table) (
 abbrev withOut : on-lists.Session → Bytes → on-lists.Session
 withOut s o = on-lists.withOut o s
 
-module _ (F : Fixed) (E : Shelf) (c : Cs) (first then pos : ℕ)
-    (quiet : waits (c .session .say) ≡ false → waits (saying (c .session) first then pos .say) ≡ false) where
+module _ (F : Fixed) (E : Shelf) (c : Cs) (first then pos : ℕ) where
   awaits-still : (p : on-lists.Phase) → Awaits c p → Awaits (csSaying c first then pos) p
   awaits-still (on-lists.aLine l) a = a
   awaits-still (on-lists.awaitsTransfer p ps sc) a = a
   awaits-still on-lists.leaving a = a
-  awaits-still on-lists.over a = (a .0, quiet (a .1))
+  awaits-still on-lists.over a = a
 
   resaid : (s : on-lists.Session) (o : Bytes) → Represents F E c s → Says F (csSaying c first then pos) o → Represents F E (csSaying c first then pos) (withOut s o)
   resaid s o h y =
@@ -111,17 +110,17 @@ module _ (F : Fixed) (E : Shelf) (c : Cs) (s : on-lists.Session) (h : Represents
       omega arith))
 
   hand-law : Represents F E (cs (handedOf (c .session) count (length waiting)) (c .table) (c .inbox) (c .store)) (give s room)
-  unfolding handedOf silentOf give waits waitingOf firstText thenText
+  unfolding handedOf silentOf give waitingOf firstText thenText
   hand-law = go (ltb (c .session .say .pos + count) (length waiting)) refl
     where
       go : (b : Bool) → ltb (c .session .say .pos + count) (length waiting) ≡ b
           → Represents F E
           (cs (cond b (saying (c .session) (c .session .say .first) (c .session .say .then) (c .session .say .pos + count)) (silentOf (c .session))) (c .table) (c .inbox) (c .store)) (give s room)
       go true e =
-          resaid F E c (c .session .say .first) (c .session .say .then) (c .session .say .pos + count) (λ q. q) s (drop room (s .out)) h
+          resaid F E c (c .session .say .first) (c .session .say .then) (c .session .say .pos + count) s (drop room (s .out)) h
           left-says
       go false e =
-          resaid F E c 0 0 0 (λ q. refl) s (drop room (s .out)) h
+          resaid F E c 0 0 0 s (drop room (s .out)) h
           (none-left (ltb-false (c .session .say .pos + count) (length waiting) e))
 
   hand-spared : Spared c (cs (handedOf (c .session) count (length waiting)) (c .table) (c .inbox) (c .store))
@@ -173,39 +172,27 @@ module _ (F : Fixed) (E : Shelf) (c₀ : Cs) (z : Sizes) where
         }
 
     pub give-law : GaveAs m buf place s (given F m buf place)
-    unfolding giveOf hasToGive
+    unfolding giveOf
     give-law =
         subst (λ (q : Bool). GaveAs m buf place s (cond q asked (record { reply = reply badMemory 255 0; sm = m .sm; buf = buf })))
-        (sym (h .inForm .form)) (go (hasToGive (loadOf (m .sm))) (ltb place (length buf)) refl refl)
+        (sym (h .inForm .form)) (go (waits (loadOf (m .sm) .say)) (ltb place (length buf)) refl refl)
       where
         same : Given
         same = record { reply = reply 0 0 0; sm = m .sm; buf = buf }
 
         asked : Given
-        asked = cond (hasToGive (loadOf (m .sm))) (cond (ltb place (length buf)) (handing (loadOf (m .sm)) lot (m .sm) buf place) same) same
+        asked = cond (waits (loadOf (m .sm) .say)) (cond (ltb place (length buf)) (handing (loadOf (m .sm)) lot (m .sm) buf place) same) same
 
         null-is : (o : Bytes) → not (null o) ≡ false → o ≡ []
         null-is [] e = refl
         null-is (x ∷ o) e = absurd (no-both true refl e)
 
-        -- on an ended session nothing waits
-        ended-null : (p : on-lists.Phase) → Awaits (csOf m) p → on-lists.endedIn p (s .out) ≡ true → not (null (s .out)) ≡ false
-        ended-null (on-lists.aLine l) a e = absurd (no-both false e refl)
-        ended-null (on-lists.awaitsTransfer p ps sc) a e = absurd (no-both false e refl)
-        ended-null on-lists.leaving a e = ap not e
-        ended-null on-lists.over a e = sym (waits-law F (csOf m) (s .out) (held-good F E c₀ z m s h) (h .represents .says)) ∙ a .1
-
-        silent : (b w : Bool) → overOf (loadOf (m .sm)) ≡ b → waits (loadOf (m .sm) .say) ≡ w → cond b false w ≡ false → s .out ≡ []
-        silent true w o e q =
-            null-is (s .out) (ended-null (s .phase) (h .represents .awaits) (sym (over-law F E (csOf m) s (held-good F E c₀ z m s h) (h .represents)) ∙ o))
-        silent false w o e q = null-is (s .out) (sym (waits-law F (csOf m) (s .out) (held-good F E c₀ z m s h) (h .represents .says)) ∙ e ∙ q)
-
-        go : (w l : Bool) → hasToGive (loadOf (m .sm)) ≡ w → ltb place (length buf) ≡ l
+        go : (w l : Bool) → waits (loadOf (m .sm) .say) ≡ w → ltb place (length buf) ≡ l
             → GaveAs m buf place s (cond w (cond l (handing (loadOf (m .sm)) lot (m .sm) buf place) same) same)
         go true true e f = some-given
         go true false e f =
             let k : space ≡ 0 = let g = ltb-false place (length buf) f in omega arith in
             still (ap (λ (n : ℕ). take n (s .out)) k) (ap (λ (n : ℕ). drop n (s .out)) k)
         go false l e f =
-            let o = silent (overOf (loadOf (m .sm))) (waits (loadOf (m .sm) .say)) refl refl e in
+            let o = null-is (s .out) (sym (waits-law F (csOf m) (s .out) (held-good F E c₀ z m s h) (h .represents .says)) ∙ e) in
             still (ap (take space) o ∙ take-nil space) (ap (drop space) o ∙ drop-nil space ∙ sym o)

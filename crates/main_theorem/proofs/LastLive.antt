@@ -87,7 +87,7 @@ bytes-kept E (b ∷ bs) s = go (calls.stops (on-lists.step E s b)) refl (bytes-k
     go false e k = k
 
 -- after its end nothing is kept
-give-ended : (s : on-lists.Session) (room : ℕ) → on-lists.ended s ≡ true → on-lists.ended (calls.give s room) ≡ true
+pub give-ended : (s : on-lists.Session) (room : ℕ) → on-lists.ended s ≡ true → on-lists.ended (calls.give s room) ≡ true
 unfolding calls.give
 give-ended s room e = go (s .phase) (s .out) e
   where

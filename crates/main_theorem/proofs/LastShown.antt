@@ -28,7 +28,8 @@ use Rattle.represents.proofs.Byte.{over-law, byte-law, same-stops, spared-then}
 use Rattle.form_closed.proofs.Closed.{receive-one, give-one}
 use Rattle.main_theorem.proofs.Giving.{give-law}
 use Rattle.main_theorem.proofs.Held.{csOf, Held, held-good}
-use Rattle.main_theorem.proofs.Run.{other-form, own-same, receive-law, received-over, given-over}
+use Rattle.main_theorem.proofs.LastLive.{give-ended}
+use Rattle.main_theorem.proofs.Run.{other-form, own-same, receive-law, received-over}
 use Rattle.represents.proofs.Stays.{byte-stays}
 use Rattle.form_closed.specs.Facts.{Octets, Good}
 use Rattle.form_closed.proofs.Laws.{octets-first, octets-rest}
@@ -91,7 +92,8 @@ module _ (F : Fixed) (E : Shelf) (c₀ : Cs) where
     over-stays (receives b ∷ cs) m s h e =
         ap (λ (r : Received). (lent-calls.run F (leftBy r) cs) .0 .store) (received-over F E c₀ z m s h e (b .bytes)) ∙ over-stays cs m s h e
     over-stays (gives b place ∷ cs) m s h e =
-        ap (λ (g : Given). (lent-calls.run F (withSession m (g .sm)) cs) .0 .store) (given-over F E c₀ z m s h e (b .bytes) place) ∙ over-stays cs m s h e
+        over-stays cs (withSession m (given F m (b .bytes) place .sm)) (calls.give s (length (b .bytes) - place)) (give-law F E c₀ z m s h (b .bytes) place .held)
+        (give-ended s (length (b .bytes) - place) e)
     over-stays (receivesOther o b ∷ cs) m s h e =
         ap (λ (r : Received). (lent-calls.run F (aside o m (r .sm)) cs) .0 .store)
         (receive-one (o .fixed) (lentSession (o .session) (m .sm)) (o .table) (o .inbox) (o .store) (b .bytes) (other-form (m .sm) z o (h .sizes)))

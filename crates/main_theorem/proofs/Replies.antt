@@ -1,27 +1,68 @@
 -- EVERY REPLY, on whatever memory. Idea: the call's own cases; a receive counts a byte at a time, and a give what fits.
-use mathlib.Core.Path.{_≡_, refl, sym, ap, _∙_}
-use mathlib.Core.Bool.{Bool, true, false, cond, not}
-use mathlib.Core.List.{[], _∷_}
+use mathlib.Core.Path.{_≡_, refl, sym, ap, _∙_, subst}
+use mathlib.Core.Bool.{Bool, true, false, cond, not, _||_}
+use mathlib.Core.List.{[], _∷_, _++_, append-nil}
 use Prim.Native.Nat.{ℕ, suc, _+_, _-_, _≤_}
 use native.Mathlib.Omega.{arith}
 use lib.Dec.{eqb, ltb}
 use lib.ListN.{length, drop, length-take}
-use borrow.Author.Tests.{eq-eqb, le-ltb}
+use borrow.Author.Tests.{eq-eqb, eqb-true, ne-eqb, lt-ltb, le-ltb, ltb-true}
 use Rattle.grammar.specs.Bytes.{Bytes}
 use Rattle.grammar.specs.Refusals.{badMemory, noPlace, sessionEnded}
-use Rattle.grammar.proofs.Basics.{no-both, by-cond}
+use Rattle.grammar.proofs.Basics.{and2, no-both, by-cond}
 use Rattle.buffer.specs.Put.{wrote, cut, putBytes}
 use Rattle.buffer.proofs.Laws.{wrote-nil}
-use Rattle.session_memory.specs.State.{loadOf}
-use Rattle.waiting.specs.Waiting.{waitingOf}
-use Rattle.pending.specs.Pending.{overOf, hasToGive}
+use Rattle.session_memory.specs.State.{sessionSize, loadOf, loadSizes}
+use Rattle.session_memory.specs.declared.Five.{Five}
+use Rattle.session_memory.specs.Session.{Session}
+use Rattle.waiting.specs.Waiting.{firstText, thenText, waitingOf}
+use Rattle.waiting.proofs.Said.{first-none, first-protocol, first-checksum}
+use Rattle.pending.specs.Pending.{waits, overOf}
+use Rattle.form_test.specs.Form.{markOk, sameSizes, countsOk, inboxOk, isLast, closedOk, phaseOk, stateOk, lentSizes, formOf}
 use Rattle.give.specs.Giving.{Given, reply, handing, giveOf}
 use Rattle.receive_defined.specs.Receiving.{Cs, cs, byteOf, Run, stops, receiveFrom, Received, saved, receiveOf}
 use Rattle.form_closed.specs.Fixed.{Fixed}
 use Rattle.form_closed.proofs.Closed.{receive-one, give-one}
 use Rattle.form_closed.proofs.Answers.{receive-exactly}
 use Rattle.main_theorem.specs.Calls.{Lent, passes, received, given, unchangedBy}
-use Rattle.main_theorem.specs.Replies.{hasEnded, ReceiveReplies, GiveReplies, RepliesClaim}
+use Rattle.main_theorem.specs.Replies.{hasEnded, LastLine, noLine, protocolLine, checksumLine, OfLastLine, ReceiveReplies, GiveReplies, RepliesClaim}
+
+-- ---------------------------------------------------------------- a closed session
+
+-- one of the two lines, or nothing
+last-line : (k : ℕ) (signs : Five) → isLast k ≡ true → LastLine (firstText k signs)
+last-line k signs e = go (eqb k 0) (eqb k 4) (eqb k 5) refl refl refl e
+  where
+    go : (a b c : Bool) → eqb k 0 ≡ a → eqb k 4 ≡ b → eqb k 5 ≡ c → a || (b || c) ≡ true → LastLine (firstText k signs)
+    go true b c x y z e = subst LastLine (first-none k signs (eqb-true k 0 x)) noLine
+    go false true c x y z e = subst LastLine (first-protocol k signs (eqb-true k 4 y)) protocolLine
+    go false false true x y z e = subst LastLine (first-checksum k signs (eqb-true k 5 z)) checksumLine
+    go false false false x y z e = absurd (no-both false e refl)
+
+-- what the form test says of it
+closed-says : (s : Session) (inbox store : Bytes) → phaseOk s inbox store ≡ true → ltb 6 (s .now .phase) ≡ true → (s .say .then ≡ 0) × (isLast (s .say .first) ≡ true)
+unfolding phaseOk closedOk
+closed-says s inbox store e f =
+    let l = ltb-true 6 (s .now .phase) f in
+    let k = and2 (eqb (s .say .then) 0) (isLast (s .say .first)) (rw (ne-eqb (s .now .phase) 3 (λ z. omega arith), lt-ltb 5 (s .now .phase) (omega arith), f) at e) in
+    (eqb-true (s .say .then) 0 (k .0), k .1)
+
+closed-line : (F : Fixed) (m : Lent) → passes F m ≡ true → ltb 6 (loadOf (m .sm) .now .phase) ≡ true → LastLine (waitingOf (loadOf (m .sm)) (m .table) (F .titles) (F .names) (F .bodies))
+unfolding formOf stateOk waitingOf thenText
+closed-line F m e f =
+    let s : Session = loadOf (m .sm) in
+    let e₁ = and2 (eqb (length (m .sm)) sessionSize) _ e in
+    let e₂ = and2 (markOk (m .sm)) _ (e₁ .1) in
+    let e₃ = and2 (sameSizes (loadSizes (m .sm)) (lentSizes (m .table) (F .titles) (F .names) (F .bodies) (F .known) (m .inbox) (m .store))) _ (e₂ .1) in
+    let e₄ = and2 (countsOk s) _ (e₃ .1) in
+    let e₅ = and2 (inboxOk s (m .inbox) (m .store)) _ (e₄ .1) in
+    let e₆ = and2 (phaseOk s (m .inbox) (m .store)) _ (e₅ .1) in
+    let k = closed-says s (m .inbox) (m .store) (e₆ .0) f in
+    subst LastLine
+    (sym
+    (ap (λ (t : ℕ). firstText (s .say .first) (s .say .signs) ++ thenText t (s .now .ours) (s .keep .sending) (m .table) (F .titles) (F .names) (F .bodies)) (k .0)
+    ∙ append-nil (firstText (s .say .first) (s .say .signs))))
+    (last-line (s .say .first) (s .say .signs) (k .1))
 
 -- ---------------------------------------------------------------- receive
 
@@ -98,7 +139,7 @@ module _ (F : Fixed) (m : Lent) where
     bytes-by : Bool → Bool → Bytes
     bytes-by a b = cond a (cond b (cut (length buf - place) (loadOf (m .sm) .say .pos) waiting) []) []
 
-    given-is : passes F m ≡ true → given F m buf place ≡ given-by (hasToGive (loadOf (m .sm))) (ltb place (length buf))
+    given-is : passes F m ≡ true → given F m buf place ≡ given-by (waits (loadOf (m .sm) .say)) (ltb place (length buf))
     unfolding giveOf given-by still
     given-is e = rw e
 
@@ -120,13 +161,27 @@ module _ (F : Fixed) (m : Lent) where
     room-by true false = omega arith
     room-by false b = omega arith
 
-    given-ended : passes F m ≡ true → hasEnded m ≡ true → given F m buf place ≡ record { reply = reply 0 0 0; sm = m .sm; buf = buf }
-    unfolding giveOf hasToGive
-    given-ended e o = rw (e, o)
+    -- on an ended session: nothing waits, or one of the two lines
+    given-ended : passes F m ≡ true → hasEnded m ≡ true → OfLastLine (bytes-by (waits (loadOf (m .sm) .say)) (ltb place (length buf)))
+    unfolding bytes-by overOf
+    given-ended e o = go (ltb (loadOf (m .sm) .now .phase) 6) (ltb 6 (loadOf (m .sm) .now .phase)) (waits (loadOf (m .sm) .say)) refl o (ltb place (length buf))
+      where
+        none : OfLastLine []
+        none = record { line = []; last = noLine; from = 0; count = 0; are = refl }
+
+        go : (a b w : Bool) → ltb 6 (loadOf (m .sm) .now .phase) ≡ b → cond a false (cond b true (not w)) ≡ true → (l : Bool) → OfLastLine (bytes-by w l)
+        go true b w f o l = absurd (no-both false o refl)
+        go false true true f o true =
+            let k = closed-line F m e f in
+            record { line = waiting; last = k; from = loadOf (m .sm) .say .pos; count = length buf - place; are = refl }
+        go false true true f o false = none
+        go false true false f o l = none
+        go false false true f o l = absurd (no-both false o refl)
+        go false false false f o l = none
 
     given-beyond : passes F m ≡ true → length buf ≤ place → given F m buf place ≡ record { reply = reply 0 0 0; sm = m .sm; buf = buf }
     unfolding given-by still
-    given-beyond e l = given-is e ∙ ap (given-by (hasToGive (loadOf (m .sm)))) (le-ltb place (length buf) l) ∙ go (hasToGive (loadOf (m .sm)))
+    given-beyond e l = given-is e ∙ ap (given-by (waits (loadOf (m .sm) .say))) (le-ltb place (length buf) l) ∙ go (waits (loadOf (m .sm) .say))
       where
         go : (a : Bool) → given-by a false ≡ still
         go true = refl
@@ -134,7 +189,7 @@ module _ (F : Fixed) (m : Lent) where
 
     gives : GiveReplies F m buf place
     gives =
-        let a = hasToGive (loadOf (m .sm)) in
+        let a = waits (loadOf (m .sm) .say) in
         let b = ltb place (length buf) in
         record {
           changed = λ e. give-one F (m .sm) (m .table) (m .inbox) (m .store) buf place e;

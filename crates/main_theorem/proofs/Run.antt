@@ -1,7 +1,7 @@
 -- A list of calls over lent memory is the same list of calls on a session on lists: the memory after it represents that session, and both
 -- say the same to the log.
 use mathlib.Core.Path.{_≡_, refl, sym, ap, _∙_, subst}
-use mathlib.Core.Bool.{Bool, true, false, cond, _&&_}
+use mathlib.Core.Bool.{Bool, true, false, cond, not, _&&_}
 use mathlib.Core.List.{List, [], _∷_, _++_, map}
 use Prim.Native.Nat.{ℕ, _-_}
 use native.Mathlib.Nat.{zero-add}
@@ -9,7 +9,7 @@ use native.Mathlib.Omega.{arith}
 use lib.Dec.{eqb}
 use lib.ListN.{length, take, drop}
 use borrow.Author.Tests.{eqb-true, not-true}
-use Rattle.grammar.specs.Bytes.{Bytes, every}
+use Rattle.grammar.specs.Bytes.{Bytes, null, every}
 use Rattle.grammar.specs.Refusals.{badMemory, sessionEnded}
 use Rattle.grammar.proofs.Basics.{no-both, octet, and-false}
 use Rattle.session.specs.Choices.{Shelf}
@@ -20,7 +20,7 @@ use Rattle.demand3.specs.Demand as on-lists-run
 use Rattle.places.specs.Places.{sessionLen}
 use Rattle.session_memory.specs.State.{loadOf, loadSizes}
 use Rattle.session_memory.specs.declared.Sizes.{Sizes}
-use Rattle.pending.specs.Pending.{overOf, hasToGive}
+use Rattle.pending.specs.Pending.{overOf}
 use Rattle.form_test.specs.Form.{markOk, sameSizes, lentSizes, stateOk, formOf}
 use Rattle.give.specs.Giving.{Given, reply, giveOf}
 use Rattle.give.specs.declared.Reply.{Reply}
@@ -31,7 +31,7 @@ use Rattle.main_theorem.specs.Calls.{Lent, SessionLent, itsOwn, otherByt
 use Rattle.form_closed.proofs.Answers.{receive-none}
 use Rattle.form_closed.proofs.Closed.{receive-one, give-one}
 use Rattle.represents.proofs.Byte as byte
-use Rattle.represents.proofs.Byte.{over-law}
+use Rattle.represents.proofs.Byte.{waits-law, over-law}
 use Rattle.main_theorem.proofs.Held.{csOf, Held, saved-held, held-good}
 use Rattle.main_theorem.proofs.Giving.{given-back, give-law}
 use Rattle.form_closed.proofs.Bytes.{receive-ok}
@@ -112,16 +112,18 @@ module _ (F : Fixed) (E : Shelf) (c₀ : Cs) (z : Sizes) where
       go false true e f = absurd (no-both false e refl)
       go false false e f = live (eqb (length bs) 0) refl f
 
-  -- on an ended session no call changes anything
+  -- on an ended session no receive changes anything
   pub received-over : (m : Lent) (s : on-lists.Session) → Held F E c₀ z m s → on-lists.ended s ≡ true → (bs : Bytes)
       → received F m bs ≡ unchanged (reply sessionEnded 0 0) (m .sm) (m .table) (m .inbox) (m .store)
   unfolding receiveOf
   received-over m s h e bs = rw (h .inForm .form, over-law F E (csOf m) s (held-good F E c₀ z m s h) (h .represents) ∙ e)
 
-  pub given-over : (m : Lent) (s : on-lists.Session) → Held F E c₀ z m s → on-lists.ended s ≡ true → (buf : Bytes) (place : ℕ)
+  -- nor does a give where nothing waits
+  pub given-none : (m : Lent) (s : on-lists.Session) → Held F E c₀ z m s → s .out ≡ [] → (buf : Bytes) (place : ℕ)
       → given F m buf place ≡ record { reply = reply 0 0 0; sm = m .sm; buf = buf }
-  unfolding giveOf hasToGive
-  given-over m s h e buf place = rw (h .inForm .form, over-law F E (csOf m) s (held-good F E c₀ z m s h) (h .represents) ∙ e)
+  unfolding giveOf
+  given-none m s h e buf place =
+      rw (h .inForm .form, waits-law F (csOf m) (s .out) (held-good F E c₀ z m s h) (h .represents .says) ∙ ap (λ (o : Bytes). not (null o)) e)
 
   -- and on a live one no bytes
   pub received-none : (m : Lent) (s : on-lists.Session) → Held F E c₀ z m s → on-lists.ended s ≡ false

@@ -68,10 +68,11 @@ pub record Demand2 (role : ℕ) (M : Memory) (cs : CallsOn M) : Type 0 where
       → given (fixedIn M) (finally role M cs) (b .bytes) place .reply ≡ reply 0 0 (length (handedOut session (length (b .bytes) - place)))
   pub writes : (b : Buffer) (place : ℕ)
       → given (fixedIn M) (finally role M cs) (b .bytes) place .buf ≡ wrote (b .bytes) place (handedOut session (length (b .bytes) - place))
-  -- after the end: "nothing consumed, nothing changed", and "Give on an ended session writes nothing and answers 0 with count 0."
+  -- after the end: "nothing consumed, nothing changed"; and where nothing waits, at the end "once the line is taken" (02, Q-1), give writes nothing and
+  -- answers 0 with count 0. What is given after an end is on the page (`why`, `quiet`, and `parting` of `sound`)
   pub endedReceive : Over session → (b : Buffer)
       → received (fixedIn M) (finally role M cs) (b .bytes) ≡ unchangedBy (reply sessionEnded 0 0) (finally role M cs)
-  pub endedGive : Over session → (b : Buffer) (place : ℕ)
+  pub silentGive : session .out ≡ [] → (b : Buffer) (place : ℕ)
       → given (fixedIn M) (finally role M cs) (b .bytes) place ≡ record { reply = reply 0 0 0; sm = finally role M cs .sm; buf = b .bytes }
   -- "Receiving no bytes on a live session answers 0 and changes nothing."
   pub noBytes : Live session → received (fixedIn M) (finally role M cs) [] ≡ unchangedBy (reply 0 0 0) (finally role M cs)

@@ -4,8 +4,10 @@
 use mathlib.Core.Path.{_≡_}
 use mathlib.Core.Bool.{Bool, true, false}
 use Prim.Native.Nat.{ℕ, _-_, _≤_}
-use lib.ListN.{length}
+use mathlib.Core.List.{[]}
+use lib.ListN.{length, take, drop}
 use Rattle.grammar.specs.Bytes.{Bytes}
+use Rattle.grammar.specs.Ascii.{text}
 use Rattle.grammar.specs.Refusals.{badMemory, noPlace, sessionEnded}
 use Rattle.buffer.specs.Put.{wrote}
 use Rattle.session_memory.specs.State.{loadOf}
@@ -17,6 +19,20 @@ use Rattle.main_theorem.specs.Calls.{Lent, passes, received, given, unch
 -- The session that this memory holds has ended: FQ came, a byte was refused, or our FQ is given.
 abbrev pub hasEnded : Lent → Bool
 hasEnded m = overOf (loadOf (m .sm))
+
+-- What may be given after an end: one of the two lines, or nothing (02, Q-1).
+pub data LastLine : Bytes → Type 0 where
+  noLine : LastLine []
+  protocolLine : LastLine (text "*** Protocol error\r")
+  checksumLine : LastLine (text "*** Checksum error\r")
+
+-- Bytes of it, as they follow each other: so many, from this one on.
+pub record OfLastLine (bytes : Bytes) : Type 0 where
+  pub line : Bytes
+  pub last : LastLine line
+  pub from : ℕ
+  pub count : ℕ
+  pub are : bytes ≡ take count (drop from line)
 
 pub record ReceiveReplies (F : Fixed) (m : Lent) (bs : Bytes) : Type 0 where
   -- memory that was changed, or of another size: 1, 255, 0, and nothing changes
@@ -37,8 +53,8 @@ pub record GiveReplies (F : Fixed) (m : Lent) (buf : Bytes) (place : ℕ) : Type
   pub room : length bytes ≤ length buf - place
   -- "and no other byte of the buffer changes"
   pub buffer : passes F m ≡ true → given F m buf place .buf ≡ wrote buf place bytes
-  -- "Give on an ended session writes nothing and answers 0 with count 0.", and a place beyond the end writes nothing
-  pub ended : passes F m ≡ true → hasEnded m ≡ true → given F m buf place ≡ record { reply = reply 0 0 0; sm = m .sm; buf = buf }
+  -- on an ended session nothing is given but bytes of the line that says why, in order (02, Q-1); and a place beyond the end writes nothing
+  pub ended : passes F m ≡ true → hasEnded m ≡ true → OfLastLine bytes
   pub beyond : passes F m ≡ true → length buf ≤ place → given F m buf place ≡ record { reply = reply 0 0 0; sm = m .sm; buf = buf }
 
 -- THE CLAIM

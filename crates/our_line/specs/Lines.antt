@@ -4,9 +4,11 @@ use mathlib.Core.List.{[], _∷_, _++_}
 use Rattle.grammar.specs.Bytes.{Bytes, CR}
 use Rattle.grammar.specs.Ascii.{text}
 use Rattle.grammar.specs.Fields.{formIs}
-use Rattle.grammar.specs.Turns.{FixedLine, ourSid, ourPrompt, ourFF, ourFQ, ourEnd, Proposal}
+use Rattle.grammar.specs.Turns.{FixedLine, ourSid, ourPrompt, ourFF, ourFQ, ourEnd, protocolError, checksumError, Proposal}
 use Rattle.our_line.specs.declared.Fixed.{Fixed}
 use Rattle.our_line.specs.declared.Fixed.the-variants.{Sid, Prompt, FF, FQ, End}
+use Rattle.our_line.specs.declared.Reason.{Reason}
+use Rattle.our_line.specs.declared.Reason.the-variants.{Protocol, Checksum}
 
 -- The lines that never differ: SID, prompt, `FF`, `FQ` and `F>`.
 abbrev pub fixedIs : Fixed → FixedLine
@@ -15,6 +17,11 @@ fixedIs Prompt = ourPrompt
 fixedIs FF = ourFF
 fixedIs FQ = ourFQ
 fixedIs End = ourEnd
+
+-- The lines that say why we hang up.
+abbrev pub reasonIs : Reason → FixedLine
+reasonIs Protocol = protocolError
+reasonIs Checksum = checksumError
 
 -- The proposal with these fields: form, type, from, at, to, BID, size.
 abbrev pub proposalIs : ℕ → ℕ → Bytes → Bytes → Bytes → Bytes → ℕ → Proposal

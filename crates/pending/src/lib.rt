@@ -1,10 +1,10 @@
-// Whether bytes wait for give, and whether the session has ended: two facts, not one.
+// Whether bytes wait for give, and whether the session has ended: two facts, not one, since a refusal leaves a line to give.
 use numbers::Numbers;
 use session_memory::Say;
 ghost use mathlib.Core.Path.{_≡_};
 ghost use Rattle.grammar.specs.Bytes.{Bytes};
 ghost use Rattle.numbers.specs.Whole.{wholeOf};
-ghost use Rattle.pending.specs.Pending.{waits, overOf};
+ghost use Rattle.pending.specs.Pending.{waits, overOf, errorPiece};
 
 // Something waits.
 pub fn is_waiting(say: Say) -> bool
@@ -24,9 +24,28 @@ pub fn is_over(s: Numbers) -> bool
     if awaited < phase::LEAVING {
         return false;
     }
-    if awaited == phase::LEAVING {
-        let say = s.say;
-        return !is_waiting(say);
+    if phase::is_closed(awaited) {
+        return true;
     }
-    true
+    let say = s.say;
+    !is_waiting(say)
+}
+
+// The line that says why, after a refusal with this number; 02, Q-1.
+pub fn error_piece(answer: u8) -> u8
+    ensures { λ r. ⌜ r ≡ errorPiece answer ⌝ }
+{
+    if answer < refusal::LINE_TOO_LONG {
+        return phase::PIECE_NONE;
+    }
+    if answer == refusal::BYTES_WAIT {
+        return phase::PIECE_NONE;
+    }
+    if answer == refusal::SESSION_ENDED {
+        return phase::PIECE_NONE;
+    }
+    if answer == refusal::BAD_CHECKSUM {
+        return phase::PIECE_CHECKSUM_ERROR;
+    }
+    phase::PIECE_PROTOCOL_ERROR
 }

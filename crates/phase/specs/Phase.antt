@@ -1,5 +1,7 @@
 -- What a session awaits and what waits for give, by number, as session memory holds them (docs/MEMORY.md).
+use mathlib.Core.Bool.{Bool}
 use Prim.Native.Nat.{ℕ}
+use lib.Dec.{ltb}
 
 -- ---------------------------------------------------------------- what is awaited; from `phaseOver` on the session has ended
 
@@ -27,6 +29,10 @@ phaseLeaving = 6
 abbrev pub phaseOver : ℕ
 phaseOver = 7
 
+-- The session is closed, whatever waits: `phaseOver` and every number without a name of its own.
+abbrev pub isClosed : ℕ → Bool
+isClosed p = ltb phaseLeaving p
+
 -- ---------------------------------------------------------------- what is said first
 
 abbrev pub pieceNone : ℕ
@@ -40,6 +46,13 @@ pieceSid = 2
 
 abbrev pub pieceSigns : ℕ
 pieceSigns = 3
+
+-- "`*** Protocol error`", "`*** Checksum error`" (02, Q-1)
+abbrev pub pieceProtocolError : ℕ
+pieceProtocolError = 4
+
+abbrev pub pieceChecksumError : ℕ
+pieceChecksumError = 5
 
 -- ---------------------------------------------------------------- what is said after it; `pieceNone` here too
 

@@ -1,4 +1,7 @@
 // What a session awaits and what waits for give, by number, as session memory holds them (docs/MEMORY.md). crates/phase/specs has the same names.
+ghost use mathlib.Core.Path.{_≡_};
+ghost use Rattle.phase.specs.Phase.{isClosed};
+
 // What is awaited. From OVER on the session has ended.
 pub const CALLED_SID: u8 = 0;
 
@@ -24,6 +27,10 @@ pub const PIECE_SID_AND_PROMPT: u8 = 1;
 pub const PIECE_SID: u8 = 2;
 
 pub const PIECE_SIGNS: u8 = 3;
+
+pub const PIECE_PROTOCOL_ERROR: u8 = 4;
+
+pub const PIECE_CHECKSUM_ERROR: u8 = 5;
 
 // What is said after it; PIECE_NONE here too.
 pub const PIECE_FF: u8 = 1;
@@ -53,3 +60,10 @@ pub const BLOCK_LIMIT: u8 = 5;
 
 // No proposal of a block: the place after its last.
 pub const NO_PROPOSAL: u8 = 5;
+
+// The session is closed, whatever waits: every number from OVER on.
+pub fn is_closed(awaited: u8) -> bool
+    ensures { λ r. ⌜ r ≡ isClosed awaited ⌝ }
+{
+    LEAVING < awaited
+}

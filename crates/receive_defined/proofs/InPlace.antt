@@ -49,8 +49,8 @@ settle-frame s m e j afterCr table a b c = go (eqb (j .answer) 0) refl
     marked = markAll (held (j .marks .places)) (j .marks .state) table
 
     go : (t : Bool) → eqb (j .answer) 0 ≡ t
-        → cond t (settled 0 (spokenOf (wholeOf s e) j afterCr marked) marked) (settled (j .answer) (refusedOf (wholeOf s e)) table)
-        ≡ cond t (settled 0 (spokenOf (wholeOf s m) j afterCr marked) marked) (settled (j .answer) (refusedOf (wholeOf s m)) table)
+        → cond t (settled 0 (spokenOf (wholeOf s e) j afterCr marked) marked) (settled (j .answer) (refusedOf (j .answer) (wholeOf s e)) table)
+        ≡ cond t (settled 0 (spokenOf (wholeOf s m) j afterCr marked) marked) (settled (j .answer) (refusedOf (j .answer) (wholeOf s m)) table)
     go true q = rw (a, b)
     go false q = let p = c (eqb-false (j .answer) 0 q) in rw (a, b, p .0, p .1)
 

@@ -27,7 +27,7 @@ use Rattle.marking.specs.States.{markAll}
 use Rattle.line_effect.specs.Judge.{noMarks, judged, inPhase, toTransfer, nextAccepted, readerFor, lineSum, judgeOf}
 use Rattle.our_turn.specs.Turn.{speakOf}
 use Rattle.line_effect.specs.Judged.{Judged}
-use Rattle.pending.specs.Pending.{waits, overOf}
+use Rattle.pending.specs.Pending.{waits, overOf, errorPiece}
 use Rattle.form_test.specs.Form.{formOf}
 use Rattle.give.specs.Giving.{reply}
 use Rattle.give.specs.declared.Reply.{Reply}
@@ -51,14 +51,10 @@ moved n c = record { answer = n; cs = c }
 
 -- ---------------------------------------------------------------- what a whole line or transfer leaves
 
--- "After a refusal nothing more is sent": the session is over, nothing waits, and what is kept stands
-unfoldable pub refusedOf : Session → Session
-refusedOf s =
-    withNow (inPhase phaseOver (s .now)) (withSay (withFirst pieceNone (withThen pieceNone (withPos 0 (s .say)))) (withLine (withAfterCr false (withBytes 0 (s .line .bytes) (s .line))) s))
-
--- After a refusal with this number: the number leaves nothing behind.
-abbrev pub refusedFor : ℕ → Session → Session
-refusedFor n s = refusedOf s
+-- After a refusal with this number: the session is over, the line that says why waits (02, Q-1), and what is kept stands
+unfoldable pub refusedOf : ℕ → Session → Session
+refusedOf n s =
+    withNow (inPhase phaseOver (s .now)) (withSay (withFirst (errorPiece n) (withThen pieceNone (withPos 0 (s .say)))) (withLine (withAfterCr false (withBytes 0 (s .line .bytes) (s .line))) s))
 
 -- What is said is not given yet.
 abbrev pub unsaid : Say → Say
@@ -87,7 +83,7 @@ unfoldable pub settleOf : Session → Judged → Bool → Bytes → Settled
 settleOf s j afterCr table =
     cond (eqb (j .answer) 0)
     (settled 0 (spokenOf s j afterCr (markAll (held (j .marks .places)) (j .marks .state) table)) (markAll (held (j .marks .places)) (j .marks .state) table))
-    (settled (j .answer) (refusedFor (j .answer) s) table)
+    (settled (j .answer) (refusedOf (j .answer) s) table)
 
 -- ---------------------------------------------------------------- a byte of a line
 
@@ -99,7 +95,7 @@ lineMoved dropped s b table known inbox store = settled 0 s table
 lineMoved ends s b table known inbox store =
     settleOf s (judgeOf (trim (take (s .line .len) (s .line .bytes))) (lineSum (take (s .line .len) (s .line .bytes))) (s .now) (s .say) (s .keep) (s .reading .reader) table known inbox store) true table
 lineMoved grows s b table known inbox store = settled 0 (longer s b) table
-lineMoved overruns s b table known inbox store = settled (lineByteNumber overruns) (refusedFor (lineByteNumber overruns) s) table
+lineMoved overruns s b table known inbox store = settled (lineByteNumber overruns) (refusedOf (lineByteNumber overruns) s) table
 
 unfoldable pub lineStepOf : Session → ℕ → Bytes → Bytes → Bytes → ℕ → Settled
 lineStepOf s b table known inbox store = lineMoved (lineByte false (s .line .len) b) s b table known inbox store
@@ -138,9 +134,9 @@ reading s r heading = withReading (record { reader = r; heading = heading }) (wi
 abbrev pub transferMoved : Outcome → Session → Bytes → Bytes → Bytes → Moved
 transferMoved More s table inbox store = moved 0 (cs s table inbox store)
 transferMoved Whole s table inbox store = moved (keepOf s table .answer) (cs (keepOf s table .session) (keepOf s table .table) (keptInbox s inbox) store)
-transferMoved Malformed s table inbox store = moved (outcomeNumber Malformed) (cs (refusedFor (outcomeNumber Malformed) s) table inbox store)
-transferMoved WrongSum s table inbox store = moved (outcomeNumber WrongSum) (cs (refusedFor (outcomeNumber WrongSum) s) table inbox store)
-transferMoved NoRoom s table inbox store = moved (outcomeNumber NoRoom) (cs (refusedFor (outcomeNumber NoRoom) s) table inbox store)
+transferMoved Malformed s table inbox store = moved (outcomeNumber Malformed) (cs (refusedOf (outcomeNumber Malformed) s) table inbox store)
+transferMoved WrongSum s table inbox store = moved (outcomeNumber WrongSum) (cs (refusedOf (outcomeNumber WrongSum) s) table inbox store)
+transferMoved NoRoom s table inbox store = moved (outcomeNumber NoRoom) (cs (refusedOf (outcomeNumber NoRoom) s) table inbox store)
 
 -- The message under way lies in the store after the bytes that kept messages use.
 abbrev pub transferStep : Cs → ℕ → Stepped → Moved
@@ -167,7 +163,7 @@ lineByteOf known c b =
 unfoldable pub byteOf : Bytes → Cs → ℕ → Moved
 byteOf known c b =
     cond (c .session .line .«after_cr» && eqb b LF) (moved 0 (cs (lfDropped (c .session)) (c .table) (c .inbox) (c .store)))
-    (cond (waits (c .session .say)) (moved bytesWait (cs (refusedFor bytesWait (c .session)) (c .table) (c .inbox) (c .store)))
+    (cond (waits (c .session .say)) (moved bytesWait (cs (refusedOf bytesWait (c .session)) (c .table) (c .inbox) (c .store)))
     (cond (eqb (c .session .now .phase) phaseTransfer) (transferStepOf c b) (lineByteOf known c b)))
 
 -- ---------------------------------------------------------------- the call

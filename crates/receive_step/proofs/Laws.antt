@@ -46,18 +46,18 @@ module _ (s : Numbers) (m table inbox : Bytes) (o : Outcome) where
       ∙ ap (λ (y : Bytes). moved (keepOf w table .answer) (cs (keepOf w table .session) (keepOf w table .table) y st)) i
       ∙ ap (λ (x : Outcome). transferMoved x w table inbox st) (sym e)
 
-  module _ (x : Numbers) (f : wholeOf x m ≡ refusedOf (wholeOf s m)) where
-    refusal : (n : ℕ) (st : Bytes) → moved n (cs (wholeOf x m) table inbox st) ≡ moved n (cs (refusedOf (wholeOf s m)) table inbox st)
-    refusal n st = ap (λ (y : Session). moved n (cs y table inbox st)) f
+  module _ (x : Numbers) where
+    refusal : (n : ℕ) → wholeOf x m ≡ refusedOf n (wholeOf s m) → (st : Bytes) → moved n (cs (wholeOf x m) table inbox st) ≡ moved n (cs (refusedOf n (wholeOf s m)) table inbox st)
+    refusal n f st = ap (λ (y : Session). moved n (cs y table inbox st)) f
 
-    pub leaves-malformed : o ≡ Malformed → Leaves o s m table inbox (record { answer = 8; session = x }) table inbox
-    leaves-malformed e st = refusal 8 st ∙ ap (λ (y : Outcome). transferMoved y (wholeOf s m) table inbox st) (sym e)
+    pub leaves-malformed : wholeOf x m ≡ refusedOf 8 (wholeOf s m) → o ≡ Malformed → Leaves o s m table inbox (record { answer = 8; session = x }) table inbox
+    leaves-malformed f e st = refusal 8 f st ∙ ap (λ (y : Outcome). transferMoved y (wholeOf s m) table inbox st) (sym e)
 
-    pub leaves-wrong-sum : o ≡ WrongSum → Leaves o s m table inbox (record { answer = 9; session = x }) table inbox
-    leaves-wrong-sum e st = refusal 9 st ∙ ap (λ (y : Outcome). transferMoved y (wholeOf s m) table inbox st) (sym e)
+    pub leaves-wrong-sum : wholeOf x m ≡ refusedOf 9 (wholeOf s m) → o ≡ WrongSum → Leaves o s m table inbox (record { answer = 9; session = x }) table inbox
+    leaves-wrong-sum f e st = refusal 9 f st ∙ ap (λ (y : Outcome). transferMoved y (wholeOf s m) table inbox st) (sym e)
 
-    pub leaves-no-room : o ≡ NoRoom → Leaves o s m table inbox (record { answer = 10; session = x }) table inbox
-    leaves-no-room e st = refusal 10 st ∙ ap (λ (y : Outcome). transferMoved y (wholeOf s m) table inbox st) (sym e)
+    pub leaves-no-room : wholeOf x m ≡ refusedOf 10 (wholeOf s m) → o ≡ NoRoom → Leaves o s m table inbox (record { answer = 10; session = x }) table inbox
+    leaves-no-room f e st = refusal 10 f st ∙ ap (λ (y : Outcome). transferMoved y (wholeOf s m) table inbox st) (sym e)
 
 -- ---------------------------------------------------------------- a transfer's run
 
@@ -146,7 +146,7 @@ module _ (known : Bytes) (s : Session) (table inbox store bs : Bytes) (n : lengt
     abbrev rest : Bool → Bool → Bool → Moved
     rest x y z =
         cond x (moved 0 (cs (lfDropped s) table inbox store))
-        (cond y (moved 11 (cs (refusedOf s) table inbox store)) (cond z (transferStepOf here first) (lineByteOf known here first)))
+        (cond y (moved 11 (cs (refusedOf 11 s) table inbox store)) (cond z (transferStepOf here first) (lineByteOf known here first)))
 
     pub portion-lf : (x : Session) → d ≡ true → x ≡ lfDropped s → run 0 1 (cs x table inbox store) ≡ portionOf known here bs
     unfolding byteOf
@@ -158,7 +158,7 @@ module _ (known : Bytes) (s : Session) (table inbox store bs : Bytes) (n : lengt
       not-dropped : s .line .«after_cr» && eqb first LF ≡ false
       not-dropped = sym D ∙ N
 
-      pub portion-waits : (x : Session) → v ≡ true → x ≡ refusedOf s → run 11 1 (cs x table inbox store) ≡ portionOf known here bs
+      pub portion-waits : (x : Session) → v ≡ true → x ≡ refusedOf 11 s → run 11 1 (cs x table inbox store) ≡ portionOf known here bs
       unfolding byteOf
       portion-waits x e f =
           by-byte (moved 11 (cs x table inbox store))

@@ -42,15 +42,15 @@ fn moved(outcome: Outcome, s: Numbers, mem: &[u8], table: &mut [u8], inbox: &mut
         Outcome::Whole => kept_message::keep_message(s, mem, inbox, table),
         Outcome::Malformed => Left {
             answer: refusal::BAD_TRANSFER,
-            session: settling::refused(s),
+            session: settling::refused(refusal::BAD_TRANSFER, s),
         },
         Outcome::WrongSum => Left {
             answer: refusal::BAD_CHECKSUM,
-            session: settling::refused(s),
+            session: settling::refused(refusal::BAD_CHECKSUM, s),
         },
         Outcome::NoRoom => Left {
             answer: refusal::STORE_FULL,
-            session: settling::refused(s),
+            session: settling::refused(refusal::STORE_FULL, s),
         },
     }
 }
@@ -143,7 +143,11 @@ pub fn step(
     }
     let say = s.say;
     if pending::is_waiting(say) {
-        return taken_as(refusal::BYTES_WAIT, 1, settling::refused(s));
+        return taken_as(
+            refusal::BYTES_WAIT,
+            1,
+            settling::refused(refusal::BYTES_WAIT, s),
+        );
     }
     if s.now.phase == phase::TRANSFER {
         return transfer_run(s, input, mem, table, inbox, store);

@@ -70,23 +70,22 @@ unfolding overOf
 over-law F E c v g h = go (v .phase) (h .awaits)
   where
     at : (n : ℕ) → c .session .now .phase ≡ n
-        → cond (ltb (c .session .now .phase) 6) false (cond (eqb (c .session .now .phase) 6) (not (waits (c .session .say))) true)
-        ≡ cond (ltb n 6) false (cond (eqb n 6) (not (waits (c .session .say))) true)
-    at n e = ap (λ (p : ℕ). cond (ltb p 6) false (cond (eqb p 6) (not (waits (c .session .say))) true)) e
+        → cond (ltb (c .session .now .phase) 6) false (cond (ltb 6 (c .session .now .phase)) true (not (waits (c .session .say))))
+        ≡ cond (ltb n 6) false (cond (ltb 6 n) true (not (waits (c .session .say))))
+    at n e = ap (λ (p : ℕ). cond (ltb p 6) false (cond (ltb 6 p) true (not (waits (c .session .say))))) e
 
     not-not : (q : Bool) → not (not q) ≡ q
     not-not true = refl
     not-not false = refl
 
     go : (p : Phase) → Awaits c p
-        → cond (ltb (c .session .now .phase) 6) false (cond (eqb (c .session .now .phase) 6) (not (waits (c .session .say))) true) ≡ on-lists.endedIn p (v .out)
+        → cond (ltb (c .session .now .phase) 6) false (cond (ltb 6 (c .session .now .phase)) true (not (waits (c .session .say)))) ≡ on-lists.endedIn p (v .out)
     go (on-lists.aLine l) a =
-        at (lineNumber l) (a .0) ∙ ap (λ (q : Bool). cond q false (cond (eqb (lineNumber l) 6) (not (waits (c .session .say))) true)) (lt-ltb (lineNumber l) 6 (omega (arith, line-below l)))
+        at (lineNumber l) (a .0) ∙ ap (λ (q : Bool). cond q false (cond (ltb 6 (lineNumber l)) true (not (waits (c .session .say))))) (lt-ltb (lineNumber l) 6 (omega (arith, line-below l)))
     go (on-lists.awaitsTransfer p ps sc) a = at 5 (a .0)
     go on-lists.leaving a = at 6 a ∙ ap not (waits-law F c (v .out) g (h .says)) ∙ not-not (null (v .out))
     go on-lists.over a =
-        let l = a .0 in
-        rw (le-ltb (c .session .now .phase) 6 (omega arith), ne-eqb (c .session .now .phase) 6 (λ e. omega arith))
+        rw (le-ltb (c .session .now .phase) 6 (omega arith), lt-ltb 6 (c .session .now .phase) (omega arith))
 
 -- ---------------------------------------------------------------- a byte
 
@@ -123,7 +122,7 @@ module _ (F : Fixed) (E : Shelf) {nt ni ns : ℕ} (c : Cs) (g : Good F nt ni ns 
         spared = record { table = only-same (c .table); inbox = kept-same _ _ (c .inbox) (omega arith); store = kept-same _ _ (c .store) (omega arith) };
       }
 
-  refused-law : (n : ℕ) → Moves (moved n (cs (refusedOf (c .session)) (c .table) (c .inbox) (c .store))) (on-lists.refused v n)
+  refused-law : (n : ℕ) → Moves (moved n (cs (refusedOf n (c .session)) (c .table) (c .inbox) (c .store))) (on-lists.refused v n)
   unfolding refusedOf
   refused-law n =
       record {
@@ -162,7 +161,7 @@ module _ (F : Fixed) (E : Shelf) {nt ni ns : ℕ} (c : Cs) (g : Good F nt ni ns 
     phase-law live out on-lists.over e a = absurd (no-both (on-lists.ended v) (ap (λ (p : Phase). on-lists.endedIn p (v .out)) e) live)
 
   free-law : on-lists.ended v ≡ false → (q : Bool) → waits (c .session .say) ≡ q → (o : Bytes) → v .out ≡ o
-      → Moves (cond q (moved bytesWait (cs (refusedOf (c .session)) (c .table) (c .inbox) (c .store))) (cond (eqb (c .session .now .phase) 5) (transferStepOf c b) (lineByteOf (F .known) c b)))
+      → Moves (cond q (moved bytesWait (cs (refusedOf bytesWait (c .session)) (c .table) (c .inbox) (c .store))) (cond (eqb (c .session .now .phase) 5) (transferStepOf c b) (lineByteOf (F .known) c b)))
       (on-lists.freeStep E o v b)
   free-law live true e [] f = absurd (no-both true refl (sym e ∙ waits-law F c (v .out) g (h .says) ∙ ap (λ (l : Bytes). not (null l)) f))
   free-law live true e (x ∷ o) f = refused-law bytesWait
@@ -181,7 +180,7 @@ byte-law F E c v b g h live =
 
     free : Moved
     free =
-        cond (waits (c .session .say)) (moved bytesWait (cs (refusedOf (c .session)) (c .table) (c .inbox) (c .store)))
+        cond (waits (c .session .say)) (moved bytesWait (cs (refusedOf bytesWait (c .session)) (c .table) (c .inbox) (c .store)))
         (cond (eqb (c .session .now .phase) 5) (transferStepOf c b) (lineByteOf (F .known) c b))
 
     go : (q : Bool) → Moving F E c (cond q dropped free) (cond q (on-lists.moved (on-lists.withAfterCr false v)) (on-lists.freeStep E (v .out) v b))

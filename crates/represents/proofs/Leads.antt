@@ -83,7 +83,7 @@ module _ (F : Fixed) (E : Shelf) (s : Session) (a : Bool) (i st : Bytes) (kept u
   settle-goes v j (goesOn p m o) h =
       let t′ = marking (j .marks) t in
       subst
-      (λ (n : ℕ). Settling F E i st kept used t (cond (eqb n 0) (settled 0 (spokenOf s j a t′) t′) (settled n (refusedOf s) t)) (on-lists.settled v a (goesOn p m o)))
+      (λ (n : ℕ). Settling F E i st kept used t (cond (eqb n 0) (settled 0 (spokenOf s j a t′) t′) (settled n (refusedOf n s) t)) (on-lists.settled v a (goesOn p m o)))
       (sym (h .0))
       (record {
         answer = refl;
@@ -94,12 +94,12 @@ module _ (F : Fixed) (E : Shelf) (s : Session) (a : Bool) (i st : Bytes) (kept u
       })
 
   pub settle-law : (v : on-lists.Session) → s .keep .kept ≡ kept → s .keep .used ≡ used
-      → ((n : ℕ) → Represents F E (cs (refusedOf s) t i st) (on-lists.refused v n .session))
+      → ((n : ℕ) → Represents F E (cs (refusedOf n s) t i st) (on-lists.refused v n .session))
       → (j : Judged) (o : Outcome) → Leads j o → Settling F E i st kept used t (settleOf s j a t) (on-lists.settled v a o)
   unfolding settleOf refusedOf
   settle-law v same spent refused j (refuses n) h =
       let t′ = marking (j .marks) t in
-      subst (λ (l : ℕ). Settling F E i st kept used t (cond (eqb l 0) (settled 0 (spokenOf s j a t′) t′) (settled l (refusedOf s) t)) (on-lists.settled v a (refuses n))) (sym (h .0))
-      (subst (λ (c : Bool). Settling F E i st kept used t (cond c (settled 0 (spokenOf s j a t′) t′) (settled n (refusedOf s) t)) (on-lists.settled v a (refuses n))) (sym (h .1))
+      subst (λ (l : ℕ). Settling F E i st kept used t (cond (eqb l 0) (settled 0 (spokenOf s j a t′) t′) (settled l (refusedOf l s) t)) (on-lists.settled v a (refuses n))) (sym (h .0))
+      (subst (λ (c : Bool). Settling F E i st kept used t (cond c (settled 0 (spokenOf s j a t′) t′) (settled n (refusedOf n s) t)) (on-lists.settled v a (refuses n))) (sym (h .1))
       (record { answer = refl; represents = refused n; count = same; spent = spent; table = only-same t }))
   settle-law v same spent refused j (goesOn p m o) h = settle-goes v j (goesOn p m o) h

@@ -46,14 +46,13 @@ use Rattle.line_effect.specs.Judge as judge
 use Rattle.line_effect.specs.Judged.{Judged}
 use Rattle.line_effect.specs.declared.Marks.{Marks}
 use Rattle.waiting.specs.Waiting.{firstText, thenText}
-use Rattle.pending.specs.Pending.{waits}
-use Rattle.receive_defined.specs.Receiving.{cs, unsaid}
+use Rattle.receive_defined.specs.Receiving.{cs}
 use Rattle.marking.specs.States.{markAll}
 use Rattle.form_closed.specs.Fixed.{Fixed}
 use Rattle.represents.specs.Represents.{Awaits, signsIn, Entries, Holds}
 use Rattle.represents.proofs.Choices.{answers-law}
 use Rattle.represents.proofs.Proposals.{no-proposals, proposals-length, proposals-more, entries-more, written-form, signs-back, Found, Owing, owing, owed-now, next-found, start-law, stands-fresh, proper-fits}
-use Rattle.represents.proofs.Says.{first-nothing, then-nothing, waits-not}
+use Rattle.represents.proofs.Says.{first-nothing, then-nothing}
 use Rattle.represents.proofs.Parts.{Ready, no-entries}
 use Rattle.represents.proofs.Settle.{holds-turn, holds-sid, left, settled-is, our-turn-law, Settles}
 use Rattle.represents.proofs.Leads.{marking, Leads, goes-leads, goes-speaking}
@@ -101,9 +100,6 @@ module _ (F : Fixed) (E : Shelf) (s : Session) (a : Bool) (i st : Bytes) where
 
     nothing-then : (f : Five) (u : Bytes) → thenText (y .then) (w .ours) f u (F .titles) (F .names) (F .bodies) ≡ []
     nothing-then f u = then-nothing (y .then) (w .ours) f u (F .titles) (F .names) (F .bodies) (ready .then)
-
-    silent : waits (unsaid y) ≡ false
-    silent = waits-not (unsaid y) (ready .first) (ready .then)
 
     -- the table when what was being sent is forwarded
     abbrev forwarded : Bytes
@@ -180,7 +176,7 @@ module _ (F : Fixed) (E : Shelf) (s : Session) (a : Bool) (i st : Bytes) where
         go : (n : ℕ) (ff : Bool)
             → Lead (cond (eqb n 0) (cond ff (wentOn (inPhase 7 w) y k r) (refusal lineNotAllowed w y k r)) (refusal lineNotAllowed w y k r))
             (on-lists.turnJudged E saysFQ ff (proposalsOf (w .block) n) lines raw m)
-        go zero true = went-on (inPhase 7 w) k on-lists.over m b h refl refl (omega arith, silent)
+        go zero true = went-on (inPhase 7 w) k on-lists.over m b h refl refl (omega arith)
         go zero false = (refl, refl)
         go (suc n) ff = rw (ne-eqb (suc n) 0 (λ e. omega arith)) (refl, refl)
 

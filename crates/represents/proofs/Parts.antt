@@ -1,5 +1,6 @@
 -- What a whole line is judged with, and a refusal.
-use mathlib.Core.Path.{_≡_, refl}
+use mathlib.Core.Path.{_≡_, refl, _∙_}
+use mathlib.Core.List.{append-nil}
 use Prim.Native.Nat.{ℕ}
 use native.Mathlib.Omega.{arith}
 use native.Mathlib.Nat.{not-suc-le-zero}
@@ -12,11 +13,12 @@ use Rattle.session_memory.specs.Session.{Await}
 use Rattle.session_memory.specs.declared.Say.{Say}
 use Rattle.session_memory.specs.Session.{Keep}
 use Rattle.waiting.specs.Waiting.{waitingOf, firstText, thenText}
-use Rattle.pending.specs.Pending.{waits}
+use Rattle.pending.specs.Pending.{errorPiece}
 use Rattle.receive_defined.specs.Receiving.{Cs, cs, refusedOf}
 use Rattle.form_closed.specs.Fixed.{Fixed}
 use Rattle.represents.specs.Represents.{Represents, Entries, Holds}
 use Rattle.form_closed.specs.Facts.{AwaitOk}
+use Rattle.represents.proofs.Says.{error-piece}
 
 -- no proposal yet
 pub no-entries : (block : Bytes) → Entries block 0
@@ -33,9 +35,16 @@ pub record Ready (F : Fixed) (E : Shelf) (hd i st : Bytes) (w : Await) (y : Say)
 
 -- ---------------------------------------------------------------- a refusal
 
--- nothing is said any more, and what is kept stands
+-- nothing is said any more but why, and what is kept stands
 pub refuse-law : (F : Fixed) (E : Shelf) (c : Cs) (s : on-lists.Session) (n : ℕ) → Represents F E c s
-    → Represents F E (cs (refusedOf (c .session)) (c .table) (c .inbox) (c .store)) (on-lists.refused s n .session)
-unfolding refusedOf waitingOf waits firstText thenText
+    → Represents F E (cs (refusedOf n (c .session)) (c .table) (c .inbox) (c .store)) (on-lists.refused s n .session)
+unfolding refusedOf waitingOf thenText
 refuse-law F E c s n h =
-    record { entries = h .entries; holds = h .holds; says = refl; awaits = (omega arith, refl); part = refl; afterCr = refl }
+    record {
+      entries = h .entries;
+      holds = h .holds;
+      says = append-nil (firstText (errorPiece n) (c .session .say .signs)) ∙ error-piece n (c .session .say .signs);
+      awaits = omega arith;
+      part = refl;
+      afterCr = refl;
+    }

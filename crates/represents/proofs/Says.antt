@@ -1,17 +1,17 @@
 -- What we say, written from the table's bytes, is what the session on lists says; and where something is said it is not empty.
 use mathlib.Core.Path.{_≡_, refl, sym, ap, _∙_}
-use mathlib.Core.Bool.{true, false, cond, not}
+use mathlib.Core.Bool.{Bool, true, false, cond}
 use mathlib.Core.List.{List, [], _∷_, _++_, map}
 use Prim.Native.Nat.{ℕ}
 use lib.Dec.{eqb}
 use Rattle.grammar.specs.Bytes.{Bytes}
-use Rattle.grammar.specs.Turns.{Proposal}
+use Rattle.grammar.specs.Turns.{Proposal, fixedText, withCr, protocolError, checksumError}
+use Rattle.grammar.specs.Errors.{isSilent, errorText}
 use Rattle.mail.specs.Mail.{Record, proposalOf, recordAt, transferOf, turnText, transfersText}
 use Rattle.entries.specs.Decoded.{recordsOf}
 use Rattle.session_memory.specs.declared.Five.{Five}
-use Rattle.session_memory.specs.declared.Say.{Say}
 use Rattle.waiting.specs.Waiting.{proposalAt, blockText, sendingText, firstText, thenText}
-use Rattle.pending.specs.Pending.{waits}
+use Rattle.pending.specs.Pending.{errorPiece}
 use Rattle.marking.proofs.States.{Whole}
 use Rattle.represents.proofs.Table.{record-at}
 
@@ -25,12 +25,17 @@ pub then-nothing : (n : ℕ) (o f : Five) (t ti na bo : Bytes) → n ≡ 0 → t
 unfolding thenText
 then-nothing n o f t ti na bo e = ap (λ (k : ℕ). thenText k o f t ti na bo) e
 
-pub waits-not : (y : Say) → y .first ≡ 0 → y .then ≡ 0 → waits y ≡ false
-unfolding waits
-waits-not y = two (y .first) (y .then)
+-- ---------------------------------------------------------------- why
+
+-- the line that a refusal with the number n leaves
+pub error-piece : (n : ℕ) (f : Five) → firstText (errorPiece n) f ≡ errorText n
+unfolding firstText errorPiece errorText
+error-piece n f = go (isSilent n) (eqb n 9)
   where
-    two : (p q : ℕ) → p ≡ 0 → q ≡ 0 → cond (eqb p 0) (not (eqb q 0)) true ≡ false
-    two p q e f = rw (e, f)
+    go : (a b : Bool) → firstText (cond a 0 (cond b 5 4)) f ≡ cond a [] (withCr (fixedText (cond b checksumError protocolError)))
+    go true b = refl
+    go false true = refl
+    go false false = refl
 
 -- ---------------------------------------------------------------- from the table
 

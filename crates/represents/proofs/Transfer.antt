@@ -2,7 +2,7 @@
 -- the message is kept; then the next accepted transfer is awaited, or it is our turn.
 use mathlib.Core.Path.{_≡_, refl, sym, ap, _∙_, subst}
 use mathlib.Core.Bool.{false, cond}
-use mathlib.Core.List.{List, [], _∷_, _++_}
+use mathlib.Core.List.{List, [], _∷_, _++_, append-nil}
 use Prim.Native.Nat.{ℕ, _+_, min}
 use native.Mathlib.Omega.{arith}
 use lib.ListN.{take, drop, length-drop}
@@ -23,10 +23,11 @@ use Rattle.transfer_read.proofs.Follows.{feed-stands}
 use Rattle.transfer_read.proofs.Untouched.{feed-untouched}
 use Rattle.session_memory.specs.Session.{Session}
 use Rattle.waiting.specs.Waiting.{waitingOf, firstText, thenText}
-use Rattle.pending.specs.Pending.{waits}
+use Rattle.pending.specs.Pending.{errorPiece}
 use Rattle.receive_defined.specs.Receiving.{Cs, cs, reading, refusedOf}
 use Rattle.form_closed.specs.Fixed.{Fixed}
 use Rattle.represents.specs.Represents.{Awaits, Represents, Holds}
+use Rattle.represents.proofs.Says.{error-piece}
 use Rattle.represents.proofs.Inbox.{box-store}
 use Rattle.represents.proofs.Frame.{kept-behind}
 use Rattle.form_closed.specs.Facts.{Good}
@@ -134,7 +135,14 @@ module _ (F : Fixed) (E : Shelf) {nt ni ns : ℕ} (c : Cs) (g : Good F nt ni ns 
         afterCr = refl;
       }
 
-  pub refused-here : (n : ℕ) → Represents F E (cs (refusedOf s′) (c .table) (c .inbox) store′) (on-lists.refused v n .session)
-  unfolding refusedOf waitingOf waits firstText thenText
+  pub refused-here : (n : ℕ) → Represents F E (cs (refusedOf n s′) (c .table) (c .inbox) store′) (on-lists.refused v n .session)
+  unfolding refusedOf waitingOf thenText
   refused-here n =
-      record { entries = h .entries; holds = holds′; says = refl; awaits = (omega arith, refl); part = refl; afterCr = refl }
+      record {
+        entries = h .entries;
+        holds = holds′;
+        says = append-nil (firstText (errorPiece n) (c .session .say .signs)) ∙ error-piece n (c .session .say .signs);
+        awaits = omega arith;
+        part = refl;
+        afterCr = refl;
+      }

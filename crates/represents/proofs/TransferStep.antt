@@ -58,7 +58,7 @@ module _ (F : Fixed) (E : Shelf) {nt ni ns : ℕ} (c : Cs) (g : Good F nt ni ns 
       (kept-same (u .keep .used + u .reading .reader .body) j st l))
 
   -- it is refused
-  stopped : (o : Outcome) (n : ℕ) → transferMoved o u (c .table) (c .inbox) st ≡ moved n (cs (refusedOf u) (c .table) (c .inbox) st)
+  stopped : (o : Outcome) (n : ℕ) → transferMoved o u (c .table) (c .inbox) st ≡ moved n (cs (refusedOf n u) (c .table) (c .inbox) st)
       → (last : Scan) → Stands (roomOf (behind F E c g v h b)) (u .reading .reader) (u .reading .heading) (behind′ F E c g v h b) last
       → Moving F E c (transferMoved o u (c .table) (c .inbox) st) (on-lists.refused v n)
   unfolding refusedOf

@@ -2,7 +2,7 @@
 -- what keeps them in order (sizes, counts within them, places and room for what is owed) is `Good` of crates/form_closed, which holds of any memory that
 -- passes the form test, whatever it means.
 use mathlib.Core.Path.{_≡_}
-use mathlib.Core.Bool.{false, cond}
+use mathlib.Core.Bool.{cond}
 use mathlib.Core.List.{List, [], _∷_}
 use Prim.Native.Nat.{ℕ, zero, suc, _+_, _*_, _%_, _≤_, _<_}
 use lib.Dec.{eqb}
@@ -24,7 +24,6 @@ use Rattle.session_memory.specs.Session.{Session}
 use Rattle.entries.specs.Decoded.{recordsOf, knownBids, proposalsOf, placeCount, recordCount}
 use Rattle.marking.specs.States.{statesOf}
 use Rattle.waiting.specs.Waiting.{waitingOf}
-use Rattle.pending.specs.Pending.{waits}
 use Rattle.receive_defined.specs.Receiving.{Cs}
 use Rattle.represents.specs.Laid.{proposalBytes, messageBytes, bodiesBytes}
 use Rattle.form_closed.specs.Fixed.{Fixed}
@@ -135,7 +134,7 @@ Awaits c (on-lists.awaitsTransfer p ps sc) =
     (c .session .now .phase ≡ phaseTransfer) × (owed (c .session) ≡ p ∷ ps)
     × Stands (roomOf (drop (c .session .keep .used) (c .store))) (c .session .reading .reader) (c .session .reading .heading) (drop (c .session .keep .used) (c .store)) sc
 Awaits c on-lists.leaving = c .session .now .phase ≡ phaseLeaving
-Awaits c on-lists.over = (phaseOver ≤ c .session .now .phase) × (waits (c .session .say) ≡ false)
+Awaits c on-lists.over = phaseOver ≤ c .session .now .phase
 
 -- ---------------------------------------------------------------- the relation
 

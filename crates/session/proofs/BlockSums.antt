@@ -5,6 +5,7 @@ use Rattle.grammar.specs.Fields.{isAt, isBid, isCall, isSize, readFrom, hexDigi
 use Rattle.grammar.specs.Lines.{trim, isComment, isPrompt}
 use Rattle.grammar.specs.Sid.{levelInForce, readSid}
 use Rattle.grammar.specs.Turns.{readProposal, readSummedEnd, readTurnLine, proposalLine}
+use Rattle.grammar.specs.Errors.{errorText}
 use Rattle.grammar.specs.Answers.{digitCount, readFs, signAt, fsLine}
 use Rattle.grammar.specs.Transfers.{parse, readTransfer, writeTransfer}
 use Rattle.mail.specs.Mail.{turnText, transfersText}
@@ -15,5 +16,5 @@ use Rattle.session.specs.Sessions.{Trial, leftOf, played, shelf, waiting
 use Rattle.session.specs.BlockSums.{blocks, later}
 
 pub as-summed : map (λ (t : Trial). leftOf (played shelf (opened (t .caller) waiting) (t .moves))) (blocks ++ later) ≡ map (λ (t : Trial). t .left) (blocks ++ later)
-unfolding isAt isBid isCall isSize readFrom hexDigit twoHex words writeNum sameBid trim isComment isPrompt readSid levelInForce readProposal readSummedEnd readTurnLine proposalLine readFs signAt digitCount fsLine parse readTransfer writeTransfer turnText transfersText chosen answersTo receive give
+unfolding isAt isBid isCall isSize readFrom hexDigit twoHex words writeNum sameBid trim isComment isPrompt readSid levelInForce readProposal readSummedEnd readTurnLine proposalLine errorText readFs signAt digitCount fsLine parse readTransfer writeTransfer turnText transfersText chosen answersTo receive give
 as-summed = refl

@@ -4,4 +4,5 @@ pub mod Sessions
 pub mod Again
 pub mod BlockSums
 pub mod Levels
+pub mod Reasons
 pub mod Ways

@@ -20,9 +20,9 @@ inTurn bs n said states over =
 abbrev pub taken : Bytes → Bytes → Trial
 taken bs fs = inTurn bs 0 fs (1 ∷ 2 ∷ 2 ∷ 0 ∷ 0 ∷ []) false
 
--- "A turn with a wrong checksum is no valid turn.": nothing is forwarded and nothing said
+-- "A turn with a wrong checksum is no valid turn.": nothing is forwarded, and nothing said but why (02, Q-1)
 abbrev pub refusedWith : ℕ → Bytes → Trial
-refusedWith n bs = inTurn bs n [] (0 ∷ 2 ∷ 2 ∷ 0 ∷ 0 ∷ []) true
+refusedWith n bs = inTurn bs n (text "*** Protocol error\r") (0 ∷ 2 ∷ 2 ∷ 0 ∷ 0 ∷ []) true
 
 abbrev pub blocks : List Trial
 blocks =
@@ -74,7 +74,7 @@ abbrev pub later : List Trial
 later =
     -- each turn begins a new sum
     inSecond (text "FB B D E F Y2 1\rF> DE\r") 0 (text "FS +\r") false
-    ∷ inSecond (text "FB B D E F Y2 1\rF> BD\r") 13 [] true
+    ∷ inSecond (text "FB B D E F Y2 1\rF> BD\r") 13 (text "*** Protocol error\r") true
     -- framed
     ∷ calledFramed (hears (text "FA B D E F K1 1\rF> EE\r") ∷ takes 99 ∷ []) ((0, 22) ∷ []) (text "FS -\rFB P A B C X5 1\rF>\r") (0 ∷ 0 ∷ 0 ∷ 0 ∷ 0 ∷ []) [] false
     -- no end of a block where another line is awaited

@@ -9,6 +9,7 @@ use Rattle.grammar.specs.Ascii.{text}
 use Rattle.grammar.specs.Fields.{plain, message}
 use Rattle.session.specs.Choices.{Shelf}
 use Rattle.session.specs.Sessions.{Trial, hears, takes, trial, letter, greeted}
+use Rattle.session.specs.Reasons.{protocol}
 
 -- ---------------------------------------------------------------- the table
 
@@ -41,11 +42,11 @@ answers sid fs sent states =
     trial false (takes 99 ∷ hears sid ∷ takes 99 ∷ hears fs ∷ takes 99 ∷ hears (text "FF\r") ∷ takes 99 ∷ [])
     ((0, length sid) ∷ (0, length fs) ∷ (0, 3) ∷ []) (greeted ++ (fivePackets ++ (sent ++ text "FQ\r"))) states [] true
 
--- The same, and the line is refused with 7: nothing is said to it, and no answer of it is recorded.
+-- The same, and the line is refused with 7: we say why, and no answer of it is recorded.
 abbrev pub refusedAt : Bytes → Bytes → Trial
 refusedAt sid fs =
     trial false (takes 99 ∷ hears sid ∷ takes 99 ∷ hears fs ∷ takes 99 ∷ [])
-    ((0, length sid) ∷ (7, length fs) ∷ []) (greeted ++ fivePackets) sixWaiting [] true
+    ((0, length sid) ∷ (7, length fs) ∷ []) (greeted ++ (fivePackets ++ protocol)) sixWaiting [] true
 
 -- A partner without B is met in plain mode, and at level 0.
 abbrev pub plainWith : Bytes → ℕ → Bytes → Bool → Trial
@@ -80,7 +81,7 @@ atLevel0 =
     ∷ refusedAt (text "[TST-1-BF$]\rFF\r") (text "FS Y----\r")
     ∷ refusedAt (text "[TST-1-B0F$]\rFF\r") (text "FS ----h\r")
     ∷ refusedAt (text "[TST-1-BF1$]\rFF\r") (text "FS A0----\r")
-    ∷ plainWith (text "FS Y\r") 7 [] true
+    ∷ plainWith (text "FS Y\r") 7 protocol true
     ∷ plainWith (text "FS +\r") 0 (text "T\rf\u{1a}\r") false
     ∷ []
 

@@ -6,3 +6,4 @@ pub mod Sessions
 pub mod Again
 pub mod BlockSums
 pub mod Levels
+pub mod Reasons

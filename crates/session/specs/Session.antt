@@ -14,6 +14,7 @@ use Rattle.grammar.specs.Lines.{LineByte, dropped, ends, grows, overruns, lineB
 use Rattle.grammar.specs.Sid as sid
 use Rattle.grammar.specs.Sid.{readSid, hasFeature, letterF}
 use Rattle.grammar.specs.Turns.{Proposal, TurnLine, saysFF, saysFQ, endsBlock, notAllowed, proposes, endsSummed, readTurnLine, turnLineNumber, fixedText, ourSid, ourPrompt, ourFF, ourFQ, withCr, blockLimit}
+use Rattle.grammar.specs.Errors.{errorText}
 use Rattle.grammar.specs.Answers.{Sign, accept, decline, defer, readFs, fsNumber, fsLine, Level, level0}
 use Rattle.grammar.specs.Scan.{Scan, Scanned, goes, got, malformed, wrongSum, noRoom, scanFrom, scanByte, scannedNumber}
 use Rattle.grammar.specs.Transfers.{sumRight}
@@ -213,9 +214,10 @@ pub record Stepped : Type 0 where
   pub answer : ℕ
   pub session : Session
 
--- "Besides ending the session": nothing more is said, and marks and kept messages stand as just before the refused byte
+-- "Besides ending the session": "give must still hand over one line and CR" (02, Q-1), and marks and kept messages stand as just before the refused
+-- byte
 abbrev pub refused : Session → ℕ → Stepped
-refused s n = record { answer = n; session = between over false [] (s .memory) }
+refused s n = record { answer = n; session = between over false (errorText n) (s .memory) }
 
 abbrev pub moved : Session → Stepped
 moved s = record { answer = 0; session = s }

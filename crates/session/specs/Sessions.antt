@@ -131,7 +131,7 @@ trials =
     ∷ called (hears (replicate 256 32 ++ text "\r") ∷ []) ((5, 257) ∷ []) [] waiting [] true
     ∷ called (hears (replicate 257 32 ++ text "\r") ∷ []) ((2, 257) ∷ []) [] waiting [] true
     ∷ trial false (takes 99 ∷ hears (text ";\r[TST-1-FF]\r") ∷ []) ((3, 13) ∷ []) greeted waiting [] true
-    ∷ trial true (hears (text "[TST-1-B$]\r") ∷ takes 99 ∷ []) ((4, 11) ∷ []) [] waiting [] true
+    ∷ trial true (hears (text "[TST-1-B$]\r") ∷ takes 99 ∷ []) ((4, 11) ∷ []) (text "*** Protocol error\r") waiting [] true
     -- 5 before 6, 6, 7
     ∷ called (hears (text "F>\r") ∷ []) ((6, 3) ∷ []) [] waiting [] true
     ∷ called (hears (text "FA B D E F Y1 1\r") ∷ []) ((5, 16) ∷ []) [] waiting [] true

@@ -39,7 +39,7 @@ module _ (v : Verdict) (a : Bool) (m table : Bytes) (s : Numbers) {r : Numbers} 
 -- ---------------------------------------------------------------- what a judged line leaves
 
 module _ (s : Session) (j : Judged) (a : Bool) (t : Bytes) (x : Session) where
-  pub settle-no : (j .answer ≡ 0 → ⊥) → x ≡ refusedOf s → settled (j .answer) x t ≡ settleOf s j a t
+  pub settle-no : (j .answer ≡ 0 → ⊥) → x ≡ refusedOf (j .answer) s → settled (j .answer) x t ≡ settleOf s j a t
   unfolding settleOf
   settle-no n e = rw (ne-eqb _ _ n) (ap (λ (y : Session). settled (j .answer) y t) e)
 

@@ -19,13 +19,14 @@ pub struct Left {
     pub session: Numbers,
 }
 
-// The session is over: nothing more is said.
-pub fn refused(s: Numbers) -> Numbers
-    ensures { λ r. ⌜ ((m : Bytes) → wholeOf r m ≡ refusedOf (wholeOf s m)) ⌝ }
+// The session is over: the line that says why waits, and nothing else.
+pub fn refused(answer: u8, s: Numbers) -> Numbers
+    ensures { λ r. ⌜ ((m : Bytes) → wholeOf r m ≡ refusedOf answer (wholeOf s m)) ⌝ }
 {
+    let why = pending::error_piece(answer);
     let mut t = s;
     t.now.phase = phase::OVER;
-    t.say.first = phase::PIECE_NONE;
+    t.say.first = why;
     t.say.then = phase::PIECE_NONE;
     t.say.pos = 0;
     t.line.len = 0;
@@ -70,7 +71,7 @@ pub fn settle(s: Numbers, v: Verdict, after_cr: bool, mem: &[u8], table: &mut [u
     if v.answer != refusal::NONE {
         return Left {
             answer: v.answer,
-            session: refused(s),
+            session: refused(v.answer, s),
         };
     }
     let marks = v.marks;

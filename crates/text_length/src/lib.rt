@@ -19,6 +19,9 @@ pub const PROMPT: usize = 2;
 
 pub const FIXED: usize = 3;
 
+// Either line that says why we hang up, with its CR.
+pub const ERROR: usize = 19;
+
 // What an FS line has beside its signs: `FS`, a space and the CR.
 pub const FS: usize = 4;
 

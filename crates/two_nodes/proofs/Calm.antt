@@ -13,7 +13,8 @@ use Rattle.grammar.specs.Bytes.{Bytes, CR, LF, CTRLZ, every}
 use Rattle.grammar.specs.Fields.{Form, plain, message, file, headingByte, isHeading, isBody}
 use Rattle.grammar.specs.Lines.{LineByte, dropped, ends, grows, overruns, lineByte, trim, isComment, isPrompt}
 use Rattle.grammar.specs.Sid.{readSid, hasFeature, framed}
-use Rattle.grammar.specs.Turns.{Proposal, TurnLine, saysFF, saysFQ, endsBlock, notAllowed, proposes, readTurnLine, proposalLine, fixedText, ourSid, withCr}
+use Rattle.grammar.specs.Turns.{Proposal, TurnLine, saysFF, saysFQ, endsBlock, notAllowed, proposes, readTurnLine, proposalLine, fixedText, ourSid, protocolError, checksumError, withCr}
+use Rattle.grammar.specs.Errors.{isSilent, errorText}
 use Rattle.grammar.specs.Answers.{Sign, readFs, fsNumber, fsLine}
 use Rattle.grammar.specs.Transfers.{sendable, writeTransfer}
 use Rattle.grammar.specs.Scan.{Scanned, goes, got, malformed, wrongSum, noRoom, scanByte}
@@ -70,6 +71,14 @@ fs-only : (ss : List Sign) → headLf (withCr (fsLine ss)) ≡ false
 unfolding fsLine
 fs-only ss = refl
 
+error-calm : (n : ℕ) → headLf (errorText n) ≡ false
+unfolding errorText
+error-calm n = by-cond (λ (o : Bytes). headLf o ≡ false) (isSilent n) refl (go (eqb n 9))
+  where
+    go : (c : Bool) → headLf (withCr (fixedText (cond c checksumError protocolError))) ≡ false
+    go true = refl
+    go false = refl
+
 -- ---------------------------------------------------------------- what a whole line or transfer makes us say
 
 module _ (E : Shelf) (h : allSendable (E .table) ≡ true) where
@@ -107,11 +116,11 @@ module _ (E : Shelf) (h : allSendable (E .table) ≡ true) where
   -- ---------------------------------------------------------------- a byte
 
   settled-calm : (s : Session) (a : Bool) (o : Outcome) → Calm o → headLf (settled s a o .session .out) ≡ false
-  settled-calm s a (refuses n) c = refl
+  settled-calm s a (refuses n) c = error-calm n
   settled-calm s a (goesOn p m o) c = c
 
   way-calm : (s : Session) (b : ℕ) → headLf (s .out) ≡ false → (o : Stepped) → Way E s b o → headLf (o .session .out) ≡ false
-  way-calm s b c o (isRefused n k w) = refl
+  way-calm s b c o (isRefused n k w) = error-calm n
   way-calm s b c o (dropsLf k) = c
   way-calm s b c o (growsLine a w x y) = c
   way-calm s b c o (ignoresLine a w x y) = refl

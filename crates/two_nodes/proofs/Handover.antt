@@ -173,21 +173,25 @@ module _ (E F : Shelf) (SE : Sound E) (SF : Sound F) (s t : List ℕ) (p : Phase
   abbrev pub P : Memory → Type 0
   P n = Fates E F s t m n
 
+  -- where the speaker is when a byte of its transfers is refused: they all wait or are given, and it awaits the other's turn
+  abbrev pub R : Type 0
+  R = p ≡ newTurn false
+
   abbrev pub Q : Session → Type 0
   Q u = HeardAll E F s t p m u
 
   -- a byte that leads on
-  on : (u v : Session) (b : ℕ) (later : Bytes) → step F u b ≡ moved v → Hears F P Q v later → Heard F P Q (step F u b .session) later
-  on u v b later e h = inl (subst (λ (o : Stepped). Hears F P Q (o .session) later) (sym e) h)
+  on : (u v : Session) (b : ℕ) (later : Bytes) → step F u b ≡ moved v → Hears F P R Q v later → Heard F P R Q (step F u b .session) later
+  on u v b later e h = inl (subst (λ (o : Stepped). Hears F P R Q (o .session) later) (sym e) h)
 
   marks-claims : (n : Memory) → AllHas (F .table) (m .inbox) (n .sending) → P n → P (turnMarks n)
   marks-claims n a c = record { ours = c .ours; theirs = fate-marked (F .table) E (m .inbox) t (n .sending) (n .states) a (c .theirs) }
 
   -- FF
   ff-heard : (n : Memory) (cr : Bool) → p ≡ newTurn true → proposed E m ≡ [] → m .framed ≡ true → n .framed ≡ true → m .sending ≡ []
-      → AllHas (F .table) (m .inbox) (n .sending) → P n → Hears F P Q (begun (awaitsTurn false [] []) n cr []) (withCr (fixedText ourFF))
+      → AllHas (F .table) (m .inbox) (n .sending) → P n → Hears F P R Q (begun (awaitsTurn false [] []) n cr []) (withCr (fixedText ourFF))
   ff-heard n cr e z fm fn sm a c =
-      hears-line F P Q (awaitsTurn false [] []) n c (fixedText ourFF) cr [] (good-line (fixedLine ourFF) tt) refl
+      hears-line F P R Q (awaitsTurn false [] []) n c (fixedText ourFF) cr [] (good-line (fixedLine ourFF) tt) refl
       (λ d w. on (begun (awaitsTurn false [] []) n d (fixedText ourFF)) (weSpeak F true true [] (turnMarks n)) CR []
       (happens F [] (begun (awaitsTurn false [] []) n d (fixedText ourFF)) CR tt (weSpeak F true true [] (turnMarks n))
       (ffTurn (fixedText ourFF) (record { whole = w; awaited = refl }) (ff-read (n .framed)) (turnMarks n) (turn-marks n)))
@@ -201,9 +205,9 @@ module _ (E F : Shelf) (SE : Sound E) (SF : Sound F) (s t : List ℕ) (p : Phase
 
   -- FQ
   fq-heard : (n : Memory) (cr : Bool) → proposed E m ≡ [] → proposed F n ≡ [] → m .framed ≡ true → n .framed ≡ true → P n
-      → Hears F P Q (begun (awaitsTurn true [] []) n cr []) (withCr (fixedText ourFQ))
+      → Hears F P R Q (begun (awaitsTurn true [] []) n cr []) (withCr (fixedText ourFQ))
   fq-heard n cr z y fm fn c =
-      hears-line F P Q (awaitsTurn true [] []) n c (fixedText ourFQ) cr [] (good-line (fixedLine ourFQ) tt) refl
+      hears-line F P R Q (awaitsTurn true [] []) n c (fixedText ourFQ) cr [] (good-line (fixedLine ourFQ) tt) refl
       (λ d w. on (begun (awaitsTurn true [] []) n d (fixedText ourFQ)) (between over true [] n) CR []
       (happens F [] (begun (awaitsTurn true [] []) n d (fixedText ourFQ)) CR tt (between over true [] n)
       (fqTurn (fixedText ourFQ) (record { whole = w; awaited = refl }) (fq-read (n .framed))))
@@ -233,9 +237,9 @@ module _ (E F : Shelf) (SE : Sound E) (SF : Sound F) (s t : List ℕ) (p : Phase
 
     module _ (ff : Bool) (n : Memory) (fn : n .framed ≡ true) (a : AllHas (F .table) (m .inbox) (n .sending)) (c : P n) where
       -- F>
-      end-heard : (raw : Bytes) (cr : Bool) → Hears F P Q (begun (awaitsTurn ff block raw) n cr []) (withCr (fixedText ourEnd))
+      end-heard : (raw : Bytes) (cr : Bool) → Hears F P R Q (begun (awaitsTurn ff block raw) n cr []) (withCr (fixedText ourEnd))
       end-heard raw cr =
-          hears-line F P Q (awaitsTurn ff block raw) n c (fixedText ourEnd) cr [] (good-line (fixedLine ourEnd) tt) refl
+          hears-line F P R Q (awaitsTurn ff block raw) n c (fixedText ourEnd) cr [] (good-line (fixedLine ourEnd) tt) refl
           (λ d w. on (begun (awaitsTurn ff block raw) n d (fixedText ourEnd)) (transfersOr F true (withCr (fsLine (answersTo F (n .inbox) block))) (withSign accept block (answersTo F (n .inbox) block)) (turnMarks n)) CR []
           (happens F [] (begun (awaitsTurn ff block raw) n d (fixedText ourEnd)) CR tt _
           (blockEnd (fixedText ourEnd) ff (proposalOf (recordAt (E .table) i)) (proposalsAt (E .table) is) (record { whole = w; awaited = refl }) (subst (EndsBlock raw) (sym (end-read (n .framed))) bare) (turnMarks n) (turn-marks n)))
@@ -243,13 +247,13 @@ module _ (E F : Shelf) (SE : Sound E) (SF : Sound F) (s t : List ℕ) (p : Phase
 
       -- the proposals at js, and F>
       block-heard : (js : List ℕ) (ps : List Proposal) (raw : Bytes) (cr : Bool) → AllFit true (proposalsAt (E .table) js) → length ps + length js ≤ 5
-          → ps ++ proposalsAt (E .table) js ≡ block → Hears F P Q (begun (awaitsTurn ff ps raw) n cr []) (blockText (E .table) js)
+          → ps ++ proposalsAt (E .table) js ≡ block → Hears F P R Q (begun (awaitsTurn ff ps raw) n cr []) (blockText (E .table) js)
       block-heard [] ps raw cr f l k =
-          subst (λ (x : List Proposal). Hears F P Q (begun (awaitsTurn ff x raw) n cr []) (withCr (fixedText ourEnd))) (sym (sym (append-nil ps) ∙ k)) (end-heard raw cr)
+          subst (λ (x : List Proposal). Hears F P R Q (begun (awaitsTurn ff x raw) n cr []) (withCr (fixedText ourEnd))) (sym (sym (append-nil ps) ∙ k)) (end-heard raw cr)
       block-heard (j ∷ js) ps raw cr f l k =
           let r : Proposal = proposalOf (recordAt (E .table) j) in
           let z = length-append ps (r ∷ []) in
-          hears-line F P Q (awaitsTurn ff ps raw) n c (proposalLine r) cr (blockText (E .table) js) (good-line (ourProposal r) (f .0 .0)) (proposal-head r)
+          hears-line F P R Q (awaitsTurn ff ps raw) n c (proposalLine r) cr (blockText (E .table) js) (good-line (ourProposal r) (f .0 .0)) (proposal-head r)
           (λ d w. on (begun (awaitsTurn ff ps raw) n d (proposalLine r)) (between (aLine (awaitsTurn ff (ps ++ (r ∷ [])) (raw ++ withCr (proposalLine r)))) true [] n) CR (blockText (E .table) js)
           (happens F [] (begun (awaitsTurn ff ps raw) n d (proposalLine r)) CR tt (between (aLine (awaitsTurn ff (ps ++ (r ∷ [])) (raw ++ withCr (proposalLine r)))) true [] n)
           (proposal (proposalLine r) ff ps (record { whole = w; awaited = refl }) r (ap (λ (x : Bool). readTurnLine x (proposalLine r)) fn ∙ proposal-read true r (f .0 .0) (f .0 .1)) (omega arith)))
@@ -258,7 +262,7 @@ module _ (E F : Shelf) (SE : Sound E) (SF : Sound F) (s t : List ℕ) (p : Phase
   -- A TURN
   turn-heard : (ff : Bool) (n : Memory) (cr : Bool) → p ≡ turnAwaits ff (proposed E m) → m .framed ≡ true → n .framed ≡ true → m .sending ≡ []
       → AllHas (F .table) (m .inbox) (n .sending) → (ff ≡ true → proposed F n ≡ []) → P n
-      → Hears F P Q (begun (awaitsTurn ff [] []) n cr []) (turnSaid E ff (proposed E m))
+      → Hears F P R Q (begun (awaitsTurn ff [] []) n cr []) (turnSaid E ff (proposed E m))
   turn-heard ff n cr e fm fn sm a z c = go ff (proposed E m) refl e z
     where
       S : Rattle.demand3.proofs.Choice.Sound E
@@ -271,7 +275,7 @@ module _ (E F : Shelf) (SE : Sound E) (SF : Sound F) (s t : List ℕ) (p : Phase
       few is d = subst (λ (l : List ℕ). length l ≤ 5) d (S .few m)
 
       go : (ff : Bool) (is : List ℕ) → proposed E m ≡ is → p ≡ turnAwaits ff is → (ff ≡ true → proposed F n ≡ [])
-          → Hears F P Q (begun (awaitsTurn ff [] []) n cr []) (turnSaid E ff is)
+          → Hears F P R Q (begun (awaitsTurn ff [] []) n cr []) (turnSaid E ff is)
       go true [] d e z = fq-heard n cr d (z refl) fm fn c
       go false [] d e z = ff-heard n cr e d fm fn sm a c
       go true (i ∷ is) d e z = let l = few (i ∷ is) d in block-heard i is (sym d) e fm sm true n fn a c (i ∷ is) [] [] cr (fits (i ∷ is) d) (omega arith) refl
@@ -328,16 +332,16 @@ module _ (E F : Shelf) (SE : Sound E) (SF : Sound F) (s t : List ℕ) (p : Phase
 
     -- nothing was accepted: a turn follows; or our transfers do
     fs-heard : (js : List ℕ) → withSign accept (i ∷ is) ss ≡ js → (o : Bytes) (cr : Bool) → between p true o m ≡ transfersOr E true fs (proposalsAt (F .table) js) m
-        → Hears F P Q (begun (awaitsAnswer (i ∷ is)) n cr []) o
+        → Hears F P R Q (begun (awaitsAnswer (i ∷ is)) n cr []) o
     fs-heard [] k o cr e =
-        subst (Hears F P Q (begun (awaitsAnswer (i ∷ is)) n cr [])) (sym (ap (λ (u : Session). u .out) e))
-        (hears-line F P Q (awaitsAnswer (i ∷ is)) n c (fsLine ss) cr (turnSaid E false (proposed E m)) good (fs-head ss)
+        subst (Hears F P R Q (begun (awaitsAnswer (i ∷ is)) n cr [])) (sym (ap (λ (u : Session). u .out) e))
+        (hears-line F P R Q (awaitsAnswer (i ∷ is)) n c (fsLine ss) cr (turnSaid E false (proposed E m)) good (fs-head ss)
         (λ d w. on (begun (awaitsAnswer (i ∷ is)) n d (fsLine ss)) (begun (awaitsTurn false [] []) after true []) CR (turnSaid E false (proposed E m))
         (heard-fs d w ∙ ap (λ (l : List ℕ). moved (between (aLine (awaitsTurn false [] [])) true (transfersSaid (F .table) l) after)) k)
         (turn-heard false after true (ap (λ (u : Session). u .phase) e) fm fn sm (subst (AllHas (F .table) (m .inbox)) (sym (sent ∙ k)) tt) (λ x. absurd (no-both false x refl)) claims)))
     fs-heard (j ∷ js) k o cr e =
-        subst (Hears F P Q (begun (awaitsAnswer (i ∷ is)) n cr [])) (append-nil fs ∙ sym (ap (λ (u : Session). u .out) e))
-        (hears-line F P Q (awaitsAnswer (i ∷ is)) n c (fsLine ss) cr [] good (fs-head ss)
+        subst (Hears F P R Q (begun (awaitsAnswer (i ∷ is)) n cr [])) (append-nil fs ∙ sym (ap (λ (u : Session). u .out) e))
+        (hears-line F P R Q (awaitsAnswer (i ∷ is)) n c (fsLine ss) cr [] good (fs-head ss)
         (λ d w. on (begun (awaitsAnswer (i ∷ is)) n d (fsLine ss)) (between (aLine (awaitsTurn false [] [])) true (transfersSaid (F .table) (j ∷ js)) after) CR []
         (heard-fs d w ∙ ap (λ (l : List ℕ). moved (between (aLine (awaitsTurn false [] [])) true (transfersSaid (F .table) l) after)) k)
         (inl
@@ -364,13 +368,13 @@ module _ (E F : Shelf) (SE : Sound E) (SF : Sound F) (s t : List ℕ) (p : Phase
       let x : Message = messageFor (recordAt (E .table) j) in
       all-snoc (E .table) (n .inbox ++ (x ∷ [])) done j (all-more (E .table) (n .inbox) x done a) (has-last x (n .inbox))
 
-  transfer-heard : (js : List ℕ) (j : ℕ) (n : Memory) (cr : Bool) → j < length (E .table) → inMode true (recordAt (E .table) j .form) ≡ true → P n
-      → Hears F P Q (transfersOr F (endsWithCr (recordAt (E .table) j .form)) [] (proposalsAt (E .table) js) (withKept n j)) (transfersSaid (E .table) js)
-      → Hears F P Q (between (awaitsTransfer (proposalOf (recordAt (E .table) j)) (proposalsAt (E .table) js) (scanFrom (recordAt (E .table) j .form))) cr [] n)
+  transfer-heard : (js : List ℕ) (j : ℕ) (n : Memory) (cr : Bool) → j < length (E .table) → inMode true (recordAt (E .table) j .form) ≡ true → R → P n
+      → Hears F P R Q (transfersOr F (endsWithCr (recordAt (E .table) j .form)) [] (proposalsAt (E .table) js) (withKept n j)) (transfersSaid (E .table) js)
+      → Hears F P R Q (between (awaitsTransfer (proposalOf (recordAt (E .table) j)) (proposalsAt (E .table) js) (scanFrom (recordAt (E .table) j .form))) cr [] n)
       (transfersSaid (E .table) (j ∷ js))
-  transfer-heard js j n cr l f c h =
+  transfer-heard js j n cr l f e c h =
       let r : Record = recordAt (E .table) j in
-      hears-transfer F P Q (proposalOf r) (proposalsAt (E .table) js) n c (record { heading = headingFor (r .form) r; body = r .body }) (transfersSaid (E .table) js) (transferOf r) cr
+      hears-transfer F P R Q (proposalOf r) (proposalsAt (E .table) js) n c e (record { heading = headingFor (r .form) r; body = r .body }) (transfersSaid (E .table) js) (transferOf r) cr
       (transfer-back (r .form) (headingFor (r .form) r) (r .body) (sendable-at (E .table) j (SE .texts) l))
       (transfer-head (r .form) (headingFor (r .form) r) (r .body) f .0)
       (inl h)
@@ -378,10 +382,10 @@ module _ (E F : Shelf) (SE : Sound E) (SF : Sound F) (s t : List ℕ) (p : Phase
   -- TRANSFERS: those at done have been kept
   transfers-heard : (js : List ℕ) (j : ℕ) (done : List ℕ) (n : Memory) (cr : Bool) → Places true (E .table) (j ∷ js) → p ≡ newTurn false
       → m .framed ≡ true → n .framed ≡ true → m .sending ≡ done ++ (j ∷ js) → n .sending ≡ [] → AllHas (E .table) (n .inbox) done → P n
-      → Hears F P Q (between (awaitsTransfer (proposalOf (recordAt (E .table) j)) (proposalsAt (E .table) js) (scanFrom (recordAt (E .table) j .form))) cr [] n)
+      → Hears F P R Q (between (awaitsTransfer (proposalOf (recordAt (E .table) j)) (proposalsAt (E .table) js) (scanFrom (recordAt (E .table) j .form))) cr [] n)
       (transfersSaid (E .table) (j ∷ js))
   transfers-heard [] j done n cr h e fm fn sm sn a c =
-      transfer-heard [] j n cr (h .0) (h .1) c
+      transfer-heard [] j n cr (h .0) (h .1) e c
       (inl
       (record {
         fresh = refl;
@@ -390,7 +394,7 @@ module _ (E F : Shelf) (SE : Sound E) (SF : Sound F) (s t : List ℕ) (p : Phase
         kind = turns false refl refl e fn fm sn (subst (AllHas (E .table) (withKept n j .inbox)) (sym sm) (all-kept n j done a)) (λ x. absurd (no-both false x refl));
       }))
   transfers-heard (k ∷ ks) j done n cr h e fm fn sm sn a c =
-      transfer-heard (k ∷ ks) j n cr (h .0) (h .1) c
+      transfer-heard (k ∷ ks) j n cr (h .0) (h .1) e c
       (transfers-heard ks k (done ++ (j ∷ [])) (withKept n j) (endsWithCr (recordAt (E .table) j .form)) (h .2) e fm fn
       (sm ∙ sym (append-assoc done (j ∷ []) (k ∷ ks))) sn (all-kept n j done a) (kept-claims n j c))
 
@@ -399,29 +403,29 @@ module _ (E F : Shelf) (SE : Sound E) (SF : Sound F) (s t : List ℕ) (p : Phase
   same-claims n fs c = record { ours = c .ours; theirs = c .theirs }
 
   sid-heard : (n : Memory) (cr : Bool) → p ≡ turnAwaits false (proposed E m) → m .framed ≡ true → m .sending ≡ [] → n .sending ≡ [] → P n
-      → Hears F P Q (begun (awaitsSid false) n cr []) (withCr (fixedText ourSid) ++ turnSaid E false (proposed E m))
+      → Hears F P R Q (begun (awaitsSid false) n cr []) (withCr (fixedText ourSid) ++ turnSaid E false (proposed E m))
   sid-heard n cr e fm sm sn c =
       let fs = sid-features in
-      hears-line F P Q (awaitsSid false) n c (fixedText ourSid) cr (turnSaid E false (proposed E m)) (good-line (fixedLine ourSid) tt) refl
+      hears-line F P R Q (awaitsSid false) n c (fixedText ourSid) cr (turnSaid E false (proposed E m)) (good-line (fixedLine ourSid) tt) refl
       (λ d w. on (begun (awaitsSid false) n d (fixedText ourSid)) (begun (awaitsTurn false [] []) (metBy (fs .0) n) true []) CR (turnSaid E false (proposed E m))
       (happens F [] (begun (awaitsSid false) n d (fixedText ourSid)) CR tt _ (sidOfCaller (fixedText ourSid) w refl (fs .0) (fs .1) (fs .2)))
       (turn-heard false (metBy (fs .0) n) true e fm (fs .3) sm (subst (AllHas (F .table) (m .inbox)) (sym sn) tt) (λ x. absurd (no-both false x refl)) (same-claims n (fs .0) c)))
 
   greeting-heard : (n : Memory) (cr : Bool) → p ≡ aLine (awaitsSid false) → m .sending ≡ [] → n .sending ≡ [] → P n
-      → Hears F P Q (begun (awaitsSid true) n cr []) (greeting false)
+      → Hears F P R Q (begun (awaitsSid true) n cr []) (greeting false)
   greeting-heard n cr e sm sn c =
       let fs = sid-features in
       let n′ : Memory = metBy (fs .0) n in
-      hears-line F P Q (awaitsSid true) n c (fixedText ourSid) cr (withCr (fixedText ourPrompt)) (good-line (fixedLine ourSid) tt) refl
+      hears-line F P R Q (awaitsSid true) n c (fixedText ourSid) cr (withCr (fixedText ourPrompt)) (good-line (fixedLine ourSid) tt) refl
       (λ d w. on (begun (awaitsSid true) n d (fixedText ourSid)) (begun awaitsPrompt n′ true []) CR (withCr (fixedText ourPrompt))
       (happens F [] (begun (awaitsSid true) n d (fixedText ourSid)) CR tt _ (sidOfCalled (fixedText ourSid) w refl (fs .0) (fs .1) (fs .2)))
-      (hears-line F P Q awaitsPrompt n′ (same-claims n (fs .0) c) (fixedText ourPrompt) true [] (good-line (fixedLine ourPrompt) tt) refl
+      (hears-line F P R Q awaitsPrompt n′ (same-claims n (fs .0) c) (fixedText ourPrompt) true [] (good-line (fixedLine ourPrompt) tt) refl
       (λ d w. on (begun awaitsPrompt n′ d (fixedText ourPrompt)) (weSpeak F true false (withCr (fixedText ourSid)) n′) CR []
       (happens F [] (begun awaitsPrompt n′ d (fixedText ourPrompt)) CR tt _ (prompt (fixedText ourPrompt) w refl prompt-read))
       (inl (record { fresh = refl; loud = refl; claims = same-claims n (fs .0) c; kind = signsOn refl refl e (fs .3) sn sm })))))
 
   -- EVERY HANDOVER IS HEARD
-  pub handover-heard : (o : Bytes) (q : Phase) (n : Memory) (cr : Bool) → Handover E F p m o q n → P n → Hears F P Q (lineBegun q n cr []) o
+  pub handover-heard : (o : Bytes) (q : Phase) (n : Memory) (cr : Bool) → Handover E F p m o q n → P n → Hears F P R Q (lineBegun q n cr []) o
   handover-heard o q n cr (greets e k f sm sn) c = rw (k, f) (greeting-heard n cr e sm sn c)
   handover-heard o q n cr (signsOn e k f fm sm sn) c = rw (k, f) (sid-heard n cr e fm sm sn c)
   handover-heard o q n cr (turns ff e k f fm fn sm a z) c = rw (k, f) (turn-heard ff n cr e fm fn sm a z c)

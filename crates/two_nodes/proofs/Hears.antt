@@ -13,7 +13,8 @@ use borrow.Author.Tests.{lt-ltb}
 use Rattle.grammar.specs.Bytes.{Bytes, CR, LF}
 use Rattle.grammar.specs.Fields.{Form, plain, message, file}
 use Rattle.grammar.specs.Lines.{ends, grows, overruns}
-use Rattle.grammar.specs.Turns.{Proposal, withCr}
+use Rattle.grammar.specs.Turns.{Proposal, fixedText, protocolError, withCr}
+use Rattle.grammar.specs.Errors.{errorText}
 use Rattle.grammar.specs.Transfers.{Content, parse, readTransfer, valid}
 use Rattle.grammar.specs.Scan.{Scan, Scanned, goes, got, malformed, wrongSum, noRoom, scanByte, scanFrom}
 use Rattle.grammar.proofs.Basics.{snoc-cons, Lacks, and-false}
@@ -30,11 +31,12 @@ use Rattle.demand2.specs.Units.{lineBegun}
 use Rattle.demand2.proofs.Steps.{line-step, transfer-step}
 use Rattle.demand2.proofs.Events.{plain-is, next}
 
--- it has refused a byte
-pub record Broken (P : Memory → Type 0) (s : Session) : Type 0 where
+-- it has refused a byte for want of room, and says why; R: what is true of the speaker then
+pub record Broken (P : Memory → Type 0) (R : Type 0) (s : Session) : Type 0 where
   pub phase : s .phase ≡ over
   pub abrupt : s .afterCr ≡ false
-  pub silent : s .out ≡ []
+  pub why : s .out ≡ withCr (fixedText protocolError)
+  pub speaker : R
   pub claims : P (s .memory)
 
 -- it awaits a byte
@@ -43,13 +45,13 @@ pub record Listening (P : Memory → Type 0) (s : Session) : Type 0 where
   pub silent : s .out ≡ []
   pub claims : P (s .memory)
 
-abbrev pub Hears : Shelf → (Memory → Type 0) → (Session → Type 0) → Session → Bytes → Type 0
-Hears E P Q s [] = Q s
-Hears E P Q s (b ∷ bs) = Listening P s × (Hears E P Q (step E s b .session) bs ⊎ Broken P (step E s b .session))
+abbrev pub Hears : Shelf → (Memory → Type 0) → Type 0 → (Session → Type 0) → Session → Bytes → Type 0
+Hears E P R Q s [] = Q s
+Hears E P R Q s (b ∷ bs) = Listening P s × (Hears E P R Q (step E s b .session) bs ⊎ Broken P R (step E s b .session))
 
 -- after a byte
-abbrev pub Heard : Shelf → (Memory → Type 0) → (Session → Type 0) → Session → Bytes → Type 0
-Heard E P Q s bs = Hears E P Q s bs ⊎ Broken P s
+abbrev pub Heard : Shelf → (Memory → Type 0) → Type 0 → (Session → Type 0) → Session → Bytes → Type 0
+Heard E P R Q s bs = Hears E P R Q s bs ⊎ Broken P R s
 
 -- the first byte is an LF
 abbrev pub headLf : Bytes → Bool
@@ -62,11 +64,11 @@ headLf (x ∷ xs) = eqb x LF
 abbrev pub begun : Awaited → Memory → Bool → Bytes → Session
 begun a m cr w = lineBegun (aLine a) m cr w
 
-module _ (E : Shelf) (P : Memory → Type 0) (Q : Session → Type 0) (a : Awaited) (m : Memory) (h : P m) where
+module _ (E : Shelf) (P : Memory → Type 0) (R : Type 0) (Q : Session → Type 0) (a : Awaited) (m : Memory) (h : P m) where
   listens : (cr : Bool) (u : Bytes) → Listening P (begun a m cr u)
   listens cr u = record { live = refl; silent = refl; claims = h }
 
-  grown : (cr : Bool) (w : Bytes) (b : ℕ) → cr && eqb b LF ≡ false → eqb b CR ≡ false → length w + 1 ≤ 256
+  pub grown : (cr : Bool) (w : Bytes) (b : ℕ) → cr && eqb b LF ≡ false → eqb b CR ≡ false → length w + 1 ≤ 256
       → step E (begun a m cr w) b ≡ moved (begun a m false (w ++ (b ∷ [])))
   grown cr w b d e l =
       line-step E (begun a m cr w) b a (record { kept = d; silent = refl }) refl
@@ -75,27 +77,27 @@ module _ (E : Shelf) (P : Memory → Type 0) (Q : Session → Type 0) (a : Await
 
   -- the bytes v of a line, after u
   rest-of-line : (v u : Bytes) (cr : Bool) (later : Bytes) → Lacks CR v → length u + length v ≤ 256 → cr && headLf v ≡ false
-      → ((c : Bool) → Heard E P Q (step E (begun a m c (u ++ v)) CR .session) later) → Hears E P Q (begun a m cr u) (v ++ CR ∷ later)
+      → ((c : Bool) → Heard E P R Q (step E (begun a m c (u ++ v)) CR .session) later) → Hears E P R Q (begun a m cr u) (v ++ CR ∷ later)
   rest-of-line [] u cr later k l z c = (
     listens cr u,
-    subst (λ (w : Bytes). Heard E P Q (step E (begun a m cr w) CR .session) later) (append-nil u) (c cr),
+    subst (λ (w : Bytes). Heard E P R Q (step E (begun a m cr w) CR .session) later) (append-nil u) (c cr),
   )
   rest-of-line (x ∷ v) u cr later k l z c =
       let n = length-append u (x ∷ []) in (
         listens cr u,
         inl
-            (subst (λ (o : Stepped). Hears E P Q (o .session) (v ++ CR ∷ later)) (sym (grown cr u x z (k .0) (omega arith)))
+            (subst (λ (o : Stepped). Hears E P R Q (o .session) (v ++ CR ∷ later)) (sym (grown cr u x z (k .0) (omega arith)))
             (rest-of-line v (u ++ (x ∷ [])) false later (k .1) (omega arith) refl
-            (λ d. subst (λ (w : Bytes). Heard E P Q (step E (begun a m d w) CR .session) later) (sym (snoc-cons u v x)) (c d)))),
+            (λ d. subst (λ (w : Bytes). Heard E P R Q (step E (begun a m d w) CR .session) later) (sym (snoc-cons u v x)) (c d)))),
       )
 
   -- A WHOLE LINE
   pub hears-line : (ln : Bytes) (cr : Bool) (later : Bytes) → GoodLine ln → headLf ln ≡ false
-      → ((c : Bool) → WholeLine (begun a m c ln) CR ln → Heard E P Q (step E (begun a m c ln) CR .session) later)
-      → Hears E P Q (begun a m cr []) (withCr ln ++ later)
+      → ((c : Bool) → WholeLine (begun a m c ln) CR ln → Heard E P R Q (step E (begun a m c ln) CR .session) later)
+      → Hears E P R Q (begun a m cr []) (withCr ln ++ later)
   hears-line ln cr later g z c =
       let n = g .short in
-      subst (Hears E P Q (begun a m cr [])) (sym (snoc-cons ln later CR))
+      subst (Hears E P R Q (begun a m cr [])) (sym (snoc-cons ln later CR))
       (rest-of-line ln [] cr later (g .whole) (omega arith) (and-false cr (headLf ln) z)
       (λ d. c d (record { heeded = record { kept = and-false d false refl; silent = refl }; end = refl; bytes = g .kept; judged = g .heard })))
 
@@ -114,7 +116,7 @@ read-nothing plain = refl
 read-nothing message = refl
 read-nothing file = refl
 
-module _ (E : Shelf) (P : Memory → Type 0) (Q : Session → Type 0) (p : Proposal) (ps : List Proposal) (m : Memory) (h : P m) (c : Content) (later : Bytes) where
+module _ (E : Shelf) (P : Memory → Type 0) (R : Type 0) (Q : Session → Type 0) (p : Proposal) (ps : List Proposal) (m : Memory) (h : P m) (sends : R) (c : Content) (later : Bytes) where
   abbrev reading : Scan → Bool → Session
   reading sc cr = between (awaitsTransfer p ps sc) cr [] m
 
@@ -131,9 +133,10 @@ module _ (E : Shelf) (P : Memory → Type 0) (Q : Session → Type 0) (p : Propo
       transfer-step E (reading sc cr) b p sc (record { heeded = record { kept = d; silent = refl }; others = ps; awaited = refl })
       ∙ ap (transferMoved E p ps (reading sc cr)) e
 
-  broken : (sc : Scan) (cr : Bool) (b : ℕ) → cr && eqb b LF ≡ false → scanByte (room E (m .inbox)) sc b ≡ noRoom → Broken P (step E (reading sc cr) b .session)
+  broken : (sc : Scan) (cr : Bool) (b : ℕ) → cr && eqb b LF ≡ false → scanByte (room E (m .inbox)) sc b ≡ noRoom → Broken P R (step E (reading sc cr) b .session)
+  unfolding errorText
   broken sc cr b d e =
-      subst (λ (o : Stepped). Broken P (o .session)) (sym (scans sc cr b noRoom d e)) (record { phase = refl; abrupt = refl; silent = refl; claims = h })
+      subst (λ (o : Stepped). Broken P R (o .session)) (sym (scans sc cr b noRoom d e)) (record { phase = refl; abrupt = refl; why = refl; speaker = sends; claims = h })
 
   whole : (sc : Scan) (cr : Bool) (b : ℕ) (t y : Bytes) → cr && eqb b LF ≡ false → scanByte (room E (m .inbox)) sc b ≡ got t y → some (record { heading = t; body = y }) ≡ some c
       → step E (reading sc cr) b ≡ moved keptThen
@@ -146,14 +149,14 @@ module _ (E : Shelf) (P : Memory → Type 0) (Q : Session → Type 0) (p : Propo
 
   -- its bytes x and v, after u
   rest-of-transfer : (v : Bytes) (x : ℕ) (u : Bytes) (sc : Scan) (cr : Bool) → Reach (room E (m .inbox)) (p .form) (goes sc) u
-      → readTransfer (p .form) (u ++ x ∷ v) ≡ some c → cr && eqb x LF ≡ false → Heard E P Q keptThen later
-      → Hears E P Q (reading sc cr) (x ∷ (v ++ later))
+      → readTransfer (p .form) (u ++ x ∷ v) ≡ some c → cr && eqb x LF ≡ false → Heard E P R Q keptThen later
+      → Hears E P R Q (reading sc cr) (x ∷ (v ++ later))
   rest-of-transfer [] x u sc cr r e d k =
       (hears-byte sc cr, go (scanByte (room E (m .inbox)) sc x) refl (sym (read-as (room E (m .inbox)) (p .form) u sc (omega arith) r x) ∙ e))
     where
-      go : (o : Scanned) → scanByte (room E (m .inbox)) sc x ≡ o → contentOf o ≡ some c → Heard E P Q (step E (reading sc cr) x .session) later
+      go : (o : Scanned) → scanByte (room E (m .inbox)) sc x ≡ o → contentOf o ≡ some c → Heard E P R Q (step E (reading sc cr) x .session) later
       go (goes sc′) g f = never c f
-      go (got t y) g f = subst (λ (o : Stepped). Heard E P Q (o .session) later) (sym (whole sc cr x t y d g f)) k
+      go (got t y) g f = subst (λ (o : Stepped). Heard E P R Q (o .session) later) (sym (whole sc cr x t y d g f)) k
       go malformed g f = never c f
       go wrongSum g f = never c f
       go noRoom g f = never c f
@@ -167,16 +170,16 @@ module _ (E : Shelf) (P : Memory → Type 0) (Q : Session → Type 0) (p : Propo
       none-longer n = never c (sym (read-none (p .form) ((u ++ (x ∷ [])) ++ y ∷ v) n) ∙ ap (readTransfer (p .form)) (snoc-cons u (y ∷ v) x) ∙ e)
 
       go : (o : Scanned) → scanByte (room E (m .inbox)) sc x ≡ o → Verdict (room E (m .inbox)) (p .form) o (u ++ (x ∷ [])) → Reach (room E (m .inbox)) (p .form) o (u ++ (x ∷ []))
-          → ((sc′ : Scan) → Reach (room E (m .inbox)) (p .form) (goes sc′) (u ++ (x ∷ [])) → Hears E P Q (reading sc′ false) (y ∷ (v ++ later)))
-          → Heard E P Q (step E (reading sc cr) x .session) (y ∷ (v ++ later))
-      go (goes sc′) g w r′ ih = inl (subst (λ (o : Stepped). Hears E P Q (o .session) (y ∷ (v ++ later))) (sym (scans sc cr x (goes sc′) d g)) (ih sc′ r′))
+          → ((sc′ : Scan) → Reach (room E (m .inbox)) (p .form) (goes sc′) (u ++ (x ∷ [])) → Hears E P R Q (reading sc′ false) (y ∷ (v ++ later)))
+          → Heard E P R Q (step E (reading sc cr) x .session) (y ∷ (v ++ later))
+      go (goes sc′) g w r′ ih = inl (subst (λ (o : Stepped). Hears E P R Q (o .session) (y ∷ (v ++ later))) (sym (scans sc cr x (goes sc′) d g)) (ih sc′ r′))
       go (got t z) g w r′ ih = absurd (none-longer (w .2 y v))
       go malformed g w r′ ih = absurd (none-longer (w (y ∷ v)))
       go wrongSum g w r′ ih = absurd (none-longer (w .1 y v))
       go noRoom g w r′ ih = inr (broken sc cr x d g)
 
   -- A WHOLE TRANSFER
-  pub hears-transfer : (bytes : Bytes) (cr : Bool) → readTransfer (p .form) bytes ≡ some c → headLf bytes ≡ false → Heard E P Q keptThen later
-      → Hears E P Q (reading (scanFrom (p .form)) cr) (bytes ++ later)
+  pub hears-transfer : (bytes : Bytes) (cr : Bool) → readTransfer (p .form) bytes ≡ some c → headLf bytes ≡ false → Heard E P R Q keptThen later
+      → Hears E P R Q (reading (scanFrom (p .form)) cr) (bytes ++ later)
   hears-transfer [] cr e z k = never c (sym (read-nothing (p .form)) ∙ e)
   hears-transfer (x ∷ v) cr e z k = rest-of-transfer v x [] (scanFrom (p .form)) cr (from (room E (m .inbox)) (p .form)) e (and-false cr (eqb x LF) z) k

@@ -9,10 +9,12 @@ use native.Mathlib.Omega.{arith}
 use lib.Dec.{eqb}
 use lib.ListN.{length}
 use Rattle.grammar.specs.Bytes.{Bytes, LF, null}
+use Rattle.grammar.specs.Turns.{fixedText, protocolError, withCr}
+use Rattle.grammar.specs.Errors.{errorText}
 use Rattle.grammar.proofs.Basics.{and2, no-both, snoc-cons}
 use borrow.Author.Tests.{eqb-true}
 use Rattle.session.specs.Choices.{Shelf}
-use Rattle.session.specs.Session.{Phase, leaving, over, Memory, Session, withAfterCr, withOut, between, Stepped, moved, refused, freeStep, step, ended, endedIn}
+use Rattle.session.specs.Session.{Phase, newTurn, leaving, over, Memory, Session, withAfterCr, withOut, between, Stepped, moved, refused, freeStep, step, ended, endedIn}
 use Rattle.log.specs.Log.{Event, took, gave}
 use Rattle.demand2.specs.Events.{proposed}
 use Rattle.demand2.specs.Units.{lineBegun}
@@ -21,6 +23,7 @@ use Rattle.two_nodes.specs.Fates.{Fates, Sound}
 use Rattle.two_nodes.proofs.Hears.{Broken, Listening, Hears, Heard, headLf}
 use Rattle.two_nodes.proofs.Handover.{Handover, Handed, Closed, HeardAll, speaks-on, handover-heard}
 use Rattle.two_nodes.proofs.Traces.{rest, after, Possible}
+use Rattle.two_nodes.proofs.Reasons.{OnlyGave, only-gave, tail-begins, begins-twice, Spared, hears-why, line-whole}
 use Rattle.two_nodes.proofs.Calm.{no-lf-first}
 
 -- ---------------------------------------------------------------- what is claimed of two sessions
@@ -91,12 +94,12 @@ pub record Talking (E F : Shelf) (s t : List ℕ) (A B : Session) (f : Bytes) : 
   pub alive : A .phase ≡ over → ⊥
   pub fresh : A .part ≡ []
   pub loud : null (f ++ A .out) ≡ false
-  pub hears : Hears F (Fates E F s t (A .memory)) (HeardAll E F s t (A .phase) (A .memory)) B (f ++ A .out)
+  pub hears : Hears F (Fates E F s t (A .memory)) (A .phase ≡ newTurn false) (HeardAll E F s t (A .phase) (A .memory)) B (f ++ A .out)
 
 listens : (E F : Shelf) (s t : List ℕ) (A B : Session) (f : Bytes) → Talking E F s t A B f → Listening (Fates E F s t (A .memory)) B
 listens E F s t A B f h = go (f ++ A .out) (h .loud) (h .hears)
   where
-    go : (o : Bytes) → null o ≡ false → Hears F (Fates E F s t (A .memory)) (HeardAll E F s t (A .phase) (A .memory)) B o
+    go : (o : Bytes) → null o ≡ false → Hears F (Fates E F s t (A .memory)) (A .phase ≡ newTurn false) (HeardAll E F s t (A .phase) (A .memory)) B o
         → Listening (Fates E F s t (A .memory)) B
     go [] l k = absurd (no-both true refl l)
     go (x ∷ o) l k = k .0
@@ -126,7 +129,7 @@ gives E F s t A B f b h k =
       fresh = h .fresh;
       loud = ap null e ∙ h .loud;
       hears =
-          subst (Hears F (Fates E F s t (A .memory)) (HeardAll E F s t (A .phase) (A .memory)) B) (sym e) (h .hears);
+          subst (Hears F (Fates E F s t (A .memory)) (A .phase ≡ newTurn false) (HeardAll E F s t (A .phase) (A .memory)) B) (sym e) (h .hears);
     }
 
 nothing : (f o : Bytes) → f ++ o ≡ [] → (f ≡ []) × (o ≡ [])
@@ -139,14 +142,28 @@ as-listener A p o =
     ap (λ (l : Bytes). record { phase = A .phase; part = l; afterCr = A .afterCr; out = A .out; memory = A .memory }) p
     ∙ ap (λ (l : Bytes). record { phase = A .phase; part = []; afterCr = A .afterCr; out = l; memory = A .memory }) o
 
+-- one that awaits a turn, whatever of its own still waits
+as-awaiting : (A : Session) → A .phase ≡ newTurn false → A .part ≡ [] → A ≡ record { phase = newTurn false; part = []; afterCr = A .afterCr; out = A .out; memory = A .memory }
+as-awaiting A e p =
+    ap (λ (q : Phase). record { phase = q; part = A .part; afterCr = A .afterCr; out = A .out; memory = A .memory }) e
+    ∙ ap (λ (l : Bytes). record { phase = newTurn false; part = l; afterCr = A .afterCr; out = A .out; memory = A .memory }) p
+
 -- the listener, now B, has heard a byte; r is what it has still to hear
 module _ (n : ℕ) (ih : Along n) (E F : Shelf) (SE : Sound E) (SF : Sound F) (s t : List ℕ) (A B : Session) (f : Bytes) (es fs : List Event) (l : length es + length fs ≤ n)
     (alive : A .phase ≡ over → ⊥) (fresh : A .part ≡ []) (pa : Possible E A es) (pb : Possible F B fs) (x : Begins (tookIn fs) (f ++ gaveIn es)) (y : Begins (tookIn es) (gaveIn fs)) where
-  broken : Broken (Fates E F s t (A .memory)) B → Final E F s t (after E A es) (after F B fs)
+  broken : Broken (Fates E F s t (A .memory)) (A .phase ≡ newTurn false) B → Final E F s t (after E A es) (after F B fs)
   broken k =
-      stands E F s t A B es fs
-      (record { fates = k .claims; bye = λ z w. absurd (no-both (B .afterCr) w (k .abrupt)); byeBack = λ z w. absurd (alive z) })
-      alive (k .phase) (k .silent) pb y
+      let g = only-gave F fs B (k .phase) pb in
+      let b : Begins (tookIn es) (withCr (fixedText protocolError)) = subst (Begins (tookIn es)) (k .why) (begins-twice (tookIn es) (gaveIn fs) (B .out) y (g .given)) in
+      let a : A ≡ record { phase = newTurn false; part = []; afterCr = A .afterCr; out = A .out; memory = A .memory } = as-awaiting A (k .speaker) fresh in
+      let h : Spared E (A .memory) (after E A es) =
+      subst (λ (u : Session). Possible E u es → Spared E (A .memory) (after E u es)) (sym a)
+      (λ p. hears-why E (A .memory) es (A .afterCr) [] (fixedText protocolError) (A .out) refl (line-whole .0) (line-whole .1) (line-whole .2) p b) pa in
+      record {
+        fates = subst (λ (i : Memory). Fates E F s t i (after F B fs .memory)) (sym (h .0)) (subst (Fates E F s t (A .memory)) (sym (g .memory)) (k .claims));
+        bye = λ z w. absurd (no-both (after F B fs .afterCr) w (g .afterCr ∙ k .abrupt));
+        byeBack = λ z w. absurd (h .1 z w);
+      }
 
   closed : Closed E F s t (A .phase) (A .memory) B → Final E F s t (after E A es) (after F B fs)
   closed k =
@@ -168,14 +185,14 @@ module _ (n : ℕ) (ih : Along n) (E F : Shelf) (SE : Sound E) (SF : Sound F) (s
         fresh = k .fresh;
         loud = k .loud;
         hears =
-            subst (λ (u : Session). Hears E (Fates F E t s (B .memory)) (HeardAll F E t s (B .phase) (B .memory)) u (B .out))
+            subst (λ (u : Session). Hears E (Fates F E t s (B .memory)) (B .phase ≡ newTurn false) (HeardAll F E t s (B .phase) (B .memory)) u (B .out))
             (sym (as-listener A fresh (z .1)))
             (handover-heard F E SF SE t s (B .phase) (B .memory) (B .out) (A .phase) (A .memory) (A .afterCr) (k .kind) (turned-fates E F s t (A .memory) (B .memory) (k .claims)));
       })
       pb pa y (subst (λ (g : Bytes). Begins (tookIn fs) (g ++ gaveIn es)) (z .0) x))
 
   heard : (r : Bytes) → f ++ A .out ≡ r
-      → Heard F (Fates E F s t (A .memory)) (HeardAll E F s t (A .phase) (A .memory)) B r
+      → Heard F (Fates E F s t (A .memory)) (A .phase ≡ newTurn false) (HeardAll E F s t (A .phase) (A .memory)) B r
       → Final E F s t (after E A es) (after F B fs)
   heard r e (inr k) = broken k
   heard [] e (inl (inl k)) = handed e k
@@ -186,13 +203,14 @@ module _ (n : ℕ) (ih : Along n) (E F : Shelf) (SE : Sound E) (SF : Sound F) (s
         alive = alive;
         fresh = fresh;
         loud = ap null e;
-        hears = subst (Hears F (Fates E F s t (A .memory)) (HeardAll E F s t (A .phase) (A .memory)) B) (sym e) k;
+        hears = subst (Hears F (Fates E F s t (A .memory)) (A .phase ≡ newTurn false) (HeardAll E F s t (A .phase) (A .memory)) B) (sym e) k;
       })
       pa pb x y
 
 -- ---------------------------------------------------------------- no byte is consumed before it was given
 
 free-refuses : (E : Shelf) (o : Bytes) (A : Session) (c : ℕ) → null o ≡ false → freeStep E o A c .session ≡ record { phase = over; part = []; afterCr = false; out = []; memory = A .memory }
+unfolding errorText
 free-refuses E [] A c h = absurd (no-both true refl h)
 free-refuses E (x ∷ o) A c h = refl
 
@@ -215,9 +233,6 @@ stuck E F SF A B c b es fs h q pa pb x y = go (A .afterCr && eqb c LF) refl
 
 -- ---------------------------------------------------------------- THE EVENTS OF BOTH
 
-tail-begins : (a b : ℕ) (xs ys : Bytes) → Begins (a ∷ xs) (b ∷ ys) → (a ≡ b) × Begins xs ys
-tail-begins a b xs ys h = let w = h .whole in let e : a ≡ b = cc in let f : ys ≡ xs ++ h .rest = cc in (e, record { rest = h .rest; whole = f })
-
 no-begin : (a : ℕ) (xs : Bytes) → Begins (a ∷ xs) [] → ⊥
 no-begin a xs h = let w = none-begins (a ∷ xs) h in let v : _≡_ {A = ℕ} 0 1 = cc in omega arith
 
@@ -228,7 +243,7 @@ takes : (n : ℕ) → Along n → (E F : Shelf) → Sound E → Sound F → (s t
 takes n ih E F SE SF s t A B x f es b fs l h pa pb u y =
     let k = tail-begins b x (tookIn fs) (f ++ gaveIn es) u in
     heard n ih E F SE SF s t A (step F B b .session) f es fs (omega arith) (h .alive) (h .fresh) pa (pb .1) (k .1) y (f ++ A .out) refl
-    (subst (λ (c : ℕ). Heard F (Fates E F s t (A .memory)) (HeardAll E F s t (A .phase) (A .memory)) (step F B c .session) (f ++ A .out)) (sym (k .0)) (h .hears .1))
+    (subst (λ (c : ℕ). Heard F (Fates E F s t (A .memory)) (A .phase ≡ newTurn false) (HeardAll E F s t (A .phase) (A .memory)) (step F B c .session) (f ++ A .out)) (sym (k .0)) (h .hears .1))
 
 -- the listener has nothing to give
 mute : {X : Type 0} (E F : Shelf) (s t : List ℕ) (A B : Session) (f : Bytes) (b : ℕ) → Talking E F s t A B f → B .out ≡ b ∷ rest (B .out) → X

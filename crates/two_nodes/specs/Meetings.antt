@@ -88,16 +88,27 @@ longer = nodeWith (letter message (text "X1") (text "abc") ∷ []) (0 ∷ [])
 abbrev pub longTransfer : Bytes
 longTransfer = transfer (text "T") (2 ∷ 3 ∷ text "abc") 218
 
--- the other end has the room that was announced: the third byte is refused with 10, and nothing follows
+abbrev pub saysWhy : Bytes
+saysWhy = text "*** Protocol error\r"
+
+-- the other end has the room that was announced: the third byte is refused with 10, and it says why; at the sender its line is none of a turn, 5, and the
+-- sender says why too, to an end that takes nothing more
 abbrev pub overrun : Meeting
 overrun =
     meetingIn true 99 2
-    (receiving greeted ∷ giving 99 ∷ receiving accepts ∷ giving 99 ∷ [])
-    (giving 99 ∷ receiving proposes ∷ giving 99 ∷ receiving longTransfer ∷ giving 99 ∷ [])
+    (receiving greeted ∷ giving 99 ∷ receiving accepts ∷ giving 99 ∷ receiving saysWhy ∷ giving 99 ∷ [])
+    (giving 99 ∷ receiving proposes ∷ giving 99 ∷ receiving longTransfer ∷ giving 99 ∷ receiving saysWhy ∷ giving 99 ∷ [])
 
 -- what it took of the transfer: the refused byte is the last one
 abbrev pub overrunTook : Bytes
 overrunTook = 1 ∷ 4 ∷ 84 ∷ 0 ∷ 48 ∷ 0 ∷ 2 ∷ 3 ∷ text "abc"
+
+-- the link drops in the middle of the line, which came while the sender's last bytes waited: 11, and it says nothing
+abbrev pub overrunCut : Meeting
+overrunCut =
+    meetingIn true 99 2
+    (receiving greeted ∷ giving 99 ∷ receiving accepts ∷ giving 11 ∷ receiving (text "*") ∷ giving 99 ∷ [])
+    (giving 99 ∷ receiving proposes ∷ giving 99 ∷ receiving overrunTook ∷ giving 7 ∷ [])
 
 -- ---------------------------------------------------------------- a BID at both ends
 

@@ -6,7 +6,7 @@ use native.Mathlib.Omega.{arith}
 use lib.ListN.{length, getD}
 use borrow.Author.Tests.{ne-eqb}
 use Rattle.grammar.specs.Bytes.{Bytes}
-use Rattle.grammar.specs.Turns.{proposalLine, withCr, fixedText, ourSid, ourPrompt}
+use Rattle.grammar.specs.Turns.{proposalLine, withCr, fixedText, ourSid, ourPrompt, protocolError, checksumError}
 use Rattle.mail.specs.Mail.{proposalOf, transferOf}
 use Rattle.layout.specs.Layout.{byteAt, entryAt, recordOf}
 use Rattle.places.specs.Places.{recordLen, oursAt, sendingAt}
@@ -34,9 +34,17 @@ module _ (k : ℕ) (signs : Five) where
   unfolding firstText
   first-sid e = ap (λ (n : ℕ). firstText n signs) (sym e)
 
-  pub first-signs : (k ≡ 0 → ⊥) → (k ≡ 1 → ⊥) → (k ≡ 2 → ⊥) → {x : Bytes} → x ≡ held signs → fsText x ≡ firstText k signs
+  pub first-protocol : k ≡ 4 → withCr (fixedText protocolError) ≡ firstText k signs
   unfolding firstText
-  first-signs h₀ h₁ h₂ e = rw (ne-eqb k 0 h₀, ne-eqb k 1 h₁, ne-eqb k 2 h₂) (ap fsText e)
+  first-protocol e = ap (λ (n : ℕ). firstText n signs) (sym e)
+
+  pub first-checksum : k ≡ 5 → withCr (fixedText checksumError) ≡ firstText k signs
+  unfolding firstText
+  first-checksum e = ap (λ (n : ℕ). firstText n signs) (sym e)
+
+  pub first-signs : (k ≡ 0 → ⊥) → (k ≡ 1 → ⊥) → (k ≡ 2 → ⊥) → (k ≡ 4 → ⊥) → (k ≡ 5 → ⊥) → {x : Bytes} → x ≡ held signs → fsText x ≡ firstText k signs
+  unfolding firstText
+  first-signs h₀ h₁ h₂ h₄ h₅ e = rw (ne-eqb k 0 h₀, ne-eqb k 1 h₁, ne-eqb k 2 h₂, ne-eqb k 4 h₄, ne-eqb k 5 h₅) (ap fsText e)
 
 -- ---------------------------------------------------------------- a piece, by what is said
 

@@ -86,7 +86,9 @@ first-short first signs h =
     by-cond P (eqb first 0) (omega arith)
     (by-cond P (eqb first 1) (omega arith)
     (by-cond P (eqb first 2) (omega arith)
-    (simp length-append (omega (arith, held-short signs h)))))
+    (by-cond P (eqb first 4) (omega arith)
+    (by-cond P (eqb first 5) (omega arith)
+    (simp length-append (omega (arith, held-short signs h)))))))
 
 module _ (table titles names bodies : Bytes) (short : (i : ℕ) → length (transferOf (recordOf titles names bodies (entryAt recordSize table i))) ≤ 200000) where
   sending-short : (is : List ℕ) → length (sendingText table titles names bodies is) ≤ 200000 * length is

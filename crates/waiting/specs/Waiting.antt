@@ -5,11 +5,11 @@ use mathlib.Core.List.{List, [], _∷_, _++_, map}
 use Prim.Native.Nat.{ℕ}
 use lib.Dec.{eqb}
 use Rattle.grammar.specs.Bytes.{Bytes}
-use Rattle.grammar.specs.Turns.{fixedText, withCr, ourSid, ourPrompt, ourFF, ourFQ, Proposal}
+use Rattle.grammar.specs.Turns.{fixedText, withCr, ourSid, ourPrompt, ourFF, ourFQ, protocolError, checksumError, Proposal}
 use Rattle.mail.specs.Mail as mail
 use Rattle.mail.specs.Mail.{turnText}
 use Rattle.layout.specs.Layout.{entryAt, recordSize, recordOf}
-use Rattle.phase.specs.Phase.{pieceNone, pieceSidAndPrompt, pieceSid, pieceFF, pieceFQ, pieceBlock}
+use Rattle.phase.specs.Phase.{pieceNone, pieceSidAndPrompt, pieceSid, pieceProtocolError, pieceChecksumError, pieceFF, pieceFQ, pieceBlock}
 use Rattle.places.specs.Places.{recordTitle, recordName}
 use Rattle.record_text.specs.Texts.{fileForm}
 use Rattle.our_line.specs.Lines.{fsText}
@@ -31,7 +31,9 @@ firstText first signs =
     cond (eqb first pieceNone) []
     (cond (eqb first pieceSidAndPrompt) (withCr (fixedText ourSid) ++ withCr (fixedText ourPrompt))
     (cond (eqb first pieceSid) (withCr (fixedText ourSid))
-    (fsText (held signs))))
+    (cond (eqb first pieceProtocolError) (withCr (fixedText protocolError))
+    (cond (eqb first pieceChecksumError) (withCr (fixedText checksumError))
+    (fsText (held signs))))))
 
 -- "one to five proposals and `F>`"
 unfoldable pub blockText : Bytes → List ℕ → Bytes

@@ -22,6 +22,8 @@ pub struct Outcome {
     /// By FQ; a refused session is over too.
     over: bool,
     given: usize,
+    /// What we said after a refusal, without its CR.
+    reason: String,
     /// What the stand-in said, with our SID for its own, and where what we gave
     /// leaves that.
     captured: usize,
@@ -47,20 +49,28 @@ pub fn play(random: &mut Random, capture: &Capture, portion: usize) -> Checked<O
         } else {
             answer = hear(&mut pair, &said.bytes, portion)?;
         }
-        // A refused session says nothing more and hears nothing more.
+        // A refused session hears nothing more.
         if answer != 0 {
             break;
         }
     }
-    // Where the mailbox had the last word, ours comes after it.
-    let dropped = shelf.dropped || answer != 0;
-    take(random, &mut pair, portion, if dropped { 0 } else { usize::MAX })?;
+    let before = given(&pair);
+    // Where the mailbox had the last word, ours comes after it; after a refusal that is why.
+    let cut = shelf.dropped && answer == 0;
+    take(random, &mut pair, portion, if cut { 0 } else { usize::MAX })?;
     let over = pair.receive(b"", None)?.answer == 12;
     pair.demand_3()?;
-    let outcome = Outcome::read(capture, pair.second().expect("open accepted"), answer, over);
+    let before = if answer == 0 { given(&pair) } else { before };
+    let second = pair.second().expect("open accepted");
+    let outcome = Outcome::read(capture, second, answer, over, before);
     // After a drop the host can open again on what stands.
     pair.open(capture.we_called().into())?;
     Ok(outcome)
+}
+
+/// Bytes given so far.
+fn given(pair: &Pair) -> usize {
+    pair.second().map_or(0, |second| second.trace().bytes(Side::Us).len())
 }
 
 /// The link takes what waits, in portions, and at most so many bytes.
@@ -93,8 +103,9 @@ fn hear(pair: &mut Pair, bytes: &[u8], portion: usize) -> Checked<u8> {
 }
 
 impl Outcome {
-    fn read(capture: &Capture, second: &Second, answer: u8, over: bool) -> Outcome {
-        let given = second.trace().bytes(Side::Us);
+    /// `before`: bytes given before a refusal.
+    fn read(capture: &Capture, second: &Second, answer: u8, over: bool, before: usize) -> Outcome {
+        let (given, reason) = second.trace().bytes(Side::Us).split_at(before);
         let captured = capture.with_our_sid();
         let leaves = (0..given.len()).find(|&at| captured.get(at) != Some(&given[at]));
         let states = [State::Waiting, State::Forwarded, State::Declined].map(|state| {
@@ -110,6 +121,7 @@ impl Outcome {
             peer: capture.bytes(false).len(),
             over,
             given: given.len(),
+            reason: shown(reason.strip_suffix(b"\r").unwrap_or(reason)),
             captured: captured.len(),
             leaves,
             states,
@@ -129,7 +141,10 @@ impl Display for Outcome {
         match (answer, self.over) {
             (0, true) => write!(f, "ends by FQ, {consumed} of {peer} bytes heard")?,
             (0, false) => write!(f, "goes on, {consumed} of {peer} bytes heard")?,
-            _ => write!(f, "refusal {answer} at byte {consumed} of {peer}")?,
+            _ if self.reason.is_empty() => {
+                write!(f, "refusal {answer} at byte {consumed} of {peer}")?
+            }
+            _ => write!(f, "refusal {answer} at byte {consumed} of {peer}, `{}`", self.reason)?,
         }
         match self.leaves {
             None => write!(f, "; said {given} of {captured} bytes as captured")?,

@@ -11,7 +11,7 @@ use crate::tally::Tally;
 use inputs::random::Random;
 use inputs::{byte, damaged, fs_line, line, proposal_fields, short_turn_line, sid, spaced};
 use second::layout::{RECORD_BYTES, SESSION_FREE, SESSION_LEVEL};
-use second::refusal::ANSWERS;
+use second::refusal::{reason_after, ANSWERS};
 use second::session::Reply;
 use std::fmt::{self, Display};
 
@@ -21,9 +21,11 @@ pub struct Changed {
     pub sessions: u64,
     pub calls: u64,
     /// Calls that answered 1, by the item of the form test that says so.
-    pub ones: [u64; 6],
+    pub ones: [u64; form::ITEM_COUNT],
     /// Calls of receive without bytes on memory that passes it.
     pub empty: u64,
+    /// Calls of give that handed over bytes of a line that says why.
+    pub reasons: u64,
 }
 
 impl Changed {
@@ -32,7 +34,9 @@ impl Changed {
         let item = |(place, _): (usize, &u64)| format!("form test: item {}", place + 1);
         let items = self.ones.iter().enumerate().filter(|(_, times)| **times == 0).map(item);
         let empty = (self.empty == 0).then(|| "changed memory: receive without bytes".to_owned());
-        items.chain(empty).collect()
+        let reasons =
+            (self.reasons == 0).then(|| "changed memory: a line that says why".to_owned());
+        items.chain(empty).chain(reasons).collect()
     }
 }
 
@@ -41,12 +45,14 @@ impl Display for Changed {
         let Changed {
             sessions,
             calls,
-            ones: [mark, sizes, counts, messages, awaited, waits],
+            ones: [mark, sizes, counts, messages, awaited, waits, reason],
             empty,
+            reasons,
         } = self;
         writeln!(f, "  {sessions} sessions, {calls} calls, {empty} of them receive without bytes")?;
+        writeln!(f, "  {reasons} times give handed over bytes of a line that says why")?;
         write!(f, "  answered 1 by item 1: {mark}, 2: {sizes}, 3: {counts}, 4: {messages}, ")?;
-        writeln!(f, "5: {awaited}, 6: {waits}")
+        writeln!(f, "5: {awaited}, 6: {waits}, 7: {reason}")
     }
 }
 
@@ -135,7 +141,7 @@ impl Alone<'_> {
     fn session_field(&mut self) -> (usize, Vec<u8>) {
         let small = self.random.pick(&[0, 0, 1, 2, 3, 4, 5, 6, 7, 63, 64, 80, 81, 88, 255]);
         let large = self.random.pick(&[0, 1, 255, 256, 257, 65_535, 65_536, usize::MAX]);
-        match self.random.below(13) {
+        match self.random.below(14) {
             0 => {
                 let at = self.random.pick(&[form::LINE_BYTES, form::BLOCK_LEFT]);
                 (at, large.to_le_bytes()[..2].to_vec())
@@ -150,8 +156,20 @@ impl Alone<'_> {
             8 => (form::BODY_BYTES, self.near(form::room(&self.memory))[..4].to_vec()),
             9 => (form::BLOCK_SUM, vec![self.random.byte()]),
             10 => (SESSION_LEVEL, vec![self.random.byte()]),
+            11 => (form::AWAITED, self.parting()),
             _ => (self.random.within(form::AWAITED, form::SUM), vec![small]),
         }
+    }
+
+    /// All from what is awaited to what waits then: a session that is over, with
+    /// something waiting, mostly one of the lines that say why.
+    fn parting(&mut self) -> Vec<u8> {
+        let over = self.random.pick(&[form::OVER, form::OVER, 8, 255]);
+        let lines = [form::PROTOCOL_LINE, form::CHECKSUM_LINE];
+        let first =
+            if self.random.once_in(4) { byte(self.random) } else { self.random.pick(&lines) };
+        let then = if self.random.once_in(8) { byte(self.random) } else { 0 };
+        vec![over, 0, 0, self.random.pick(&[0, 1]), first, then]
     }
 
     /// A number just below a limit, at it, or just above.
@@ -213,8 +231,12 @@ impl Alone<'_> {
         // "Receive consumes every byte lent to it, unless it answers 1 or 12 or the
         // session ends on the way".
         self.over = reply.answer > 1 || (reply.answer == 0 && reply.count < bytes.len());
-        // "Give on an ended session writes nothing".
-        self.empty = self.over;
+        // After an end "give writes nothing", but for the line that says why.
+        let rest = form::parting(&self.memory).unwrap_or_default();
+        if reply.answer > 1 && reply.answer != 12 && rest != reason_after(reply.answer) {
+            return self.differs("not the line that says why");
+        }
+        self.empty = self.over && rest.is_empty();
         Ok(())
     }
 
@@ -229,7 +251,7 @@ impl Alone<'_> {
         if reply.answer > 1 {
             return self.differs("give answered more than 1");
         }
-        // "Give on an ended session writes nothing"; nothing given, nothing changed.
+        // Nothing given, nothing changed.
         if reply.answer == 1 || reply.count == 0 {
             self.unchanged(&before)?;
         }
@@ -240,6 +262,14 @@ impl Alone<'_> {
         expected.part_mut()[written.clone()].copy_from_slice(&buffer.part()[written.clone()]);
         if buffer != expected {
             return self.differs("give wrote outside what it counts");
+        }
+        // On a session that is over: the rest of the line that says why, or nothing.
+        if let Some(rest) = form::parting(&before) {
+            let fits = rest.len().min(room.saturating_sub(place));
+            if buffer.part()[written.clone()] != rest[..fits] {
+                return self.differs("not the rest of the line that says why");
+            }
+            self.seen.reasons += u64::from(fits > 0);
         }
         // "It writes as many waiting bytes as fit".
         self.empty = reply.answer == 0 && written.end < room && place < room;

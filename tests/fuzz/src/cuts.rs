@@ -8,6 +8,7 @@ use inputs::random::Random;
 use second::examples::{self, Example, Said, Taken};
 use second::layout::RECORD_BYTES;
 use second::log::{Kept, Side};
+use second::refusal::reason_after;
 use second::session::Reply;
 
 const PORTIONS: [usize; 5] = [1, 2, 3, 7, 64];
@@ -26,8 +27,42 @@ pub fn run(random: &mut Random) -> Checked<Cuts> {
         for portion in PORTIONS {
             play(random, &example, portion, &mut cuts)?;
         }
+        let reason = reason_after(example.answer);
+        for room in (0..=reason.len()).filter(|_| !reason.is_empty()) {
+            say_why(random, &example, room, &mut cuts)?;
+        }
     }
     Ok(cuts)
+}
+
+/// Plays a refused session, then takes the line that says why in rooms of so many
+/// bytes. Before each give bytes arrive, and at each the link drops.
+fn say_why(random: &mut Random, example: &Example, room: usize, cuts: &mut Cuts) -> Checked {
+    let mut pair = Pair::new(random, &example.buffers());
+    pair.open(example.role())?;
+    for said in &example.script[..example.script.len().saturating_sub(1)] {
+        let (Said::Us(bytes) | Said::Partner(bytes)) = said;
+        go_on(random, &mut pair, said, bytes)?;
+    }
+    let reason = reason_after(example.answer);
+    let mut given = 0;
+    while given < reason.len() {
+        for bytes in [&b""[..], b"\n", b"FF\r", reason] {
+            let late = pair.receive(bytes, None)?;
+            pair.must((late.answer, late.count) == (12, 0), "bytes that arrive get 12")?;
+        }
+        let place = random.below(20);
+        let count = pair.give(random, (room + place, place), None)?.count;
+        given += count;
+        drop_link(&mut pair.clone())?;
+        cuts.cuts += 1;
+        if room == 0 {
+            return pair.must(count == 0, "given without room");
+        }
+    }
+    let ours = pair.second().map(|second| second.trace().bytes(Side::Us));
+    pair.must(ours.map_or(false, |ours| ours.ends_with(reason)), "not the line that says why")?;
+    check_end(random, &mut pair, example)
 }
 
 /// Plays a session in portions of so many bytes. Before each of them, the link
@@ -48,10 +83,11 @@ fn play(random: &mut Random, example: &Example, portion: usize, cuts: &mut Cuts)
                 drop_link(&mut cut)?;
                 cuts.cuts += 1;
             }
-            pair.must(answer == 0, "refused before the script ends")?;
+            let ours = matches!(said, Said::Us(_));
+            pair.must(answer == 0 || ours, "refused before the script ends")?;
             let reply = go_on(random, &mut pair, said, part)?;
             pair.must(reply.count == part.len(), "not the bytes of the script")?;
-            answer = reply.answer;
+            answer = if ours { answer } else { reply.answer };
             pair.demand_3()?;
             rest = after;
         }

@@ -8,6 +8,7 @@ use second::line::LINE_LIMIT;
 use second::memory::{Span, MESSAGE_LIMIT};
 use second::proposal::{write_fields, BLOCK_LIMIT};
 use second::record::Form;
+use second::refusal;
 use second::sid;
 use second::transfer::writer::{write_framed, write_plain};
 
@@ -33,20 +34,35 @@ pub const DEFERRED: usize = 160;
 pub const BLOCK: usize = 560;
 pub const BLOCK_END: usize = 920;
 
-/// What is awaited.
+/// What is awaited; from `OVER` on the session has ended.
 pub const TURN: u8 = 3;
 pub const TRANSFER: u8 = 5;
+pub const OVER: u8 = 7;
+
+/// The lines that say why, among what waits first.
+pub const PROTOCOL_LINE: u8 = 4;
+pub const CHECKSUM_LINE: u8 = 5;
+
+/// Items of the form test.
+pub const ITEM_COUNT: usize = 7;
 
 /// A number of so many bytes, little end first.
 fn number(bytes: &[u8], at: usize, length: usize) -> u64 {
     bytes[at..at + length].iter().rev().fold(0, |value, &byte| value << 8 | u64::from(byte))
 }
 
-/// The first item of the page that memory of the sizes that it has fails, 1 to 6:
+/// The first item of the page that memory of the sizes that it has fails, 1 to 7:
 /// receive and give must answer 1. `None`: they must not.
 pub fn failed(memory: &Memory) -> Option<usize> {
-    const ITEMS: [fn(&Memory) -> bool; 6] =
-        [is_marked, sizes_are_kept, counts_fit, messages_fit, awaited_fits, waiting_fits];
+    const ITEMS: [fn(&Memory) -> bool; ITEM_COUNT] = [
+        is_marked,
+        sizes_are_kept,
+        counts_fit,
+        messages_fit,
+        awaited_fits,
+        waiting_fits,
+        reason_fits,
+    ];
     ITEMS.iter().position(|item| !item(memory)).map(|place| place + 1)
 }
 
@@ -128,6 +144,22 @@ fn waiting_fits(memory: &Memory) -> bool {
     session[FIRST..=THEN] == [0, 0] || number(session, GIVEN, 8) < waiting(memory).len() as u64
 }
 
+/// "7. a session that is over (7 and more at 60) has nothing waiting, or one of the two
+/// lines that say why, alone."
+fn reason_fits(memory: &Memory) -> bool {
+    let session = memory.part(SESSION);
+    let reasons = [0, PROTOCOL_LINE, CHECKSUM_LINE];
+    session[AWAITED] < OVER || (session[THEN] == 0 && reasons.contains(&session[FIRST]))
+}
+
+/// What give must hand over on memory that passes the test, where the session is over.
+pub fn parting(memory: &Memory) -> Option<Vec<u8>> {
+    let session = memory.part(SESSION);
+    let given = number(session, GIVEN, 8) as usize;
+    let waits = || waiting(memory).get(given..).unwrap_or_default().to_vec();
+    (session[AWAITED] >= OVER && failed(memory).is_none()).then(waits)
+}
+
 /// "1 + 5" bytes: how many, and then these.
 fn five(session: &[u8], at: usize) -> &[u8] {
     &session[at + 1..][..usize::from(session[at])]
@@ -141,6 +173,8 @@ pub fn waiting(memory: &Memory) -> Vec<u8> {
         0 => Vec::new(),
         1 => [sid::OURS, b"\r>\r"].concat(),
         2 => [sid::OURS, b"\r"].concat(),
+        PROTOCOL_LINE => refusal::PROTOCOL_ERROR.to_vec(),
+        CHECKSUM_LINE => refusal::CHECKSUM_ERROR.to_vec(),
         _ => [b"FS ", five(session, SIGNS), b"\r"].concat(),
     };
     let then = match session[THEN] {

@@ -151,7 +151,8 @@ impl Pair {
             }
         };
         // Answer 1 changes nothing; "a place beyond the end writes nothing and
-        // reports 0"; "Give on an ended session writes nothing".
+        // reports 0"; "Give on an ended session writes nothing", once the line that
+        // says why is taken.
         self.compare(reply, expected, expected.answer == 1 || expected.count == 0)?;
         if let Some(at) = buffer.first_difference(&expected_buffer) {
             let (library, second) = (buffer.part(), expected_buffer.part());

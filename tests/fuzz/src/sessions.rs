@@ -38,6 +38,10 @@ enum Pace {
 const SLOW_CALLS: usize = 250;
 /// And after so many it is dropped.
 const CALLS: usize = 1_200;
+/// The number of "receive on an ended session", and a little more than the bytes of a
+/// line that says why.
+const ENDED: u8 = 12;
+const REASON: usize = 22;
 /// "Once in so many" for what doesn't come at all.
 const NEVER: usize = usize::MAX;
 
@@ -58,8 +62,8 @@ pub struct Driver<'a> {
     early: usize,
     /// So many bytes of either side the link still carries, then it drops.
     left: usize,
-    /// The last receive refused.
-    refused: bool,
+    /// The refusal of a receive, or 0.
+    refusal: u8,
 }
 
 /// Runs one random session, at times a second one on the same memory.
@@ -94,7 +98,7 @@ impl<'a> Driver<'a> {
             true => (NEVER, NEVER),
             false => (random.pick(&[20, 60, 60]), 60),
         };
-        let (queue, left, refused) = (Vec::new(), usize::MAX, false);
+        let (queue, left, refusal) = (Vec::new(), usize::MAX, 0);
         Driver {
             random,
             tally,
@@ -106,7 +110,7 @@ impl<'a> Driver<'a> {
             damage,
             early,
             left,
-            refused,
+            refusal,
         }
     }
 
@@ -147,7 +151,8 @@ impl<'a> Driver<'a> {
         self.pair.second()
     }
 
-    /// One call or a few. False once the session is over or the link drops.
+    /// One call or a few. False once the session is over and has said why, or the link
+    /// drops.
     pub fn step(&mut self) -> Checked<bool> {
         if self.random.once_in(25) {
             self.noise()?;
@@ -160,10 +165,13 @@ impl<'a> Driver<'a> {
             Some(second) => second,
             None => return Ok(false),
         };
-        if second.session.is_over() || self.pair.calls() > CALLS || self.left == 0 {
+        let (over, waiting) = (second.session.is_over(), second.session.waiting() > 0);
+        if (over && !waiting) || self.pair.calls() > CALLS || self.left == 0 {
             return Ok(false);
         }
-        let waiting = second.session.waiting() > 0;
+        if over {
+            return self.part().map(|()| true);
+        }
         let lf = self.queue.first() == Some(&b'\n');
         let early = self.random.once_in(self.early);
         if waiting && !early && !(lf && self.random.once_in(2)) {
@@ -177,6 +185,21 @@ impl<'a> Driver<'a> {
             self.pair.demand_3()?;
         }
         Ok(true)
+    }
+
+    /// Our line that says why is given; at times more bytes arrive, and change nothing.
+    fn part(&mut self) -> Checked {
+        if !self.random.once_in(4) {
+            return self.give();
+        }
+        let late = match self.random.below(4) {
+            0 => Vec::new(),
+            1 => b"\n".to_vec(),
+            2 => b"*** Protocol error\r".to_vec(),
+            _ => self.queue.clone(),
+        };
+        self.tally.late += 1;
+        self.receive(&late, None)
     }
 
     /// The partner says its next unit, at times a wrong one.
@@ -214,7 +237,13 @@ impl<'a> Driver<'a> {
         let reply = self.pair.receive(bytes, resize)?;
         self.tally.received(reply);
         self.left = self.left.saturating_sub(reply.count);
-        self.refused |= reply.answer > 1;
+        if reply.answer > 1 && reply.answer != ENDED {
+            self.refusal = reply.answer;
+            if self.random.once_in(8) {
+                // The link drops inside the line that says why.
+                self.left = self.left.min(self.random.below(REASON));
+            }
+        }
         Ok(())
     }
 
@@ -284,9 +313,9 @@ impl<'a> Driver<'a> {
     pub fn end(&mut self) -> Checked {
         self.pair.demand_3()?;
         let over = self.second().map_or(false, |second| second.session.is_over());
-        self.tally.ended(&self.pair, self.refused);
+        self.tally.ended(&self.pair, self.refusal);
         self.tally.respelt(self.partner.respelt());
-        self.refused = false;
+        self.refusal = 0;
         if over && self.random.once_in(2) {
             self.receive(b"", None)?;
             self.receive(b"\nFF\r", None)?;

@@ -7,7 +7,7 @@ use second::field::BODY_LIMIT;
 use second::fs::Sign;
 use second::log::Side;
 use second::memory::{State, MESSAGE_LIMIT};
-use second::refusal::ANSWERS;
+use second::refusal::{reason_after, ANSWERS};
 use second::session::{Inside, Lent, Phase, Reply, Role};
 use second::sid::Mode;
 use std::fmt::{self, Display};
@@ -66,6 +66,12 @@ pub struct Tally {
     turns: [u64; 6],
     /// What a dropped link cut in two: nothing, a line, a transfer, our words.
     cuts: [u64; 4],
+    /// Lines that say why, by the refusal's number: given whole.
+    reasons: [u64; ANSWERS],
+    /// And those of which the link took nothing, and a beginning.
+    unsaid: [u64; 2],
+    /// Bytes that arrived while such a line waited.
+    pub late: u64,
 }
 
 impl Tally {
@@ -103,7 +109,7 @@ impl Tally {
     }
 
     /// Counts what a session came to.
-    pub fn ended(&mut self, pair: &Pair, refused: bool) {
+    pub fn ended(&mut self, pair: &Pair, refusal: u8) {
         let second = match pair.second() {
             Some(second) => second,
             None => return,
@@ -125,7 +131,7 @@ impl Tally {
         for mark in session.marks_heard() {
             self.marks[place(MARKS, mark)] += 1;
         }
-        if session.is_over() && !refused {
+        if session.is_over() && refusal == 0 {
             // Before the partner's FQ our last line was FF.
             self.quits[usize::from(!ours.ends_with(b"FQ\r"))] += 1;
         }
@@ -133,8 +139,28 @@ impl Tally {
             let all = [Inside::Nothing, Inside::Line, Inside::Transfer, Inside::OurWords];
             self.cuts[place(&all, &session.inside())] += 1;
         }
+        self.count_reason(session.waiting(), refusal);
         self.count_kind(second);
         self.count_records(second);
+    }
+
+    /// How far we came in saying why.
+    fn count_reason(&mut self, waiting: usize, refusal: u8) {
+        let reason = reason_after(refusal).len();
+        if reason == 0 {
+            return;
+        }
+        match waiting {
+            0 => self.reasons[usize::from(refusal)] += 1,
+            left => self.unsaid[usize::from(left < reason)] += 1,
+        }
+    }
+
+    /// Lines that say why, by those numbers that have one.
+    fn said_why(&self) -> Vec<(String, u64)> {
+        let has_one = |number: &u8| !reason_after(*number).is_empty();
+        let numbers = (0..ANSWERS as u8).filter(has_one);
+        numbers.map(|number| (number.to_string(), self.reasons[usize::from(number)])).collect()
     }
 
     /// By role and mode, once the partner's SID has chosen that.
@@ -187,6 +213,9 @@ impl Tally {
             ("with a turn", named(&KINDS, &self.kinds)),
             ("awaited at the end", named(&PHASES, &self.phases)),
             ("turns in a session", named(&TURNS, &self.turns)),
+            ("said why after", self.said_why()),
+            ("dropped before saying why", named(&["all", "the rest"], &self.unsaid)),
+            ("before we had said why", named(&["bytes came"], &[self.late])),
             ("dropped inside", named(&["nothing", "a line", "a transfer", "ours"], &self.cuts)),
         ]
     }

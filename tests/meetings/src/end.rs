@@ -14,6 +14,65 @@ const CALLER: u8 = 1;
 /// "receive on an ended session"
 const ENDED: u8 = 12;
 
+/// Places in session memory and what they hold (docs/MEMORY.md).
+const PHASE: usize = 60;
+const FIRST: usize = 64;
+const THEN: usize = 65;
+const PLACE: usize = 87;
+const LINE_BYTES: usize = 92;
+const LEFT: usize = 94;
+
+/// What an end makes of the next byte.
+#[derive(Clone, Copy, Debug, PartialEq, Eq)]
+pub enum Awaited {
+    Sid,
+    Prompt,
+    Turn,
+    Fs,
+    Title,
+    Body,
+    /// Data of a framed block.
+    Block,
+    /// Another byte of a framed transfer.
+    Frame,
+    /// Nothing: bytes of ours wait.
+    OurWords,
+}
+
+impl Awaited {
+    pub const ALL: [Awaited; 9] = [
+        Awaited::Sid,
+        Awaited::Prompt,
+        Awaited::Turn,
+        Awaited::Fs,
+        Awaited::Title,
+        Awaited::Body,
+        Awaited::Block,
+        Awaited::Frame,
+        Awaited::OurWords,
+    ];
+
+    /// What a line that says why can come to there: it is no SID, no turn and no FS line;
+    /// it is a title, a body, or data, which may end inside it or pass the room. `amid`:
+    /// after other bytes of a line, which may be a `;` line or an FS line too long.
+    pub fn answers(self, amid: bool) -> &'static [u8] {
+        match self {
+            Awaited::Sid if amid => &[0, 3],
+            Awaited::Sid => &[3],
+            Awaited::Prompt => &[0],
+            Awaited::Turn if amid => &[0, 5],
+            Awaited::Turn => &[5],
+            Awaited::Fs if amid => &[0, 5, 7],
+            Awaited::Fs => &[5],
+            Awaited::Title => &[0],
+            Awaited::Body => &[0, 8, 10],
+            Awaited::Block => &[0, 8, 9, 10],
+            Awaited::Frame => &[0, 8, 9, 10],
+            Awaited::OurWords => &[11],
+        }
+    }
+}
+
 pub struct End {
     host: Buffers,
     /// The buffers as open found them.
@@ -23,8 +82,9 @@ pub struct End {
     pub taken: usize,
     /// FQ came whole: the session was live, receive answered 0, and it is over.
     pub fq_came: bool,
-    /// The refusal that ended it, or 0.
+    /// The refusal that ended it, or 0, and how much was given before it.
     pub refusal: u8,
+    pub refused_at: Option<usize>,
     buffer: Vec<u8>,
 }
 
@@ -38,6 +98,7 @@ impl End {
             taken: 0,
             fq_came: false,
             refusal: 0,
+            refused_at: None,
             buffer: Vec::new(),
         };
         let reply = library::open(if caller { CALLER } else { CALLED }, end.lent());
@@ -62,7 +123,34 @@ impl End {
         count
     }
 
-    fn is_live(&mut self) -> bool {
+    /// What a live end awaits.
+    pub fn awaited(&self) -> Awaited {
+        let session = &self.host.session;
+        let in_block = session[LEFT..LEFT + 2] != [0, 0];
+        match (session[PHASE], session[PLACE]) {
+            _ if session[FIRST..=THEN] != [0, 0] => Awaited::OurWords,
+            (0 | 1, _) => Awaited::Sid,
+            (2, _) => Awaited::Prompt,
+            (3, _) => Awaited::Turn,
+            (4, _) => Awaited::Fs,
+            (_, 0) => Awaited::Title,
+            (_, 1 | 2) => Awaited::Body,
+            (_, 7) if in_block => Awaited::Block,
+            _ => Awaited::Frame,
+        }
+    }
+
+    /// Bytes of a line are there already.
+    pub fn is_amid_a_line(&self) -> bool {
+        self.host.session[LINE_BYTES..LINE_BYTES + 2] != [0, 0]
+    }
+
+    /// The table with its states, and how many messages are kept.
+    pub fn settled(&self) -> Vec<u8> {
+        [&self.host.table[..], &[self.host.session[SESSION_KEPT]]].concat()
+    }
+
+    pub fn is_live(&mut self) -> bool {
         library::receive(self.lent(), &[]).answer == 0
     }
 
@@ -75,6 +163,7 @@ impl End {
         self.taken += count;
         if answer != 0 {
             self.refusal = answer;
+            self.refused_at = Some(self.given.len());
         } else if library::receive(self.lent(), &[]).answer == ENDED {
             self.fq_came = true;
         }

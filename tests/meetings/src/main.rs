@@ -1,6 +1,7 @@
 //! Two of our nodes, both the library, over a link that drops: every pair of cuts
 //! of small worlds and then a whole meeting, and random series. After each meeting
-//! states and kept messages are held against the claims of request Q-13.
+//! states and kept messages are held against the claims of request Q-13. Before that,
+//! over a link that alters a byte, that the line that says why does no harm.
 
 #![forbid(unsafe_code)]
 
@@ -8,6 +9,7 @@ mod claims;
 mod end;
 mod link;
 mod node;
+mod reasons;
 mod series;
 mod wire;
 mod worlds;
@@ -16,6 +18,7 @@ use inputs::random::Random;
 use inputs::seed;
 use link::{Cut, WHOLE};
 use node::{Carrying, Node, Room};
+use reasons::Reasons;
 use second::memory::{State, MESSAGE_LIMIT};
 use series::{Meeting, Series, Went};
 use std::process::ExitCode;
@@ -80,7 +83,7 @@ impl Tally {
             Ok(went) => {
                 self.cuts += u64::from(went.was_cut);
                 self.farewells += u64::from(went.fq_came);
-                self.overruns += u64::from(went.refusal == STORE_FULL);
+                self.overruns += u64::from(went.refusals.contains(&STORE_FULL));
                 Some(went)
             }
             Err(said) => {
@@ -189,6 +192,16 @@ fn main() -> ExitCode {
     println!("meetings: --seed {seed:#x}");
     let mut random = Random::named(seed, "meetings");
     let mut tally = Tally::default();
+    let mut reasons = Reasons::default();
+    for small in worlds::small() {
+        if let Err(said) = reasons::run(&small, &mut reasons) {
+            tally.fault(small.said, &said);
+        }
+    }
+    println!("meetings: {reasons}");
+    for missed in reasons.never_met() {
+        tally.fault("altered bytes", &format!("no line arrived at {missed}"));
+    }
     while tally.cuts < cuts / RANDOM_SHARE && tally.faults < SAID {
         random_series(&mut random, carrying, &mut tally);
     }

@@ -24,8 +24,8 @@ pub struct Went {
     pub was_cut: bool,
     /// FQ came whole, at either end.
     pub fq_came: bool,
-    /// The refusal that ended it at either end, or 0.
-    pub refusal: u8,
+    /// The refusals that ended it at both ends, or 0.
+    pub refusals: [u8; 2],
 }
 
 /// Two nodes as they were at the start and as they are.
@@ -67,8 +67,8 @@ impl<'a> Series<'a> {
             claims::none_left(&self.now[0], &deferred(&first, &second))?;
             claims::none_left(&self.now[1], &deferred(&second, &first))?;
         }
-        let refusal = first.refusal.max(second.refusal);
-        Ok(Went { given, was_cut, fq_came, refusal })
+        let refusals = [first.refusal, second.refusal];
+        Ok(Went { given, was_cut, fq_came, refusals })
     }
 
     /// What holds at any time.

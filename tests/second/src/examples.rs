@@ -7,6 +7,7 @@ use crate::memory::State;
 mod paper002;
 mod paper003;
 mod paper01;
+mod request1;
 mod request5;
 mod request6;
 
@@ -57,7 +58,7 @@ pub struct Example {
     pub room: usize,
     pub script: Vec<Said>,
     /// The answer of the last receive. If it refuses, the last byte that the
-    /// partner says is the refused one.
+    /// partner says is the refused one, and what we say after it says why.
     pub answer: u8,
     /// At the end, in table order.
     pub states: Vec<State>,
@@ -94,6 +95,16 @@ impl Example {
 
     fn refused(self, answer: u8) -> Example {
         Example { answer, ..self }
+    }
+
+    /// Request Q-1: a session that is refused ends with our line that says why.
+    fn parted(mut self) -> Example {
+        match self.answer {
+            0 | 11 => {}
+            9 => self.script.push(us("*** Checksum error\r")),
+            _ => self.script.push(us("*** Protocol error\r")),
+        }
+        self
     }
 
     /// The same session with us in the other role, where the paper's own role
@@ -174,5 +185,7 @@ fn both_roles(examples: Vec<Example>) -> Vec<Example> {
 
 /// Every session, the shortest papers first.
 pub fn all() -> Vec<Example> {
-    [paper01::all(), paper002::all(), paper003::all(), request5::all(), request6::all()].concat()
+    let papers = [paper01::all(), paper002::all(), paper003::all()].concat();
+    let requests = [request5::all(), request6::all(), request1::all()].concat();
+    papers.into_iter().chain(requests).map(Example::parted).collect()
 }

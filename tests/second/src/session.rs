@@ -21,6 +21,7 @@
 use crate::buffer;
 use crate::fs::Sign;
 use crate::memory::{Envelope, Memory, Sizes};
+use crate::refusal::Refusal;
 use crate::sid::{Level, Mode};
 use crate::transfer::reader::Reader;
 use std::collections::VecDeque;
@@ -78,7 +79,7 @@ pub enum Phase {
     Transfers { owed: VecDeque<Offer>, reader: Reader },
     /// Nothing: our FQ is said, and once it is given the session is over.
     Quit,
-    /// Nothing: the session has ended.
+    /// Nothing: the session has ended. What waits then is why, after a refusal.
     Over,
 }
 
@@ -211,12 +212,17 @@ impl Session {
         matches!(self.phase, Phase::Over)
     }
 
-    /// "Besides ending the session": "waiting bytes are dropped", and "after a
-    /// refusal nothing more is sent".
+    /// "Besides ending the session": "waiting bytes are dropped".
     fn end(&mut self) {
         self.phase = Phase::Over;
         self.waiting.clear();
         self.given = 0;
+    }
+
+    /// "After refusals 2 to 10, give must still hand over one line and CR".
+    fn refuse(&mut self, refusal: Refusal) {
+        self.end();
+        self.say(refusal.reason());
     }
 
     fn say(&mut self, bytes: &[u8]) {
@@ -225,7 +231,8 @@ impl Session {
 
     /// "It writes as many waiting bytes as fit, and no other byte of the buffer
     /// changes." "Our FQ ends it when give has handed out its CR." "Give on an
-    /// ended session writes nothing and answers 0 with count 0."
+    /// ended session writes nothing and answers 0 with count 0", after a refusal
+    /// "once the line is taken".
     pub fn give(&mut self, memory: &Memory, buffer: &mut [u8], place: usize) -> Reply {
         if memory.sizes != self.sizes {
             return Reply::BAD_BUFFERS;

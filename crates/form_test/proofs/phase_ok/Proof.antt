@@ -13,9 +13,12 @@ returns : tie.Need-returns
 unfolding phaseOk loadOf loadAwait loadKeep
 returns c = rw (eq-eqb _ _ (c .if1 .taken))
 
+closed-ok-requires : tie.Need-closed-ok-requires
+closed-ok-requires c κs = search needs
+
 returns-2 : tie.Need-returns-2
 unfolding phaseOk loadOf loadAwait loadKeep
-returns-2 c = rw (ne-eqb _ _ (c .before .if1 .left), lt-ltb _ _ (c .if2 .taken))
+returns-2 c = rw (ne-eqb _ _ (c .before .before .if1 .left), lt-ltb _ _ (c .before .if2 .taken)) (c .closed-ok .ensures)
 
 shared-slice-read-if3 : tie.Need-shared-slice-read-if3
 shared-slice-read-if3 c = search needs
@@ -41,6 +44,7 @@ phase-ok-spec =
     (tie.spec
     shared-slice-read-awaited
     returns
+    closed-ok-requires
     returns-2
     shared-slice-read-if3
     returns-3

@@ -1,6 +1,5 @@
--- One law for each answer: the memory fails the form test, nothing waits, the session has ended, there is no room, bytes are handed out.
-use native.Mathlib.Omega.{arith}
-use Rattle.give.proofs.Laws.{size, place-at, give-bad, give-silent, give-ended, give-full, give-some}
+-- One law for each answer: the memory fails the form test, nothing waits, there is no room, bytes are handed out.
+use Rattle.give.proofs.Laws.{size, place-at, give-bad, give-silent, give-full, give-some}
 use borrow.Author.Needs.{needs}
 use Rattle.give.proofs.give.Statement.{statement}
 use Rattle.give.proofs.give.Tie as tie
@@ -26,9 +25,6 @@ same-length-2 c = search needs
 returns-2 : tie.Need-returns-2
 returns-2 c = let a = c .before .before .before .before .before .before .before .before .before .before .before .before .before .before .before .before .before .args in give-silent (a .sm .now) (a .table .now) (a .titles .now) (a .names .now) (a .bodies .now) (a .known .now) (a .inbox .now) (a .store .now) (a .buf .now) (a .place) (c .before .before .before .before .before .before .test .ensures .0) (c .before .before .before .before .if1 .left) (c .before .before .before .before .before .before .test .ensures .1) (c .given .ensures) (c .before .if2 .taken)
 
-slice-read-if3 : tie.Need-slice-read-if3
-slice-read-if3 c = let a = c .before .before .before .before .before .before .before .before .before .before .before .before .before .before .before .before .before .args in omega (arith, size (a .sm .now) (a .table .now) (a .titles .now) (a .names .now) (a .bodies .now) (a .known .now) (a .inbox .now) (a .store .now) (a .buf .now) (a .place) (c .before .before .before .before .before .before .test .ensures .0) (c .before .before .before .before .if1 .left))
-
 given-requires-2 : tie.Need-given-requires-2
 given-requires-2 c κs = search needs
 
@@ -36,7 +32,13 @@ same-length-3 : tie.Need-same-length-3
 same-length-3 c = search needs
 
 returns-3 : tie.Need-returns-3
-returns-3 c = let a = c .before .before .before .before .before .before .before .before .before .before .before .before .before .before .before .before .before .before .before .args in give-ended (a .sm .now) (a .table .now) (a .titles .now) (a .names .now) (a .bodies .now) (a .known .now) (a .inbox .now) (a .store .now) (a .buf .now) (a .place) (c .before .before .before .before .before .before .before .before .test .ensures .0) (c .before .before .before .before .before .before .if1 .left) (c .before .before .before .before .before .before .before .before .test .ensures .1) (c .given2 .ensures) (c .before .if3 .taken)
+returns-3 c = let a = c .before .before .before .before .before .before .before .before .before .before .before .before .before .before .before .before .before .before .args in give-full (a .sm .now) (a .table .now) (a .titles .now) (a .names .now) (a .bodies .now) (a .known .now) (a .inbox .now) (a .store .now) (a .buf .now) (a .place) (c .before .before .before .before .before .before .before .test .ensures .0) (c .before .before .before .before .before .if1 .left) (c .before .before .before .before .before .before .before .test .ensures .1) (c .before .before .if2 .left) (c .given2 .ensures) (c .before .if3 .taken)
+
+hand-requires : tie.Need-hand-requires
+hand-requires c κs = let a = c .before .before .before .before .before .before .before .before .before .before .before .before .before .before .before .before .before .before .before .args in (size (a .sm .now) (a .table .now) (a .titles .now) (a .names .now) (a .bodies .now) (a .known .now) (a .inbox .now) (a .store .now) (a .buf .now) (a .place) (c .before .before .before .before .before .before .before .before .test .ensures .0) (c .before .before .before .before .before .before .if1 .left), place-at (a .sm .now) (a .table .now) (a .titles .now) (a .names .now) (a .bodies .now) (a .known .now) (a .inbox .now) (a .store .now) (a .buf .now) (a .place) (c .before .before .before .before .before .before .before .before .test .ensures .0) (c .before .before .before .before .before .before .if1 .left) (c .before .before .before .before .before .before .before .before .test .ensures .1) (c .before .before .before .if2 .left))
+
+keep-requires : tie.Need-keep-requires
+keep-requires c κs = let a = c .before .before .before .before .before .before .before .before .before .before .before .before .before .before .before .before .before .before .before .before .before .before .before .args in size (a .sm .now) (a .table .now) (a .titles .now) (a .names .now) (a .bodies .now) (a .known .now) (a .inbox .now) (a .store .now) (a .buf .now) (a .place) (c .before .before .before .before .before .before .before .before .before .before .before .before .test .ensures .0) (c .before .before .before .before .before .before .before .before .before .before .if1 .left)
 
 given-requires-3 : tie.Need-given-requires-3
 given-requires-3 c κs = search needs
@@ -44,26 +46,11 @@ given-requires-3 c κs = search needs
 same-length-4 : tie.Need-same-length-4
 same-length-4 c = search needs
 
-returns-4 : tie.Need-returns-4
-returns-4 c = let a = c .before .before .before .before .before .before .before .before .before .before .before .before .before .before .before .before .before .before .before .before .args in give-full (a .sm .now) (a .table .now) (a .titles .now) (a .names .now) (a .bodies .now) (a .known .now) (a .inbox .now) (a .store .now) (a .buf .now) (a .place) (c .before .before .before .before .before .before .before .before .before .test .ensures .0) (c .before .before .before .before .before .before .before .if1 .left) (c .before .before .before .before .before .before .before .before .before .test .ensures .1) (c .before .before .before .before .if2 .left) (c .before .before .if3 .left) (c .given3 .ensures) (c .before .if4 .taken)
-
-hand-requires : tie.Need-hand-requires
-hand-requires c κs = let a = c .before .before .before .before .before .before .before .before .before .before .before .before .before .before .before .before .before .before .before .before .before .args in (size (a .sm .now) (a .table .now) (a .titles .now) (a .names .now) (a .bodies .now) (a .known .now) (a .inbox .now) (a .store .now) (a .buf .now) (a .place) (c .before .before .before .before .before .before .before .before .before .before .test .ensures .0) (c .before .before .before .before .before .before .before .before .if1 .left), place-at (a .sm .now) (a .table .now) (a .titles .now) (a .names .now) (a .bodies .now) (a .known .now) (a .inbox .now) (a .store .now) (a .buf .now) (a .place) (c .before .before .before .before .before .before .before .before .before .before .test .ensures .0) (c .before .before .before .before .before .before .before .before .if1 .left) (c .before .before .before .before .before .before .before .before .before .before .test .ensures .1) (c .before .before .before .before .before .if2 .left))
-
-keep-requires : tie.Need-keep-requires
-keep-requires c κs = let a = c .before .before .before .before .before .before .before .before .before .before .before .before .before .before .before .before .before .before .before .before .before .before .before .before .before .args in size (a .sm .now) (a .table .now) (a .titles .now) (a .names .now) (a .bodies .now) (a .known .now) (a .inbox .now) (a .store .now) (a .buf .now) (a .place) (c .before .before .before .before .before .before .before .before .before .before .before .before .before .before .test .ensures .0) (c .before .before .before .before .before .before .before .before .before .before .before .before .if1 .left)
-
-given-requires-4 : tie.Need-given-requires-4
-given-requires-4 c κs = search needs
-
 same-length-5 : tie.Need-same-length-5
 same-length-5 c = search needs
 
-same-length-6 : tie.Need-same-length-6
-same-length-6 c = search needs
-
-returns-5 : tie.Need-returns-5
-returns-5 c = let a = c .before .before .before .before .before .before .before .before .before .before .before .before .before .before .before .before .before .before .before .before .before .before .before .before .before .before .before .before .before .args in give-some (a .sm .now) (a .table .now) (a .titles .now) (a .names .now) (a .bodies .now) (a .known .now) (a .inbox .now) (a .store .now) (a .buf .now) (a .place) (c .before .before .before .before .before .before .before .before .before .before .before .before .before .before .before .before .before .before .test .ensures .0) (c .before .before .before .before .before .before .before .before .before .before .before .before .before .before .before .before .if1 .left) (c .before .before .before .before .before .before .before .before .before .before .before .before .before .before .before .before .before .before .test .ensures .1) (c .before .before .before .before .before .before .before .before .before .before .before .before .before .if2 .left) (c .before .before .before .before .before .before .before .before .before .before .before .if3 .left) (c .given4 .ensures) (c .before .before .before .before .before .before .before .before .before .before .if4 .left) (c .before .before .before .before .before .before .before .hand .ensures) (c .before .before .before .keep .ensures)
+returns-4 : tie.Need-returns-4
+returns-4 c = let a = c .before .before .before .before .before .before .before .before .before .before .before .before .before .before .before .before .before .before .before .before .before .before .before .before .before .before .before .args in give-some (a .sm .now) (a .table .now) (a .titles .now) (a .names .now) (a .bodies .now) (a .known .now) (a .inbox .now) (a .store .now) (a .buf .now) (a .place) (c .before .before .before .before .before .before .before .before .before .before .before .before .before .before .before .before .test .ensures .0) (c .before .before .before .before .before .before .before .before .before .before .before .before .before .before .if1 .left) (c .before .before .before .before .before .before .before .before .before .before .before .before .before .before .before .before .test .ensures .1) (c .before .before .before .before .before .before .before .before .before .before .before .if2 .left) (c .given3 .ensures) (c .before .before .before .before .before .before .before .before .before .before .if3 .left) (c .before .before .before .before .before .before .before .hand .ensures) (c .before .before .before .keep .ensures)
 
 pub give-spec : {M : Type 1} → statement M
 give-spec =
@@ -76,16 +63,12 @@ give-spec =
     given-requires
     same-length-2
     returns-2
-    slice-read-if3
     given-requires-2
     same-length-3
     returns-3
-    given-requires-3
-    same-length-4
-    returns-4
     hand-requires
     keep-requires
-    given-requires-4
+    given-requires-3
+    same-length-4
     same-length-5
-    same-length-6
-    returns-5)
+    returns-4)

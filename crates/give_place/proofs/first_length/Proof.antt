@@ -5,7 +5,7 @@ use lib.ListN.{length}
 use Rattle.places.specs.Places.{signsAt}
 use Rattle.session_memory.specs.State.{loadOf, loadSay}
 use Rattle.session_memory.proofs.Laws.{array-length}
-use Rattle.waiting.proofs.Said.{first-none, first-both, first-sid}
+use Rattle.waiting.proofs.Said.{first-none, first-both, first-sid, first-protocol, first-checksum}
 use Rattle.give_place.proofs.Laws.{signs-length}
 use borrow.Author.Needs.{needs}
 use Rattle.give_place.proofs.first_length.Statement.{statement}
@@ -29,6 +29,14 @@ returns-3 : tie.Need-returns-3
 unfolding loadOf loadSay
 returns-3 c = let a = c .before .before .before .before .before .args in ap length (first-sid ((loadOf (a .sm .now)) .say .first) ((loadOf (a .sm .now)) .say .signs) (c .if3 .taken))
 
+returns-4 : tie.Need-returns-4
+unfolding loadOf loadSay
+returns-4 c = let a = c .before .before .before .before .before .before .args in ap length (first-protocol ((loadOf (a .sm .now)) .say .first) ((loadOf (a .sm .now)) .say .signs) (c .if4 .taken))
+
+returns-5 : tie.Need-returns-5
+unfolding loadOf loadSay
+returns-5 c = let a = c .before .before .before .before .before .before .before .args in ap length (first-checksum ((loadOf (a .sm .now)) .say .first) ((loadOf (a .sm .now)) .say .signs) (c .if5 .taken))
+
 shared-slice-read-in-use : tie.Need-shared-slice-read-in-use
 shared-slice-read-in-use c = search needs
 
@@ -41,9 +49,9 @@ cast-result c = search needs
 add-result-2 : tie.Need-add-result-2
 add-result-2 c = search needs
 
-returns-4 : tie.Need-returns-4
+returns-6 : tie.Need-returns-6
 unfolding loadOf loadSay
-returns-4 c = let a = c .before .before .before .before .before .before .before .args in signs-length ((loadOf (a .sm .now)) .say .first) ((loadOf (a .sm .now)) .say .signs) (array-length 5 (a .sm .now) (signsAt + 1)) (c .before .before .before .before .if1 .left) (c .before .before .before .if2 .left) (c .before .before .if3 .left) (c .in-use .ensures)
+returns-6 c = let a = c .before .before .before .before .before .before .before .before .before .args in signs-length ((loadOf (a .sm .now)) .say .first) ((loadOf (a .sm .now)) .say .signs) (array-length 5 (a .sm .now) (signsAt + 1)) (c .before .before .before .before .before .before .if1 .left) (c .before .before .before .before .before .if2 .left) (c .before .before .before .before .if3 .left) (c .before .before .before .if4 .left) (c .before .before .if5 .left) (c .in-use .ensures)
 
 pub first-length-spec : {M : Type 1} → statement M
 first-length-spec =
@@ -54,8 +62,10 @@ first-length-spec =
     add-result
     returns-2
     returns-3
+    returns-4
+    returns-5
     shared-slice-read-in-use
     in-use-requires
     cast-result
     add-result-2
-    returns-4)
+    returns-6)

@@ -1,8 +1,8 @@
--- By the number: nothing, SID and prompt as two texts put as one, SID, or the FS line of the signs in use.
+-- By the number: nothing, SID and prompt as two texts put as one, SID, a line that says why, or the FS line of the signs in use.
 use Rattle.buffer.proofs.Laws.{puts-then, puts-as}
 use native.Mathlib.Omega.{arith}
 use Rattle.session_memory.specs.State.{loadOf, loadSay}
-use Rattle.waiting.proofs.Said.{first-none, first-both, first-sid, first-signs}
+use Rattle.waiting.proofs.Said.{first-none, first-both, first-sid, first-protocol, first-checksum, first-signs}
 use Rattle.waiting_write.proofs.Laws.{signs-read}
 use borrow.Author.Needs.{needs}
 use Rattle.waiting_write.proofs.write_first.Statement.{statement}
@@ -44,6 +44,26 @@ returns-3 : tie.Need-returns-3
 unfolding loadOf loadSay
 returns-3 c = let a = c .before .before .before .before .before .before .before .before .before .before .args in puts-as (a .buf .now) (a .c) (first-sid (loadOf (a .sm .now) .say .first) (loadOf (a .sm .now) .say .signs) (c .before .before .before .before .if3 .taken)) (c .before .before .write-fixed3 .ensures)
 
+write-reason-requires : tie.Need-write-reason-requires
+write-reason-requires c κs = search needs
+
+same-length-4 : tie.Need-same-length-4
+same-length-4 c = search needs
+
+returns-4 : tie.Need-returns-4
+unfolding loadOf loadSay
+returns-4 c = let a = c .before .before .before .before .before .before .before .before .before .before .before .args in puts-as (a .buf .now) (a .c) (first-protocol (loadOf (a .sm .now) .say .first) (loadOf (a .sm .now) .say .signs) (c .before .before .before .before .if4 .taken)) (c .before .before .write-reason .ensures)
+
+write-reason-requires-2 : tie.Need-write-reason-requires-2
+write-reason-requires-2 c κs = search needs
+
+same-length-5 : tie.Need-same-length-5
+same-length-5 c = search needs
+
+returns-5 : tie.Need-returns-5
+unfolding loadOf loadSay
+returns-5 c = let a = c .before .before .before .before .before .before .before .before .before .before .before .before .args in puts-as (a .buf .now) (a .c) (first-checksum (loadOf (a .sm .now) .say .first) (loadOf (a .sm .now) .say .signs) (c .before .before .before .before .if5 .taken)) (c .before .before .write-reason2 .ensures)
+
 add-start : tie.Need-add-start
 add-start c = search needs
 
@@ -71,12 +91,12 @@ part-write-fs-end c = search needs
 write-fs-requires : tie.Need-write-fs-requires
 write-fs-requires c κs = search needs
 
-same-length-4 : tie.Need-same-length-4
-same-length-4 c = search needs
+same-length-6 : tie.Need-same-length-6
+same-length-6 c = search needs
 
-returns-4 : tie.Need-returns-4
+returns-6 : tie.Need-returns-6
 unfolding loadOf loadSay
-returns-4 c = let a = c .before .before .before .before .before .before .before .before .before .before .before .before .before .args in puts-as (a .buf .now) (a .c) (first-signs (loadOf (a .sm .now) .say .first) (loadOf (a .sm .now) .say .signs) (c .before .before .before .before .before .before .before .before .before .if1 .left) (c .before .before .before .before .before .before .before .before .if2 .left) (c .before .before .before .before .before .before .before .if3 .left) (signs-read (a .sm .now) (omega (arith, c .before .before .before .before .before .before .before .before .before .before .before .before .before .pre)) (c .before .before .before .before .before .in-use .ensures))) (c .before .before .write-fs .ensures)
+returns-6 c = let a = c .before .before .before .before .before .before .before .before .before .before .before .before .before .before .before .args in puts-as (a .buf .now) (a .c) (first-signs (loadOf (a .sm .now) .say .first) (loadOf (a .sm .now) .say .signs) (c .before .before .before .before .before .before .before .before .before .before .before .if1 .left) (c .before .before .before .before .before .before .before .before .before .before .if2 .left) (c .before .before .before .before .before .before .before .before .before .if3 .left) (c .before .before .before .before .before .before .before .before .if4 .left) (c .before .before .before .before .before .before .before .if5 .left) (signs-read (a .sm .now) (omega (arith, c .before .before .before .before .before .before .before .before .before .before .before .before .before .before .before .pre)) (c .before .before .before .before .before .in-use .ensures))) (c .before .before .write-fs .ensures)
 
 pub write-first-spec : {M : Type 1} → statement M
 write-first-spec =
@@ -93,6 +113,12 @@ write-first-spec =
     write-fixed-requires-3
     same-length-3
     returns-3
+    write-reason-requires
+    same-length-4
+    returns-4
+    write-reason-requires-2
+    same-length-5
+    returns-5
     add-start
     shared-slice-read-in-use
     in-use-requires
@@ -102,5 +128,5 @@ write-first-spec =
     part-write-fs-start
     part-write-fs-end
     write-fs-requires
-    same-length-4
-    returns-4)
+    same-length-6
+    returns-6)

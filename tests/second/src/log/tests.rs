@@ -98,6 +98,28 @@ fn what_the_rules_forbid_ends_the_log() {
     assert_eq!(kept(&[Us(GREETING), Them(&offer), fs, Them(&fits)]), 1);
 }
 
+/// Request Q-1: what we say after a refusal is nothing that the log awaits, wherever
+/// the refused byte stood, and what follows it counts for nothing.
+#[test]
+fn our_reason_ends_the_log() {
+    let fs = Them(b"FS ++\r");
+    for reason in [&b"*** Protocol error\r"[..], b"*** Checksum error\r", b"*"] {
+        let why = Us(reason);
+        for wrong in [&b"hello\r"[..], b"F>\r", b"F", b"", b"FB P A B C 1 1\rF> 34\r"] {
+            let pieces = [fs, Us(TRANSFERS), Them(wrong), why, Them(b"FF\r")];
+            assert_eq!(states(&pieces), [Waiting; 2], "{}", wrong.escape_ascii());
+        }
+        let declined = [Them(b"FS --\r"), why, Them(b"FF\r")];
+        assert_eq!(states(&declined), [Declined; 2]);
+        let offer = b"[TST-1-F$]\rFB P A B C 1_A 1\rFB P A B C 2_A 1\rF>\r";
+        let owed = [Us(GREETING), Them(offer), Us(b"FS ++\r"), Them(b"T\ra\x1A\r")];
+        for cut in [&b""[..], b"T", b"T\ra\x1Ax", b"\x1F"] {
+            let more = [Them(cut), why, Them(b"\rT\ra\x1A\r")];
+            assert_eq!(log(&[&owed[..], &more].concat()).kept.len(), 1, "{}", cut.escape_ascii());
+        }
+    }
+}
+
 /// "A turn with a wrong checksum is no valid turn. We go on writing the bare form."
 #[test]
 fn a_block_may_end_with_its_checksum() {

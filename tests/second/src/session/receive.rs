@@ -15,6 +15,7 @@ impl Session {
         if memory.sizes != self.sizes {
             return Reply::BAD_BUFFERS;
         }
+        // "Bytes arriving meanwhile get 12": the line that waits stays.
         if self.is_over() {
             return Reply::refused(Refusal::Ended, 0);
         }
@@ -24,7 +25,7 @@ impl Session {
             let (taken, judged) = self.take(memory, &bytes[count..]);
             count += taken;
             if let Err(refusal) = judged {
-                self.end();
+                self.refuse(refusal);
                 return Reply::refused(refusal, count);
             }
         }

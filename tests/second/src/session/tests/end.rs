@@ -62,12 +62,28 @@ impl End {
         assert_eq!(self.hear(bytes), Reply::ok(bytes.len()), "{}", bytes.escape_ascii());
     }
 
-    /// Receives a portion that must be taken whole, refused at its last byte.
+    /// Receives a portion that must be taken whole, refused at its last byte; then
+    /// gives the line that says why, if one is due, whatever arrives, and no more.
     pub fn refuses(&mut self, bytes: &[u8], answer: u8) {
         let refused = Reply { answer, place: 0, count: bytes.len() };
         assert_eq!(self.hear(bytes), refused, "{}", bytes.escape_ascii());
-        assert_eq!(self.hear(b"FF\r"), Reply { answer: 12, place: 0, count: 0 });
-        assert_eq!(self.say(), b"");
+        self.is_deaf();
+        let reason = reason(answer);
+        let (first, rest) = reason.split_at(reason.len() / 2);
+        assert_eq!(self.say_up_to(first.len()), first);
+        self.is_deaf();
+        self.says(rest);
+        self.is_deaf();
+        self.says(b"");
+    }
+
+    /// "Bytes arriving meanwhile get 12": "nothing consumed, nothing changed".
+    pub fn is_deaf(&mut self) {
+        let (memory, waiting) = (self.memory.clone(), self.session.waiting());
+        for bytes in [&b""[..], b"\n", b"FF\r", b"*** Protocol error\r"] {
+            assert_eq!(self.hear(bytes), Reply { answer: 12, place: 0, count: 0 });
+        }
+        assert_eq!((&self.memory, self.session.waiting()), (&memory, waiting));
     }
 
     /// Gives into a room of so many bytes.
@@ -117,6 +133,15 @@ impl End {
         table.iter_mut().zip(&log.states).for_each(|(record, &state)| record.state = state);
         assert_eq!(self.memory.table, table);
         assert_eq!(self.kept(), log.kept);
+    }
+}
+
+/// Request Q-1's line after an answer of receive.
+fn reason(answer: u8) -> &'static [u8] {
+    match answer {
+        9 => b"*** Checksum error\r",
+        0 | 1 | 11 | 12 => b"",
+        _ => b"*** Protocol error\r",
     }
 }
 
