@@ -1,6 +1,7 @@
 /* A base is made, opened, locked and closed. */
 #define _XOPEN_SOURCE 700 /* realpath */
 #include "base.h"
+#include "forward.h"
 #include "partner.h"
 #include "say.h"
 #include "schema.h"
@@ -167,6 +168,14 @@ bool base_lock_session(struct base *base)
 
 /* ---- making */
 
+/* The partner may call, and has the first place. */
+static bool begin_with(struct base *base, const char *partner)
+{
+    uint8_t place;
+
+    return !*partner || (partner_set(base, part_of(partner), part_of("")) && forward_join(base, part_of(partner), &place));
+}
+
 static bool fill_new(struct base *base, const char *call, const char *partner)
 {
     int version;
@@ -178,7 +187,7 @@ static bool fill_new(struct base *base, const char *call, const char *partner)
     if (version > 0)
         say("%s: there is a base already", base->path);
     return version == 0 && schema_lift(base, version) && base_set_station(base, part_of(call), part_of(partner))
-        && (!*partner || partner_set(base, part_of(partner), part_of(""))) && base_commit(base) && settle(base);
+        && begin_with(base, partner) && base_commit(base) && settle(base);
 }
 
 /* What an init that was killed has left, an empty file or one that SQLite takes back to that, is filled by the next. */

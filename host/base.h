@@ -1,6 +1,8 @@
 /* The message base: one SQLite file.
  *
- *   outbox   one row a message that goes to the partner, with its state; when it came and went, to whom, in which session
+ *   outbox   one row a message that goes to partners; held or not; when it came
+ *   passage  one row a message of the outbox and a partner that it is for, with its state; when it went, in which session
+ *   forward  the partners, a place each, and `route`: which private mail is for whom (forward.h)
  *   inbox    one row a message that the library kept; when it came, from whom, in which session, and whether it is a copy of a BID
  *            that the base had already
  *   known    BIDs of all that ever was in one of them, for good; what was seen last has the greatest number
@@ -42,9 +44,11 @@ struct passage {
     struct part partner;
 };
 
-bool base_add(struct base *base, const struct message *message);
-/* A message whose BID is known becomes a copy. */
+/* For whom it is, is told afterwards (forward.h); its number is given. */
+bool base_add(struct base *base, const struct message *message, long long *number);
+/* A message whose BID is known becomes a copy; one that isn't goes on to other partners by the rule. */
 bool base_keep(struct base *base, const struct message *message, const struct passage *passage);
+/* For the passage's partner alone. */
 bool base_mark(struct base *base, long long number, enum state state, const struct passage *passage);
 bool base_defer(struct base *base, long long number, const struct passage *passage);
 bool base_hold(struct base *base, long long number);
@@ -61,12 +65,18 @@ int base_has(struct base *base, const struct message *message);
 /* The number that the next message of the outbox gets. */
 bool base_next(struct base *base, long long *number);
 bool base_count_known(struct base *base, long long *count);
-bool base_count_waiting(struct base *base, long long *count);
-/* Packed texts that wait and have no room for the check of this level. */
-bool base_count_too_long(struct base *base, uint8_t level, long long *count);
-/* Our callsign or the partner's, added to a store. */
+
+/* To whom something is lent: a partner, at a level. */
+struct receiver {
+    struct part partner;
+    uint8_t level;
+};
+
+/* What waits for the receiver; and of that the packed texts that have no room for the check of the level. */
+bool base_count_waiting(struct base *base, const struct receiver *to, long long *count);
+bool base_count_too_long(struct base *base, const struct receiver *to, long long *count);
+/* Our callsign, added to a store. */
 bool base_call(struct base *base, struct bytes *call);
-bool base_partner(struct base *base, struct bytes *partner);
 
 /* A function gets a row; its parts last until it returns. It answers whether to go on. */
 typedef bool message_function(void *context, const struct message *message);
@@ -74,9 +84,9 @@ typedef bool bid_function(void *context, struct part bid);
 bool base_each(struct base *base, enum box box, message_function *function, void *context);
 /* Those of one BID, in whatever spelling. */
 bool base_each_of(struct base *base, enum box box, struct part bid, message_function *function, void *context);
-/* For one session at this level: of what waits the oldest, those behind that were deferred; and the known BIDs beside theirs that are likeliest to come
- * again. */
-bool base_waiting(struct base *base, uint8_t level, message_function *function, void *context);
-bool base_known(struct base *base, uint8_t level, bid_function *function, void *context);
+/* For one session: of what waits for the receiver the oldest, those behind that were deferred; and the known BIDs beside theirs that are
+ * likeliest to come again, those of what waits for others among the first. */
+bool base_waiting(struct base *base, const struct receiver *to, message_function *function, void *context);
+bool base_known(struct base *base, const struct receiver *to, bid_function *function, void *context);
 
 #endif

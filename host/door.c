@@ -45,7 +45,7 @@ bool door_hear_sid(struct link *link, const struct options *options, uint8_t rol
     lent.session_len = sizeof session;
     link_keep(link);
     *code = LINK_DROPPED;
-    reply = fringemole_open_in(&lent, role);
+    reply = fringemole_open_in(&lent, role, 0);
     while (reply.answer == FRINGEMOLE_OK) {
         long n;
         if (session[FRINGEMOLE_SESSION_PHASE] > FRINGEMOLE_LAST_SID_PHASE) {

@@ -7,13 +7,15 @@
 static uint8_t session[FRINGEMOLE_SESSION_SIZE], table[FRINGEMOLE_RECORD_SIZE], inbox[8 * FRINGEMOLE_ENTRY_SIZE], store[8 * FRINGEMOLE_MAX_BODY];
 static const uint8_t titles[] = "Hello", bodies[] = "73 from the shelf.\r";
 
+#define PARTNER 0 /* of eight: whose states the session reads and writes */
+
 static void put(uint8_t *field, const char *text)
 {
     field[0] = (uint8_t)strlen(text);
     memcpy(field + 1, text, field[0]);
 }
 
-/* State 0, form 0 and starts 0 are there already. */
+/* States 0, form 0 and starts 0 are there already. */
 static void fill_table(void)
 {
     table[FRINGEMOLE_RECORD_TYPE] = 'P';
@@ -35,7 +37,7 @@ int main(void)
     int i, byte;
 
     fill_table();
-    reply = fringemole_open_in(&m, FRINGEMOLE_CALLED);
+    reply = fringemole_open_in(&m, FRINGEMOLE_CALLED, PARTNER);
     for (;;) {
         while ((given = fringemole_give_in(&m, out, sizeof out, 0)).count > 0) /* what we have to say: after a refusal, why */
             fwrite(out, 1, given.count, stdout);
@@ -46,7 +48,7 @@ int main(void)
         reply = fringemole_receive_in(&m, &in, 1);
         /* A node saves here what has changed, states and kept messages, before it gives more. */
     }
-    fprintf(stderr, "answer %u; our message's state is %u\n", reply.answer, table[FRINGEMOLE_RECORD_STATE]);
+    fprintf(stderr, "answer %u; our message's state is %u\n", reply.answer, table[FRINGEMOLE_RECORD_STATES + PARTNER]);
     for (i = 0; i < session[FRINGEMOLE_SESSION_KEPT]; i++) {
         const uint8_t *heading = inbox + i * FRINGEMOLE_ENTRY_SIZE + FRINGEMOLE_ENTRY_HEADING;
         fprintf(stderr, "kept: %.*s\n", heading[0], (const char *)heading + 1);

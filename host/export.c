@@ -2,6 +2,7 @@
  * the folder is followed. A file is whole and on the disk before it gets its name. */
 #include "base.h"
 #include "boxes.h"
+#include "forward.h"
 #include "letter.h"
 #include "stop.h"
 
@@ -16,7 +17,8 @@
 struct export {
     const char *path;
     int folder;
-    struct bytes partner;
+    struct base *base;
+    enum box box;
     long written, there, different;
     bool failed;
 };
@@ -125,10 +127,10 @@ static bool write_file(int folder, const char *name, struct part letter)
 
 /* ---- each message */
 
-static void print_letter(const struct message *message, struct part partner, char **text, size_t *n)
+static void print_letter(const struct message *message, struct part had_by, char **text, size_t *n)
 {
     FILE *to = open_memstream(text, n);
-    bool right = to && letter_write(to, message, partner);
+    bool right = to && letter_write(to, message, had_by);
 
     if (!to || fclose(to) || !right)
         give_up("no memory");
@@ -161,15 +163,16 @@ static bool export_letter(struct export *export, const char *name, struct part l
 static bool export_one(void *context, const struct message *message)
 {
     struct export *export = context;
-    struct bytes name = { NULL, 0, 0 };
+    struct bytes name = { NULL, 0, 0 }, had_by = { NULL, 0, 0 };
     char *text = NULL;
     size_t n = 0;
     bool right;
 
-    if (stop_asked())
+    if (stop_asked() || (export->box == OUTBOX && !forward_had_by(export->base, message->number, &had_by)))
         return false;
     name_file(&name, message);
-    print_letter(message, part_all(&export->partner), &text, &n);
+    print_letter(message, part_all(&had_by), &text, &n);
+    bytes_free(&had_by);
     right = export_letter(export, (const char *)name.at, (struct part){ (const uint8_t *)text, n });
     free(text);
     bytes_free(&name);
@@ -177,9 +180,9 @@ static bool export_one(void *context, const struct message *message)
 }
 
 /* The names are on the disk too when the count is said. */
-static enum exit_code export_box(struct export *export, struct base *base, enum box box)
+static enum exit_code export_box(struct export *export)
 {
-    bool right = base_each(base, box, export_one, export);
+    bool right = base_each(export->base, export->box, export_one, export);
 
     if (export->written && fsync(export->folder) && errno != EINVAL) {
         say("%s: %s", export->path, strerror(errno));
@@ -191,7 +194,7 @@ static enum exit_code export_box(struct export *export, struct base *base, enum 
     return export->failed || export->different ? BAD_FILE : right ? DONE : BAD_BASE;
 }
 
-static enum exit_code export_to(struct export *export, struct base *base, enum box box)
+static enum exit_code export_to(struct export *export)
 {
     bool made = mkdir(export->path, 0777) == 0;
     enum exit_code code = BAD_FILE;
@@ -200,7 +203,7 @@ static enum exit_code export_to(struct export *export, struct base *base, enum b
     if (export->folder < 0) {
         say("%s: %s", export->path, strerror(errno));
     } else {
-        code = export_box(export, base, box);
+        code = export_box(export);
         close(export->folder);
     }
     if (made && code != DONE && !export->written)
@@ -210,13 +213,10 @@ static enum exit_code export_to(struct export *export, struct base *base, enum b
 
 enum exit_code boxes_export(const struct options *options)
 {
-    struct export export = { options->arguments[0], -1, { NULL, 0, 0 }, 0, 0, 0, false };
     struct base *base = base_open(options->base, READING);
-    enum exit_code code = BAD_BASE;
+    struct export export = { options->arguments[0], -1, base, options->outbox ? OUTBOX : INBOX, 0, 0, 0, false };
+    enum exit_code code = base ? export_to(&export) : BAD_BASE;
 
-    if (base && base_partner(base, &export.partner))
-        code = export_to(&export, base, options->outbox ? OUTBOX : INBOX);
-    bytes_free(&export.partner);
     base_close(base);
     return code;
 }

@@ -10,8 +10,8 @@ static bool taken(const struct message *message)
     struct shelf shelf;
     bool right;
 
-    waiting.state = WAITING;
-    shelf_start(&shelf, 0);
+    memset(waiting.states, WAITING, sizeof waiting.states);
+    shelf_start(&shelf, 0, 0);
     right = shelf_add(&shelf, &waiting) && shelf_open(&shelf, 0).answer == FRINGEMOLE_OK;
     shelf_clear(&shelf);
     return right;

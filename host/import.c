@@ -4,6 +4,7 @@
 #include "boxes.h"
 #include "fault.h"
 #include "file.h"
+#include "forward.h"
 #include "letter.h"
 #include "level.h"
 #include "text.h"
@@ -15,6 +16,8 @@ struct import {
     struct base *base;
     bool text, as_is;
     uint8_t level; /* of packed texts that don't say theirs */
+    struct part for_whom;    /* callsigns; empty: by the rule */
+    struct part has_already; /* of the message under way: callsigns */
     const char *file;
     int place; /* of the message in the file, from 1 */
     long count, there, clashing;
@@ -28,17 +31,34 @@ static enum exit_code bad(const struct import *import, const char *what)
 
 /* ---- one message */
 
+/* For whom it waits, and who has it. */
+static enum exit_code direct(struct import *import, long long number)
+{
+    struct part wrong = part_of("");
+
+    if (!(import->for_whom.n ? forward_to(import->base, number, import->for_whom, &wrong) : forward_by_rule(import->base, number)))
+        return BAD_BASE;
+    if (wrong.n) {
+        say("--for: %.*s is no partner of the base", (int)wrong.n, (const char *)wrong.at);
+        return BAD_USAGE;
+    }
+    return forward_is_at(import->base, number, import->has_already) ? DONE : BAD_BASE;
+}
+
 static enum exit_code add(struct import *import, const struct message *message)
 {
     const char *fault = message_fault(message);
+    long long number = 0;
+    enum exit_code code;
 
     fault = fault ? fault : level_fault(message);
     if (fault)
         return bad(import, fault);
-    if (!base_add(import->base, message))
+    if (!base_add(import->base, message, &number))
         return BAD_BASE;
+    code = direct(import, number);
     import->count++;
-    return DONE;
+    return code;
 }
 
 /* Somebody must hear of another message of that BID, and of a BID that came in another spelling than the base has. */
@@ -125,36 +145,19 @@ static enum exit_code add_copies(struct import *import, const struct letter *let
     return code;
 }
 
-/* Whether the partner is in the list of those who have it. */
-static bool partner_has(struct import *import, struct part list, bool *has)
-{
-    struct bytes partner = { NULL, 0, 0 };
-    bool right = base_partner(import->base, &partner);
-
-    bytes_add(&partner, "", 1);
-    *has = false;
-    while (right && partner.n > 1 && list.n)
-        *has = part_names(part_trimmed(part_until(&list, ',')), (const char *)partner.at) || *has;
-    bytes_free(&partner);
-    return right;
-}
-
 /* Nobody has the copies, whoever has the message: they wait, or are held with it. */
 static enum exit_code add_message(struct import *import, const struct letter *letter)
 {
     struct message message = letter->message;
     enum exit_code code;
-    bool has;
     int known;
 
-    if (!partner_has(import, letter->forwarded_to, &has))
-        return BAD_BASE;
-    if (has)
-        message.state = FORWARDED;
     known = message.bid.n ? base_knows(import->base, message.bid) : 0;
     if (known)
         return known < 0 ? BAD_BASE : pass_over(import, &message);
+    import->has_already = letter->forwarded_to;
     code = message.bid.n ? add(import, &message) : add_without_bid(import, &message);
+    import->has_already = part_of("");
     return code == DONE ? add_copies(import, letter) : code;
 }
 
@@ -230,7 +233,7 @@ static enum exit_code sum_up(const struct import *import)
 
 enum exit_code boxes_import(const struct options *options)
 {
-    struct import import = { NULL, options->text, options->as_is, (uint8_t)options->level, NULL, 0, 0, 0, 0 };
+    struct import import = { NULL, options->text, options->as_is, (uint8_t)options->level, part_of(options->for_whom), part_of(""), NULL, 0, 0, 0, 0 };
     struct bytes *files = calloc((size_t)options->count, sizeof *files);
     enum exit_code code = DONE;
     int i;

@@ -10,6 +10,9 @@
 /* What each partner sent in the last session in which it sent something: it sends just that again if it didn't hear us. */
 #define JUST_CAME "(SELECT " BID_TEXT("bid") " FROM inbox WHERE session IN (SELECT max(session) FROM inbox GROUP BY partner))"
 
+/* What waits for whomever: of what isn't on the shelf a partner must not bring us another copy. */
+#define WAITS "(SELECT " BID_TEXT("bid") " FROM outbox WHERE number IN (SELECT number FROM passage WHERE state = 0))"
+
 /* Of twins that an older base has (bid.h) one stands for all: that which was seen last. */
 #define SEEN_SINCE "EXISTS (SELECT 1 FROM known AS later WHERE " SAME_BID("later.bid", "known.bid") " AND later.number > known.number)"
 
@@ -88,23 +91,25 @@ static bool take_row(void *context, sqlite3_stmt *statement)
 }
 
 /* Bodies from this length on are too long for the level; one that is too long for any isn't this rule's matter. */
-void bind_chosen(sqlite3_stmt *statement, uint8_t level)
+void bind_chosen(sqlite3_stmt *statement, const struct receiver *to)
 {
     if (statement) {
         sqlite3_bind_int(statement, 1, FRINGEMOLE_MAX_RECORDS);
-        sqlite3_bind_int(statement, 4, FRINGEMOLE_MAX_BODY + 1 - (level ? LEVEL_CHECK : 0));
+        sqlite3_bind_int(statement, 4, FRINGEMOLE_MAX_BODY + 1 - (to->level ? LEVEL_CHECK : 0));
+        bind_part(statement, 5, to->partner);
     }
 }
 
-bool base_known(struct base *base, uint8_t level, bid_function *function, void *context)
+bool base_known(struct base *base, const struct receiver *to, bid_function *function, void *context)
 {
     sqlite3_stmt *statement = base_prepare(base,
         "SELECT bid FROM known WHERE " BID_KEY("bid") " NOT IN (SELECT " BID_TEXT("bid") " FROM outbox WHERE number IN " CHOSEN ")"
-        " AND NOT " SEEN_SINCE " ORDER BY " BID_KEY("bid") " IN " JUST_CAME " DESC, number - (type = 'P') * ?3 DESC, number DESC LIMIT ?2");
+        " AND NOT " SEEN_SINCE " ORDER BY " BID_KEY("bid") " IN " JUST_CAME " DESC, " BID_KEY("bid") " IN " WAITS " DESC,"
+        " number - (type = 'P') * ?3 DESC, number DESC LIMIT ?2");
     struct taker taker = { function, context };
 
     if (statement) {
-        bind_chosen(statement, level);
+        bind_chosen(statement, to);
         sqlite3_bind_int(statement, 2, FRINGEMOLE_MAX_KNOWN);
         sqlite3_bind_int(statement, 3, PERSONAL_BEHIND);
     }

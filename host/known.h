@@ -4,15 +4,16 @@
 
 #include "statement.h"
 
-/* Numbers of the messages that one session takes: of plain and packed ones in turn, since a partner takes only one of these kinds, those
- * that were never deferred, oldest first, then those that were deferred longest ago. A packed text of level 0 that has no room for the
- * check of level 1 isn't chosen for that. Places 1 and 4 are bound by bind_chosen. */
+/* Numbers of the messages that one session takes, of those that wait for its partner: of plain and packed ones in turn, since a partner takes
+ * only one of these kinds, those that were never deferred, oldest first, then those that were deferred longest ago. A packed text of level 0
+ * that has no room for the check of level 1 isn't chosen for that. Places 1, 4 and 5 are bound by bind_chosen. */
 #define CHOSEN \
-    "(SELECT number FROM outbox WHERE state = 0 AND " FITS_LEVEL \
-    " ORDER BY row_number() OVER (PARTITION BY form = 0 ORDER BY deferred, number), deferred, number LIMIT ?1)"
+    "(SELECT number FROM " WAITING_FOR " AND " FITS_LEVEL \
+    " ORDER BY row_number() OVER (PARTITION BY form = 0 ORDER BY passage.deferred, number), passage.deferred, number LIMIT ?1)"
+#define WAITING_FOR "passage JOIN outbox USING (number) WHERE passage.call = ?5 AND passage.state = 0 AND outbox.state = 0"
 #define FITS_LEVEL "(form = 0 OR level > 0 OR length(body) NOT BETWEEN ?4 AND 65535)"
 
-void bind_chosen(sqlite3_stmt *statement, uint8_t level);
+void bind_chosen(sqlite3_stmt *statement, const struct receiver *to);
 
 /* Its BID was seen now, the first time or again. */
 bool known_add(struct base *base, struct part bid, uint8_t type);

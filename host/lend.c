@@ -1,5 +1,6 @@
 #include "lend.h"
 #include "fault.h"
+#include "forward.h"
 #include "level.h"
 #include "route.h"
 #include "say.h"
@@ -38,7 +39,7 @@ static bool put_on_shelf(struct lending *lending, const struct message *message)
 
     if (lending->terms->mailbox.n && message->form == PLAIN_TEXT)
         why = route_add(&lent, lending->terms->mailbox, &store);
-    level_shape(&lent, lending->terms->level, &store);
+    level_shape(&lent, lending->terms->to.level, &store);
     right = shelf_add(lending->shelf, &lent);
     if (right)
         lending->unrouted[place] = why;
@@ -60,9 +61,24 @@ static void say_unrouted(const struct lending *lending)
     }
 }
 
+/* Its state for each partner: what isn't for one isn't offered to it. */
+static bool add_states(struct lending *lending, struct message *message)
+{
+    size_t place;
+
+    if (!forward_states(lending->base, message->number, message->states))
+        return false;
+    for (place = 0; place < FRINGEMOLE_PARTNERS; place++) {
+        if (message->states[place] == FORWARD_NOT_FOR)
+            message->states[place] = DECLINED;
+    }
+    return true;
+}
+
 static bool take_message(void *context, const struct message *message)
 {
     struct lending *lending = context;
+    struct message with_states = *message;
     const char *rule = message->copy ? TWIN : message_fault(message);
 
     rule = rule ? rule : level_fault(message);
@@ -71,7 +87,7 @@ static bool take_message(void *context, const struct message *message)
         lending->bad[lending->count++] = message->number;
         return true;
     }
-    return put_on_shelf(lending, message);
+    return add_states(lending, &with_states) && put_on_shelf(lending, &with_states);
 }
 
 static bool take_bid(void *context, struct part bid)
@@ -105,19 +121,19 @@ static bool hold_bad(struct lending *lending)
 /* Until all that is on the shelf is right, since others take the places of those that are held. */
 static bool fill(struct lending *lending)
 {
-    uint8_t level = lending->terms->level;
+    const struct receiver *to = &lending->terms->to;
 
     do {
         if (lending->count && !hold_bad(lending))
             return false;
         lending->count = 0;
         shelf_clear(lending->shelf);
-        shelf_start(lending->shelf, lending->terms->room);
-        if (!base_waiting(lending->base, level, take_message, lending))
+        shelf_start(lending->shelf, lending->terms->place, lending->terms->room);
+        if (!base_waiting(lending->base, to, take_message, lending))
             return false;
     } while (lending->count);
-    lending->shelf->level = level;
-    return base_known(lending->base, level, take_bid, lending);
+    lending->shelf->level = to->level;
+    return base_known(lending->base, to, take_bid, lending);
 }
 
 /* Each record by itself is right, and no two have one BID as the base sees it: one that the library refuses is a twin to the library. */

@@ -312,7 +312,7 @@ bool letter_write(FILE *to, const struct message *message, struct part forwarded
     put_header(to, "X-BID", message->bid);
     if (message->state == HELD)
         put_header(to, "X-BBS-Hold", part_of("yes"));
-    if (message->state == FORWARDED && forwarded_to.n)
+    if (forwarded_to.n)
         put_header(to, "X-Forwarded-To", forwarded_to);
     if (message->form != PLAIN_TEXT && message->form <= PACKED_FILE)
         put_header(to, "X-Form", part_of(form_names[message->form]));

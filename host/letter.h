@@ -6,7 +6,7 @@
  *   Message-ID, X-BID    the BID; X-BID decides
  *   X-msgtype, X-BBS-Msg-Type   P or B; P if there is neither
  *   X-BBS-Hold           the message is held
- *   X-Forwarded-To       callsigns
+ *   X-Forwarded-To       callsigns of those who have it, with commas
  * and five of our own, for what that form has no place for:
  *   X-Form               plain, message or file; plain if it isn't there
  *   X-File-Name          the name of a packed file

@@ -1,6 +1,7 @@
-/* list: both boxes as tables. sessions: what each session did. release: held messages wait again. */
+/* list: both boxes as tables, with a state a partner. sessions: what each session did. release: held messages wait again. */
 #include "base.h"
 #include "boxes.h"
+#include "forward.h"
 #include "history.h"
 #include "level.h"
 #include "reason.h"
@@ -9,10 +10,11 @@
 #include "text.h"
 
 #include <stdio.h>
+#include <string.h>
 
-static void show_message(const struct message *message, const char *state)
+static void show_message(const struct message *message)
 {
-    printf("%5lld  %-11s%-8s%c  ", message->number, state, message->form <= PACKED_FILE ? form_names[message->form] : "?", message->type);
+    printf("%-8s%c  ", message->form <= PACKED_FILE ? form_names[message->form] : "?", message->type);
     show_field(message->from, 8);
     show_field(message->to, 8);
     show_field(message->at, 20);
@@ -29,45 +31,93 @@ static void show_message(const struct message *message, const char *state)
     putchar('\n');
 }
 
-/* The table's head comes with its first row. */
-static void show_head(void *shown, const char *box)
-{
-    bool *has_rows = shown;
+#define STATE_WIDTH 11
 
-    if (!*has_rows)
-        printf("%s\n   no  state      form    t  from    to      at                  BID            bytes  title or name\n", box);
-    *has_rows = true;
+/* What is listed: the partners, where there are several, and whether a row was there. */
+struct listing {
+    struct base *base;
+    char heads[FRINGEMOLE_PARTNERS][STATE_WIDTH + 1];
+    uint8_t places[FRINGEMOLE_PARTNERS];
+    size_t partners;
+    bool has_rows;
+};
+
+/* The table's head comes with its first row; one partner is the partner, and needs no name. */
+static void show_head(struct listing *listing, const char *box, bool by_partner)
+{
+    size_t i;
+
+    if (listing->has_rows)
+        return;
+    listing->has_rows = true;
+    printf("%s\n   no  ", box);
+    for (i = 0; by_partner && i < listing->partners; i++)
+        printf("%-*s", STATE_WIDTH, listing->heads[i]);
+    printf("%-*sform    t  from    to      at                  BID            bytes  title or name\n", by_partner ? 0 : STATE_WIDTH,
+        by_partner ? "" : "state");
 }
 
-static bool show_outgoing(void *shown, const struct message *message)
+static const char *name_of(const struct message *message, uint8_t state)
 {
-    show_head(shown, "outbox");
-    show_message(message, message->state <= HELD ? state_names[message->state] : "?");
+    if (state == FORWARD_NOT_FOR)
+        return "-";
+    if (message->state == HELD && state == WAITING)
+        return state_names[HELD];
+    return message->state == WAITING || message->state == HELD ? state_names[state] : "?";
+}
+
+static bool show_outgoing(void *context, const struct message *message)
+{
+    struct listing *listing = context;
+    uint8_t states[FRINGEMOLE_PARTNERS];
+    size_t i;
+
+    if (!forward_states(listing->base, message->number, states))
+        return false;
+    show_head(listing, "outbox", listing->partners > 1);
+    printf("%5lld  ", message->number);
+    for (i = 0; i < listing->partners; i++)
+        printf("%-*s", STATE_WIDTH, name_of(message, states[listing->places[i]]));
+    show_message(message);
     return show_goes_on();
 }
 
 /* A copy is of a BID that the base had already. */
-static bool show_incoming(void *shown, const struct message *message)
+static bool show_incoming(void *context, const struct message *message)
 {
     char copy[32];
 
-    show_head(shown, "inbox");
+    show_head(context, "inbox", false);
     snprintf(copy, sizeof copy, "copy %lld", message->copy);
-    show_message(message, message->copy ? copy : "kept");
+    printf("%5lld  %-*s", message->number, STATE_WIDTH, message->copy ? copy : "kept");
+    show_message(message);
     return show_goes_on();
+}
+
+static bool take_partner(void *context, const struct forward *forward)
+{
+    struct listing *listing = context;
+
+    snprintf(listing->heads[listing->partners], sizeof listing->heads[0], "%.*s", (int)forward->call.n, (const char *)forward->call.at);
+    listing->places[listing->partners++] = forward->place;
+    return listing->partners < FRINGEMOLE_PARTNERS;
 }
 
 enum exit_code boxes_list(const struct options *options)
 {
     struct base *base = base_open(options->base, READING);
-    bool out = false, in = false, right;
+    struct listing listing;
     long long known = 0;
+    bool right;
 
-    right = base && base_each(base, OUTBOX, show_outgoing, &out);
-    if (right && !out)
+    memset(&listing, 0, sizeof listing);
+    listing.base = base;
+    right = base && forward_each(base, take_partner, &listing) && base_each(base, OUTBOX, show_outgoing, &listing);
+    if (right && !listing.has_rows)
         puts("outbox: empty");
-    right = right && base_each(base, INBOX, show_incoming, &in);
-    if (right && !in)
+    listing.has_rows = false;
+    right = right && base_each(base, INBOX, show_incoming, &listing);
+    if (right && !listing.has_rows)
         puts("inbox: empty");
     right = right && base_count_known(base, &known);
     if (right)

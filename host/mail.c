@@ -1,5 +1,6 @@
 /* Rows of outbox and inbox, and what the base knows of our station. */
 #include "bid.h"
+#include "forward.h"
 #include "known.h"
 #include "statement.h"
 
@@ -24,7 +25,7 @@ static void bind_message(sqlite3_stmt *statement, const struct message *message)
     sqlite3_bind_int(statement, 10, message->level);
 }
 
-bool base_add(struct base *base, const struct message *message)
+bool base_add(struct base *base, const struct message *message, long long *number)
 {
     sqlite3_stmt *statement = base_prepare(base, "INSERT INTO outbox (" FIELDS ", state, size, came) VALUES (?,?,?,?,?,?,?,?,?,?, ?,?,?)");
 
@@ -34,7 +35,10 @@ bool base_add(struct base *base, const struct message *message)
         sqlite3_bind_int64(statement, MESSAGE_PLACES + 2, message->size);
         sqlite3_bind_int64(statement, MESSAGE_PLACES + 3, base_now());
     }
-    return base_finish(base, statement) && known_add(base, message->bid, message->type);
+    if (!base_finish(base, statement))
+        return false;
+    *number = sqlite3_last_insert_rowid(base->db);
+    return known_add(base, message->bid, message->type);
 }
 
 /* Which copy of its BID a message that comes now is: 0 if the base has none. */
@@ -64,30 +68,34 @@ bool base_keep(struct base *base, const struct message *message, const struct pa
         sqlite3_bind_int64(statement, MESSAGE_PLACES + 3, passage->session);
         sqlite3_bind_int64(statement, MESSAGE_PLACES + 4, copy);
     }
-    return base_finish(base, statement) && known_add(base, message->bid, message->type);
+    return base_finish(base, statement) && (copy || forward_pass_on(base, sqlite3_last_insert_rowid(base->db), passage->partner))
+        && known_add(base, message->bid, message->type);
 }
 
 bool base_mark(struct base *base, long long number, enum state state, const struct passage *passage)
 {
-    sqlite3_stmt *statement = base_prepare(base, "UPDATE outbox SET state = ?, went = ?, partner = ?, session = ? WHERE number = ?");
+    sqlite3_stmt *statement = base_prepare(base,
+        "INSERT INTO passage (state, went, session, number, call) VALUES (?1, ?2, ?3, ?4, ?5)"
+        " ON CONFLICT (number, call) DO UPDATE SET state = ?1, went = ?2, session = ?3");
 
     if (statement) {
         sqlite3_bind_int(statement, 1, state);
         sqlite3_bind_int64(statement, 2, base_now());
-        bind_part(statement, 3, passage->partner);
-        sqlite3_bind_int64(statement, 4, passage->session);
-        sqlite3_bind_int64(statement, 5, number);
+        sqlite3_bind_int64(statement, 3, passage->session);
+        sqlite3_bind_int64(statement, 4, number);
+        bind_part(statement, 5, passage->partner);
     }
     return base_finish(base, statement);
 }
 
 bool base_defer(struct base *base, long long number, const struct passage *passage)
 {
-    sqlite3_stmt *statement = base_prepare(base, "UPDATE outbox SET deferred = ? WHERE number = ?");
+    sqlite3_stmt *statement = base_prepare(base, "UPDATE passage SET deferred = ? WHERE number = ? AND call = ?");
 
     if (statement) {
         sqlite3_bind_int64(statement, 1, passage->session);
         sqlite3_bind_int64(statement, 2, number);
+        bind_part(statement, 3, passage->partner);
     }
     return base_finish(base, statement);
 }
@@ -137,9 +145,13 @@ bool base_next(struct base *base, long long *number)
     return base_number(base, base_prepare(base, sql), number);
 }
 
-bool base_count_waiting(struct base *base, long long *count)
+bool base_count_waiting(struct base *base, const struct receiver *to, long long *count)
 {
-    return base_number(base, base_prepare(base, "SELECT count(*) FROM outbox WHERE state = 0"), count);
+    sqlite3_stmt *statement = base_prepare(base, "SELECT count(*) FROM " WAITING_FOR);
+
+    if (statement)
+        bind_part(statement, 5, to->partner);
+    return base_number(base, statement, count);
 }
 
 /* ---- rows */
@@ -224,23 +236,25 @@ bool base_each_of(struct base *base, enum box box, struct part bid, message_func
 }
 
 #define EARLIER_WAITS \
-    "EXISTS (SELECT 1 FROM outbox AS first WHERE " SAME_BID("first.bid", "outbox.bid") " AND first.number < outbox.number AND first.state = 0)"
+    "EXISTS (SELECT 1 FROM outbox AS first JOIN passage AS its ON its.number = first.number AND its.call = ?5 AND its.state = 0" \
+    " WHERE " SAME_BID("first.bid", "outbox.bid") " AND first.number < outbox.number AND first.state = 0)"
 
-bool base_waiting(struct base *base, uint8_t level, message_function *function, void *context)
+bool base_waiting(struct base *base, const struct receiver *to, message_function *function, void *context)
 {
     sqlite3_stmt *statement = base_prepare(base,
-        "SELECT number, state, size, " EARLIER_WAITS ", " FIELDS ", came, NULL FROM outbox WHERE number IN " CHOSEN " ORDER BY deferred, number");
+        "SELECT number, outbox.state, size, " EARLIER_WAITS ", " FIELDS ", came, NULL FROM passage JOIN outbox USING (number)"
+        " WHERE passage.call = ?5 AND number IN " CHOSEN " ORDER BY passage.deferred, number");
     struct taker taker = { function, context };
 
-    bind_chosen(statement, level);
+    bind_chosen(statement, to);
     return base_rows(base, statement, take_row, &taker);
 }
 
-bool base_count_too_long(struct base *base, uint8_t level, long long *count)
+bool base_count_too_long(struct base *base, const struct receiver *to, long long *count)
 {
-    sqlite3_stmt *statement = base_prepare(base, "SELECT count(*) FROM outbox WHERE state = 0 AND NOT " FITS_LEVEL);
+    sqlite3_stmt *statement = base_prepare(base, "SELECT count(*) FROM " WAITING_FOR " AND NOT " FITS_LEVEL);
 
-    bind_chosen(statement, level);
+    bind_chosen(statement, to);
     return base_number(base, statement, count);
 }
 
@@ -268,9 +282,4 @@ static bool take_text(void *into, sqlite3_stmt *statement)
 bool base_call(struct base *base, struct bytes *call)
 {
     return base_rows(base, base_prepare(base, "SELECT call FROM station"), take_text, call);
-}
-
-bool base_partner(struct base *base, struct bytes *partner)
-{
-    return base_rows(base, base_prepare(base, "SELECT partner FROM station"), take_text, partner);
 }

@@ -56,6 +56,9 @@ static const struct command commands[] = {
     { "partners", 0, 0, partners_list },
     { "admit", 1, 2, partners_admit },
     { "dismiss", 1, 1, partners_dismiss },
+    { "routes", 0, 0, partners_routes },
+    { "route", 1, 2, partners_route },
+    { "forward", 1, 9999, partners_forward },
     { "call", 1, 1, serve_call },
     { "listen", 1, 1, serve_listen },
     { "stdio", 0, 0, serve_stdio },
@@ -93,6 +96,30 @@ static enum exit_code printed(enum exit_code code)
     return code == DONE ? FAILED : code;
 }
 
+/* Says which isn't. */
+static bool are_right(const struct options *options)
+{
+    struct call partner;
+
+    if (!options->command || (options->caller && options->called)) {
+        say("give a base, a command and at most one role; see --help");
+        return false;
+    }
+    if (*options->partner && !call_read(part_of(options->partner), &partner)) {
+        say("--partner: %s is no callsign (3 to 6 letters and digits, at least one of each)", options->partner);
+        return false;
+    }
+    if (options->level > LEVEL_LAST) {
+        say("--level: a packed text is of level 0 or 1");
+        return false;
+    }
+    if (options->header && !route_can_name(part_of(options->header))) {
+        say("--header: %s is no mailbox (parts of 1 to 6 bytes 0x21-0x7E without @, joined by dots, 38 bytes in all)", options->header);
+        return false;
+    }
+    return true;
+}
+
 int main(int count, char **words)
 {
     struct options options;
@@ -111,18 +138,8 @@ int main(int count, char **words)
         options_version();
         return printed(DONE);
     }
-    if (!options.command || (options.caller && options.called)) {
-        say("give a base, a command and at most one role; see --help");
+    if (!are_right(&options))
         return BAD_USAGE;
-    }
-    if (options.level > LEVEL_LAST) {
-        say("--level: a packed text is of level 0 or 1");
-        return BAD_USAGE;
-    }
-    if (options.header && !route_can_name(part_of(options.header))) {
-        say("--header: %s is no mailbox (parts of 1 to 6 bytes 0x21-0x7E without @, joined by dots, 38 bytes in all)", options.header);
-        return BAD_USAGE;
-    }
     if (options.log && !say_to(options.log))
         return FAILED;
     code = printed(run(&options));

@@ -5,14 +5,16 @@
 #include "bytes.h"
 #include "fringemole.h"
 
-/* The library's states, and one of the host's own: a held message is never lent. */
+/* The library's states, of a message for one partner, and one of the host's own: a held message is never lent. */
 enum state { WAITING = FRINGEMOLE_WAITING, FORWARDED = FRINGEMOLE_FORWARDED, DECLINED = FRINGEMOLE_DECLINED, HELD };
 
 enum form { PLAIN_TEXT = FRINGEMOLE_PLAIN_TEXT, PACKED_MESSAGE = FRINGEMOLE_PACKED_MESSAGE, PACKED_FILE = FRINGEMOLE_PACKED_FILE };
 
 struct message {
     long long number; /* its row in the base, in order of arrival */
-    uint8_t state, form, type;
+    uint8_t state;                       /* WAITING or HELD; what it is for each partner is told by forward.h .. */
+    uint8_t states[FRINGEMOLE_PARTNERS]; /* .. and, of a message to be lent, here */
+    uint8_t form, type;
     uint8_t level; /* of a packed text: 1 with check bytes in front (level.h) */
     struct part from, at, to, bid, title, name, body;
     uint32_t size; /* as announced in a proposal */

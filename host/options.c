@@ -26,9 +26,13 @@ static const char commands_help[] =
     "  home CALL            where CALL's mail goes, by the newest white page\n"
     "  sessions             show what each session did, the newest first\n"
     "  release BID..        let held messages go\n"
-    "  admit CALL [FILE]    CALL may call; its password is FILE's first line (-: standard input)\n"
-    "  dismiss CALL         CALL may no more\n"
-    "  partners             show who may call, and who was there when\n"
+    "  admit CALL [FILE]    CALL is a partner and may call; its password is FILE's first line\n"
+    "                       (-: standard input)\n"
+    "  dismiss CALL         CALL is none any more\n"
+    "  partners             show them: who may call, was there when, what waits for whom\n"
+    "  routes               show which private mail is for whom\n"
+    "  route AT [CALL]      private mail at AT (as FRA.EU, or *) goes to CALL; or no more\n"
+    "  forward BID..        let waiting messages go to others (--for)\n"
     "  call [HOST:]PORT     call a partner over TCP\n"
     "  listen [HOST:]PORT   wait for partners to call over TCP, one at a time\n"
     "  stdio                a session on standard input and output\n"
@@ -54,6 +58,7 @@ static const char options_help_text[] =
     "  --once               listen: end after one session, with its exit code\n"
     "  --drop-after BYTES   drop the link after so many bytes, to see what happens\n"
     "  --rtscts             serial: hardware flow control\n"
+    "  --partner CALL       who the partner is, where nobody says it and there are several\n"
     "  --from CALL          stdio: who calls, as ax25d knows it; served if it is a partner\n"
     "  --listen             agw: wait for partners to call by radio, one at a time\n"
     "  --radio NUMBER       agw: which radio of the TNC, from 0 (0)\n"
@@ -72,7 +77,8 @@ static const char options_help_text[] =
     "  --callers COUNT      listen: at once, one of them in a session (32)\n"
     "Options of the others\n"
     "  --call CALL          init: our callsign, for BIDs of messages that have none\n"
-    "  --partner CALL       init: the partner's callsign, for X-Forwarded-To\n"
+    "  --partner CALL       init: the first partner's callsign\n"
+    "  --for CALL[,CALL]..  import, forward: for these partners, whatever the rule says\n"
     "  --text               import, trace, whitepages: line ends of plain bodies become CR,\n"
     "                       as on the air\n"
     "  --as-is              import, trace, whitepages: plain bodies whose lines end with LF\n"
@@ -100,8 +106,8 @@ static const char ends_help[] =
     "  8  the caller is no partner\n"
     "SIGINT and SIGTERM end it by themselves (a shell shows 130 and 143).\n"
     "\n"
-    "A session takes 64 waiting messages, the oldest first, knows 1,024 BIDs and keeps up to\n"
-    "64 messages. What is left waits for the next session.\n";
+    "A session takes 64 messages that wait for its partner, the oldest first, knows 1,024 BIDs\n"
+    "and keeps up to 64 messages. What is left waits for the next session.\n";
 
 void options_help(void)
 {
@@ -126,6 +132,7 @@ struct option {
 static const struct option table[] = {
     OPTION("--call", TEXT, call),
     OPTION("--partner", TEXT, partner),
+    OPTION("--for", TEXT, for_whom),
     OPTION("--text", FLAG, text),
     OPTION("--as-is", FLAG, as_is),
     OPTION("--level", NUMBER, level),
@@ -208,7 +215,7 @@ static bool take_option(struct options *options, char **words, int count, int *a
 static void defaults(struct options *options)
 {
     memset(options, 0, sizeof *options);
-    options->call = options->partner = "";
+    options->call = options->partner = options->for_whom = "";
     options->question = CALLSIGN_QUESTION;
     options->timeout = 600;
     options->sid_limit = 120;

@@ -9,9 +9,10 @@ struct options {
     char **arguments; /* what follows the command */
     int count;
     /* init */
-    const char *call, *partner;
+    const char *call, *partner; /* and of a session, the partner */
     /* import, export */
     bool text, as_is, outbox;
+    const char *for_whom; /* import, forward */
     long level; /* of packed texts that don't say theirs */
     /* whitepages, home */
     const char *date, *seconds;

@@ -1,4 +1,4 @@
-/* The commands for those who may call. */
+/* The commands for partners: who may call, and what goes to whom. */
 #ifndef PARTNERS_H
 #define PARTNERS_H
 
@@ -8,5 +8,8 @@
 enum exit_code partners_list(const struct options *options);
 enum exit_code partners_admit(const struct options *options);
 enum exit_code partners_dismiss(const struct options *options);
+enum exit_code partners_routes(const struct options *options);
+enum exit_code partners_route(const struct options *options);
+enum exit_code partners_forward(const struct options *options);
 
 #endif

@@ -93,7 +93,29 @@ static const char to_5[] =
     " came INTEGER NOT NULL);"  /* when it was read */
     "CREATE INDEX home_station ON home (station, stamp);";
 
-static const char *const steps[BASE_VERSION] = { to_1, to_2, to_3, to_4, to_5 };
+/* A state a partner (forward.h). Up to here what one partner took counted as forwarded to all, and what waited was for whoever called: marks
+ * now stand for each partner, bulletins wait for all, private mail for the first, which is the base's own if it has one. Beyond eight there
+ * is no place: who has none may call in vain until another is dismissed. Of `state` in the outbox only 0 and 3, held, are left. */
+static const char to_6[] =
+    "CREATE TABLE forward (place INTEGER PRIMARY KEY CHECK (place BETWEEN 0 AND 7), call BLOB NOT NULL UNIQUE);"
+    "CREATE TABLE route (part TEXT NOT NULL PRIMARY KEY, call BLOB NOT NULL);" /* part: capitals, or * */
+    "CREATE TABLE passage (number INTEGER NOT NULL, call BLOB NOT NULL,"       /* of the outbox, and for whom */
+    " state INTEGER NOT NULL,"                                                 /* 0 waiting, 1 forwarded, 2 declined */
+    " went INTEGER, session INTEGER,"                                          /* when it was forwarded or declined, in which session */
+    " deferred INTEGER NOT NULL DEFAULT 0,"                                    /* the last session that deferred it */
+    " PRIMARY KEY (number, call)) WITHOUT ROWID;"
+    "INSERT INTO forward SELECT row_number() OVER (ORDER BY rank, call) - 1, call FROM"
+    " (SELECT 0 AS rank, partner AS call FROM station WHERE length(partner) > 0"
+    "  UNION SELECT 1, call FROM partner WHERE call NOT IN (SELECT partner FROM station)) LIMIT 8;"
+    "INSERT INTO forward SELECT 0, x'' WHERE NOT EXISTS (SELECT 1 FROM forward);"
+    "INSERT INTO passage (number, call, state, went, session, deferred)"
+    " SELECT number, forward.call, state % 3, went, session, deferred FROM outbox, forward"
+    " WHERE type <> 'P' OR place = 0 OR state IN (1, 2);"
+    "UPDATE outbox SET state = 0 WHERE state <> 3;"
+    "DROP INDEX waiting;"
+    "CREATE INDEX passage_waiting ON passage (call, number) WHERE state = 0;";
+
+static const char *const steps[BASE_VERSION] = { to_1, to_2, to_3, to_4, to_5, to_6 };
 
 /* Of a file without our mark. */
 static int nothing_yet(struct base *base, long long mark)

@@ -1,5 +1,6 @@
 #include "serve.h"
 #include "door.h"
+#include "forward.h"
 #include "guest.h"
 #include "login.h"
 #include "partner.h"
@@ -45,13 +46,55 @@ bool serve_base_is_there(const struct options *options)
     return base != NULL;
 }
 
-/* Whom the session is with: the caller who told, or else the base's one partner. */
-static bool find_partner(struct base *base, const struct call *caller, struct bytes *partner)
+/* Where nobody tells whom a session is with: --partner, or else the base's one partner. */
+static enum exit_code guess_partner(struct base *base, const struct options *options, struct bytes *partner)
 {
-    if (!caller->text[0])
-        return base_partner(base, partner);
-    bytes_add(partner, caller->text, strlen(caller->text));
-    return partner_seen(base, part_of(caller->text));
+    struct call call;
+    long long count = 0;
+
+    if (call_read(part_of(options->partner), &call)) {
+        bytes_add(partner, call.text, strlen(call.text));
+        return DONE;
+    }
+    if (!forward_one(base, &count, partner))
+        return BAD_BASE;
+    if (count == 1)
+        return DONE;
+    say("%s: the base has %lld partners; say with --partner which of them this is", options->base, count);
+    return BAD_USAGE;
+}
+
+/* Whom the session is with, and its place; a partner that had none has one now. */
+static enum exit_code find_partner(struct base *base, const struct options *options, const struct call *caller, struct session_terms *terms,
+    struct bytes *partner)
+{
+    enum exit_code code = DONE;
+
+    if (caller->text[0])
+        bytes_add(partner, caller->text, strlen(caller->text));
+    else
+        code = guess_partner(base, options, partner);
+    terms->partner = part_all(partner);
+    if (code != DONE)
+        return code;
+    if (!base_begin(base))
+        return BAD_BASE;
+    if (forward_join(base, terms->partner, &terms->place) && (!caller->text[0] || partner_seen(base, terms->partner)) && base_commit(base))
+        return DONE;
+    base_undo(base);
+    return BAD_BASE;
+}
+
+/* Before anybody is called, or listened to: whether it will be clear whom a session is with that nobody tells. */
+static enum exit_code partner_is_clear(const struct options *options)
+{
+    struct base *base = base_open(options->base, READING);
+    struct bytes partner = { NULL, 0, 0 };
+    enum exit_code code = base ? guess_partner(base, options, &partner) : BAD_BASE;
+
+    bytes_free(&partner);
+    base_close(base);
+    return code;
 }
 
 /* The session itself, on a link that stands. */
@@ -59,14 +102,16 @@ static enum exit_code run_on(struct link *link, const struct options *options, u
 {
     struct base *base = base_for_session(options);
     struct bytes partner = { NULL, 0, 0 };
+    struct session_terms terms = { role, (size_t)options->room, part_of(""), 0, part_of(options->header ? options->header : ""),
+        options->blank_offset };
     enum exit_code code = BAD_BASE;
 
     if (base && options->login && !login(link, options)) {
         code = LINK_DROPPED;
-    } else if (base && find_partner(base, caller, &partner)) {
-        struct session_terms terms = { role, (size_t)options->room, part_all(&partner), part_of(options->header ? options->header : ""),
-            options->blank_offset };
-        code = session_run(base, link, &terms);
+    } else if (base) {
+        code = find_partner(base, options, caller, &terms, &partner);
+        if (code == DONE)
+            code = session_run(base, link, &terms);
     }
     bytes_free(&partner);
     base_close(base);
@@ -136,18 +181,26 @@ enum exit_code serve_on(struct port *port, const struct options *options, uint8_
 enum exit_code serve_call(const struct options *options)
 {
     struct port port;
+    enum exit_code clear;
 
     if (!serve_base_is_there(options))
         return BAD_BASE;
+    clear = partner_is_clear(options);
+    if (clear != DONE)
+        return clear;
     return tcp_call(&port, options->arguments[0]) ? hold(&port, options, FRINGEMOLE_CALLER, NO_DOOR) : BAD_PORT;
 }
 
 enum exit_code serve_serial(const struct options *options)
 {
     struct port port;
+    enum exit_code clear;
 
     if (!serve_base_is_there(options))
         return BAD_BASE;
+    clear = partner_is_clear(options);
+    if (clear != DONE)
+        return clear;
     return serial_open(&port, options->arguments[0], options->arguments[1], options->flow) ? hold(&port, options, FRINGEMOLE_CALLED, NO_DOOR)
                                                                                             : BAD_PORT;
 }
@@ -185,11 +238,19 @@ static bool may_listen(const struct options *options)
     return true;
 }
 
+static enum exit_code answer(int listener, const struct options *options)
+{
+    struct port port;
+
+    if (!options->once)
+        return door_keep(listener, options, visit);
+    return tcp_accept(&port, listener) ? hold(&port, options, FRINGEMOLE_CALLED, NO_DOOR) : BAD_PORT;
+}
+
 enum exit_code serve_listen(const struct options *options)
 {
     struct options with = *options;
-    struct port port;
-    enum exit_code code = BAD_PORT;
+    enum exit_code code;
     bool inside = false;
     int listener;
 
@@ -199,12 +260,9 @@ enum exit_code serve_listen(const struct options *options)
     if (listener < 0)
         return BAD_PORT;
     with.asks = !inside && !options->anyone;
-    if (!may_listen(&with))
-        code = BAD_USAGE;
-    else if (!options->once)
-        code = door_keep(listener, &with, visit);
-    else if (tcp_accept(&port, listener))
-        code = hold(&port, &with, FRINGEMOLE_CALLED, NO_DOOR);
+    code = with.asks ? DONE : partner_is_clear(options);
+    if (code == DONE)
+        code = may_listen(&with) ? answer(listener, &with) : BAD_USAGE;
     close(listener);
     return code;
 }

@@ -127,7 +127,8 @@ static struct fringemole_reply receive(const struct session *session, struct par
 
 static bool lend_for(struct session *session, uint8_t level, bool again)
 {
-    struct lend_terms terms = { session->terms->role, level, session->terms->room, session->terms->mailbox, again };
+    const struct session_terms *its = session->terms;
+    struct lend_terms terms = { its->role, { its->partner, level }, its->place, its->room, its->mailbox, again };
 
     return lend(&session->shelf, session->base, &terms);
 }
@@ -226,6 +227,7 @@ static enum exit_code converse(struct session *session)
 static bool sum_up(struct session *session)
 {
     struct history *history = &session->history;
+    struct receiver to = { session->terms->partner, session->shelf.level };
     long long waiting = 0;
     size_t place, in_state[3] = { 0, 0, 0 };
 
@@ -237,7 +239,7 @@ static bool sum_up(struct session *session)
     history->kept = session->shelf.kept;
     history->sent = session->link->sent;
     history->received = session->link->received;
-    if (!base_count_waiting(session->base, &waiting))
+    if (!base_count_waiting(session->base, &to, &waiting))
         return false;
     say("%lu forwarded, %lu declined, %lld still waiting; %lu kept; %lu bytes sent, %lu received", history->forwarded, history->declined,
         waiting, history->kept, history->sent, history->received);
@@ -248,6 +250,7 @@ static bool sum_up(struct session *session)
 static void say_unoffered(const struct session *session)
 {
     size_t plain = 0, packed = 0;
+    struct receiver to = { session->terms->partner, session->shelf.level };
     long long too_long = 0;
 
     shelf_unoffered(&session->shelf, &plain, &packed);
@@ -255,7 +258,7 @@ static void say_unoffered(const struct session *session)
         say("waiting for a partner without B in its SID: %lu (plain)", (unsigned long)plain);
     if (packed)
         say("waiting for a partner with B in its SID: %lu (packed)", (unsigned long)packed);
-    if (base_count_too_long(session->base, session->shelf.level, &too_long) && too_long)
+    if (base_count_too_long(session->base, &to, &too_long) && too_long)
         say("waiting for a partner at level 0: %lld (packed, and with two check bytes over 65,535 bytes)", too_long);
 }
 

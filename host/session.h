@@ -10,6 +10,7 @@ struct session_terms {
     uint8_t role;        /* FRINGEMOLE_CALLED or _CALLER */
     size_t room;         /* for bodies that come in */
     struct part partner; /* its callsign; empty if nobody told */
+    uint8_t place;       /* of its column */
     struct part mailbox; /* ours, for the routing header of plain messages; empty if they get none */
     bool blank_offset;   /* blanks in the offset of a framed header count as zeros */
 };

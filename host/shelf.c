@@ -69,9 +69,10 @@ static struct message kept_message(const struct shelf *shelf, size_t place)
 
 /* ---- filling */
 
-void shelf_start(struct shelf *shelf, size_t room)
+void shelf_start(struct shelf *shelf, uint8_t partner, size_t room)
 {
     memset(shelf, 0, sizeof *shelf);
+    shelf->partner = partner;
     bytes_zeros(&shelf->inbox, FRINGEMOLE_MAX_MESSAGES * FRINGEMOLE_ENTRY_SIZE);
     bytes_zeros(&shelf->store, room);
 }
@@ -89,7 +90,7 @@ bool shelf_add(struct shelf *shelf, const struct message *message)
     if (place == FRINGEMOLE_MAX_RECORDS || message->body.n > FRINGEMOLE_MAX_BODY)
         return false;
     record = bytes_zeros(&shelf->table, FRINGEMOLE_RECORD_SIZE);
-    record[FRINGEMOLE_RECORD_STATE] = message->state;
+    memcpy(record + FRINGEMOLE_RECORD_STATES, message->states, FRINGEMOLE_PARTNERS);
     record[FRINGEMOLE_RECORD_FORM] = message->form;
     record[FRINGEMOLE_RECORD_TYPE] = message->type;
     put_field(record + FRINGEMOLE_RECORD_FROM, FRINGEMOLE_MAX_CALL, message->from);
@@ -101,7 +102,7 @@ bool shelf_add(struct shelf *shelf, const struct message *message)
     put_part(record + FRINGEMOLE_RECORD_NAME, 1, &shelf->names, message->name);
     put_part(record + FRINGEMOLE_RECORD_BODY, 2, &shelf->bodies, message->body);
     shelf->numbers[place] = message->number;
-    shelf->states[place] = message->state;
+    shelf->states[place] = message->states[shelf->partner];
     return true;
 }
 
@@ -122,7 +123,7 @@ struct fringemole_reply shelf_open(struct shelf *shelf, uint8_t role)
     };
 
     shelf->lent = lent;
-    return fringemole_open_in(&shelf->lent, role);
+    return fringemole_open_in(&shelf->lent, role, shelf->partner);
 }
 
 struct part shelf_bid(const struct shelf *shelf, size_t place)
@@ -134,7 +135,7 @@ struct part shelf_bid(const struct shelf *shelf, size_t place)
 
 static uint8_t state_now(const struct shelf *shelf, size_t place)
 {
-    return shelf->table.at[place * FRINGEMOLE_RECORD_SIZE + FRINGEMOLE_RECORD_STATE];
+    return shelf->table.at[place * FRINGEMOLE_RECORD_SIZE + FRINGEMOLE_RECORD_STATES + shelf->partner];
 }
 
 static bool changed(const struct shelf *shelf)

@@ -13,11 +13,12 @@ struct shelf {
     long long numbers[FRINGEMOLE_MAX_RECORDS];
     uint8_t states[FRINGEMOLE_MAX_RECORDS];
     size_t kept;
-    uint8_t level; /* for which packed texts are on it (level.h) */
+    uint8_t level;   /* for which packed texts are on it (level.h) */
+    uint8_t partner; /* whose column of the table it is for */
 };
 
-/* Empty, with this much room for bodies that come in. */
-void shelf_start(struct shelf *shelf, size_t room);
+/* Empty, for this partner, with this much room for bodies that come in. */
+void shelf_start(struct shelf *shelf, uint8_t partner, size_t room);
 /* False if there is no place, or the body is over 65,535 bytes. */
 bool shelf_add(struct shelf *shelf, const struct message *message);
 bool shelf_know(struct shelf *shelf, struct part bid);

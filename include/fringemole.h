@@ -3,7 +3,8 @@
  * Three calls. Each is lent the same eight buffers; between an accepted open and the session's end nobody else may write them, and no byte
  * that a call may write may be lent twice. Every call answers, ends, and refuses by number, whatever bytes stand in any buffer.
  *
- * Which buffers a call may write:  open: session.  receive: session, table (states only), inbox, store.  give: session, and its own buffer.
+ * Which buffers a call may write:  open: session.  receive: session, table (the states of the session's partner, no others), inbox, store.
+ * give: session, and its own buffer.
  * An empty buffer may be NULL with length 0. Numbers in memory are little end first; entries are bytes without padding.
  *
  * A host's loop, once open has answered FRINGEMOLE_OK:
@@ -27,9 +28,10 @@ extern "C" {
 
 /* ---- sizes in bytes, and limits */
 #define FRINGEMOLE_SESSION_SIZE 1024 /* session memory, exactly; no need to clear it before open */
-#define FRINGEMOLE_RECORD_SIZE 89    /* a record of the table; 0 to 64 of them */
+#define FRINGEMOLE_RECORD_SIZE 96    /* a record of the table; 0 to 64 of them */
 #define FRINGEMOLE_KNOWN_SIZE 13     /* a known BID; 0 to 1,024 of them */
 #define FRINGEMOLE_ENTRY_SIZE 155    /* a message of the inbox; 0 to 64 places */
+#define FRINGEMOLE_PARTNERS 8        /* partners 0 to 7, a column of the table each */
 #define FRINGEMOLE_MAX_RECORDS 64
 #define FRINGEMOLE_MAX_KNOWN 1024
 #define FRINGEMOLE_MAX_MESSAGES 64
@@ -44,7 +46,7 @@ extern "C" {
 #define FRINGEMOLE_MAX_BODY 65535    /* any bytes; that of a plain text (form 0) without 0x1A */
 #define FRINGEMOLE_MAX_SIZE 999999   /* announced size; it need not be the body's length */
 
-enum { /* state of a record */
+enum { /* state of a record, for one partner */
     FRINGEMOLE_WAITING = 0,
     FRINGEMOLE_FORWARDED = 1,
     FRINGEMOLE_DECLINED = 2
@@ -63,20 +65,21 @@ enum { /* our role */
 
 /* ---- a record of the table: offsets. Title, name and body are a start and a length in their stores; also an empty one starts within its
  * store or at its end (start 0 will do). The title or name that the form doesn't need is empty, or as the needed one must be. */
-#define FRINGEMOLE_RECORD_STATE 0        /* FRINGEMOLE_WAITING, _FORWARDED or _DECLINED; only waiting ones are proposed */
-#define FRINGEMOLE_RECORD_FORM 1         /* FRINGEMOLE_PLAIN_TEXT, _PACKED_MESSAGE or _PACKED_FILE */
-#define FRINGEMOLE_RECORD_TYPE 2         /* 'P' or 'B', a capital */
-#define FRINGEMOLE_RECORD_FROM 3         /* length 1 to 6; bytes from 4 on */
-#define FRINGEMOLE_RECORD_AT 10          /* length 1 to 38; bytes from 11 on */
-#define FRINGEMOLE_RECORD_TO 49          /* length 1 to 6; bytes from 50 on */
-#define FRINGEMOLE_RECORD_BID 56         /* length 1 to 12; bytes from 57 on */
-#define FRINGEMOLE_RECORD_SIZE_FIELD 69  /* announced size, 4 bytes, 0 to 999,999 */
-#define FRINGEMOLE_RECORD_TITLE 73       /* start in the title store, 4 bytes */
-#define FRINGEMOLE_RECORD_TITLE_LEN 77   /* 1 byte, 0 to 80 */
-#define FRINGEMOLE_RECORD_NAME 78        /* start in the name store, 4 bytes */
-#define FRINGEMOLE_RECORD_NAME_LEN 82    /* 1 byte, 0 to 80 */
-#define FRINGEMOLE_RECORD_BODY 83        /* start in the body store, 4 bytes */
-#define FRINGEMOLE_RECORD_BODY_LEN 87    /* 2 bytes, 0 to 65,535 */
+#define FRINGEMOLE_RECORD_STATES 0       /* one a partner, 8 bytes, partner 0 first: FRINGEMOLE_WAITING, _FORWARDED or _DECLINED; a session
+                                          * proposes what waits for its partner, and changes that partner's bytes alone */
+#define FRINGEMOLE_RECORD_FORM 8         /* FRINGEMOLE_PLAIN_TEXT, _PACKED_MESSAGE or _PACKED_FILE */
+#define FRINGEMOLE_RECORD_TYPE 9         /* 'P' or 'B', a capital */
+#define FRINGEMOLE_RECORD_FROM 10        /* length 1 to 6; bytes from 11 on */
+#define FRINGEMOLE_RECORD_AT 17          /* length 1 to 38; bytes from 18 on */
+#define FRINGEMOLE_RECORD_TO 56          /* length 1 to 6; bytes from 57 on */
+#define FRINGEMOLE_RECORD_BID 63         /* length 1 to 12; bytes from 64 on */
+#define FRINGEMOLE_RECORD_SIZE_FIELD 76  /* announced size, 4 bytes, 0 to 999,999 */
+#define FRINGEMOLE_RECORD_TITLE 80       /* start in the title store, 4 bytes */
+#define FRINGEMOLE_RECORD_TITLE_LEN 84   /* 1 byte, 0 to 80 */
+#define FRINGEMOLE_RECORD_NAME 85        /* start in the name store, 4 bytes */
+#define FRINGEMOLE_RECORD_NAME_LEN 89    /* 1 byte, 0 to 80 */
+#define FRINGEMOLE_RECORD_BODY 90        /* start in the body store, 4 bytes */
+#define FRINGEMOLE_RECORD_BODY_LEN 94    /* 2 bytes, 0 to 65,535 */
 
 /* ---- a known BID: its length (1 to 12), then its bytes */
 #define FRINGEMOLE_KNOWN_BID 0
@@ -100,7 +103,8 @@ enum { /* our role */
 #define FRINGEMOLE_SESSION_BODY 96       /* body bytes so far of the message that is coming in, 4 bytes */
 #define FRINGEMOLE_SESSION_DEFERRED 160  /* a flag a record, 64 bytes: 1 if the partner has deferred it in this session */
 #define FRINGEMOLE_SESSION_LEVEL 117     /* the level in force, 1 byte, once the partner's SID has come: 0 is level 0, any other number level 1 */
-/* Bytes 118 to 159 and 920 to 1,023 of it are free: no call reads or writes them, but later versions will. */
+#define FRINGEMOLE_SESSION_PARTNER 118   /* the partner that open was told, 1 byte */
+/* Bytes 119 to 159 and 920 to 1,023 of it are free: no call reads or writes them, but later versions will. */
 #define FRINGEMOLE_LAST_SID_PHASE 1
 #define FRINGEMOLE_ANSWER_PHASE 4        /* the partner's FS line */
 #define FRINGEMOLE_TRANSFER_PHASE 5
@@ -126,7 +130,7 @@ enum {
     FRINGEMOLE_LAST = FRINGEMOLE_WRONG_BLOCK_SUM /* the greatest of these numbers, for arrays; later versions have greater ones */
 };
 
-/* The place with FRINGEMOLE_BAD_MEMORY where it is no record's: role, sizes or known BIDs; from receive and give, always. */
+/* The place with FRINGEMOLE_BAD_MEMORY where it is no record's: partner, role, sizes or known BIDs; from receive and give, always. */
 #define FRINGEMOLE_NO_RECORD 255
 
 /* answer: one of the numbers; place: 0, but with answer 1; count: bytes consumed by receive (a refused one included), or given by give;
@@ -137,9 +141,10 @@ struct fringemole_reply {
     size_t count;
 };
 
-/* role: FRINGEMOLE_CALLED or FRINGEMOLE_CALLER. A refused open changes no lent byte; an accepted one writes session memory only. It checks
- * role, sizes and known BIDs first, then the records in order; of two with one BID the later is bad. */
-struct fringemole_reply fringemole_open(uint8_t role,
+/* role: FRINGEMOLE_CALLED or FRINGEMOLE_CALLER; partner: 0 to 7, whose column of the table the session reads and marks. A refused open changes
+ * no lent byte; an accepted one writes session memory only. It checks the partner first, then role, sizes and known BIDs, then the records in
+ * order, with the states of all eight partners; of two with one BID the later is bad. */
+struct fringemole_reply fringemole_open(uint8_t role, uint8_t partner,
     uint8_t *session, size_t session_len,
     const uint8_t *table, size_t table_len,
     const uint8_t *titles, size_t titles_len,
@@ -189,9 +194,9 @@ struct fringemole_memory {
     uint8_t *store; size_t store_len;
 };
 
-static inline struct fringemole_reply fringemole_open_in(const struct fringemole_memory *m, uint8_t role)
+static inline struct fringemole_reply fringemole_open_in(const struct fringemole_memory *m, uint8_t role, uint8_t partner)
 {
-    return fringemole_open(role, m->session, m->session_len, m->table, m->table_len, m->titles, m->titles_len, m->names, m->names_len,
+    return fringemole_open(role, partner, m->session, m->session_len, m->table, m->table_len, m->titles, m->titles_len, m->names, m->names_len,
         m->bodies, m->bodies_len, m->known, m->known_len, m->inbox, m->inbox_len, m->store, m->store_len);
 }
 

@@ -9,6 +9,8 @@ use second::session::{self, Reply, Session};
 /// Our roles.
 const CALLED: u8 = 0;
 const CALLER: u8 = 1;
+/// Whom it is with.
+const PARTNER: u8 = 0;
 
 pub trait End {
     /// What rewinds the session. Table, inbox and store stay as they are: up to
@@ -54,7 +56,7 @@ impl Library {
 
     fn in_role(role: u8, host: Buffers) -> Library {
         let mut end = Library { buffers: host };
-        assert_eq!(library::open(role, end.lend()), Reply::ok(0));
+        assert_eq!(library::open(role, PARTNER, end.lend()), Reply::ok(0));
         end
     }
 
@@ -103,7 +105,7 @@ impl End for Second {
     type Mark = Session;
 
     fn open(host: Buffers) -> Second {
-        let (session, memory) = session::open(CALLED, &host.lent()).expect("a good host");
+        let (session, memory) = session::open(CALLED, PARTNER, &host.lent()).expect("a good host");
         Second { session, memory }
     }
 

@@ -63,7 +63,11 @@ static void fill_table(struct fringemole_memory *m)
         uint8_t *record = m->table + i * FRINGEMOLE_RECORD_SIZE;
         uint8_t form = once_in(4) ? (uint8_t)below(3) : mode;
         size_t heading = 1 + below(FRINGEMOLE_MAX_HEADING), body = below(BODY_ROOM + 1);
+        size_t partner;
         put_record(record, form, "", heading, body);
+        for (partner = 0; partner < FRINGEMOLE_PARTNERS; partner++) {
+            record[FRINGEMOLE_RECORD_STATES + partner] = once_in(3) ? (uint8_t)below(3) : FRINGEMOLE_WAITING;
+        }
         put_bid(record, FRINGEMOLE_RECORD_BID, "%u_OURS", i);
     }
 }
@@ -132,7 +136,7 @@ static void forget(struct before *copy)
     }
 }
 
-/* What a call may write: bits by the buffers' order; of the table, states only, and of session memory no free byte. */
+/* What a call may write: bits by the buffers' order; of the table, states of one partner only, and of session memory no free byte. */
 #define SESSION_ONLY 0x01
 #define TABLE 0x02
 #define BY_RECEIVE 0xC3
@@ -156,8 +160,10 @@ static void only_changed(const struct fringemole_memory *m, const struct before 
         }
     }
     free_bytes_stand(m, copy->bytes[0]);
-    for (j = 0; may & TABLE && j < m->table_len; j++) {
-        must(m->table[j] == copy->bytes[1][j] || j % FRINGEMOLE_RECORD_SIZE == FRINGEMOLE_RECORD_STATE, "more than a state changed");
+    for (j = 0; may & TABLE && j < m->table_len; j++) { /* of the partner that session memory names, whoever wrote it there */
+        size_t column = (size_t)FRINGEMOLE_RECORD_STATES + copy->bytes[0][FRINGEMOLE_SESSION_PARTNER];
+        must(m->table[j] == copy->bytes[1][j] || j % FRINGEMOLE_RECORD_SIZE == column,
+            "more than a state of the partner changed");
     }
 }
 
@@ -322,7 +328,7 @@ static void play(void)
 {
     struct fringemole_memory m = random_memory();
     struct before copy = copy_of(&m);
-    struct fringemole_reply reply = fringemole_open_in(&m, (uint8_t)below(2));
+    struct fringemole_reply reply = fringemole_open_in(&m, (uint8_t)below(2), (uint8_t)below(FRINGEMOLE_PARTNERS));
     size_t quiet = below(12), changed = 5 + below(20);
 
     only_changed(&m, &copy, SESSION_ONLY);

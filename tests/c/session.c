@@ -76,10 +76,29 @@ static void put_known(struct fringemole_memory *m, const char *bid)
 
 /* ---- the three calls, as steps */
 
+#define PARTNER 5 /* of these sessions */
+
+static void opens_for(const struct fringemole_memory *m, uint8_t role, uint8_t partner, unsigned answer, unsigned place)
+{
+    printf("open, role %u, partner %u:", role, partner);
+    verdict(is(fringemole_open_in(m, role, partner), answer, place, 0));
+}
+
 static void opens(const struct fringemole_memory *m, uint8_t role, unsigned answer, unsigned place)
 {
-    printf("open, role %u:", role);
-    verdict(is(fringemole_open_in(m, role), answer, place, 0));
+    opens_for(m, role, PARTNER, answer, place);
+}
+
+/* The record's state for the sessions' partner; for the others it waits. */
+static int state_is(const struct fringemole_memory *m, unsigned state)
+{
+    size_t partner;
+    int right = m->session[FRINGEMOLE_SESSION_PARTNER] == PARTNER;
+
+    for (partner = 0; partner < FRINGEMOLE_PARTNERS; partner++) {
+        right = right && m->table[FRINGEMOLE_RECORD_STATES + partner] == (partner == PARTNER ? state : FRINGEMOLE_WAITING);
+    }
+    return right;
 }
 
 /* The partner says n bytes, of which receive takes `count`. */
@@ -180,9 +199,9 @@ static void plain_exchange(void)
     SAYS(&m, "FB P F6FBB FC1GHV FC1MVP 1_F6FBB 2\rF>\r");
     HEARS(&m, "; hello\rFS +\r");
     SAYS(&m, "HI\rAB\x1A\r");
-    stands("not forwarded yet", m.table[FRINGEMOLE_RECORD_STATE] == 0);
+    stands("not forwarded yet", state_is(&m, FRINGEMOLE_WAITING));
     HEARS(&m, "FF\r");
-    stands("forwarded", m.table[FRINGEMOLE_RECORD_STATE] == 1);
+    stands("forwarded", state_is(&m, FRINGEMOLE_FORWARDED));
     SAYS(&m, "FQ\r");
     hears(&m, BYTES("\n"), FRINGEMOLE_ENDED, 0);
     take_back(&m);
@@ -202,7 +221,7 @@ static void framed_exchange(void)
     HEARS(&m, "FS +\r");
     SAYS(&m, "\x01\x05HI\x00\x30\x00\x02\x02" "AB\x04\x7D");
     HEARS(&m, "FA B FC1GHV F6FBB.FRA ALL 1_THEM 2\rFB P A B C 2_THEM 99\rF>\r");
-    stands("forwarded", m.table[FRINGEMOLE_RECORD_STATE] == 1);
+    stands("forwarded", state_is(&m, FRINGEMOLE_FORWARDED));
     SAYS(&m, "FS +=\r");
     HEARS(&m, "\x01\x05HI\x00\x30\x00\x02\x02" "AB\x04\x7D");
     stands("one packed message kept", one_message(&m, FRINGEMOLE_PACKED_MESSAGE));
@@ -234,7 +253,7 @@ static void block_sums(void)
             hears(&m, BYTES("FB P A B C 1_B 2\r\nF> 92\rmore"), FRINGEMOLE_WRONG_BLOCK_SUM, 24);
             SAYS(&m, "*** Protocol error\r");
         }
-        stands("forwarded by a valid turn alone", m.table[FRINGEMOLE_RECORD_STATE] == right);
+        stands("forwarded by a valid turn alone", state_is(&m, right));
         take_back(&m);
     }
 }
@@ -290,6 +309,33 @@ static void refusals(void)
     take_back(&m);
 }
 
+/* Partners 0 to 7, tested first; and a state of each column, whoever the session is with. */
+static void partners(void)
+{
+    struct fringemole_memory m = memory_with(PLACES, ROOM);
+    static const uint8_t columns[3] = { 0, PARTNER, FRINGEMOLE_PARTNERS - 1 };
+    size_t i;
+
+    puts("# partners");
+    one_record(&m, FRINGEMOLE_PLAIN_TEXT);
+    opens_for(&m, FRINGEMOLE_CALLED, 0, FRINGEMOLE_OK, 0);
+    opens_for(&m, FRINGEMOLE_CALLED, 7, FRINGEMOLE_OK, 0);
+    opens_for(&m, FRINGEMOLE_CALLED, 8, FRINGEMOLE_BAD_MEMORY, FRINGEMOLE_NO_RECORD);
+    opens_for(&m, FRINGEMOLE_CALLED, 255, FRINGEMOLE_BAD_MEMORY, FRINGEMOLE_NO_RECORD);
+    for (i = 0; i < sizeof columns; i++) {
+        m.table[FRINGEMOLE_RECORD_STATES + columns[i]] = FRINGEMOLE_DECLINED;
+        opens(&m, FRINGEMOLE_CALLED, FRINGEMOLE_OK, 0);
+        m.table[FRINGEMOLE_RECORD_STATES + columns[i]] = FRINGEMOLE_DECLINED + 1;
+        opens(&m, FRINGEMOLE_CALLED, FRINGEMOLE_BAD_MEMORY, 0);
+        opens_for(&m, FRINGEMOLE_CALLED, 8, FRINGEMOLE_BAD_MEMORY, FRINGEMOLE_NO_RECORD);
+        m.table[FRINGEMOLE_RECORD_STATES + columns[i]] = FRINGEMOLE_WAITING;
+    }
+    opens(&m, FRINGEMOLE_CALLED, FRINGEMOLE_OK, 0);
+    m.session[FRINGEMOLE_SESSION_PARTNER] = 8;
+    stands("a partner that there isn't", is(fringemole_receive_in(&m, NULL, 0), FRINGEMOLE_BAD_MEMORY, FRINGEMOLE_NO_RECORD, 0));
+    take_back(&m);
+}
+
 int main(void)
 {
     whole_session();
@@ -298,6 +344,7 @@ int main(void)
     block_sums();
     reasons();
     refusals();
+    partners();
     printf("c: %u steps, 0 wrong\n", steps);
     return 0;
 }

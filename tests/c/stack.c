@@ -34,7 +34,7 @@ static void open_here(void)
     volatile uint8_t here = 0;
 
     level = &here;
-    reply = fringemole_open_in(&m, role);
+    reply = fringemole_open_in(&m, role, FRINGEMOLE_PARTNERS - 1);
 }
 
 static void receive_here(void)

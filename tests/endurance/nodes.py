@@ -51,7 +51,7 @@ class Base:
 
     def look(self):
         """Reads what has changed. A mark is final, and what was kept before stays."""
-        for bid, state in self.node.rows("SELECT bid, state FROM outbox"):
+        for bid, state in self.node.rows("SELECT bid, passage.state FROM outbox JOIN passage USING (number)"):
             before = self.states.get(bid, WAITING)
             if before not in (WAITING, state):
                 raise Wrong(f"{self.name}: {bid} was marked {before}, then {state}")
@@ -164,4 +164,5 @@ def main():
     return 0
 
 
-sys.exit(main())
+if __name__ == "__main__":
+    sys.exit(main())

@@ -126,7 +126,19 @@ class Node:
         return rows
 
     def states(self):
-        return {bid: state for bid, state in self.ask("SELECT bid, state FROM outbox ORDER BY number")}
+        """Of each message for the base's partner, or HELD."""
+        return {bid: state for bid, state in self.ask(
+            "SELECT bid, CASE WHEN outbox.state = 3 AND passage.state = 0 THEN 3 ELSE passage.state END FROM outbox JOIN passage USING (number) JOIN forward USING (call)"
+            " WHERE place = 0 ORDER BY number")}
+
+    def states_of(self, call):
+        """The same for one of several partners; a message that isn't for it isn't there."""
+        return {bid: state for bid, state in self.ask(
+            "SELECT bid, passage.state FROM outbox JOIN passage USING (number) WHERE call = ? ORDER BY number", call)}
+
+    def mark(self, state, where="1"):
+        """Messages of the outbox have this state, for everybody."""
+        self.ask("UPDATE passage SET state = ? WHERE number IN (SELECT number FROM outbox WHERE " + where + ")", state)
 
     def inbox(self):
         return self.ask("SELECT " + COLUMNS + " FROM inbox ORDER BY number")

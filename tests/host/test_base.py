@@ -68,7 +68,7 @@ class Bases(Folder):
                 partner.says(b"FS --\rFF\r")
                 partner.hears(b"FQ\r")
                 self.says_why(partner.ends(), DONE, "BID " + bid + ", is held: " + rule)
-                self.assertEqual(node.ask("SELECT state FROM outbox ORDER BY number"), [(DECLINED,), (HELD,), (DECLINED,)])
+                self.assertEqual(list(node.states().values()), [DECLINED, HELD, DECLINED])
 
     def test_twins(self):
         "of two messages with one BID (one of them stored as text, so that SQLite takes them for two) the first goes, the second is held"
@@ -81,7 +81,7 @@ class Bases(Folder):
         partner.says(b"FS -\rFF\r")
         partner.hears(b"FQ\r")
         self.says_why(partner.ends(), DONE, "message 2 of the base, BID 1_A, is held: another message of the outbox has this BID")
-        self.assertEqual(node.ask("SELECT state FROM outbox ORDER BY number"), [(DECLINED,), (HELD,)])
+        self.assertEqual(node.ask("SELECT passage.state, outbox.state FROM outbox JOIN passage USING (number) ORDER BY number"), [(DECLINED, 0), (WAITING, HELD)])
 
     def test_many_bad_rows(self):
         "bad rows take nobody's place: behind 100 of them the others still go"

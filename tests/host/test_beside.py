@@ -268,9 +268,9 @@ class Told(Folder):
         after = int(time.time())
         (began, ended), = node.ask("SELECT began, ended FROM session")
         self.assertTrue(before <= began <= ended <= after)
-        went = node.ask("SELECT bid, came, went, partner, session, deferred FROM outbox ORDER BY number")
+        went = node.ask("SELECT bid, came, passage.went, call, passage.session, passage.deferred FROM outbox JOIN passage USING (number) ORDER BY number")
         self.assertEqual([(bid, partner, session, deferred) for bid, _, _, partner, session, deferred in went],
-                         [(b"0_US", b"F0SOU", 1, 0), (b"1_US", b"F0SOU", 1, 0), (b"2_US", None, None, 1)])
+                         [(b"0_US", b"F0SOU", 1, 0), (b"1_US", b"F0SOU", 1, 0), (b"2_US", b"F0SOU", None, 1)])
         for _, came, when, _, session, _ in went:
             self.assertTrue(before <= came <= after and (when is None if session is None else before <= when <= after))
         (when, *rest), = node.ask("SELECT came, partner, session, copy FROM inbox")

@@ -46,7 +46,8 @@ class Exact(Folder):
         self.assertEqual(len(files), len(messages))
         second.right("import", *sorted(files))
         self.assertEqual(sorted(second.outbox()), sorted(rows))
-        self.assertEqual(sorted(first.ask("SELECT bid, size, state FROM outbox")), sorted(second.ask("SELECT bid, size, state FROM outbox")))
+        sizes = "SELECT bid, size FROM outbox ORDER BY bid"
+        self.assertEqual((first.ask(sizes), first.states()), (second.ask(sizes), second.states()))
 
     def test_form(self):
         "the exported file is the form that the samples have, with X-Length only where it is needed"

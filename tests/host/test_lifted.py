@@ -4,7 +4,7 @@ from node import *
 VERSION_1 = (ROOT / "tests" / "host" / "version1.sql").read_text()
 VERSION_2 = (ROOT / "tests" / "host" / "version2.sql").read_text()
 VERSION_3 = (ROOT / "tests" / "host" / "version3.sql").read_text()
-TODAY = 5
+TODAY = 6
 
 
 def shape(node):
@@ -34,7 +34,9 @@ class Lifted(Folder):
         self.assertEqual(node.states(), {b"1_US": FORWARDED, b"2_US": DECLINED, b"3_US": WAITING, b"4_US": WAITING, b"5_US": HELD})
         self.assertEqual(node.ask("SELECT bid, copy FROM inbox ORDER BY number"), [(b"1_T", 0), (b"2_T", 0), (b"1_T", 1), (b"1_US", 1)])
         self.assertEqual(node.ask("SELECT DISTINCT came, partner, session FROM inbox"), [(None, b"F0SOU", 0)])
-        self.assertEqual(node.ask("SELECT DISTINCT came, went, partner, session, deferred FROM outbox"), [(None, None, None, None, 0)])
+        self.assertEqual(node.ask("SELECT DISTINCT came FROM outbox"), [(None,)])
+        self.assertEqual(node.ask("SELECT DISTINCT call, went, session, deferred FROM passage"), [(b"F0SOU", None, None, 0)])
+        self.assertEqual(node.ask("SELECT place, call FROM forward"), [(0, b"F0SOU")])
         self.assertEqual(node.ask("SELECT bid, type FROM known ORDER BY number"),
                          [(b"2_US", "P"), (b"3_US", "B"), (b"4_US", "P"), (b"5_US", "P"), (b"2_T", "B"), (b"1_T", "P"), (b"1_US", "P")])
         self.assertEqual(node.ask("SELECT call, partner FROM station"), [(b"N0DE", b"F0SOU")])

@@ -52,7 +52,7 @@ class Copies(Kept):
         node = self.node().add(self.plain(b"1_US", b"ours"))
         texts = [self.plain(b"1_T", b"first"), self.plain(b"1_T", b"second"), self.plain(b"1_T", b"third"), self.plain(b"1_US", b"ours came back")]
         self.sends(node, texts[0])
-        node.ask("UPDATE outbox SET state = 1")
+        node.mark(FORWARDED)
         for number, text in enumerate(texts[1:]):
             self.sends(node, self.plain(b"X%d" % number, b"another"))
             self.import_others(node, b"%d-" % number)

@@ -147,12 +147,12 @@ class Limits(Sessions):
         "a session takes 64, the oldest first; with more, half of them plain and half packed"
         node = self.node().add(*[Message(b"%03d" % i, form="plain") for i in range(66)])
         self.assertEqual(self.proposed(node), [b"%03d" % i for i in range(64)])
-        node.ask("UPDATE outbox SET deferred = 0")
+        node.ask("UPDATE passage SET deferred = 0")
         node.add(*[Message(b"P%03d" % i) for i in range(40)])
         self.assertEqual(self.proposed(node), [b"%03d" % i for i in range(32)])
         self.assertEqual(self.proposed(node, FRAMED_SID), [b"P%03d" % i for i in range(32)])
-        node.ask("UPDATE outbox SET deferred = 0")
-        node.ask("UPDATE outbox SET state = 1 WHERE form = 1 AND number > 70")
+        node.ask("UPDATE passage SET deferred = 0")
+        node.mark(FORWARDED, "form = 1 AND number > 70")
         self.assertEqual(self.proposed(node), [b"%03d" % i for i in range(60)])
 
     def test_deferred(self):
@@ -176,7 +176,7 @@ class Limits(Sessions):
     def test_known(self):
         "what was kept is known at the next session; so is all that ever was in the outbox"
         node = self.node().add(Message(b"OUT", form="plain"), Message(b"DONE", form="plain"))
-        node.ask("UPDATE outbox SET state = 1 WHERE bid = ?", b"DONE")
+        node.mark(FORWARDED, "bid = CAST('DONE' AS BLOB)")
         partner = self.called(node)
         partner.says(Message(b"IN", form="plain").proposal() + b"F>\r")
         partner.hears(b"FS +\r")

@@ -337,7 +337,9 @@ class Bases(Pages):
     def test_before(self):
         "a base of the version before is lifted"
         node = self.node().add(Message(b"1_A"))
-        node.ask("DROP TABLE home")
+        for table in ("home", "forward", "route", "passage"):
+            node.ask("DROP TABLE " + table)
+        node.ask("CREATE INDEX waiting ON outbox (number) WHERE state = 0")
         node.ask("PRAGMA user_version = 4")
         self.says_why(node.run("home", "OE3DZW"), BAD_USAGE, "no white page")
         self.read(node, SAMPLE)

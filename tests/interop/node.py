@@ -99,7 +99,7 @@ class Node:
 
     def states(self):
         """{BID: state} of the outbox."""
-        return dict(self.rows("SELECT bid, state FROM outbox ORDER BY number"))
+        return dict(self.rows("SELECT bid, CASE outbox.state WHEN 3 THEN 3 ELSE passage.state END FROM outbox JOIN passage USING (number) ORDER BY number"))
 
     def inbox(self):
         """[(BID, heading, body)] in order."""

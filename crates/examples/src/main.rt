@@ -5,8 +5,10 @@ ghost use mathlib.Core.Path.{_≡_};
 ghost use Prim.Native.Nat.{_≤_};
 ghost use lib.ListN.{length};
 
-// The role of a called station.
+// The role of a called station, and its first partner.
 const CALLED: u8 = 0;
+
+const FIRST_PARTNER: u8 = 0;
 
 const CR: u8 = 13;
 
@@ -60,7 +62,18 @@ fn session_memory() -> [u8; 1024]
 
 // Opens the session.
 fn opened(session: &mut [u8]) {
-    let reply = open::open(CALLED, session, b"", b"", b"", b"", b"", b"", b"");
+    let reply = open::open(
+        CALLED,
+        FIRST_PARTNER,
+        session,
+        b"",
+        b"",
+        b"",
+        b"",
+        b"",
+        b"",
+        b"",
+    );
     tell(b"open", reply);
 }
 

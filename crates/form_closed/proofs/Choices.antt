@@ -35,13 +35,13 @@ places-octets : (md : Bool) (T : List Record) (is : List ℕ) → length T ≤ 6
 places-octets md T [] h p = octets-nil
 places-octets md T (i ∷ is) h p = octets-cons (omega (arith, p .0)) (places-octets md T is h (p .2))
 
-pub choose-ok : (table : Bytes) (md : Bool) (flags : Bytes) → FiveOk (chooseOf table md flags)
+pub choose-ok : (p : ℕ) (table : Bytes) (md : Bool) (flags : Bytes) → FiveOk (chooseOf p table md flags)
 unfolding chooseOf recordsOf
-choose-ok table md flags =
+choose-ok p table md flags =
     let T : List Record = recordsOf [] [] [] table in
     let l : length T ≡ recordCount table = entries-length (recordOf [] [] []) recordLen table 0 (recordCount table) in
-    five-of (chosen T md (statesOf table) flags) (few T md (statesOf table) flags)
-    (places-octets md T (chosen T md (statesOf table) flags) (omega (arith, l)) (chosen-places T md (statesOf table) flags))
+    five-of (chosen T md (statesOf p table) flags) (few T md (statesOf p table) flags)
+    (places-octets md T (chosen T md (statesOf p table) flags) (omega (arith, l)) (chosen-places T md (statesOf p table) flags))
 
 -- we accept no more than the inbox has places for
 module _ (E : Shelf) (ms : List Message) where

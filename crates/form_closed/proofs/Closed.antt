@@ -13,7 +13,7 @@ use Rattle.grammar.specs.Bytes.{Bytes}
 use Rattle.grammar.specs.Refusals.{badMemory, sessionEnded}
 use Rattle.grammar.proofs.Basics.{and2, no-both}
 use Rattle.buffer.specs.Put.{cut}
-use Rattle.places.specs.Places.{entryLen, knownLen, numbersStart, recordLen, sessionLen}
+use Rattle.places.specs.Places.{entryLen, knownLen, numbersStart, partners, recordLen, sessionLen}
 use Rattle.layout.specs.Layout.{le8}
 use Rattle.layout.proofs.Laws.{octets}
 use Rattle.session_memory.specs.State.{at, flag, loadOf, loadSizes, saveOf, sizesOut, saveSizes, freshOf}
@@ -179,20 +179,20 @@ unfolding saveSizes
 octets-written sm z o = octets-put sm (at 0) (sizesOut z) o (sizes-octets z)
 
 -- a session right after open
-fresh-good : (F : Fixed) (caller : Bool) (table inbox store : Bytes) → Octets table → Octets inbox → Octets store → length store < 18446744073709551616
-    → placeCount inbox ≤ 64 → Good F (length table) (length inbox) (length store) (cs (freshOf caller) table inbox store)
+fresh-good : (F : Fixed) (caller : Bool) (partner : ℕ) → partner < partners → (table inbox store : Bytes) → Octets table → Octets inbox → Octets store → length store < 18446744073709551616
+    → placeCount inbox ≤ 64 → Good F (length table) (length inbox) (length store) (cs (freshOf caller partner) table inbox store)
 unfolding freshOf usedBy
-fresh-good F caller table inbox store ot oi os fits few =
+fresh-good F caller partner column table inbox store ot oi os fits few =
     record {
       now = record { phase = phase caller; current = omega arith; proposals = omega arith; ours = none-ok; sum = omega arith; block = length-replicate {A = ℕ} 360 0; octets = octets-zeros 360 };
       say = record { first = first caller; then = omega arith; pos = omega arith; signs = none-ok };
-      keep = record { terms = record { level = omega arith }; sending = none-ok; flags = length-replicate {A = ℕ} 64 0; octets = octets-zeros 64 };
+      keep = record { terms = record { level = omega arith; partner = column }; sending = none-ok; flags = length-replicate {A = ℕ} 64 0; octets = octets-zeros 64 };
       reader = record { place = omega arith; len = omega arith; head = omega arith; off = omega arith; left = omega arith; sum = omega arith; body = omega arith };
       heading = record { size = length-replicate {A = ℕ} 80 0; octets = octets-zeros 80 };
       line = record { len = omega arith; size = length-replicate {A = ℕ} 256 0; octets = octets-zeros 256 };
       box = record { limit = few; placed = omega arith; used = refl; within = omega arith };
       awaited = record { quiet = λ a b. refl; under = λ e. absurd (five caller e); closed = λ l. absurd (live caller l) };
-      waiting = λ e. waiting-some (freshOf caller) table (F .titles) (F .names) (F .bodies) none-ok (λ l. absurd (omega arith)) e;
+      waiting = λ e. waiting-some (freshOf caller partner) table (F .titles) (F .names) (F .bodies) none-ok (λ l. absurd (omega arith)) e;
       lent = record { table = refl; inbox = refl; store = refl; fits = fits; tableOctets = ot; inboxOctets = oi; storeOctets = os };
     }
   where
@@ -213,35 +213,36 @@ fresh-good F caller table inbox store ot oi os fits few =
     five false e = omega arith
 
 -- so it can be saved, whatever is lent
-pub fresh-shaped : (F : Fixed) (caller : Bool) → Shaped (freshOf caller)
-fresh-shaped F caller =
-    shaped F 0 0 0 (cs (freshOf caller) [] [] []) (fresh-good F caller [] [] [] octets-nil octets-nil octets-nil (omega arith) (omega arith))
+pub fresh-shaped : (F : Fixed) (caller : Bool) (partner : ℕ) → partner < partners → Shaped (freshOf caller partner)
+fresh-shaped F caller partner column =
+    shaped F 0 0 0 (cs (freshOf caller partner) [] [] []) (fresh-good F caller partner column [] [] [] octets-nil octets-nil octets-nil (omega arith) (omega arith))
 
-module _ (F : Fixed) (role : ℕ) (sm table inbox store : Bytes) where
+module _ (F : Fixed) (role partner : ℕ) (sm table inbox store : Bytes) where
   abbrev asked : Opened
-  asked = openOf role sm table (F .titles) (F .names) (F .bodies) (F .known) inbox store
+  asked = openOf role partner sm table (F .titles) (F .names) (F .bodies) (F .known) inbox store
 
   abbrev lent : Sizes
   lent = lentSizes table (F .titles) (F .names) (F .bodies) (F .known) inbox store
 
-  -- an open that answers 0 found the sizes in order, and saved a fresh session
+  -- an open that answers 0 found a partner with a column and the sizes in order, and saved a fresh session
   open-in : asked .reply .answer ≡ 0
-      → (sizesOk sm table (F .known) inbox ≡ true) × (asked .sm ≡ saveOf (saveSizes sm lent) (freshOf (eqb role 1)))
+      → (ltb partner partners ≡ true) × (sizesOk sm table (F .known) inbox ≡ true) × (asked .sm ≡ saveOf (saveSizes sm lent) (freshOf (eqb role 1) partner))
   unfolding openOf
-  open-in e = go (leb role 1) (sizesOk sm table (F .known) inbox) (knownOk (F .known)) (eqb (tableFault table (F .titles) (F .names) (F .bodies)) 255) refl e
+  open-in e = go (ltb partner partners) (leb role 1) (sizesOk sm table (F .known) inbox) (knownOk (F .known)) (eqb (tableFault table (F .titles) (F .names) (F .bodies)) 255) refl refl e
     where
-      out : Bool → Bool → Bool → Bool → Opened
-      out a b c d =
-          cond a (cond b (cond c (cond d (opened (reply 0 0 0) (saveOf (saveSizes sm lent) (freshOf (eqb role 1)))) (opened (reply badMemory (tableFault table (F .titles) (F .names) (F .bodies)) 0) sm))
-          (opened (reply badMemory 255 0) sm)) (opened (reply badMemory 255 0) sm)) (opened (reply badMemory 255 0) sm)
+      out : Bool → Bool → Bool → Bool → Bool → Opened
+      out o a b c d =
+          cond o (cond a (cond b (cond c (cond d (opened (reply 0 0 0) (saveOf (saveSizes sm lent) (freshOf (eqb role 1) partner))) (opened (reply badMemory (tableFault table (F .titles) (F .names) (F .bodies)) 0) sm))
+          (opened (reply badMemory 255 0) sm)) (opened (reply badMemory 255 0) sm)) (opened (reply badMemory 255 0) sm)) (opened (reply badMemory 255 0) sm)
 
-      go : (a b c d : Bool) → sizesOk sm table (F .known) inbox ≡ b → out a b c d .reply .answer ≡ 0
-          → (sizesOk sm table (F .known) inbox ≡ true) × (out a b c d .sm ≡ saveOf (saveSizes sm lent) (freshOf (eqb role 1)))
-      go true true true true q e = (q, refl)
-      go true true true false q e = absurd (omega arith)
-      go true true false d q e = absurd (omega arith)
-      go true false c d q e = absurd (omega arith)
-      go false b c d q e = absurd (omega arith)
+      go : (o a b c d : Bool) → ltb partner partners ≡ o → sizesOk sm table (F .known) inbox ≡ b → out o a b c d .reply .answer ≡ 0
+          → (ltb partner partners ≡ true) × (sizesOk sm table (F .known) inbox ≡ true) × (out o a b c d .sm ≡ saveOf (saveSizes sm lent) (freshOf (eqb role 1) partner))
+      go true true true true true p q e = (p, q, refl)
+      go true true true true false p q e = absurd (omega arith)
+      go true true true false d p q e = absurd (omega arith)
+      go true true false c d p q e = absurd (omega arith)
+      go true false b c d p q e = absurd (omega arith)
+      go false a b c d p q e = absurd (omega arith)
 
   sizes-in : sizesOk sm table (F .known) inbox ≡ true → (length sm ≡ sessionLen) × (placeCount inbox ≤ 64)
   unfolding sizesOk
@@ -256,10 +257,10 @@ module _ (F : Fixed) (role : ℕ) (sm table inbox store : Bytes) where
   pub open-closed : Octets sm → Octets table → Octets inbox → Octets store → Sized lent → asked .reply .answer ≡ 0 → InForm F (asked .sm) table inbox store
   open-closed o ot oi os h e =
       let p = open-in e in
-      let q = sizes-in (p .0) in
+      let q = sizes-in (p .1) in
       let n = q .0 in
-      let g = fresh-good F (eqb role 1) table inbox store ot oi os (h .store) (q .1) in
+      let g = fresh-good F (eqb role 1) partner (ltb-true partner partners (p .0)) table inbox store ot oi os (h .store) (q .1) in
       let z : sameSizes (loadSizes (saveSizes sm lent)) lent ≡ true = rw (load-sizes sm lent (omega arith) h) (same-itself lent) in
-      subst (λ (l : Bytes). InForm F l table inbox store) (sym (p .1))
-      (saved-form F (saveSizes sm lent) (length table) (length inbox) (length store) (cs (freshOf (eqb role 1)) table inbox store) g
+      subst (λ (l : Bytes). InForm F l table inbox store) (sym (p .2))
+      (saved-form F (saveSizes sm lent) (length table) (length inbox) (length store) (cs (freshOf (eqb role 1) partner) table inbox store) g
       (octets-written sm lent o) (sizes-length sm lent ∙ n) (mark-written sm lent (omega arith)) z)

@@ -6,12 +6,12 @@ use Prim.Native.Nat.{ℕ, _+_, _-_, _≤_}
 use native.Mathlib.Omega.{arith}
 use lib.Dec.{eqb, ltb, leb}
 use lib.ListN.{length, length-append}
-use borrow.Author.Tests.{eqb-true}
+use borrow.Author.Tests.{eqb-true, ltb-true}
 use Rattle.grammar.specs.Bytes.{Bytes}
 use Rattle.grammar.specs.Refusals.{badMemory, sessionEnded}
 use Rattle.grammar.proofs.Basics.{and2}
 use Rattle.buffer.specs.Put.{cut}
-use Rattle.places.specs.Places.{markAt, numbersStart, arraysLen, sessionLen}
+use Rattle.places.specs.Places.{markAt, numbersStart, arraysLen, partners, sessionLen}
 use Rattle.layout.proofs.Places.{part-after}
 use Rattle.session_memory.specs.State.{loadOf, saveOf, sizesOut, saveSizes, freshOf, arraysOut}
 use Rattle.session_memory.specs.Session.{Session}
@@ -115,31 +115,32 @@ module _ (F : Fixed) (sm table inbox store : Bytes) (o : Octets sm) (ot : Octets
 
 -- ---------------------------------------------------------------- open
 
-module _ (F : Fixed) (role : ℕ) (sm table inbox store : Bytes) where
+module _ (F : Fixed) (role partner : ℕ) (sm table inbox store : Bytes) where
   abbrev lent : Sizes
   lent = lentSizes table (F .titles) (F .names) (F .bodies) (F .known) inbox store
 
   abbrev bad : ℕ → Opened
   bad place = opened (reply badMemory place 0) sm
 
-  answer : Bool → Bool → Bool → Bool → Opened
-  answer a b c d =
-      cond a (cond b (cond c (cond d (opened (reply 0 0 0) (saveOf (saveSizes sm lent) (freshOf (eqb role 1)))) (bad (tableFault table (F .titles) (F .names) (F .bodies)))) (bad 255)) (bad 255)) (bad 255)
+  answer : Bool → Bool → Bool → Bool → Bool → Opened
+  answer o a b c d =
+      cond o (cond a (cond b (cond c (cond d (opened (reply 0 0 0) (saveOf (saveSizes sm lent) (freshOf (eqb role 1) partner))) (bad (tableFault table (F .titles) (F .names) (F .bodies)))) (bad 255)) (bad 255)) (bad 255)) (bad 255)
 
   long : sizesOk sm table (F .known) inbox ≡ true → length sm ≡ sessionLen
   unfolding sizesOk
   long e = eqb-true (length sm) sessionLen (and2 (eqb (length sm) sessionLen) _ e .0)
 
   -- OPEN
-  pub open-free : FreeStays sm (openOf role sm table (F .titles) (F .names) (F .bodies) (F .known) inbox store .sm)
+  pub open-free : FreeStays sm (openOf role partner sm table (F .titles) (F .names) (F .bodies) (F .known) inbox store .sm)
   unfolding openOf answer
-  open-free = go (leb role 1) (sizesOk sm table (F .known) inbox) refl (knownOk (F .known)) (eqb (tableFault table (F .titles) (F .names) (F .bodies)) 255)
+  open-free = go (ltb partner partners) refl (leb role 1) (sizesOk sm table (F .known) inbox) refl (knownOk (F .known)) (eqb (tableFault table (F .titles) (F .names) (F .bodies)) 255)
     where
-      go : (a b : Bool) → sizesOk sm table (F .known) inbox ≡ b → (c d : Bool) → FreeStays sm (answer a b c d .sm)
-      go true true e true true =
+      go : (o : Bool) → ltb partner partners ≡ o → (a b : Bool) → sizesOk sm table (F .known) inbox ≡ b → (c d : Bool) → FreeStays sm (answer o a b c d .sm)
+      go true k true true e true true =
           let n = long e in
-          then-free (sizes-free sm lent n) (saved-free (saveSizes sm lent) (freshOf (eqb role 1)) (sizes-length sm lent ∙ n) (fresh-shaped F (eqb role 1)))
-      go true true e true false = same-free sm
-      go true true e false d = same-free sm
-      go true false e c d = same-free sm
-      go false b e c d = same-free sm
+          then-free (sizes-free sm lent n) (saved-free (saveSizes sm lent) (freshOf (eqb role 1) partner) (sizes-length sm lent ∙ n) (fresh-shaped F (eqb role 1) partner (ltb-true partner partners k)))
+      go true k true true e true false = same-free sm
+      go true k true true e false d = same-free sm
+      go true k true false e c d = same-free sm
+      go true k false b e c d = same-free sm
+      go false k a b e c d = same-free sm

@@ -91,9 +91,9 @@ octets-field n w o = octets-cons (omega arith) (octets-take n (w ++ replicate n 
 
 -- ---------------------------------------------------------------- marks and flags
 
-pub mark-octets : (is : List ℕ) (v : ℕ) (table : Bytes) → v < 256 → Octets table → Octets (markAll is v table)
-mark-octets [] v table h o = o
-mark-octets (i ∷ is) v table h o = mark-octets is v (setState table i v) h (record { each = state-all octet table i v (lt-ltb v 256 h) (o .each) })
+pub mark-octets : (p : ℕ) (is : List ℕ) (v : ℕ) (table : Bytes) → v < 256 → Octets table → Octets (markAll p is v table)
+mark-octets p [] v table h o = o
+mark-octets p (i ∷ is) v table h o = mark-octets p is v (setState p table i v) h (record { each = state-all octet p table i v (lt-ltb v 256 h) (o .each) })
 
 pub flag-octets : (is : List ℕ) (flags : Bytes) → Octets flags → Octets (flagged is flags)
 flag-octets [] flags o = o

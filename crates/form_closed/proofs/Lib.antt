@@ -1,6 +1,6 @@
 -- Laws, Waiting: of lists, and of what waits. Test: the test says its facts, and back. Each step keeps them: Proposals, Choices, Judged, Lines
 -- (by LineWays, the ways of a whole line), Settled, a whole line; Reader, Kept, a transfer; Bytes, any byte. Saved, Closed, Answers: the test is closed
--- under the three calls. Free: no call writes a free byte.
+-- under the three calls. Free: no call writes a free byte. Columns: a receive changes states of one partner alone.
 pub mod LineWays
 pub mod Laws
 pub mod Waiting
@@ -17,3 +17,4 @@ pub mod Saved
 pub mod Closed
 pub mod Answers
 pub mod Free
+pub mod Columns

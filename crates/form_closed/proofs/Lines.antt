@@ -72,7 +72,7 @@ module _ (table known inbox store : Bytes) (w : Await) (y : Say) (k : Keep) (r :
   sid-ok ln z = go (readSid ln)
     where
       kept : (md : Bool) (v : ℕ) → v < 256 → KeepOk (inMode md v k)
-      kept md v l = record { terms = record { level = l }; sending = K .sending; flags = K .flags; octets = K .octets }
+      kept md v l = record { terms = record { level = l; partner = K .terms .partner }; sending = K .sending; flags = K .flags; octets = K .octets }
 
       after : (md : Bool) (v : ℕ) (c : Bool) → AwaitOk (cond c (inPhase 2 w) (toTurn false w)) × Awaited (cond c (inPhase 2 w) (toTurn false w)) y (inMode md v k) r inbox store
       after md v true = (in-phase 2 w (omega arith) W, calm (inPhase 2 w) y (inMode md v k) r inbox store z (λ e. omega arith) (omega arith))

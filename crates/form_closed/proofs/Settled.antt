@@ -20,7 +20,7 @@ use Rattle.our_turn.specs.Turn.{spoken, speakOf}
 use Rattle.line_effect.specs.Judged.{Judged}
 use Rattle.our_turn.specs.Turn.{Spoken}
 use Rattle.pending.specs.Pending.{errorPiece}
-use Rattle.receive_defined.specs.Receiving.{cs, refusedOf, settledOf, spokenOf, Settled, settled, settleOf}
+use Rattle.receive_defined.specs.Receiving.{cs, refusedOf, settledOf, spokenOf, Settled, settled, markedBy, settleOf}
 use Rattle.form_test.specs.Form.{isLast}
 use Rattle.marking.specs.States.{markAll}
 use Rattle.form_closed.specs.Fixed.{Fixed}
@@ -43,10 +43,10 @@ pub record SpokenOk (k : Keep) (inbox store : Bytes) (o : Spoken) : Type 0 where
 speak-ok : (w : Await) (y : Say) (k : Keep) (table inbox store : Bytes) (ff : Bool) → AwaitOk w → SayOk y → k .sending .count ≡ 0
     → SpokenOk k inbox store (speakOf w y k table ff)
 unfolding speakOf
-speak-ok w y k table inbox store ff W Y z = go (eqb (chooseOf table (k .framed) (k .deferred) .count) 0) ff
+speak-ok w y k table inbox store ff W Y z = go (eqb (chooseOf (k .terms .partner) table (k .framed) (k .deferred) .count) 0) ff
   where
     go : (a b : Bool) → SpokenOk k inbox store (cond a (cond b (spoken (inPhase 6 w) (saysThen 2 y)) (spoken (toTurn true w) (saysThen 1 y)))
-        (spoken (toAnswer (chooseOf table (k .framed) (k .deferred)) w) (saysThen 3 y)))
+        (spoken (toAnswer (chooseOf (k .terms .partner) table (k .framed) (k .deferred)) w) (saysThen 3 y)))
     go true true =
         record {
           now = in-phase 6 w (omega arith) W;
@@ -63,10 +63,10 @@ speak-ok w y k table inbox store ff W Y z = go (eqb (chooseOf table (k .framed) 
         }
     go false b =
         record {
-          now = to-answer (chooseOf table (k .framed) (k .deferred)) w (choose-ok table (k .framed) (k .deferred)) W;
+          now = to-answer (chooseOf (k .terms .partner) table (k .framed) (k .deferred)) w (choose-ok (k .terms .partner) table (k .framed) (k .deferred)) W;
           say = says-then 3 y (omega arith) Y;
           then = omega arith;
-          awaited = λ r. calm (toAnswer (chooseOf table (k .framed) (k .deferred)) w) (saysThen 3 y) k r inbox store z (λ e. omega arith) (omega arith);
+          awaited = λ r. calm (toAnswer (chooseOf (k .terms .partner) table (k .framed) (k .deferred)) w) (saysThen 3 y) k r inbox store z (λ e. omega arith) (omega arith);
         }
 
 -- ---------------------------------------------------------------- the session after it
@@ -131,14 +131,14 @@ module _ (F : Fixed) (nt ni ns : ℕ) (s : Session) (j : Judged) (afterCr : Bool
           settled-good (speakOf (j .now) (j .say) (j .keep) table (eqb (j .speaks) 2) .now) (speakOf (j .now) (j .say) (j .keep) table (eqb (j .speaks) 2) .say)
           table M J (h .now) (h .say) (λ l. absurd (omega (arith, h .then))) (h .awaited (j .reader))
 
-  marked-lent : (is : List ℕ) (v : ℕ) (table : Bytes) → v < 256 → Lent nt ni ns table inbox store → Lent nt ni ns (markAll is v table) inbox store
-  marked-lent is v table h M =
+  marked-lent : (p : ℕ) (is : List ℕ) (v : ℕ) (table : Bytes) → v < 256 → Lent nt ni ns table inbox store → Lent nt ni ns (markAll p is v table) inbox store
+  marked-lent p is v table h M =
       record {
-        table = length-mark is v table ∙ M .table;
+        table = length-mark p is v table ∙ M .table;
         inbox = M .inbox;
         store = M .store;
         fits = M .fits;
-        tableOctets = mark-octets is v table h (M .tableOctets);
+        tableOctets = mark-octets p is v table h (M .tableOctets);
         inboxOctets = M .inboxOctets;
         storeOctets = M .storeOctets;
       }
@@ -150,11 +150,11 @@ module _ (F : Fixed) (nt ni ns : ℕ) (s : Session) (j : Judged) (afterCr : Bool
   settle-ok table M J X = go (eqb (j .answer) 0) refl
     where
       out : Bool → Settled
-      out a = cond a (settled 0 (spokenOf s j afterCr (markAll (held (j .marks .places)) (j .marks .state) table)) (markAll (held (j .marks .places)) (j .marks .state) table))
+      out a = cond a (settled 0 (spokenOf s j afterCr (markedBy j table)) (markedBy j table))
           (settled (j .answer) (refusedOf (j .answer) s) table)
 
       go : (a : Bool) → eqb (j .answer) 0 ≡ a → Good F nt ni ns (cs (out a .session) (out a .table) inbox store)
       go true e =
           let h = J e in
-          spoken-good (markAll (held (j .marks .places)) (j .marks .state) table) (marked-lent (held (j .marks .places)) (j .marks .state) table (h .state) M) h
+          spoken-good (markedBy j table) (marked-lent (j .keep .terms .partner) (held (j .marks .places)) (j .marks .state) table (h .state) M) h
       go false e = X e

@@ -10,7 +10,7 @@ use borrow.Author.Tests.{eq-eqb, eqb-true, eqb-false, ltb-true, ltb-false, lt-lt
 use Rattle.grammar.specs.Bytes.{Bytes}
 use Rattle.grammar.specs.Transfers.{partOf}
 use Rattle.grammar.proofs.Basics.{and2, both, or-second}
-use Rattle.places.specs.Places.{arraysAt, blockAt, blockLen, blockSumAt, currentAt, deferredAt, deferredLen, firstAt, headingAt, headingLen, lengthAt, levelAt, lineAt, lineLen, offsetAt, oursAt, phaseAt, placeAt, sendingAt, signsAt, sumAt, thenAt}
+use Rattle.places.specs.Places.{arraysAt, blockAt, blockLen, blockSumAt, currentAt, deferredAt, deferredLen, firstAt, headingAt, headingLen, lengthAt, levelAt, lineAt, lineLen, offsetAt, oursAt, partners, phaseAt, placeAt, sendingAt, signsAt, sumAt, thenAt}
 use Rattle.layout.specs.Layout.{byteAt, le2, le4, le8}
 use Rattle.layout.proofs.Laws.{octets}
 use Rattle.session_memory.specs.State.{at, flag, held, fiveAt, arrayAt, fiveOut, loadAwait, loadSay, loadKeep, loadReading, loadLine, loadOf, smallOut, numbersOut, tailOut, arraysOut, numberPart}
@@ -158,6 +158,7 @@ form-in F sm table inbox store o ot oi os fits e =
     let n₃ = and2 (leb (s .say .signs .count) 5) _ (n₂ .1) in
     let n₄ = and2 (leb (s .keep .sending .count) 5) _ (n₃ .1) in
     let n₅ = and2 (leb (s .now .proposals) 5) _ (n₄ .1) in
+    let n₆ = and2 (leb (s .reading .reader .head) 80) _ (n₅ .1) in
     record {
       now = record {
         phase = b phaseAt;
@@ -170,7 +171,7 @@ form-in F sm table inbox store o ot oi os fits e =
       };
       say = record { first = b firstAt; then = b thenAt; pos = h .say .pos; signs = five-in sm signsAt o (leb-true (s .say .signs .count) 5 (n₃ .0)) (h .say .signs) };
       keep = record {
-        terms = record { level = b levelAt };
+        terms = record { level = b levelAt; partner = ltb-true (s .keep .terms .partner) partners (n₆ .1) };
         sending = five-in sm sendingAt o (leb-true (s .keep .sending .count) 5 (n₄ .0)) (h .keep .sending);
         flags = h .keep .deferred;
         octets = array-octets deferredLen sm (arraysAt + deferredAt) o;
@@ -178,7 +179,7 @@ form-in F sm table inbox store o ot oi os fits e =
       reader = record {
         place = b placeAt;
         len = b lengthAt;
-        head = leb-true (s .reading .reader .head) 80 (n₅ .1);
+        head = leb-true (s .reading .reader .head) 80 (n₆ .0);
         off = b offsetAt;
         left = h .reading .left;
         sum = b sumAt;
@@ -217,7 +218,8 @@ module _ (F : Fixed) (nt ni ns : ℕ) (c : Cs) (g : Good F nt ni ns c) where
       (both (leb (s .now .ours .count) 5) _ (le-leb (s .now .ours .count) 5 (g .now .ours .few))
       (both (leb (s .say .signs .count) 5) _ (le-leb (s .say .signs .count) 5 (g .say .signs .few))
       (both (leb (s .keep .sending .count) 5) _ (le-leb (s .keep .sending .count) 5 (g .keep .sending .few))
-      (both (leb (s .now .proposals) 5) _ (le-leb (s .now .proposals) 5 (g .now .proposals)) (le-leb (s .reading .reader .head) 80 (g .reader .head)))))))
+      (both (leb (s .now .proposals) 5) _ (le-leb (s .now .proposals) 5 (g .now .proposals))
+      (both (leb (s .reading .reader .head) 80) _ (le-leb (s .reading .reader .head) 80 (g .reader .head)) (lt-ltb (s .keep .terms .partner) partners (g .keep .terms .partner))))))))
       (both (inboxOk s (c .inbox) (c .store)) _ (box-out s (c .inbox) (c .store) (g .box))
       (both (phaseOk s (c .inbox) (c .store)) _ (awaited-out s (c .inbox) (c .store) (g .awaited))
       (go (waits (s .say)) refl)))
@@ -270,7 +272,7 @@ module _ (F : Fixed) (nt ni ns : ℕ) (c : Cs) (g : Good F nt ni ns c) where
 
   tail-octets : Octets (tailOut (c .session))
   unfolding tailOut
-  tail-octets = octets-cons (g .now .sum) (octets-cons (g .keep .terms .level) octets-nil)
+  tail-octets = octets-cons (g .now .sum) (octets-cons (g .keep .terms .level) (octets-cons (omega (arith, g .keep .terms .partner)) octets-nil))
 
   pub part-octets : Octets (numberPart (c .session))
   part-octets =

@@ -23,7 +23,7 @@ use Rattle.grammar.specs.Fields.{bodyLimit}
 use Rattle.grammar.specs.Turns.{blockLimit}
 use Rattle.grammar.specs.Answers.{plusSign}
 use Rattle.phase.specs.Phase.{phaseTurn, phaseTransfer, phaseLeaving, pieceNone}
-use Rattle.places.specs.Places.{deferredLen, headingLen, lineLen, blockLen}
+use Rattle.places.specs.Places.{deferredLen, headingLen, lineLen, blockLen, partners}
 use Rattle.mail.specs.Mail.{placeLimit}
 
 -- A number that is saved in two bytes is below this, and one in four.
@@ -58,9 +58,10 @@ pub record SayOk (y : Say) : Type 0 where
   pub pos : y .pos < wordValues
   pub signs : FiveOk (y .signs)
 
--- any byte is a level
+-- any byte is a level; the partner has a column
 pub record TermsOk (t : Terms) : Type 0 where
   pub level : t .level < byteValues
+  pub partner : t .partner < partners
 
 pub record KeepOk (k : Keep) : Type 0 where
   pub terms : TermsOk (k .terms)

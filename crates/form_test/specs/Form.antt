@@ -18,7 +18,7 @@ use Rattle.give_place.specs.Located.{At}
 use Rattle.give_place.specs.declared.Place.{Place}
 use Rattle.pending.specs.Pending.{waits}
 use Rattle.phase.specs.Phase.{phaseTurn, phaseTransfer, isClosed, pieceNone, pieceProtocolError, pieceChecksumError}
-use Rattle.places.specs.Places.{lineLen, headingLen}
+use Rattle.places.specs.Places.{lineLen, headingLen, partners}
 use Rattle.grammar.specs.Turns.{blockLimit}
 use Rattle.grammar.specs.Answers.{plusSign}
 use Rattle.grammar.specs.Fields.{bodyLimit}
@@ -32,11 +32,11 @@ sameSizes a b =
     eqb (a .table) (b .table) && (eqb (a .titles) (b .titles) && (eqb (a .names) (b .names) && (eqb (a .bodies) (b .bodies)
     && (eqb (a .known) (b .known) && (eqb (a .inbox) (b .inbox) && eqb (a .store) (b .store))))))
 
--- Counts within their arrays.
+-- Counts within their arrays, and a partner that has a column.
 unfoldable pub countsOk : Session → Bool
 countsOk s =
     leb (s .line .len) lineLen && (leb (s .now .ours .count) blockLimit && (leb (s .say .signs .count) blockLimit && (leb (s .keep .sending .count) blockLimit
-    && (leb (s .now .proposals) blockLimit && leb (s .reading .reader .head) headingLen))))
+    && (leb (s .now .proposals) blockLimit && (leb (s .reading .reader .head) headingLen && ltb (s .keep .terms .partner) partners)))))
 
 -- How many store bytes the first n messages of the inbox use, from message i on.
 abbrev pub usedFrom : Bytes → ℕ → ℕ → ℕ

@@ -36,7 +36,7 @@ pub struct Tested {
     pub place: Place,
 }
 
-// The counts are within their arrays.
+// The counts are within their arrays, and the partner has a column.
 fn counts_ok(sm: &[u8]) -> bool
     requires { ⌜ length (now sm) ≡ sessionSize ⌝ }
     ensures { λ r. ⌜ r ≡ countsOk (loadOf (now (sm .entry))) ⌝ }
@@ -57,6 +57,9 @@ fn counts_ok(sm: &[u8]) -> bool
         return false;
     }
     if places::HEADING_MAX < sm[places::HEAD] {
+        return false;
+    }
+    if places::PARTNERS <= sm[places::PARTNER] {
         return false;
     }
     true

@@ -103,7 +103,7 @@ proposalOut form type from at to bid size = fieldsOut form type from at to bid +
 abbrev pub proposalOf : Bytes → Proposal
 proposalOf c = proposalAt 0 c
 
--- ---------------------------------------------------------------- a record: its state, a proposal's parts, title, name and body
+-- ---------------------------------------------------------------- a record: its states, a proposal's parts, title, name and body
 
 abbrev pub recordWith : Proposal → Bytes → Bytes → Bytes → Record
 recordWith p title name body =
@@ -114,8 +114,9 @@ recordOf titles names bodies c =
     recordWith (proposalAt statesLen c) (partOf titles (le4At c recordTitle) (byteAt c recordTitleLength))
     (partOf names (le4At c recordName) (byteAt c recordNameLength)) (partOf bodies (le4At c recordBody) (le2At c recordBodyLength))
 
-abbrev pub stateOf : Bytes → ℕ → ℕ
-stateOf table i = byteAt table (i * recordSize)
+-- Its state for a partner: a byte a partner, from its first byte on.
+abbrev pub stateOf : ℕ → Bytes → ℕ → ℕ
+stateOf partner table i = byteAt table (i * recordSize + partner)
 
 -- ---------------------------------------------------------------- a known BID
 

@@ -1,4 +1,4 @@
--- A line that is refused leaves what is awaited and kept as it was: so a refusal has changed no array.
+-- A line that is refused leaves what is awaited and kept as it was: so a refusal has changed no array. No line changes who the partner is.
 use mathlib.Core.Path.{_≡_, refl}
 use mathlib.Core.Bool.{Bool, true, false, cond}
 use mathlib.Core.Option.{Option, none, some}
@@ -22,13 +22,14 @@ use Rattle.line_effect.specs.Judge.{refusal, sidRead, sidLine, textLine,
 -- taken, or as it was
 pub record Kept (w : Await) (k : Keep) (j : Judged) : Type 0 where
   pub same : (j .answer ≡ 0 → ⊥) → (j .now ≡ w) × (j .keep ≡ k)
+  pub partner : j .keep .terms .partner ≡ k .terms .partner
 
 module _ (w : Await) (y : Say) (k : Keep) (r : Reader) where
   refused : (n : ℕ) → Kept w k (refusal n w y k r)
-  refused n = record { same = λ z. (refl, refl) }
+  refused n = record { same = λ z. (refl, refl); partner = refl }
 
-  taken : (j : Judged) → j .answer ≡ 0 → Kept w k j
-  taken j e = record { same = λ z. absurd (z e) }
+  taken : (j : Judged) → j .answer ≡ 0 → j .keep .terms .partner ≡ k .terms .partner → Kept w k j
+  taken j e f = record { same = λ z. absurd (z e); partner = f }
 
   by : (b : Bool) {x z : Judged} → Kept w k x → Kept w k z → Kept w k (cond b x z)
   by true p q = p
@@ -36,7 +37,7 @@ module _ (w : Await) (y : Say) (k : Keep) (r : Reader) where
 
   sid-read : (o : Option (List ℕ)) → Kept w k (sidRead o w y k r)
   sid-read none = refused _
-  sid-read (some fs) = by (hasFeature 5 fs) (taken _ refl) (refused _)
+  sid-read (some fs) = by (hasFeature 5 fs) (taken _ refl refl) (refused _)
 
   sid-kept : (ln : Bytes) → Kept w k (sidLine ln w y k r)
   unfolding sidLine
@@ -44,7 +45,7 @@ module _ (w : Await) (y : Say) (k : Keep) (r : Reader) where
 
   text-kept : (ln : Bytes) → Kept w k (textLine ln w y k r)
   unfolding textLine
-  text-kept ln = by (isPrompt ln) (taken _ refl) (taken _ refl)
+  text-kept ln = by (isPrompt ln) (taken _ refl refl) (taken _ refl refl)
 
   -- n: the sum of the line
   module _ (n : ℕ) (table known inbox : Bytes) (store : ℕ) where
@@ -52,15 +53,15 @@ module _ (w : Await) (y : Say) (k : Keep) (r : Reader) where
     unfolding endLine
     end-kept =
         by (eqb (w .proposals) 0) (refused _)
-        (by (eqb (nextAccepted (answersOf w k table known inbox store) 0) noProposal) (taken _ refl) (taken _ refl))
+        (by (eqb (nextAccepted (answersOf w k table known inbox store) 0) noProposal) (taken _ refl refl) (taken _ refl refl))
 
     turn-read : (t : TurnLine) → Kept w k (turnRead t n w y k r table known inbox store)
     unfolding ffLine fqLine proposalLine summedLine
-    turn-read saysFF = by (eqb (w .proposals) 0) (by (w .ff) (refused _) (taken _ refl)) (refused _)
-    turn-read saysFQ = by (eqb (w .proposals) 0) (by (w .ff) (taken _ refl) (refused _)) (refused _)
+    turn-read saysFF = by (eqb (w .proposals) 0) (by (w .ff) (refused _) (taken _ refl refl)) (refused _)
+    turn-read saysFQ = by (eqb (w .proposals) 0) (by (w .ff) (taken _ refl refl) (refused _)) (refused _)
     turn-read endsBlock = end-kept
     turn-read notAllowed = refused _
-    turn-read (proposes q) = by (ltb (w .proposals) blockLimit) (taken _ refl) (refused _)
+    turn-read (proposes q) = by (ltb (w .proposals) blockLimit) (taken _ refl refl) (refused _)
     turn-read (endsSummed h) = by (eqb (w .proposals) 0) (refused _) (by (eqb ((w .sum + h) % 256) 0) end-kept (refused _))
 
     turn-kept : (ln : Bytes) → Kept w k (turnLine ln n w y k r table known inbox store)
@@ -69,12 +70,12 @@ module _ (w : Await) (y : Say) (k : Keep) (r : Reader) where
 
     answer-kept : (ln : Bytes) → Kept w k (answerLine ln w y k r)
     unfolding answerLine
-    answer-kept ln = by (eqb (answerNumber (k .terms .level) (w .ours .count) ln) 0) (taken _ refl) (refused _)
+    answer-kept ln = by (eqb (answerNumber (k .terms .level) (w .ours .count) ln) 0) (taken _ refl refl) (refused _)
 
     pub judge-kept : (ln : Bytes) → Kept w k (judgeOf ln n w y k r table known inbox store)
     unfolding judgeOf
     judge-kept ln =
-        by (isComment ln) (taken _ refl)
+        by (isComment ln) (taken _ refl refl)
         (by (eqb (w .phase) phaseCalledSid) (sid-kept ln)
         (by (eqb (w .phase) phaseCallerSid) (sid-kept ln)
         (by (eqb (w .phase) phasePrompt) (text-kept ln)

@@ -23,7 +23,7 @@ use Rattle.places.specs.Places as places
 use Rattle.layout.specs.Layout.{byteAt, le2At, le4At, fieldIn, entryAt, recordSize, recordOf}
 use Rattle.entries.specs.Decoded.{entriesFrom, entries, recordCount, recordsOf}
 use Rattle.entries.proofs.Laws.{entries-length, entries-at}
-use Rattle.open.specs.Opening.{lengthOk, numbersOk, fieldsOk, within, headingOk, textsOk, recordOk, placeOk, faultFrom, tableFault}
+use Rattle.open.specs.Opening.{lengthOk, statesOk, numbersOk, fieldsOk, within, headingOk, textsOk, recordOk, placeOk, faultFrom, tableFault}
 
 -- ---------------------------------------------------------------- one record
 
@@ -39,7 +39,7 @@ module _ (c titles names bodies : Bytes) (h : recordOk c titles names bodies ≡
   record-proposable : proposable (proposalOf (recordOf titles names bodies c)) ≡ true
   unfolding numbersOk fieldsOk
   record-proposable =
-      let n₁ = and2 (leb (byteAt c 0) 2) _ numbers .1 in
+      let n₁ = and2 (statesOk c) _ numbers .1 in
       let n₂ = and2 (leb (byteAt c recordForm) 2) _ n₁ .1 in
       let n₃ = and2 (isType (byteAt c recordType)) (leb (le4At c recordSizeAt) 999999) n₂ in
       let f = and2 (fieldsOk c) (textsOk c titles names bodies) rest-ok .0 in

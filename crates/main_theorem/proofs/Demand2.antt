@@ -17,17 +17,16 @@ use Rattle.demand2.proofs.Opening.{open-exact}
 use Rattle.demand2.proofs.Reached.{reached-portion}
 use Rattle.demand2.proofs.NextByte.{next-byte}
 use Rattle.demand3.specs.Demand as on-lists-run
-use Rattle.marking.specs.States.{statesOf}
 use Rattle.give.specs.Giving.{reply}
-use Rattle.main_theorem.specs.Calls.{Lent, Buffer, Memory, fixedIn, lentIn, sizesOf, received, given, unchangedBy, isCaller}
-use Rattle.main_theorem.specs.Demand3.{CallsOn, openedBy, finally}
+use Rattle.main_theorem.specs.Calls.{Lent, Buffer, OpenCall, fixedIn, lentIn, sizesOf, received, given, unchangedBy, isCaller, openedBy, statesIn}
+use Rattle.main_theorem.specs.Demand3.{CallsOn, finally}
 use Rattle.main_theorem.specs.Demand2.{callOf, shelfIn, Claim2}
 use Rattle.main_theorem.proofs.Accepted.{table-reads-back}
 use Rattle.main_theorem.proofs.Opening.{freshCs, accepted}
 use Rattle.main_theorem.proofs.Held.{Held}
 use Rattle.main_theorem.proofs.Giving.{GaveAs, give-law}
 use Rattle.main_theorem.proofs.Run.{TookAs, receive-law, received-over, given-none, received-none}
-use Rattle.main_theorem.proofs.Demand3.{ran}
+use Rattle.main_theorem.proofs.Demand3.{ran, states-held}
 
 -- every list of calls leads to a session that is reached
 run-reached : (E : Shelf) (cs : List on-lists-run.Call) (s : on-lists.Session) (q : Bytes) → Reached E s q → (r : Bytes) × Reached E ((on-lists-run.run E s cs) .0) r
@@ -38,57 +37,57 @@ run-reached E (on-lists-run.receiving bs ∷ cs) s q h =
 run-reached E (on-lists-run.giving room ∷ cs) s q h = run-reached E cs (give s room) q (reached.given h room)
 run-reached E (on-lists-run.refusedCall ∷ cs) s q h = run-reached E cs s q h
 
-module _ (role : ℕ) (M : Memory) (e : openedBy role M .reply .answer ≡ 0) (cs : CallsOn M) where
+module _ (M : OpenCall) (e : openedBy M .reply .answer ≡ 0) (cs : CallsOn M) where
   abbrev after : on-lists.Session
-  after = (on-lists-run.run (shelfIn M) (on-lists.opened (eqb role 1) (statesOf (M .table .bytes))) (map callOf cs)) .0
+  after = (on-lists-run.run (shelfIn M) (on-lists.opened (eqb (M .role) 1) (statesIn M)) (map callOf cs)) .0
 
   abbrev end : Lent
-  end = finally role M cs
+  end = finally M cs
 
   led : (r : Bytes) × Reached (shelfIn M) after r
-  led = run-reached (shelfIn M) (map callOf cs) (on-lists.opened (eqb role 1) (statesOf (M .table .bytes))) [] (atOpen (eqb role 1) (statesOf (M .table .bytes)))
+  led = run-reached (shelfIn M) (map callOf cs) (on-lists.opened (eqb (M .role) 1) (statesIn M)) [] (atOpen (eqb (M .role) 1) (statesIn M))
 
-  held : Held (fixedIn M) (shelfIn M) (freshCs role (lentIn M)) (sizesOf (fixedIn M) (lentIn M)) end after
-  held = ran role M e cs .held
+  held : Held (fixedIn M) (shelfIn M) (freshCs M) (sizesOf (fixedIn M) (lentIn M)) end after
+  held = ran M e cs .held
 
-  took : (b : Buffer) → TookAs (fixedIn M) (shelfIn M) (freshCs role (lentIn M)) (sizesOf (fixedIn M) (lentIn M)) (received (fixedIn M) end (b .bytes)) (receive (shelfIn M) after (b .bytes))
+  took : (b : Buffer) → TookAs (fixedIn M) (shelfIn M) (freshCs M) (sizesOf (fixedIn M) (lentIn M)) (received (fixedIn M) end (b .bytes)) (receive (shelfIn M) after (b .bytes))
   took b =
-      receive-law (fixedIn M) (shelfIn M) (freshCs role (lentIn M)) (sizesOf (fixedIn M) (lentIn M)) end after held (b .bytes) (b .octets)
+      receive-law (fixedIn M) (shelfIn M) (freshCs M) (sizesOf (fixedIn M) (lentIn M)) end after held (b .bytes) (b .octets)
 
-  gave : (b : Buffer) (place : ℕ) → GaveAs (fixedIn M) (shelfIn M) (freshCs role (lentIn M)) (sizesOf (fixedIn M) (lentIn M)) end (b .bytes) place after (given (fixedIn M) end (b .bytes) place)
+  gave : (b : Buffer) (place : ℕ) → GaveAs (fixedIn M) (shelfIn M) (freshCs M) (sizesOf (fixedIn M) (lentIn M)) end (b .bytes) place after (given (fixedIn M) end (b .bytes) place)
   gave b place =
-      give-law (fixedIn M) (shelfIn M) (freshCs role (lentIn M)) (sizesOf (fixedIn M) (lentIn M)) end after held (b .bytes) place
+      give-law (fixedIn M) (shelfIn M) (freshCs M) (sizesOf (fixedIn M) (lentIn M)) end after held (b .bytes) place
 
   -- after the end, where nothing waits, and no bytes before it
   over-receive : Over after → (b : Buffer) → received (fixedIn M) end (b .bytes) ≡ unchangedBy (reply sessionEnded 0 0) end
   over-receive o b =
-      received-over (fixedIn M) (shelfIn M) (freshCs role (lentIn M)) (sizesOf (fixedIn M) (lentIn M)) end after held (over-ended after o) (b .bytes)
+      received-over (fixedIn M) (shelfIn M) (freshCs M) (sizesOf (fixedIn M) (lentIn M)) end after held (over-ended after o) (b .bytes)
 
   none-give : after .out ≡ [] → (b : Buffer) (place : ℕ) → given (fixedIn M) end (b .bytes) place ≡ record { reply = reply 0 0 0; sm = end .sm; buf = b .bytes }
   none-give o b place =
-      given-none (fixedIn M) (shelfIn M) (freshCs role (lentIn M)) (sizesOf (fixedIn M) (lentIn M)) end after held o (b .bytes) place
+      given-none (fixedIn M) (shelfIn M) (freshCs M) (sizesOf (fixedIn M) (lentIn M)) end after held o (b .bytes) place
 
   none-receive : Live after → received (fixedIn M) end [] ≡ unchangedBy (reply 0 0 0) end
-  none-receive l = received-none (fixedIn M) (shelfIn M) (freshCs role (lentIn M)) (sizesOf (fixedIn M) (lentIn M)) end after held l
+  none-receive l = received-none (fixedIn M) (shelfIn M) (freshCs M) (sizesOf (fixedIn M) (lentIn M)) end after held l
 
 -- THE THEOREM
 pub demand-2-lent : Claim2
-demand-2-lent role M e cs =
+demand-2-lent M e cs =
     record {
-      session = after role M e cs;
-      transfer = (led role M e cs) .0;
+      session = after M e cs;
+      transfer = (led M e cs) .0;
       same = refl;
-      reached = (led role M e cs) .1;
-      began = open-exact (isCaller role) (statesOf (M .table .bytes));
-      next = next-byte (shelfIn M) (after role M e cs) ((led role M e cs) .0) ((led role M e cs) .1);
-      receives = λ b. took role M e cs b .replies;
-      form = held role M e cs .inForm .form;
-      states = held role M e cs .represents .holds .states;
-      keeps = held role M e cs .represents .holds .boxed .messages;
-      gives = λ b place. gave role M e cs b place .replies;
-      writes = λ b place. gave role M e cs b place .buffer;
-      endedReceive = over-receive role M e cs;
-      silentGive = none-give role M e cs;
-      noBytes = none-receive role M e cs;
-      readsBack = table-reads-back (M .table .bytes) (M .titles .bytes) (M .names .bytes) (M .bodies .bytes) (accepted role (fixedIn M) (lentIn M) e .fault);
+      reached = (led M e cs) .1;
+      began = open-exact (isCaller M) (statesIn M);
+      next = next-byte (shelfIn M) (after M e cs) ((led M e cs) .0) ((led M e cs) .1);
+      receives = λ b. took M e cs b .replies;
+      form = held M e cs .inForm .form;
+      states = states-held M e cs;
+      keeps = held M e cs .represents .holds .boxed .messages;
+      gives = λ b place. gave M e cs b place .replies;
+      writes = λ b place. gave M e cs b place .buffer;
+      endedReceive = over-receive M e cs;
+      silentGive = none-give M e cs;
+      noBytes = none-receive M e cs;
+      readsBack = table-reads-back (M .table .bytes) (M .titles .bytes) (M .names .bytes) (M .bodies .bytes) (accepted M e .fault);
     }

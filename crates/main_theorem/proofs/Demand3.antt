@@ -20,19 +20,19 @@ use Rattle.form_test.specs.Form.{formOf}
 use Rattle.represents.specs.Laid.{entriesBytes, bodiesBytes}
 use Rattle.form_closed.specs.Fixed.{Fixed}
 use Rattle.represents.specs.Represents.{messagesOf}
-use Rattle.marking.specs.States.{withStates}
+use Rattle.marking.specs.States.{withStates, StatesOnly}
 use Rattle.main_theorem.specs.Demand2.{callOf}
-use Rattle.main_theorem.specs.Calls.{Lent, Memory, fixedIn, lentIn, sizesOf, lentSession, messageCount, received, given, withSession, run}
-use Rattle.main_theorem.specs.Demand3.{openedBy, CallsOn, finally, logged, Claim}
+use Rattle.main_theorem.specs.Calls.{Lent, OpenCall, fixedIn, lentIn, sizesOf, lentSession, messageCount, received, given, withSession, run, openedBy, partnerIn, statesIn}
+use Rattle.main_theorem.specs.Demand3.{CallsOn, finally, logged, Claim}
 use Rattle.marking.proofs.States.{with-law}
 use Rattle.form_closed.proofs.Answers.{receive-exactly, give-exactly}
-use Rattle.main_theorem.proofs.Opening.{freshCs, shelfOf, accepted, OpenedAs, open-law}
+use Rattle.main_theorem.proofs.Opening.{freshCs, fresh-partner, shelfOf, accepted, OpenedAs, open-law}
 use Rattle.form_closed.proofs.Closed.{receive-one, give-one}
 use Rattle.main_theorem.proofs.Run.{other-form, RanAs, run-law}
 use Rattle.represents.proofs.Laid.{entries-laid, bodies-laid}
 use Rattle.main_theorem.proofs.Held.{csOf, GoodAs, held-good}
 
-module _ (role : ℕ) (M : Memory) (e : openedBy role M .reply .answer ≡ 0) (cs : CallsOn M) where
+module _ (M : OpenCall) (e : openedBy M .reply .answer ≡ 0) (cs : CallsOn M) where
   abbrev pub F : Fixed
   F = fixedIn M
 
@@ -43,83 +43,93 @@ module _ (role : ℕ) (M : Memory) (e : openedBy role M .reply .answer ≡ 0) (c
   E = shelfOf F m
 
   abbrev pub caller : Bool
-  caller = eqb role 1
+  caller = eqb (M .role) 1
 
   abbrev pub states : List ℕ
-  states = statesOf (m .table)
+  states = statesIn M
 
-  pub open-as : OpenedAs role F m
-  open-as = open-law role M e
+  pub open-as : OpenedAs M
+  open-as = open-law M e
 
   -- after the list of calls
-  pub ran : RanAs F E (freshCs role m) (sizesOf F m) (run F (withSession m (openedBy role M .sm)) cs)
+  pub ran : RanAs F E (freshCs M) (sizesOf F m) (run F (withSession m (openedBy M .sm)) cs)
       (on-lists-run.run E (on-lists.opened caller states) (map callOf cs))
-  ran = run-law F E (freshCs role m) (sizesOf F m) cs (withSession m (openedBy role M .sm)) (on-lists.opened caller states) (open-as .held)
+  ran = run-law F E (freshCs M) (sizesOf F m) cs (withSession m (openedBy M .sm)) (on-lists.opened caller states) (open-as .held)
 
-  in-order : GoodAs F (finally role M cs) (csOf (finally role M cs))
-  in-order = held-good F E (freshCs role m) (sizesOf F m) (finally role M cs) ((on-lists-run.run E (on-lists.opened caller states) (map callOf cs)) .0) (ran .held)
+  -- the partner stays, and of the table only its column has changed
+  pub partner-stays : partnerIn (finally M cs) ≡ M .partner
+  partner-stays = ran .held .column .partner ∙ fresh-partner M
+
+  pub column-only : StatesOnly (M .partner) (m .table) (finally M cs .table)
+  column-only = subst (λ (p : ℕ). StatesOnly p (m .table) (finally M cs .table)) (fresh-partner M) (ran .held .column .table)
+
+  pub states-held : statesOf (M .partner) (finally M cs .table) ≡ (on-lists-run.run E (on-lists.opened caller states) (map callOf cs)) .0 .memory .states
+  states-held = ap (λ (p : ℕ). statesOf p (finally M cs .table)) (sym partner-stays) ∙ ran .held .represents .holds .states
+
+  in-order : GoodAs F (finally M cs) (csOf (finally M cs))
+  in-order = held-good F E (freshCs M) (sizesOf F m) (finally M cs) ((on-lists-run.run E (on-lists.opened caller states) (map callOf cs)) .0) (ran .held)
 
   on-lists-demand : on-lists-run.Demand3 E caller states (map callOf cs)
   on-lists-demand = demand-3 E (open-as .good) caller states (map callOf cs)
 
-  pub states-logged : statesOf (finally role M cs .table) ≡ logged role M cs .book .states
+  pub states-logged : statesOf (M .partner) (finally M cs .table) ≡ logged M cs .book .states
   states-logged =
-      ran .held .represents .holds .states ∙ on-lists-demand .table ∙ ap (λ (es : List Event). log (E .table) caller states es .book .states) (sym (ran .events))
+      states-held ∙ on-lists-demand .table ∙ ap (λ (es : List Event). log (E .table) caller states es .book .states) (sym (ran .events))
 
   abbrev kept : List Message
   kept = (on-lists-run.run E (on-lists.opened caller states) (map callOf cs)) .0 .memory .inbox
 
   -- the messages kept of the session on lists are the log's
-  kept-logged : kept ≡ logged role M cs .book .kept
+  kept-logged : kept ≡ logged M cs .book .kept
   kept-logged = on-lists-demand .inbox ∙ ap (λ (es : List Event). log (E .table) caller states es .book .kept) (sym (ran .events))
 
-  pub inbox-logged : messagesOf (finally role M cs .inbox) (finally role M cs .store) (messageCount (finally role M cs)) ≡ logged role M cs .book .kept
+  pub inbox-logged : messagesOf (finally M cs .inbox) (finally M cs .store) (messageCount (finally M cs)) ≡ logged M cs .book .kept
   inbox-logged = ran .held .represents .holds .boxed .messages ∙ kept-logged
 
-  count-logged : messageCount (finally role M cs) ≡ length (logged role M cs .book .kept)
+  count-logged : messageCount (finally M cs) ≡ length (logged M cs .book .kept)
   count-logged = ran .held .represents .holds .boxed .count ∙ ap (λ (ms : List Message). length ms) kept-logged
 
-  entries-logged : take (length (logged role M cs .book .kept) * entryLen) (finally role M cs .inbox) ≡ entriesBytes 0 (logged role M cs .book .kept)
+  entries-logged : take (length (logged M cs .book .kept) * entryLen) (finally M cs .inbox) ≡ entriesBytes 0 (logged M cs .book .kept)
   entries-logged =
       let r = ran .held .represents .holds in
-      subst (λ (ms : List Message). take (length ms * entryLen) (finally role M cs .inbox) ≡ entriesBytes 0 ms) kept-logged
-      (entries-laid (finally role M cs .inbox) 0 0 kept (r .boxed .laid) (omega (arith, r .boxed .count, in-order .box .placed, r .shelved .places, r .shelved .inbox)))
+      subst (λ (ms : List Message). take (length ms * entryLen) (finally M cs .inbox) ≡ entriesBytes 0 ms) kept-logged
+      (entries-laid (finally M cs .inbox) 0 0 kept (r .boxed .laid) (omega (arith, r .boxed .count, in-order .box .placed, r .shelved .places, r .shelved .inbox)))
 
-  bodies-logged : take (length (bodiesBytes (logged role M cs .book .kept))) (finally role M cs .store) ≡ bodiesBytes (logged role M cs .book .kept)
+  bodies-logged : take (length (bodiesBytes (logged M cs .book .kept))) (finally M cs .store) ≡ bodiesBytes (logged M cs .book .kept)
   bodies-logged =
       let b = ran .held .represents .holds .boxed in
-      subst (λ (ms : List Message). take (length (bodiesBytes ms)) (finally role M cs .store) ≡ bodiesBytes ms) kept-logged
-      (bodies-laid (finally role M cs .store) _ kept (in-order .box .within) (b .bodies))
+      subst (λ (ms : List Message). take (length (bodiesBytes ms)) (finally M cs .store) ≡ bodiesBytes ms) kept-logged
+      (bodies-laid (finally M cs .store) _ kept (in-order .box .within) (b .bodies))
 
   -- the memory passes the form test, so that no call that is lent it answers 1
-  form-along : formOf (finally role M cs .sm) (finally role M cs .table) (F .titles) (F .names) (F .bodies) (F .known) (finally role M cs .inbox) (finally role M cs .store) ≡ true
+  form-along : formOf (finally M cs .sm) (finally M cs .table) (F .titles) (F .names) (F .bodies) (F .known) (finally M cs .inbox) (finally M cs .store) ≡ true
   form-along = ran .held .inForm .form
 
-  pub receive-not-one : (bs : Bytes) → eqb (received F (finally role M cs) bs .reply .answer) 1 ≡ false
+  pub receive-not-one : (bs : Bytes) → eqb (received F (finally M cs) bs .reply .answer) 1 ≡ false
   receive-not-one bs =
-      receive-exactly F (finally role M cs .sm) (finally role M cs .table) (finally role M cs .inbox) (finally role M cs .store) bs ∙ ap not form-along
+      receive-exactly F (finally M cs .sm) (finally M cs .table) (finally M cs .inbox) (finally M cs .store) bs ∙ ap not form-along
 
-  pub give-not-one : (buf : Bytes) (place : ℕ) → eqb (given F (finally role M cs) buf place .reply .answer) 1 ≡ false
+  pub give-not-one : (buf : Bytes) (place : ℕ) → eqb (given F (finally M cs) buf place .reply .answer) 1 ≡ false
   give-not-one buf place =
-      give-exactly F (finally role M cs .sm) (finally role M cs .table) (finally role M cs .inbox) (finally role M cs .store) buf place ∙ ap not form-along
+      give-exactly F (finally M cs .sm) (finally M cs .table) (finally M cs .inbox) (finally M cs .store) buf place ∙ ap not form-along
 
-  table-logged : finally role M cs .table ≡ withStates (logged role M cs .book .states) (m .table)
+  table-logged : finally M cs .table ≡ withStates (M .partner) (logged M cs .book .states) (m .table)
   table-logged =
-      with-law (m .table) (finally role M cs .table) (accepted role F m e .table .0) (ran .held .spared .table)
-      ∙ ap (λ (x : List ℕ). withStates x (m .table)) states-logged
+      with-law (M .partner) (m .table) (finally M cs .table) (accepted M e .partner) (accepted M e .table .0) column-only
+      ∙ ap (λ (x : List ℕ). withStates (M .partner) x (m .table)) states-logged
 
 -- THE THEOREM
 pub demand-3-lent : Claim
-demand-3-lent role M e cs =
+demand-3-lent M e cs =
     record {
-      table = table-logged role M e cs;
-      count = count-logged role M e cs;
-      inbox = entries-logged role M e cs;
-      bodies = bodies-logged role M e cs;
-      places = ran role M e cs .held .spared .inbox .past;
-      rest = ran role M e cs .held .spared .store .past;
+      table = table-logged M e cs;
+      count = count-logged M e cs;
+      inbox = entries-logged M e cs;
+      bodies = bodies-logged M e cs;
+      places = ran M e cs .held .spared .inbox .past;
+      rest = ran M e cs .held .spared .store .past;
       others = λ o b place.
-          let f = other-form (finally role M cs .sm) (sizesOf (fixedIn M) (lentIn M)) o (ran role M e cs .held .sizes) in
-          let sm = lentSession (o .session) (finally role M cs .sm) in
+          let f = other-form (finally M cs .sm) (sizesOf (fixedIn M) (lentIn M)) o (ran M e cs .held .sizes) in
+          let sm = lentSession (o .session) (finally M cs .sm) in
           (receive-one (o .fixed) sm (o .table) (o .inbox) (o .store) (b .bytes) f, give-one (o .fixed) sm (o .table) (o .inbox) (o .store) (b .bytes) place f);
     }

@@ -30,9 +30,8 @@ use Rattle.form_closed.specs.Fixed.{Fixed}
 use Rattle.represents.specs.Represents.{Says, Awaits, Represents}
 use Rattle.represents.specs.Frame.{Spared}
 use Rattle.main_theorem.specs.Calls.{Lent, withSession, given}
-use Rattle.marking.proofs.States.{only-same}
 use Rattle.represents.proofs.Byte.{waits-law}
-use Rattle.main_theorem.proofs.Held.{csOf, Held, saved-held, held-good}
+use Rattle.main_theorem.proofs.Held.{handed-column, csOf, Held, saved-held, held-good}
 use Rattle.form_closed.proofs.Closed.{handed-ok}
 
 -- ---------------------------------------------------------------- lists
@@ -130,7 +129,7 @@ module _ (F : Fixed) (E : Shelf) (c : Cs) (s : on-lists.Session) (h : Represents
     where
       same-spared : (first then pos : ℕ) → Spared c (csSaying c first then pos)
       same-spared first then pos =
-          record { table = only-same (c .table); inbox = kept-same _ _ (c .inbox) (omega arith); store = kept-same _ _ (c .store) (omega arith) }
+          record { inbox = kept-same _ _ (c .inbox) (omega arith); store = kept-same _ _ (c .store) (omega arith) }
 
 -- ---------------------------------------------------------------- the call
 
@@ -168,7 +167,7 @@ module _ (F : Fixed) (E : Shelf) (c₀ : Cs) (z : Sizes) where
           held = subst (λ (o : Bytes). Held F E c₀ z (withSession m (saveOf (m .sm) (handedOf (loadOf (m .sm)) (length (take space o)) (length lot)))) (give s space)) (sym e)
               (saved-held F E c₀ z m s h (cs left (m .table) (m .inbox) (m .store)) (give s space)
               (handed-ok F (length (m .table)) (length (m .inbox)) (length (m .store)) c (held-good F E c₀ z m s h) (length (take space (s .out))))
-              (hand-law F E c s (h .represents) space) (hand-spared F E c s (h .represents) space));
+              (hand-law F E c s (h .represents) space) (hand-spared F E c s (h .represents) space) (handed-column c (length (take space (s .out))) (length lot)));
         }
 
     pub give-law : GaveAs m buf place s (given F m buf place)

@@ -2,9 +2,9 @@
 use mathlib.Core.Path.{_≡_, refl, sym, ap, _∙_, subst}
 use mathlib.Core.Bool.{Bool, true, false, cond, not, _||_}
 use mathlib.Core.List.{[], _∷_, _++_, append-nil}
-use Prim.Native.Nat.{ℕ, suc, _+_, _-_, _≤_}
+use Prim.Native.Nat.{ℕ, suc, _+_, _-_, _≤_, _<_}
 use native.Mathlib.Omega.{arith}
-use lib.Dec.{eqb, ltb}
+use lib.Dec.{eqb, ltb, leb}
 use lib.ListN.{length, drop, length-take}
 use borrow.Author.Tests.{eq-eqb, eqb-true, ne-eqb, lt-ltb, le-ltb, ltb-true}
 use Rattle.grammar.specs.Bytes.{Bytes}
@@ -21,10 +21,16 @@ use Rattle.pending.specs.Pending.{waits, overOf}
 use Rattle.form_test.specs.Form.{markOk, sameSizes, countsOk, inboxOk, isLast, closedOk, phaseOk, stateOk, lentSizes, formOf}
 use Rattle.give.specs.Giving.{Given, reply, handing, giveOf}
 use Rattle.receive_defined.specs.Receiving.{Cs, cs, byteOf, Run, stops, receiveFrom, Received, saved, receiveOf}
+use Rattle.grammar.specs.Turns.{blockLimit}
+use Rattle.places.specs.Places.{partners, lineLen, headingLen}
+use Rattle.marking.specs.States.{StatesOnly}
+use Rattle.marking.proofs.States.{only-same}
+use Rattle.form_test.specs.Form.{markOk, sameSizes, countsOk, stateOk, formOf}
 use Rattle.form_closed.specs.Fixed.{Fixed}
+use Rattle.form_closed.proofs.Columns.{receive-column}
 use Rattle.form_closed.proofs.Closed.{receive-one, give-one}
 use Rattle.form_closed.proofs.Answers.{receive-exactly}
-use Rattle.main_theorem.specs.Calls.{Lent, passes, received, given, unchangedBy}
+use Rattle.main_theorem.specs.Calls.{Lent, passes, received, given, unchangedBy, partnerIn, sizesOf}
 use Rattle.main_theorem.specs.Replies.{hasEnded, LastLine, noLine, protocolLine, checksumLine, OfLastLine, ReceiveReplies, GiveReplies, RepliesClaim}
 
 -- ---------------------------------------------------------------- a closed session
@@ -110,6 +116,33 @@ module _ (F : Fixed) (m : Lent) where
     unfolding receiveOf
     received-none e o l = rw (e, o, eq-eqb (length bs) 0 l)
 
+    -- the form test asks that the partner has a column
+    column-named : passes F m ≡ true → partnerIn m < partners
+    unfolding formOf stateOk countsOk
+    column-named e =
+        let s = loadOf (m .sm) in
+        let e₁ = and2 (eqb (length (m .sm)) sessionSize) _ e in
+        let e₂ = and2 (markOk (m .sm)) _ (e₁ .1) in
+        let e₃ = and2 (sameSizes (loadSizes (m .sm)) (sizesOf F m)) _ (e₂ .1) in
+        let e₄ = and2 (countsOk s) _ (e₃ .1) in
+        let n₁ = and2 (leb (s .line .len) lineLen) _ (e₄ .0) in
+        let n₂ = and2 (leb (s .now .ours .count) blockLimit) _ (n₁ .1) in
+        let n₃ = and2 (leb (s .say .signs .count) blockLimit) _ (n₂ .1) in
+        let n₄ = and2 (leb (s .keep .sending .count) blockLimit) _ (n₃ .1) in
+        let n₅ = and2 (leb (s .now .proposals) blockLimit) _ (n₄ .1) in
+        ltb-true (partnerIn m) partners (and2 (leb (s .reading .reader .head) headingLen) _ (n₅ .1) .1)
+
+    -- the table by the tests
+    column-only : StatesOnly (partnerIn m) (m .table) (received F m bs .table)
+    unfolding receiveOf by-tests
+    column-only = go (passes F m) refl (overOf (loadOf (m .sm))) (eqb (length bs) 0)
+      where
+        go : (a : Bool) → passes F m ≡ a → (b n : Bool) → StatesOnly (partnerIn m) (m .table) (by-tests a b n .table)
+        go true e true n = only-same (partnerIn m) (m .table)
+        go true e false true = only-same (partnerIn m) (m .table)
+        go true e false false = receive-column (F .known) bs (cs (loadOf (m .sm)) (m .table) (m .inbox) (m .store)) 0 (column-named e) .table
+        go false e b n = only-same (partnerIn m) (m .table)
+
     receives : ReceiveReplies F m bs
     receives =
         record {
@@ -119,6 +152,8 @@ module _ (F : Fixed) (m : Lent) where
               (receive-exactly F (m .sm) (m .table) (m .inbox) (m .store) bs ∙ ap not e);
           place = place-zero;
           count = count-within;
+          named = column-named;
+          column = column-only;
           ended = received-ended;
           noBytes = received-none;
         }

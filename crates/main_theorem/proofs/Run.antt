@@ -26,6 +26,7 @@ use Rattle.give.specs.Giving.{Given, reply, giveOf}
 use Rattle.give.specs.declared.Reply.{Reply}
 use Rattle.receive_defined.specs.Receiving.{Cs, cs, Run, Received, unchanged, saved, receiveFrom, receiveOf}
 use Rattle.form_closed.specs.Fixed.{Fixed}
+use Rattle.form_closed.proofs.Columns.{receive-column}
 use Rattle.main_theorem.specs.Demand2.{callOf}
 use Rattle.main_theorem.specs.Calls.{Lent, SessionLent, itsOwn, otherBytes, lentSession, ownAfter, anotherSize, Other, Call, receives, gives, receivesOther, givesOther, received, given, leftBy, withSession, tookBy, gaveBy, aside, run}
 use Rattle.form_closed.proofs.Answers.{receive-none}
@@ -102,7 +103,7 @@ module _ (F : Fixed) (E : Shelf) (c₀ : Cs) (z : Sizes) where
             replies = ap (λ (n : ℕ). reply n 0 (fed .count)) (r .answer) ∙ ap (reply (on-lists-calls.receiveOn E s bs .answer) 0) (r .count ∙ zero-add _);
             held = saved-held F E c₀ z m s h (fed .cs) (on-lists-calls.receiveOn E s bs .session)
                 (receive-ok F (length (m .table)) (length (m .inbox)) (length (m .store)) (F .known) bs (csOf m) 0 (record { each = o }) (held-good F E c₀ z m s h))
-                (r .represents) (r .spared);
+                (r .represents) (r .spared) (receive-column (F .known) bs (csOf m) 0 (held-good F E c₀ z m s h .keep .terms .partner));
           }
 
       go : (a b : Bool) → a ≡ b → on-lists.ended s ≡ b

@@ -7,11 +7,10 @@ use lib.Dec.{eqb}
 use Rattle.session.specs.Choices.{Shelf}
 use Rattle.session.specs.Session as on-lists
 use Rattle.demand2.specs.Reached.{atOpen}
-use Rattle.marking.specs.States.{statesOf}
 use Rattle.form_closed.specs.Fixed.{Fixed}
 use Rattle.main_theorem.specs.Demand2.{callOf, shelfIn}
-use Rattle.main_theorem.specs.Calls.{fixedIn, lentIn, sizesOf, withSession}
-use Rattle.main_theorem.specs.Demand3.{openedBy, finally}
+use Rattle.main_theorem.specs.Calls.{fixedIn, lentIn, sizesOf, withSession, openedBy, statesIn}
+use Rattle.main_theorem.specs.Demand3.{finally}
 use Rattle.main_theorem.specs.Store.{lastOf, StoreClaim}
 use Rattle.main_theorem.proofs.Opening.{freshCs}
 use Rattle.main_theorem.proofs.Demand3.{open-as, ran}
@@ -21,13 +20,13 @@ use Rattle.main_theorem.proofs.LastLive.{Lives, calls-kept, calls-reach
 
 -- THE THEOREM
 pub store-exactly : StoreClaim
-store-exactly role M e cs =
+store-exactly M e cs =
     record {
       transfer = led .0;
       reached = led .1;
       live = led .2;
-      kept = ran role M e cs .held .represents .holds .boxed .messages ∙ calls-kept E (map callOf cs) first at-open;
-      store = sym (shown .same) ∙ store-written F E (freshCs role (lentIn M)) (shown .state) (lastOf role M cs) (shown .within) (shown .represents) (shown .spared) (led .2);
+      kept = ran M e cs .held .represents .holds .boxed .messages ∙ calls-kept E (map callOf cs) first at-open;
+      store = sym (shown .same) ∙ store-written F E (freshCs M) (shown .state) (lastOf M cs) (shown .within) (shown .represents) (shown .spared) (led .2);
     }
   where
     F : Fixed
@@ -37,15 +36,15 @@ store-exactly role M e cs =
     E = shelfIn M
 
     first : on-lists.Session
-    first = on-lists.opened (eqb role 1) (statesOf (M .table .bytes))
+    first = on-lists.opened (eqb (M .role) 1) (statesIn M)
 
     at-open : on-lists.ended first ≡ false
     at-open = refl
 
-    led : Lives E (lastOf role M cs)
-    led = calls-reached E (map callOf cs) first [] (atOpen (eqb role 1) (statesOf (M .table .bytes))) at-open
+    led : Lives E (lastOf M cs)
+    led = calls-reached E (map callOf cs) first [] (atOpen (eqb (M .role) 1) (statesIn M)) at-open
 
-    shown : Shown F E (freshCs role (lentIn M)) (lastOf role M cs) (finally role M cs .store)
+    shown : Shown F E (freshCs M) (lastOf M cs) (finally M cs .store)
     shown =
-        calls-last F E (freshCs role (lentIn M)) (sizesOf F (lentIn M)) cs (withSession (lentIn M) (openedBy role M .sm)) first
-        (open-as role M e cs .held) at-open
+        calls-last F E (freshCs M) (sizesOf F (lentIn M)) cs (withSession (lentIn M) (openedBy M .sm)) first
+        (open-as M e cs .held) at-open

@@ -11,9 +11,12 @@ use Rattle.session_memory.specs.declared.Sizes.{Sizes}
 use Rattle.form_test.specs.Form.{sameSizes, lentSizes, formOf}
 use Rattle.give.specs.Giving.{Given, giveOf}
 use Rattle.give.specs.declared.Reply.{Reply}
-use Rattle.open.specs.Opening.{Opened, openOf}
+use Rattle.marking.specs.States.{statesOf}
+use Rattle.open.specs.Opening.{Opened}
+use Rattle.open_accepts.specs.Lending.{Lending, openOn}
 use Rattle.receive_defined.specs.Receiving.{Received, unchanged, receiveOf}
 use Rattle.form_closed.specs.Fixed.{Fixed}
+use Rattle.form_closed.specs.Columns.{partnerOf}
 use Rattle.represents.specs.Frame.{reachOf}
 use lib.Dec.{eqb}
 
@@ -26,8 +29,10 @@ pub record Buffer : Type 0 where
   pub octets : every isByte bytes ≡ true
   pub short : length bytes < wordValues
 
--- All that open is lent.
-pub record Memory : Type 0 where
+-- What open is called with: its role, the partner, and the buffers that it is lent.
+pub record OpenCall : Type 0 where
+  pub role : ℕ
+  pub partner : ℕ
   pub session : Buffer
   pub table : Buffer
   pub titles : Buffer
@@ -44,10 +49,10 @@ pub record Lent : Type 0 where
   pub inbox : Bytes
   pub store : Bytes
 
-abbrev pub fixedIn : Memory → Fixed
+abbrev pub fixedIn : OpenCall → Fixed
 fixedIn M = record { titles = M .titles .bytes; names = M .names .bytes; bodies = M .bodies .bytes; known = M .known .bytes }
 
-abbrev pub lentIn : Memory → Lent
+abbrev pub lentIn : OpenCall → Lent
 lentIn M = record { sm = M .session .bytes; table = M .table .bytes; inbox = M .inbox .bytes; store = M .store .bytes }
 
 abbrev pub sizesOf : Fixed → Lent → Sizes
@@ -56,6 +61,10 @@ sizesOf F m = lentSizes (m .table) (F .titles) (F .names) (F .bodies) (F .known)
 -- "Inbox: .. Its count stands in session memory"
 abbrev pub messageCount : Lent → ℕ
 messageCount m = loadOf (m .sm) .keep .kept
+
+-- The partner whose column this session memory names.
+abbrev pub partnerIn : Lent → ℕ
+partnerIn m = partnerOf (loadOf (m .sm))
 
 -- How far the inbox store is written: kept messages, then the body bytes of the message under way or of one that failed.
 abbrev pub storeReach : Lent → ℕ
@@ -104,11 +113,32 @@ pub data Call (z : Sizes) : Type 0 where
 abbrev pub callerRole : ℕ
 callerRole = 1
 
-abbrev pub isCaller : ℕ → Bool
-isCaller role = eqb role callerRole
+abbrev pub isCaller : OpenCall → Bool
+isCaller M = eqb (M .role) callerRole
 
-abbrev pub openedOn : ℕ → Fixed → Lent → Opened
-openedOn role F m = openOf role (m .sm) (m .table) (F .titles) (F .names) (F .bodies) (F .known) (m .inbox) (m .store)
+-- What open is called with, as its own claim has it (crates/open_accepts): the bytes alone.
+abbrev pub lending : OpenCall → Lending
+lending M =
+    record {
+      role = M .role;
+      partner = M .partner;
+      session = M .session .bytes;
+      table = M .table .bytes;
+      titles = M .titles .bytes;
+      names = M .names .bytes;
+      bodies = M .bodies .bytes;
+      known = M .known .bytes;
+      inbox = M .inbox .bytes;
+      store = M .store .bytes;
+    }
+
+-- "Take an accepted open"
+abbrev pub openedBy : OpenCall → Opened
+openedBy M = openOn (lending M)
+
+-- The table's states for the partner, as open finds them.
+abbrev pub statesIn : OpenCall → List ℕ
+statesIn M = statesOf (M .partner) (M .table .bytes)
 
 abbrev pub received : Fixed → Lent → Bytes → Received
 received F m bs = receiveOf (m .sm) (m .table) (F .titles) (F .names) (F .bodies) (F .known) (m .inbox) (m .store) bs

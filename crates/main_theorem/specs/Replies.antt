@@ -3,7 +3,7 @@
 -- is never more than the bytes or the room there is. The proof is proofs/Replies.
 use mathlib.Core.Path.{_≡_}
 use mathlib.Core.Bool.{Bool, true, false}
-use Prim.Native.Nat.{ℕ, _-_, _≤_}
+use Prim.Native.Nat.{ℕ, _-_, _≤_, _<_}
 use mathlib.Core.List.{[]}
 use lib.ListN.{length, take, drop}
 use Rattle.grammar.specs.Bytes.{Bytes}
@@ -14,7 +14,9 @@ use Rattle.session_memory.specs.State.{loadOf}
 use Rattle.pending.specs.Pending.{overOf}
 use Rattle.give.specs.Giving.{reply}
 use Rattle.form_closed.specs.Fixed.{Fixed}
-use Rattle.main_theorem.specs.Calls.{Lent, passes, received, given, unchangedBy}
+use Rattle.places.specs.Places.{partners}
+use Rattle.marking.specs.States.{StatesOnly}
+use Rattle.main_theorem.specs.Calls.{Lent, passes, received, given, unchangedBy, partnerIn}
 
 -- The session that this memory holds has ended: FQ came, a byte was refused, or our FQ is given.
 abbrev pub hasEnded : Lent → Bool
@@ -44,6 +46,10 @@ pub record ReceiveReplies (F : Fixed) (m : Lent) (bs : Bytes) : Type 0 where
   -- "receive on an ended session": 12, "nothing consumed, nothing changed"; and no bytes on a live one
   pub ended : passes F m ≡ true → hasEnded m ≡ true → received F m bs ≡ unchangedBy (reply sessionEnded 0 0) m
   pub noBytes : passes F m ≡ true → hasEnded m ≡ false → length bs ≡ 0 → received F m bs ≡ unchangedBy (reply 0 0 0) m
+  -- "the other seven columns come out of any session unaltered": session memory names a partner, and no other byte of the table changes than states for
+  -- that partner, whoever wrote this memory
+  pub named : passes F m ≡ true → partnerIn m < partners
+  pub column : StatesOnly (partnerIn m) (m .table) (received F m bs .table)
 
 pub record GiveReplies (F : Fixed) (m : Lent) (buf : Bytes) (place : ℕ) : Type 0 where
   pub changed : passes F m ≡ false → given F m buf place ≡ record { reply = reply badMemory noPlace 0; sm = m .sm; buf = buf }

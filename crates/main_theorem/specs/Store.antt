@@ -12,12 +12,11 @@ use Rattle.session.specs.Session.{Phase, aLine, awaitsTransfer, leaving, over, 
 use Rattle.session.specs.Calls.{stops, receive, give}
 use Rattle.demand2.specs.Reached.{Reached}
 use Rattle.demand3.specs.Demand as on-lists-run
-use Rattle.marking.specs.States.{statesOf}
 use Rattle.represents.specs.Laid.{bodiesBytes}
 use Rattle.represents.specs.Represents.{messagesOf}
 use Rattle.main_theorem.specs.Demand2.{callOf, shelfIn}
-use Rattle.main_theorem.specs.Calls.{Memory, messageCount, isCaller}
-use Rattle.main_theorem.specs.Demand3.{openedBy, CallsOn, finally}
+use Rattle.main_theorem.specs.Calls.{OpenCall, messageCount, isCaller, statesIn, openedBy}
+use Rattle.main_theorem.specs.Demand3.{CallsOn, finally}
 
 -- The session just before the byte that ended it, of the bytes of one receive; where none ended it, the session after them.
 abbrev pub lastByte : Shelf → Session → Bytes → Session
@@ -43,18 +42,18 @@ abbrev pub written : Session → Bytes
 written s = bodiesBytes (s .memory .inbox) ++ underWay (s .phase)
 
 -- The session on lists just before the same calls ended it, or after them.
-abbrev pub lastOf : ℕ → (M : Memory) → CallsOn M → Session
-lastOf role M cs = lastLive (shelfIn M) (opened (isCaller role) (statesOf (M .table .bytes))) (map callOf cs)
+abbrev pub lastOf : (M : OpenCall) → CallsOn M → Session
+lastOf M cs = lastLive (shelfIn M) (opened (isCaller M) (statesIn M)) (map callOf cs)
 
-pub record StoreHolds (role : ℕ) (M : Memory) (cs : CallsOn M) : Type 0 where
+pub record StoreHolds (M : OpenCall) (cs : CallsOn M) : Type 0 where
   -- the bytes so far of the transfer under way; its reading, and so its body, has come from them (`Sound.soFar` of crates/demand2)
   pub transfer : Bytes
-  pub reached : Reached (shelfIn M) (lastOf role M cs) transfer
-  pub live : ended (lastOf role M cs) ≡ false
+  pub reached : Reached (shelfIn M) (lastOf M cs) transfer
+  pub live : ended (lastOf M cs) ≡ false
   -- its messages kept are those of the inbox
-  pub kept : messagesOf (finally role M cs .inbox) (finally role M cs .store) (messageCount (finally role M cs)) ≡ lastOf role M cs .memory .inbox
+  pub kept : messagesOf (finally M cs .inbox) (finally M cs .store) (messageCount (finally M cs)) ≡ lastOf M cs .memory .inbox
   -- THE STORE, from its first byte to its last: "the rest is untouched"
-  pub store : finally role M cs .store ≡ written (lastOf role M cs) ++ drop (length (written (lastOf role M cs))) (M .store .bytes)
+  pub store : finally M cs .store ≡ written (lastOf M cs) ++ drop (length (written (lastOf M cs))) (M .store .bytes)
 
 abbrev pub StoreClaim : Type 0
-StoreClaim = (role : ℕ) (M : Memory) → openedBy role M .reply .answer ≡ 0 → (cs : CallsOn M) → StoreHolds role M cs
+StoreClaim = (M : OpenCall) → openedBy M .reply .answer ≡ 0 → (cs : CallsOn M) → StoreHolds M cs

@@ -1,32 +1,72 @@
--- States set in the table. Others cite these laws, not the place of a state: the state set is read back and other states stay (states-set),
--- every other field and byte stays (records-set, only-set), the length stays (state-length), and no byte is new but the state (state-all). Idea: record i begins with its state, at byte
--- i * recordLen, and nothing else that is read of it lies there.
+-- States set in the table, in one partner's column. Others cite these laws, not the place of a state: the state set is read back and other states of the
+-- column stay (states-set), every other field and byte stays (records-set, only-set), so do the states of every other partner (column-stays), the length
+-- stays (state-length), and no byte is new but the state (state-all). Idea: record i begins with its states, that of partner p at byte
+-- i * recordLen + p, and nothing else that is read of it lies there.
 use mathlib.Core.Path.{_≡_, refl, sym, ap, _∙_, subst}
 use mathlib.Core.Bool.{Bool, true, false, cond}
 use mathlib.Core.List.{List, [], _∷_}
-use Prim.Native.Nat.{ℕ, zero, suc, _+_, _-_, _*_, _/_, _%_, _≤_, _<_}
+use Prim.Native.Nat.{ℕ, zero, suc, _+_, _-_, _*_, _/_, _%_, _≤_, _<_, min}
 use native.Mathlib.Omega.{arith}
-use native.Mathlib.Nat.{add-zero}
 use lib.Dec.{eqb, leb, ltb}
 use lib.ListN.{length, getD, take, drop, set, length-set, length-take, length-drop}
 use lib.Seq.{drop-set-add, drop-set-lt, take-set-le, take-set-lt, getD-set-same, getD-set-other, getD-take, getD-drop, ext-getD}
 use borrow.Author.Tests.{eqb-true, eqb-false, ltb-true, ltb-false}
 use Rattle.grammar.specs.Bytes.{Bytes, every}
+use Rattle.grammar.specs.Fields.{Form, formIs}
+use Rattle.grammar.specs.Transfers.{partOf}
 use Rattle.grammar.proofs.Basics.{and2}
-use Rattle.mail.specs.Mail.{marked}
-use Rattle.places.specs.Places.{recordLen}
-use Rattle.layout.specs.Layout.{byteAt, entryAt, recordSize, recordOf}
+use Rattle.mail.specs.Mail.{Record, marked}
+use Rattle.places.specs.Places.{recordLen, partners, callMax, atMax, bidMax, recordForm, recordType, recordFrom, recordAt, recordTo, recordBid, recordSizeAt, recordTitle, recordTitleLength, recordName, recordNameLength, recordBody, recordBodyLength}
+use Rattle.layout.specs.Layout.{byteAt, le2At, le4At, fieldIn, entryAt, recordSize, recordOf, stateOf}
 use Rattle.layout.proofs.Places.{part-in}
 use Rattle.entries.specs.Decoded.{entries, recordCount, recordsOf}
 use Rattle.entries.proofs.Laws.{entries-length, entries-at, entries-same}
-use Rattle.marking.specs.States.{statesOf, setState, markAll, withStatesFrom, withStates, StatesOnly}
+use Rattle.marking.specs.States.{InColumn, statesOf, setState, markAll, withStatesFrom, withStates, StatesOnly}
+
+-- ---------------------------------------------------------------- a byte of an entry is set: what is read after it stays
+
+module _ (c : Bytes) (p v : ℕ) where
+  byte-after : (a : ℕ) → p < a → byteAt (set c p v) a ≡ byteAt c a
+  byte-after a h = getD-set-other c p a v 0 (λ e. omega arith)
+
+  part-after : (a n : ℕ) → p < a → partOf (set c p v) a n ≡ partOf c a n
+  part-after a n h =
+      rw (length-set c p v) (ap (λ (l : Bytes). cond (leb a (length c)) (cond (leb n (length c - a)) (take n l) []) []) (drop-set-lt a c p v h))
+
+  field-after : (n a : ℕ) → p < a → fieldIn n a (set c p v) ≡ fieldIn n a c
+  field-after n a h = part-after (a + 1) (min n (byteAt (set c p v) a)) (omega arith) ∙ ap (λ (x : ℕ). partOf c (a + 1) (min n x)) (byte-after a h)
+
+  two-after : (a : ℕ) → p < a → le2At (set c p v) a ≡ le2At c a
+  two-after a h = rw (byte-after a h, byte-after (a + 1) (omega arith))
+
+  four-after : (a : ℕ) → p < a → le4At (set c p v) a ≡ le4At c a
+  four-after a h = rw (byte-after a h, byte-after (a + 1) (omega arith), byte-after (a + 2) (omega arith), byte-after (a + 3) (omega arith))
+
+same-record : {f g : Form} {t u z y : ℕ} {a b d e h i j k l m n o q r : Bytes} → f ≡ g → t ≡ u → a ≡ b → d ≡ e → h ≡ i → j ≡ k → z ≡ y → l ≡ m → n ≡ o → q ≡ r
+    → _≡_ {A = Record} (record { form = f; type = t; from = a; at = d; to = h; bid = j; size = z; title = l; name = n; body = q })
+    (record { form = g; type = u; from = b; at = e; to = i; bid = k; size = y; title = m; name = o; body = r })
+same-record e₁ e₂ e₃ e₄ e₅ e₆ e₇ e₈ e₉ e₀ = rw (e₁, e₂, e₃, e₄, e₅, e₆, e₇, e₈, e₉, e₀)
+
+-- a text in its store, from its start and its length
+same-part : (s : Bytes) {a b n m : ℕ} → a ≡ b → n ≡ m → partOf s a n ≡ partOf s b m
+same-part s e f = rw (e, f)
+
+-- a record but for its states
+record-after : (ti na bo c : Bytes) (p v : ℕ) → p < partners → recordOf ti na bo (set c p v) ≡ recordOf ti na bo c
+record-after ti na bo c p v h =
+    same-record (ap formIs (byte-after c p v recordForm h)) (byte-after c p v recordType (omega arith)) (field-after c p v callMax recordFrom (omega arith))
+    (field-after c p v atMax recordAt (omega arith)) (field-after c p v callMax recordTo (omega arith)) (field-after c p v bidMax recordBid (omega arith))
+    (four-after c p v recordSizeAt (omega arith))
+    (same-part ti (four-after c p v recordTitle (omega arith)) (byte-after c p v recordTitleLength (omega arith)))
+    (same-part na (four-after c p v recordName (omega arith)) (byte-after c p v recordNameLength (omega arith)))
+    (same-part bo (four-after c p v recordBody (omega arith)) (two-after c p v recordBodyLength (omega arith)))
 
 -- ---------------------------------------------------------------- one state is set
 
 -- the length stays
-pub state-length : (t : Bytes) (i v : ℕ) → length (setState t i v) ≡ length t
+pub state-length : (p : ℕ) (t : Bytes) (i v : ℕ) → length (setState p t i v) ≡ length t
 unfolding setState
-state-length t i v = length-set t (i * recordLen) v
+state-length p t i v = length-set t (i * recordLen + p) v
 
 -- what holds of this state and of every byte holds of every byte then
 all-set : (c : ℕ → Bool) (t : Bytes) (i v : ℕ) → c v ≡ true → every c t ≡ true → every c (set t i v) ≡ true
@@ -34,62 +74,58 @@ all-set c [] i v h o = refl
 all-set c (x ∷ t) zero v h o = rw h (and2 (c x) (every c t) o .1)
 all-set c (x ∷ t) (suc i) v h o = rw (and2 (c x) (every c t) o .0) (all-set c t i v h (and2 (c x) (every c t) o .1))
 
-pub state-all : (c : ℕ → Bool) (t : Bytes) (i v : ℕ) → c v ≡ true → every c t ≡ true → every c (setState t i v) ≡ true
+pub state-all : (c : ℕ → Bool) (p : ℕ) (t : Bytes) (i v : ℕ) → c v ≡ true → every c t ≡ true → every c (setState p t i v) ≡ true
 unfolding setState
-state-all c t i v h o = all-set c t (i * recordLen) v h o
+state-all c p t i v h o = all-set c t (i * recordLen + p) v h o
 
-module _ (t : Bytes) (i v : ℕ) where
-  byte-here : i * recordLen < length t → getD (setState t i v) (i * recordLen) 0 ≡ v
+module _ (p : ℕ) (t : Bytes) (i v : ℕ) where
+  byte-here : i * recordLen + p < length t → getD (setState p t i v) (i * recordLen + p) 0 ≡ v
   unfolding setState
-  byte-here h = getD-set-same t (i * recordLen) v 0 h
+  byte-here h = getD-set-same t (i * recordLen + p) v 0 h
 
-  byte-other : (j : ℕ) → (j ≡ i * recordLen → ⊥) → getD (setState t i v) j 0 ≡ getD t j 0
+  byte-other : (j : ℕ) → (j ≡ i * recordLen + p → ⊥) → getD (setState p t i v) j 0 ≡ getD t j 0
   unfolding setState
-  byte-other j h = getD-set-other t (i * recordLen) j v 0 h
+  byte-other j h = getD-set-other t (i * recordLen + p) j v 0 h
 
-  entry-other : (j : ℕ) → (j ≡ i → ⊥) → entryAt recordSize (setState t i v) j ≡ entryAt recordSize t j
-  unfolding setState
-  entry-other j ne = rw (length-set t (i * recordLen) v) (ap (λ (l : Bytes). cond (leb (j * recordLen) (length t)) (cond (leb recordLen (length t - j * recordLen)) l []) []) (go (ltb j i) refl))
-    where
-      go : (c : Bool) → ltb j i ≡ c → take recordLen (drop (j * recordLen) (setState t i v)) ≡ take recordLen (drop (j * recordLen) t)
-      go true e =
-          let h = ltb-true j i e in
-          let k : i * recordLen ≡ j * recordLen + (i - j) * recordLen = omega arith in
-          rw (k, drop-set-add (j * recordLen) t ((i - j) * recordLen) v) (take-set-le recordLen (drop (j * recordLen) t) ((i - j) * recordLen) v (omega arith))
-      go false e = let h = ltb-false j i e in ap (take recordLen) (drop-set-lt (j * recordLen) t (i * recordLen) v (omega arith))
+  module _ (column : p < partners) where
+    entry-other : (j : ℕ) → (j ≡ i → ⊥) → entryAt recordSize (setState p t i v) j ≡ entryAt recordSize t j
+    unfolding setState
+    entry-other j ne = rw (length-set t (i * recordLen + p) v) (ap (λ (l : Bytes). cond (leb (j * recordLen) (length t)) (cond (leb recordLen (length t - j * recordLen)) l []) []) (go (ltb j i) refl))
+      where
+        go : (c : Bool) → ltb j i ≡ c → take recordLen (drop (j * recordLen) (setState p t i v)) ≡ take recordLen (drop (j * recordLen) t)
+        go true e =
+            let h = ltb-true j i e in
+            let k : i * recordLen + p ≡ j * recordLen + ((i - j) * recordLen + p) = omega arith in
+            rw (k, drop-set-add (j * recordLen) t ((i - j) * recordLen + p) v) (take-set-le recordLen (drop (j * recordLen) t) ((i - j) * recordLen + p) v (omega arith))
+        go false e = let h = ltb-false j i e in ap (take recordLen) (drop-set-lt (j * recordLen) t (i * recordLen + p) v (omega arith))
 
-  entry-same : entryAt recordSize (setState t i v) i ≡ set (entryAt recordSize t i) 0 v
-  unfolding setState
-  entry-same =
-      rw (length-set t (i * recordLen) v)
-      (ap (λ (l : Bytes). cond (leb (i * recordLen) (length t)) (cond (leb recordLen (length t - i * recordLen)) l []) []) within ∙ out (leb (i * recordLen) (length t)) (leb recordLen (length t - i * recordLen)) (take recordLen (drop (i * recordLen) t)))
-    where
-      within : take recordLen (drop (i * recordLen) (setState t i v)) ≡ set (take recordLen (drop (i * recordLen) t)) 0 v
-      within =
-          ap (λ (k : ℕ). take recordLen (drop (i * recordLen) (set t k v))) (sym (add-zero (i * recordLen)))
-          ∙ ap (take recordLen) (drop-set-add (i * recordLen) t 0 v) ∙ take-set-lt recordLen (drop (i * recordLen) t) 0 v (omega arith)
+    entry-same : entryAt recordSize (setState p t i v) i ≡ set (entryAt recordSize t i) p v
+    unfolding setState
+    entry-same =
+        rw (length-set t (i * recordLen + p) v)
+        (ap (λ (l : Bytes). cond (leb (i * recordLen) (length t)) (cond (leb recordLen (length t - i * recordLen)) l []) []) within ∙ out (leb (i * recordLen) (length t)) (leb recordLen (length t - i * recordLen)) (take recordLen (drop (i * recordLen) t)))
+      where
+        within : take recordLen (drop (i * recordLen) (setState p t i v)) ≡ set (take recordLen (drop (i * recordLen) t)) p v
+        within =
+            ap (take recordLen) (drop-set-add (i * recordLen) t p v) ∙ take-set-lt recordLen (drop (i * recordLen) t) p v (omega arith)
 
-      out : (a b : Bool) (l : Bytes) → cond a (cond b (set l 0 v) []) [] ≡ set (cond a (cond b l []) []) 0 v
-      out true true l = refl
-      out true false l = refl
-      out false b l = refl
-
-record-first : (ti na bo c : Bytes) (v : ℕ) → recordOf ti na bo (set c 0 v) ≡ recordOf ti na bo c
-record-first ti na bo [] v = refl
-record-first ti na bo (x ∷ c) v = refl
+        out : (a b : Bool) (l : Bytes) → cond a (cond b (set l p v) []) [] ≡ set (cond a (cond b l []) []) p v
+        out true true l = refl
+        out true false l = refl
+        out false b l = refl
 
 -- every other field of the records stays
-pub records-set : (ti na bo t : Bytes) (i v : ℕ) → recordsOf ti na bo (setState t i v) ≡ recordsOf ti na bo t
+pub records-set : (ti na bo : Bytes) (p : ℕ) (t : Bytes) (i v : ℕ) → p < partners → recordsOf ti na bo (setState p t i v) ≡ recordsOf ti na bo t
 unfolding recordsOf
-records-set ti na bo t i v =
-    rw (state-length t i v)
-    (entries-same (recordOf ti na bo) (recordOf ti na bo) recordSize (setState t i v) t 0 (recordCount t) (λ j h. go j (eqb j i) refl))
+records-set ti na bo p t i v l =
+    rw (state-length p t i v)
+    (entries-same (recordOf ti na bo) (recordOf ti na bo) recordSize (setState p t i v) t 0 (recordCount t) (λ j h. go j (eqb j i) refl))
   where
-    go : (j : ℕ) (c : Bool) → eqb j i ≡ c → recordOf ti na bo (entryAt recordSize (setState t i v) j) ≡ recordOf ti na bo (entryAt recordSize t j)
+    go : (j : ℕ) (c : Bool) → eqb j i ≡ c → recordOf ti na bo (entryAt recordSize (setState p t i v) j) ≡ recordOf ti na bo (entryAt recordSize t j)
     go j true e =
-        subst (λ (k : ℕ). recordOf ti na bo (entryAt recordSize (setState t i v) k) ≡ recordOf ti na bo (entryAt recordSize t k)) (sym (eqb-true j i e))
-        (ap (recordOf ti na bo) (entry-same t i v) ∙ record-first ti na bo (entryAt recordSize t i) v)
-    go j false e = ap (recordOf ti na bo) (entry-other t i v j (eqb-false j i e))
+        subst (λ (k : ℕ). recordOf ti na bo (entryAt recordSize (setState p t i v) k) ≡ recordOf ti na bo (entryAt recordSize t k)) (sym (eqb-true j i e))
+        (ap (recordOf ti na bo) (entry-same p t i v l) ∙ record-after ti na bo (entryAt recordSize t i) p v l)
+    go j false e = ap (recordOf ti na bo) (entry-other p t i v l j (eqb-false j i e))
 
 -- a table of whole records
 abbrev pub Whole : Bytes → Type 0
@@ -98,125 +134,139 @@ Whole t = length t ≡ recordCount t * recordLen
 pub entry-whole : (t : Bytes) (j : ℕ) → Whole t → j < recordCount t → entryAt recordSize t j ≡ take recordLen (drop (j * recordLen) t)
 entry-whole t j w h = part-in t (j * recordLen) recordLen (omega (arith, w))
 
--- the state set is read back, and the others stay
-pub states-set : (t : Bytes) (i v : ℕ) → Whole t → statesOf (setState t i v) ≡ set (statesOf t) i v
+-- the state set is read back, and the others of the column stay
+pub states-set : (p : ℕ) (t : Bytes) (i v : ℕ) → p < partners → Whole t → statesOf p (setState p t i v) ≡ set (statesOf p t) i v
 unfolding statesOf
-states-set t i v w =
-    rw (state-length t i v)
-    (ext-getD 0 (entries first recordSize u n) (set (entries first recordSize t n) i v)
-    (entries-length first recordSize u 0 n ∙ sym (length-set (entries first recordSize t n) i v ∙ entries-length first recordSize t 0 n))
-    (λ j h. go j (subst (λ (k : ℕ). j < k) (entries-length first recordSize u 0 n) h) (eqb j i) refl))
+states-set p t i v b w =
+    rw (state-length p t i v)
+    (ext-getD 0 (entries state recordSize u n) (set (entries state recordSize t n) i v)
+    (entries-length state recordSize u 0 n ∙ sym (length-set (entries state recordSize t n) i v ∙ entries-length state recordSize t 0 n))
+    (λ j h. go j (subst (λ (k : ℕ). j < k) (entries-length state recordSize u 0 n) h) (eqb j i) refl))
   where
     n : ℕ
     n = recordCount t
 
     u : Bytes
-    u = setState t i v
+    u = setState p t i v
 
-    first : Bytes → ℕ
-    first c = byteAt c 0
+    state : Bytes → ℕ
+    state c = byteAt c p
 
     go : (j : ℕ) → j < recordCount t → (c : Bool) → eqb j i ≡ c
-        → getD (entries first recordSize u (recordCount t)) j 0 ≡ getD (set (entries first recordSize t (recordCount t)) i v) j 0
+        → getD (entries state recordSize u (recordCount t)) j 0 ≡ getD (set (entries state recordSize t (recordCount t)) i v) j 0
     go j h true e =
-        subst (λ (k : ℕ). getD (entries first recordSize u (recordCount t)) k 0 ≡ getD (set (entries first recordSize t (recordCount t)) i v) k 0) (sym (eqb-true j i e))
+        subst (λ (k : ℕ). getD (entries state recordSize u (recordCount t)) k 0 ≡ getD (set (entries state recordSize t (recordCount t)) i v) k 0) (sym (eqb-true j i e))
         (here (subst (λ (k : ℕ). k < recordCount t) (eqb-true j i e) h))
       where
-        here : i < recordCount t → getD (entries first recordSize u (recordCount t)) i 0 ≡ getD (set (entries first recordSize t (recordCount t)) i v) i 0
+        here : i < recordCount t → getD (entries state recordSize u (recordCount t)) i 0 ≡ getD (set (entries state recordSize t (recordCount t)) i v) i 0
         here k =
             let l : length (entryAt recordSize t i) ≡ recordLen = rw (entry-whole t i w k) (simp (length-take, length-drop) (omega (arith, w))) in
-            entries-at first recordSize u n i 0 k ∙ ap first (entry-same t i v) ∙ getD-set-same (entryAt recordSize t i) 0 v 0 (omega (arith, l))
-            ∙ sym (getD-set-same (entries first recordSize t n) i v 0 (omega (arith, entries-length first recordSize t 0 n)))
+            entries-at state recordSize u n i 0 k ∙ ap state (entry-same p t i v b) ∙ getD-set-same (entryAt recordSize t i) p v 0 (omega (arith, l))
+            ∙ sym (getD-set-same (entries state recordSize t n) i v 0 (omega (arith, entries-length state recordSize t 0 n)))
     go j h false e =
-        entries-at first recordSize u n j 0 h ∙ ap first (entry-other t i v j (eqb-false j i e)) ∙ sym (entries-at first recordSize t n j 0 h)
-        ∙ sym (getD-set-other (entries first recordSize t n) i j v 0 (eqb-false j i e))
+        entries-at state recordSize u n j 0 h ∙ ap state (entry-other p t i v b j (eqb-false j i e)) ∙ sym (entries-at state recordSize t n j 0 h)
+        ∙ sym (getD-set-other (entries state recordSize t n) i j v 0 (eqb-false j i e))
 
 -- ---------------------------------------------------------------- states at several places
 
-module _ (ti na bo : Bytes) (v : ℕ) where
-  pub records-mark : (is : List ℕ) (t : Bytes) → recordsOf ti na bo (markAll is v t) ≡ recordsOf ti na bo t
+module _ (ti na bo : Bytes) (p v : ℕ) (column : p < partners) where
+  pub records-mark : (is : List ℕ) (t : Bytes) → recordsOf ti na bo (markAll p is v t) ≡ recordsOf ti na bo t
   records-mark [] t = refl
-  records-mark (i ∷ is) t = records-mark is (setState t i v) ∙ records-set ti na bo t i v
+  records-mark (i ∷ is) t = records-mark is (setState p t i v) ∙ records-set ti na bo p t i v column
 
-pub length-mark : (is : List ℕ) (v : ℕ) (t : Bytes) → length (markAll is v t) ≡ length t
-length-mark [] v t = refl
-length-mark (i ∷ is) v t = length-mark is v (setState t i v) ∙ state-length t i v
+pub length-mark : (p : ℕ) (is : List ℕ) (v : ℕ) (t : Bytes) → length (markAll p is v t) ≡ length t
+length-mark p [] v t = refl
+length-mark p (i ∷ is) v t = length-mark p is v (setState p t i v) ∙ state-length p t i v
 
-pub whole-set : (t : Bytes) (i v : ℕ) → Whole t → Whole (setState t i v)
-whole-set t i v w = rw (state-length t i v) w
+pub whole-set : (p : ℕ) (t : Bytes) (i v : ℕ) → Whole t → Whole (setState p t i v)
+whole-set p t i v w = rw (state-length p t i v) w
 
-pub whole-mark : (is : List ℕ) (v : ℕ) (t : Bytes) → Whole t → Whole (markAll is v t)
-whole-mark is v t w = rw (length-mark is v t) w
+pub whole-mark : (p : ℕ) (is : List ℕ) (v : ℕ) (t : Bytes) → Whole t → Whole (markAll p is v t)
+whole-mark p is v t w = rw (length-mark p is v t) w
 
-pub states-marked : (is : List ℕ) (t : Bytes) → Whole t → statesOf (markAll is 1 t) ≡ marked is (statesOf t)
-states-marked [] t w = refl
-states-marked (i ∷ is) t w = states-marked is (setState t i 1) (whole-set t i 1 w) ∙ ap (marked is) (states-set t i 1 w)
+pub states-marked : (p : ℕ) (is : List ℕ) (t : Bytes) → p < partners → Whole t → statesOf p (markAll p is 1 t) ≡ marked is (statesOf p t)
+states-marked p [] t b w = refl
+states-marked p (i ∷ is) t b w = states-marked p is (setState p t i 1) b (whole-set p t i 1 w) ∙ ap (marked is) (states-set p t i 1 b w)
 
--- ---------------------------------------------------------------- only states change
+-- ---------------------------------------------------------------- only states of the column change
 
-pub only-same : (t : Bytes) → StatesOnly t t
-only-same t = record { size = refl; bytes = λ i h. refl }
+pub only-same : (p : ℕ) (t : Bytes) → StatesOnly p t t
+only-same p t = record { size = refl; bytes = λ i h. refl }
 
-pub only-then : (a b c : Bytes) → StatesOnly a b → StatesOnly b c → StatesOnly a c
-only-then a b c p q = record { size = q .size ∙ p .size; bytes = λ i h. q .bytes i h ∙ p .bytes i h }
+pub only-then : (p : ℕ) (a b c : Bytes) → StatesOnly p a b → StatesOnly p b c → StatesOnly p a c
+only-then p a b c h k = record { size = k .size ∙ h .size; bytes = λ i n. k .bytes i n ∙ h .bytes i n }
 
 -- every other byte stays
-pub only-set : (t : Bytes) (i v : ℕ) → StatesOnly t (setState t i v)
-only-set t i v = record { size = state-length t i v; bytes = λ j h. byte-other t i v j (λ e. h (omega arith)) }
+pub only-set : (p : ℕ) (t : Bytes) (i v : ℕ) → p < partners → StatesOnly p t (setState p t i v)
+only-set p t i v b = record { size = state-length p t i v; bytes = λ j h. byte-other p t i v j (λ e. h (omega arith)) }
 
-pub only-mark : (is : List ℕ) (v : ℕ) (t : Bytes) → StatesOnly t (markAll is v t)
-only-mark [] v t = only-same t
-only-mark (i ∷ is) v t = only-then t (setState t i v) (markAll is v (setState t i v)) (only-set t i v) (only-mark is v (setState t i v))
+pub only-mark : (p : ℕ) (is : List ℕ) (v : ℕ) (t : Bytes) → p < partners → StatesOnly p t (markAll p is v t)
+only-mark p [] v t b = only-same p t
+only-mark p (i ∷ is) v t b = only-then p t (setState p t i v) (markAll p is v (setState p t i v)) (only-set p t i v b) (only-mark p is v (setState p t i v) b)
 
 -- ---------------------------------------------------------------- the old table with the new states
 
-with-length : (i : ℕ) (vs : List ℕ) (t : Bytes) → length (withStatesFrom i vs t) ≡ length t
-with-length i [] t = refl
-with-length i (v ∷ vs) t = with-length (suc i) vs (setState t i v) ∙ state-length t i v
+module _ (p : ℕ) where
+  with-length : (i : ℕ) (vs : List ℕ) (t : Bytes) → length (withStatesFrom p i vs t) ≡ length t
+  with-length i [] t = refl
+  with-length i (v ∷ vs) t = with-length (suc i) vs (setState p t i v) ∙ state-length p t i v
 
--- a byte at which none of the states stands
-with-other : (i : ℕ) (vs : List ℕ) (t : Bytes) (j : ℕ) → ((k : ℕ) → i ≤ k → j ≡ k * recordLen → ⊥) → getD (withStatesFrom i vs t) j 0 ≡ getD t j 0
-with-other i [] t j h = refl
-with-other i (v ∷ vs) t j h = with-other (suc i) vs (setState t i v) j (λ k l e. h k (omega arith) e) ∙ byte-other t i v j (h i (omega arith))
+  -- a byte at which none of the states stands
+  with-other : (i : ℕ) (vs : List ℕ) (t : Bytes) (j : ℕ) → ((k : ℕ) → i ≤ k → j ≡ k * recordLen + p → ⊥) → getD (withStatesFrom p i vs t) j 0 ≡ getD t j 0
+  with-other i [] t j h = refl
+  with-other i (v ∷ vs) t j h = with-other (suc i) vs (setState p t i v) j (λ k l e. h k (omega arith) e) ∙ byte-other p t i v j (h i (omega arith))
 
-with-at : (i : ℕ) (vs : List ℕ) (t : Bytes) (k : ℕ) → k < length vs → (i + k) * recordLen < length t → getD (withStatesFrom i vs t) ((i + k) * recordLen) 0 ≡ getD vs k 0
-with-at i [] t k h l = absurd (omega arith)
-with-at i (v ∷ vs) t zero h l =
-    let e : (i + 0) * recordLen ≡ i * recordLen = omega arith in
-    rw e (with-other (suc i) vs (setState t i v) (i * recordLen) (λ k m f. omega arith) ∙ byte-here t i v (omega arith))
-with-at i (v ∷ vs) t (suc k) h l =
-    let e : (i + suc k) * recordLen ≡ (suc i + k) * recordLen = omega arith in
-    rw e (with-at (suc i) vs (setState t i v) k (omega arith) (rw (state-length t i v) (omega arith)))
+  with-at : (i : ℕ) (vs : List ℕ) (t : Bytes) (k : ℕ) → k < length vs → (i + k) * recordLen + p < length t
+      → getD (withStatesFrom p i vs t) ((i + k) * recordLen + p) 0 ≡ getD vs k 0
+  with-at i [] t k h l = absurd (omega arith)
+  with-at i (v ∷ vs) t zero h l =
+      let e : (i + 0) * recordLen + p ≡ i * recordLen + p = omega arith in
+      rw e (with-other (suc i) vs (setState p t i v) (i * recordLen + p) (λ k m f. omega arith) ∙ byte-here p t i v (omega arith))
+  with-at i (v ∷ vs) t (suc k) h l =
+      let e : (i + suc k) * recordLen + p ≡ (suc i + k) * recordLen + p = omega arith in
+      rw e (with-at (suc i) vs (setState p t i v) k (omega arith) (rw (state-length p t i v) (omega arith)))
 
-pub states-length : (t : Bytes) → length (statesOf t) ≡ recordCount t
+pub states-length : (p : ℕ) (t : Bytes) → length (statesOf p t) ≡ recordCount t
 unfolding statesOf
-states-length t = entries-length (λ (c : Bytes). byteAt c 0) recordSize t 0 (recordCount t)
+states-length p t = entries-length (λ (c : Bytes). byteAt c p) recordSize t 0 (recordCount t)
 
--- the state of a record is its first byte
-pub state-at : (t : Bytes) (k : ℕ) → Whole t → k < recordCount t → getD (statesOf t) k 0 ≡ getD t (k * recordLen) 0
+-- the state of a record for partner p is its byte p
+pub state-at : (p : ℕ) (t : Bytes) (k : ℕ) → p < partners → Whole t → k < recordCount t → getD (statesOf p t) k 0 ≡ stateOf p t k
 unfolding statesOf
-state-at t k w h =
-    entries-at (λ (c : Bytes). byteAt c 0) recordSize t (recordCount t) k 0 h ∙ ap (λ (c : Bytes). byteAt c 0) (entry-whole t k w h)
-    ∙ getD-take recordLen (drop (k * recordLen) t) 0 0 (omega arith) ∙ getD-drop (k * recordLen) t 0 0 ∙ ap (λ (i : ℕ). getD t i 0) (add-zero (k * recordLen))
+state-at p t k b w h =
+    entries-at (λ (c : Bytes). byteAt c p) recordSize t (recordCount t) k 0 h ∙ ap (λ (c : Bytes). byteAt c p) (entry-whole t k w h)
+    ∙ getD-take recordLen (drop (k * recordLen) t) p 0 (omega arith) ∙ getD-drop (k * recordLen) t p 0
 
 -- "the table is as open found it but with the log's states"
-pub with-law : (t u : Bytes) → Whole t → StatesOnly t u → u ≡ withStates (statesOf u) t
+pub with-law : (p : ℕ) (t u : Bytes) → p < partners → Whole t → StatesOnly p t u → u ≡ withStates p (statesOf p u) t
 unfolding withStates
-with-law t u w h =
-    ext-getD 0 u (withStatesFrom 0 (statesOf u) t) (h .size ∙ sym (with-length 0 (statesOf u) t)) (λ j l. go j l (eqb (j % recordLen) 0) refl)
+with-law p t u b w h =
+    ext-getD 0 u (withStatesFrom p 0 (statesOf p u) t) (h .size ∙ sym (with-length p 0 (statesOf p u) t)) (λ j l. go j l (eqb (j % recordLen) p) refl)
   where
     whole : Whole u
     whole = rw (h .size) w
 
-    go : (j : ℕ) → j < length u → (c : Bool) → eqb (j % recordLen) 0 ≡ c → getD u j 0 ≡ getD (withStatesFrom 0 (statesOf u) t) j 0
+    go : (j : ℕ) → j < length u → (c : Bool) → eqb (j % recordLen) p ≡ c → getD u j 0 ≡ getD (withStatesFrom p 0 (statesOf p u) t) j 0
     go j l true e =
-        let z = eqb-true (j % recordLen) 0 e in
-        let d : j ≡ j / recordLen * recordLen = omega arith in
+        let z = eqb-true (j % recordLen) p e in
+        let d : j ≡ j / recordLen * recordLen + p = omega arith in
         let k : j / recordLen < recordCount u = omega (arith, whole) in
-        let f : (0 + j / recordLen) * recordLen ≡ j = omega arith in
-        ap (λ (i : ℕ). getD u i 0) d ∙ sym (state-at u (j / recordLen) whole k)
-        ∙ sym (with-at 0 (statesOf u) t (j / recordLen) (omega (arith, states-length u)) (omega (arith, h .size)))
-        ∙ ap (λ (i : ℕ). getD (withStatesFrom 0 (statesOf u) t) i 0) f
+        let f : (0 + j / recordLen) * recordLen + p ≡ j = omega arith in
+        ap (λ (i : ℕ). getD u i 0) d ∙ sym (state-at p u (j / recordLen) b whole k)
+        ∙ sym (with-at p 0 (statesOf p u) t (j / recordLen) (omega (arith, states-length p u)) (omega (arith, h .size)))
+        ∙ ap (λ (i : ℕ). getD (withStatesFrom p 0 (statesOf p u) t) i 0) f
     go j l false e =
-        let z = eqb-false (j % recordLen) 0 e in
-        h .bytes j z ∙ sym (with-other 0 (statesOf u) t j (λ k m f. z (omega arith)))
+        let z = eqb-false (j % recordLen) p e in
+        h .bytes j z ∙ sym (with-other p 0 (statesOf p u) t j (λ k m f. z (omega arith)))
+
+-- ---------------------------------------------------------------- the other columns
+
+-- where only states for partner p change, those for every other partner stay
+pub column-stays : (p q : ℕ) (t u : Bytes) → q < partners → (q ≡ p → ⊥) → Whole t → StatesOnly p t u → statesOf q u ≡ statesOf q t
+column-stays p q t u b ne w h =
+    ext-getD 0 (statesOf q u) (statesOf q t) (states-length q u ∙ count ∙ sym (states-length q t))
+    (λ k l. let i : k < recordCount u = subst (λ (n : ℕ). k < n) (states-length q u) l in
+    state-at q u k b (rw (h .size) w) i ∙ h .bytes (k * recordLen + q) (λ e. ne (omega arith)) ∙ sym (state-at q t k b w (subst (λ (n : ℕ). k < n) count i)))
+  where
+    count : recordCount u ≡ recordCount t
+    count = ap (λ (n : ℕ). min 64 (n / recordLen)) (h .size)

@@ -140,6 +140,7 @@ fn load_terms(sm: &[u8]) -> Terms
 {
     Terms {
         level: byte(sm, places::LEVEL),
+        partner: byte(sm, places::PARTNER),
     }
 }
 
@@ -288,10 +289,10 @@ fn large_bytes(h: Numbers) -> [u8; 24]
 }
 
 // The tail, in the order of its places.
-fn tail_bytes(h: Numbers) -> [u8; 2]
+fn tail_bytes(h: Numbers) -> [u8; 3]
     ensures { λ r. ⌜ r ≡ tailBytes h ⌝ }
 {
-    [h.now.sum, h.keep.terms.level]
+    [h.now.sum, h.keep.terms.level, h.keep.terms.partner]
 }
 
 // The numbers into session memory.

@@ -6,7 +6,7 @@ use native.Mathlib.Omega.{arith}
 use lib.Dec.{eqb}
 use lib.ListN.{length, set, take, drop, replicate, take-append-drop}
 use Rattle.grammar.specs.Bytes.{Bytes}
-use Rattle.places.specs.Places.{sessionLen, arraysAt, arraysLen, lineAt, headingAt, ffAt, framedAt, afterCrAt, firstAt, thenAt, keptAt, currentAt, proposalsAt, oursAt, sendingAt, signsAt, placeAt, lengthAt, headAt, offsetAt, sumAt, lineLengthAt, leftAt, bodyAt, posAt, usedAt, blockSumAt, levelAt}
+use Rattle.places.specs.Places.{sessionLen, arraysAt, arraysLen, lineAt, headingAt, ffAt, framedAt, afterCrAt, firstAt, thenAt, keptAt, currentAt, proposalsAt, oursAt, sendingAt, signsAt, placeAt, lengthAt, headAt, offsetAt, sumAt, lineLengthAt, leftAt, bodyAt, posAt, usedAt, blockSumAt, levelAt, partnerAt}
 use Rattle.places.specs.Places as places
 use Rattle.layout.specs.Layout.{byteAt, le2At, le4At}
 use Rattle.layout.proofs.Places.{byte-kept, le8-kept, part-kept}
@@ -62,7 +62,7 @@ unfolding lent numbersAt awaitNumbers sayNumbers keepNumbers readerNumbers lineN
 numbers-lent sm w n =
     same-numbers (same-numbers-await (byte places.phaseAt (omega arith)) (ap (λ (x : ℕ). eqb x 1) (byte ffAt (omega arith))) (byte currentAt (omega arith)) (byte proposalsAt (omega arith)) (five oursAt (omega arith)) (byte blockSumAt (omega arith)))
     (same-say (byte firstAt (omega arith)) (byte thenAt (omega arith)) (le8-kept arraysAt sm r k posAt (omega arith)) (five signsAt (omega arith)))
-    (same-numbers-keep (ap (λ (x : ℕ). eqb x 1) (byte framedAt (omega arith))) (same-terms (byte levelAt (omega arith))) (byte keptAt (omega arith)) (le8-kept arraysAt sm r k usedAt (omega arith)) (five sendingAt (omega arith)))
+    (same-numbers-keep (ap (λ (x : ℕ). eqb x 1) (byte framedAt (omega arith))) (same-terms (byte levelAt (omega arith)) (byte partnerAt (omega arith))) (byte keptAt (omega arith)) (le8-kept arraysAt sm r k usedAt (omega arith)) (five sendingAt (omega arith)))
     (same-reader (byte placeAt (omega arith)) (byte lengthAt (omega arith)) (byte headAt (omega arith)) (byte offsetAt (omega arith)) (two leftAt (omega arith)) (byte sumAt (omega arith)) (four bodyAt (omega arith)))
     (same-numbers-line (ap (λ (x : ℕ). eqb x 1) (byte afterCrAt (omega arith))) (two lineLengthAt (omega arith)))
   where

@@ -4,16 +4,17 @@ use mathlib.Core.Bool.{Bool, true, false, cond, not, _&&_}
 use Prim.Native.Nat.{ℕ, suc, _+_, _-_, _<_, _≤_}
 use native.Mathlib.Omega.{arith}
 use native.Mathlib.Numerals.{add-one}
-use lib.Dec.{eqb}
+use lib.Dec.{eqb, leb}
 use lib.ListN.{length}
-use borrow.Author.Tests.{le-leb, lt-leb, eq-eqb, ne-eqb, eqb-true}
+use borrow.Author.Tests.{le-leb, lt-leb, le-ltb, lt-ltb, eq-eqb, ne-eqb, eqb-true}
 use Rattle.grammar.specs.Bytes.{Bytes}
 use Rattle.grammar.specs.Fields.{Form, isBid, isBody}
 use Rattle.grammar.specs.Transfers.{partOf}
 use Rattle.grammar.specs.Refusals.{badMemory}
 use Rattle.grammar.proofs.Basics.{and2, told, told-not}
 use Rattle.session.specs.Choices.{among}
-use Rattle.layout.specs.Layout.{fieldIn, entryAt, recordSize, knownSize}
+use Rattle.phase.specs.Phase.{stateDeclined}
+use Rattle.layout.specs.Layout.{byteAt, fieldIn, entryAt, recordSize, knownSize}
 use Rattle.session_memory.specs.State.{sessionSize, saveOf, saveSizes, freshOf}
 use Rattle.session_memory.specs.declared.Sizes.{Sizes}
 use Rattle.session_memory.proofs.Laws.{sizes-length}
@@ -21,8 +22,8 @@ use Rattle.entries.specs.Decoded.{entries}
 use Rattle.form_test.specs.Form.{lentSizes}
 use Rattle.give.specs.Giving.{reply}
 use Rattle.give.specs.declared.Reply.{Reply}
-use Rattle.places.specs.Places.{bidMax, recordBid}
-use Rattle.open.specs.Opening.{lengthOk, within, recordOk, placeOk, faultFrom, tableFault, bidsOk, knownOk, sizesOk, Opened, opened, openOf}
+use Rattle.places.specs.Places.{bidMax, partners, recordBid}
+use Rattle.open.specs.Opening.{lengthOk, statesFrom, within, recordOk, placeOk, faultFrom, tableFault, bidsOk, knownOk, sizesOk, Opened, opened, openOf}
 
 -- ---------------------------------------------------------------- the body
 
@@ -84,6 +85,27 @@ module _ (known : Bytes) (i n : ℕ) where
       let e : n - i ≡ 0 = omega arith in
       rw e
 
+-- ---------------------------------------------------------------- the states from partner p on
+
+module _ (c : Bytes) (p n : ℕ) where
+  states-next : p < n → statesFrom c p (n - p) ≡ (leb (byteAt c p) stateDeclined && statesFrom c (p + 1) (n - (p + 1)))
+  states-next h =
+      let e : n - p ≡ suc (n - (p + 1)) = omega arith in
+      rw (e, add-one p)
+
+  pub states-more : p < n → {b : ℕ} → b ≡ byteAt c p → b ≤ stateDeclined → statesFrom c p (n - p) ≡ statesFrom c (p + 1) (n - (p + 1))
+  states-more h e l =
+      states-next h ∙ ap (λ (x : Bool). x && statesFrom c (p + 1) (n - (p + 1))) (ap (λ (x : ℕ). leb x stateDeclined) (sym e) ∙ le-leb _ stateDeclined l)
+
+  pub states-stop : p < n → {b : ℕ} → b ≡ byteAt c p → stateDeclined < b → false ≡ statesFrom c p (n - p)
+  states-stop h e l =
+      sym (states-next h ∙ ap (λ (x : Bool). x && statesFrom c (p + 1) (n - (p + 1))) (ap (λ (x : ℕ). leb x stateDeclined) (sym e) ∙ lt-leb _ stateDeclined l))
+
+  pub states-end : n ≤ p → true ≡ statesFrom c p (n - p)
+  states-end h =
+      let e : n - p ≡ 0 = omega arith in
+      rw e
+
 -- ---------------------------------------------------------------- the records from place i on
 
 module _ (table titles names bodies : Bytes) (i n : ℕ) where
@@ -108,38 +130,42 @@ module _ (table titles names bodies : Bytes) (i n : ℕ) where
 
 -- ---------------------------------------------------------------- the call
 
-module _ (role : ℕ) (sm table titles names bodies known inbox store : Bytes) where
+module _ (role partner : ℕ) (sm table titles names bodies known inbox store : Bytes) where
   abbrev answer : Opened
-  answer = openOf role sm table titles names bodies known inbox store
+  answer = openOf role partner sm table titles names bodies known inbox store
 
-  pub open-role : (r : Reply) → r ≡ reply badMemory 255 0 → 1 < role → opened r sm ≡ answer
+  pub open-partner : (r : Reply) → r ≡ reply badMemory 255 0 → partners ≤ partner → opened r sm ≡ answer
   unfolding openOf
-  open-role r e h = rw (lt-leb role 1 h) (ap (λ (x : Reply). opened x sm) e)
+  open-partner r e h = rw (le-ltb partner partners h) (ap (λ (x : Reply). opened x sm) e)
 
-  module _ (h : role ≤ 1) {t : Bool} (f : t ≡ sizesOk sm table known inbox) where
+  pub open-role : partner < partners → (r : Reply) → r ≡ reply badMemory 255 0 → 1 < role → opened r sm ≡ answer
+  unfolding openOf
+  open-role b r e h = rw (lt-ltb partner partners b, lt-leb role 1 h) (ap (λ (x : Reply). opened x sm) e)
+
+  module _ (b : partner < partners) (h : role ≤ 1) {t : Bool} (f : t ≡ sizesOk sm table known inbox) where
     pub open-sizes : not t ≡ true → (r : Reply) → r ≡ reply badMemory 255 0 → opened r sm ≡ answer
     unfolding openOf
-    open-sizes g r e = rw (le-leb role 1 h, told-not f g) (ap (λ (x : Reply). opened x sm) e)
+    open-sizes g r e = rw (lt-ltb partner partners b, le-leb role 1 h, told-not f g) (ap (λ (x : Reply). opened x sm) e)
 
     module _ (g : not t ≡ false) {u : Bool} (k : u ≡ knownOk known) where
       pub open-known : not u ≡ true → (r : Reply) → r ≡ reply badMemory 255 0 → opened r sm ≡ answer
       unfolding openOf
-      open-known l r e = rw (le-leb role 1 h, told f g, told-not k l) (ap (λ (x : Reply). opened x sm) e)
+      open-known l r e = rw (lt-ltb partner partners b, le-leb role 1 h, told f g, told-not k l) (ap (λ (x : Reply). opened x sm) e)
 
       module _ (l : not u ≡ false) (place : ℕ) (q : place ≡ tableFault table titles names bodies) where
         pub open-fault : (place ≡ 255 → ⊥) → (r : Reply) → r ≡ reply badMemory place 0 → opened r sm ≡ answer
         unfolding openOf
         open-fault n r e =
-            rw (le-leb role 1 h, told f g, told k l, ne-eqb (tableFault table titles names bodies) 255 (λ x. n (q ∙ x)))
+            rw (lt-ltb partner partners b, le-leb role 1 h, told f g, told k l, ne-eqb (tableFault table titles names bodies) 255 (λ x. n (q ∙ x)))
             (ap (λ (x : Reply). opened x sm) (e ∙ ap (λ (p : ℕ). reply badMemory p 0) q))
 
         pub open-good : place ≡ 255 → (m : Bytes) → m ≡ saveSizes sm (lentSizes table titles names bodies known inbox store)
-            → (n : Bytes) → n ≡ saveOf m (freshOf (eqb role 1)) → opened (reply 0 0 0) n ≡ answer
+            → (n : Bytes) → n ≡ saveOf m (freshOf (eqb role 1) partner) → opened (reply 0 0 0) n ≡ answer
         unfolding openOf
-        open-good p m v n z =
-            rw (le-leb role 1 h, told f g, told k l, eq-eqb (tableFault table titles names bodies) 255 (sym q ∙ p))
+        open-good d m v n z =
+            rw (lt-ltb partner partners b, le-leb role 1 h, told f g, told k l, eq-eqb (tableFault table titles names bodies) 255 (sym q ∙ d))
             (ap (λ (x : Bytes). opened (reply 0 0 0) x)
-            (z ∙ ap (λ (x : Bytes). saveOf x (freshOf (eqb role 1))) v))
+            (z ∙ ap (λ (x : Bytes). saveOf x (freshOf (eqb role 1) partner)) v))
 
 -- the size that was tested, after the sizes are saved
 pub size-told : (sm table known inbox : Bytes) {b : Bool} → b ≡ sizesOk sm table known inbox → not b ≡ false → (z : Sizes) {m : Bytes} → m ≡ saveSizes sm z

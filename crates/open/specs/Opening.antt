@@ -2,7 +2,7 @@
 -- bad."
 use mathlib.Core.Bool.{Bool, true, cond, not, _&&_}
 use Prim.Native.Nat.{ℕ, zero, suc, _-_, _/_, _%_}
-use lib.Dec.{eqb, leb}
+use lib.Dec.{eqb, leb, ltb}
 use lib.ListN.{length}
 use Rattle.grammar.specs.Bytes.{Bytes}
 use Rattle.grammar.specs.Refusals.{badMemory}
@@ -10,7 +10,8 @@ use Rattle.grammar.specs.Fields.{formIs, isCall, isAt, isBid, isHeading, isBody
 use Rattle.grammar.specs.Turns.{isType}
 use Rattle.grammar.specs.Transfers.{partOf}
 use Rattle.session.specs.Choices.{among}
-use Rattle.places.specs.Places.{atMax, bidMax, callMax, recordAt, recordBid, recordBody, recordBodyLength, recordForm, recordFrom, recordName, recordNameLength, recordSizeAt, recordTitle, recordTitleLength, recordTo, recordType}
+use Rattle.phase.specs.Phase.{stateDeclined}
+use Rattle.places.specs.Places.{atMax, bidMax, callMax, partners, recordAt, recordBid, recordBody, recordBodyLength, recordForm, recordFrom, recordName, recordNameLength, recordSizeAt, recordTitle, recordTitleLength, recordTo, recordType}
 use Rattle.layout.specs.Layout.{byteAt, le2At, le4At, fieldIn, entryAt, recordSize, knownSize, entrySize}
 use Rattle.session_memory.specs.State.{sessionSize, saveOf, saveSizes, freshOf}
 use Rattle.entries.specs.Decoded.{entries, recordCount, knownCount}
@@ -24,9 +25,17 @@ use Rattle.give.specs.declared.Reply.{Reply}
 abbrev pub lengthOk : Bytes → ℕ → ℕ → Bool
 lengthOk c at n = leb (byteAt c at) n
 
--- "a state (0 waiting, 1 forwarded, 2 declined)", "a form (0 .., 1 .., 2 ..)", "a type (P or B)", "announced size 0 to 999,999"
+-- "a state (0 waiting, 1 forwarded, 2 declined)", now "one state a partner, 0 to 7": n of them from partner p on
+abbrev pub statesFrom : Bytes → ℕ → ℕ → Bool
+statesFrom c p zero = true
+statesFrom c p (suc n) = leb (byteAt c p) stateDeclined && statesFrom c (suc p) n
+
+unfoldable pub statesOk : Bytes → Bool
+statesOk c = statesFrom c 0 partners
+
+-- the states, "a form (0 .., 1 .., 2 ..)", "a type (P or B)", "announced size 0 to 999,999"
 unfoldable pub numbersOk : Bytes → Bool
-numbersOk c = leb (byteAt c 0) 2 && (leb (byteAt c recordForm) 2 && (isType (byteAt c recordType) && leb (le4At c recordSizeAt) 999999))
+numbersOk c = statesOk c && (leb (byteAt c recordForm) 2 && (isType (byteAt c recordType) && leb (le4At c recordSizeAt) 999999))
 
 -- "from, at, to, BID"
 unfoldable pub fieldsOk : Bytes → Bool
@@ -95,14 +104,17 @@ pub record Opened : Type 0 where
 abbrev pub opened : Reply → Bytes → Opened
 opened r sm = record { reply = r; sm = sm }
 
-unfoldable pub openOf : ℕ → Bytes → Bytes → Bytes → Bytes → Bytes → Bytes → Bytes → Bytes → Opened
-openOf role sm table titles names bodies known inbox store =
-    cond (leb role 1)
+-- "partner 8 or more gets 1 with place 255, tested first"
+unfoldable pub openOf : ℕ → ℕ → Bytes → Bytes → Bytes → Bytes → Bytes → Bytes → Bytes → Bytes → Opened
+openOf role partner sm table titles names bodies known inbox store =
+    cond (ltb partner partners)
+    (cond (leb role 1)
     (cond (sizesOk sm table known inbox)
     (cond (knownOk known)
     (cond (eqb (tableFault table titles names bodies) 255)
-    (opened (reply 0 0 0) (saveOf (saveSizes sm (lentSizes table titles names bodies known inbox store)) (freshOf (eqb role 1))))
+    (opened (reply 0 0 0) (saveOf (saveSizes sm (lentSizes table titles names bodies known inbox store)) (freshOf (eqb role 1) partner)))
     (opened (reply badMemory (tableFault table titles names bodies) 0) sm))
+    (opened (reply badMemory 255 0) sm))
     (opened (reply badMemory 255 0) sm))
     (opened (reply badMemory 255 0) sm))
     (opened (reply badMemory 255 0) sm)

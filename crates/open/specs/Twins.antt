@@ -4,7 +4,7 @@ use Prim.Native.Nat.{ℕ, _-_}
 use lib.ListN.{length, replicate}
 use Rattle.grammar.specs.Bytes.{Bytes}
 use Rattle.grammar.specs.Ascii.{text}
-use Rattle.places.specs.Places.{atMax, bidMax, callMax}
+use Rattle.places.specs.Places.{atMax, bidMax, callMax, partners}
 use Rattle.open.specs.Opening.{tableFault}
 
 -- A field with room for so many bytes, and a good record with this BID, titled by the first byte of its store.
@@ -13,8 +13,8 @@ slot room w = length w ∷ (w ++ replicate (room - length w) 0)
 
 abbrev pub recordWith : Bytes → Bytes
 recordWith bid =
-    (0 ∷ 0 ∷ 80 ∷ []) ++ (slot callMax (text "A") ++ (slot atMax (text "B") ++ (slot callMax (text "C") ++ (slot bidMax bid
-    ++ (replicate 4 0 ++ ((0 ∷ 0 ∷ 0 ∷ 0 ∷ 1 ∷ []) ++ replicate 11 0))))))
+    replicate partners 0 ++ ((0 ∷ 80 ∷ []) ++ (slot callMax (text "A") ++ (slot atMax (text "B") ++ (slot callMax (text "C") ++ (slot bidMax bid
+    ++ (replicate 4 0 ++ ((0 ∷ 0 ∷ 0 ∷ 0 ∷ 1 ∷ []) ++ replicate 11 0)))))))
 
 abbrev pub tableWith : List Bytes → Bytes
 tableWith [] = []

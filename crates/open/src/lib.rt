@@ -21,14 +21,12 @@ ghost use Rattle.entries.specs.Decoded.{recordCount, knownCount};
 ghost use Rattle.give.specs.Giving.{reply};
 ghost use Rattle.places.specs.Places.{atMax, bidMax, recordForm, recordTitle, recordTitleLength, recordName, recordNameLength, recordBody, recordBodyLength};
 ghost use Rattle.record_text.specs.Texts.{fileForm};
-ghost use Rattle.open.specs.Opening.{lengthOk, numbersOk, fieldsOk, within, headingOk, textsOk, recordOk, placeOk, tableFault, knownOk, entriesOk, sizesOk, openOf, Opened};
+ghost use Rattle.open.specs.Opening.{lengthOk, statesOk, numbersOk, fieldsOk, within, headingOk, textsOk, recordOk, placeOk, tableFault, knownOk, entriesOk, sizesOk, openOf, Opened};
 
 // Roles: called, caller.
 const CALLER: u8 = 1;
 
-// Where a record tells its state, form, type and size, and where title, name and body lie; 01's largest size.
-const STATE: usize = 0;
-
+// Where a record tells its form, type and size, and where title, name and body lie; 01's largest size.
 const FORM: usize = places::RECORD_FORM as usize;
 
 const TYPE: usize = places::RECORD_TYPE as usize;
@@ -79,11 +77,25 @@ fn type_ok(kind: u8) -> bool
     kind == b'B'
 }
 
-// State, form, type and size.
+// Every partner's state is one.
+fn states_ok(c: &[u8]) -> bool
+    ensures { λ r. ⌜ r ≡ statesOk (now (c .entry)) ⌝ }
+{
+    let mut p = 0u8;
+    while p < places::PARTNERS {
+        if phase::STATE_DECLINED < byte_at(c, p as usize) {
+            return false;
+        }
+        p += 1;
+    }
+    true
+}
+
+// States, form, type and size.
 fn numbers_ok(c: &[u8]) -> bool
     ensures { λ r. ⌜ r ≡ numbersOk (now (c .entry)) ⌝ }
 {
-    if phase::STATE_DECLINED < byte_at(c, STATE) {
+    if !states_ok(c) {
         return false;
     }
     if record_text::FILE < byte_at(c, FORM) {
@@ -334,9 +346,10 @@ fn bad(place: u8) -> Reply
     }
 }
 
-// Opens a session in session memory: role 0 called, 1 caller.
+// Opens a session in session memory: role 0 called, 1 caller; partner 0 to 7.
 pub fn open(
     role: u8,
+    partner: u8,
     sm: &mut [u8],
     table: &[u8],
     titles: &[u8],
@@ -346,8 +359,11 @@ pub fn open(
     inbox: &[u8],
     store: &[u8],
 ) -> Reply
-    ensures { λ r. ⌜ record { reply = r; sm = now (sm .exit) } ≡ openOf role (now (sm .entry)) (now (table .entry)) (now (titles .entry)) (now (names .entry)) (now (bodies .entry)) (now (known .entry)) (now (inbox .entry)) (now (store .entry)) ⌝ }
+    ensures { λ r. ⌜ record { reply = r; sm = now (sm .exit) } ≡ openOf role partner (now (sm .entry)) (now (table .entry)) (now (titles .entry)) (now (names .entry)) (now (bodies .entry)) (now (known .entry)) (now (inbox .entry)) (now (store .entry)) ⌝ }
 {
+    if places::PARTNERS <= partner {
+        return bad(NO_PLACE);
+    }
     if CALLER < role {
         return bad(NO_PLACE);
     }
@@ -371,7 +387,7 @@ pub fn open(
         store: store.len(),
     };
     open_memory::save_sizes(sm, z);
-    open_memory::save_fresh(sm, role == CALLER);
+    open_memory::save_fresh(sm, role == CALLER, partner);
     Reply {
         answer: 0,
         place: 0,

@@ -1,4 +1,4 @@
--- WHAT OPEN TESTS BEFORE THE RECORDS decides whether that is sound: role, sizes and known BIDs. Assumes nothing.
+-- WHAT OPEN TESTS BEFORE THE RECORDS decides whether that is sound: partner, role, sizes and known BIDs. Assumes nothing.
 use mathlib.Core.Path.{_≡_, refl, sym, ap, _∙_, subst}
 use mathlib.Core.Bool.{Bool, true, false, _&&_}
 use mathlib.Core.List.{[]}
@@ -6,13 +6,13 @@ use mathlib.Core.Logic.{inl, inr}
 use Prim.Native.Nat.{ℕ, zero, suc, _+_, _*_, _/_, _%_, _≤_, _<_}
 use native.Mathlib.Omega.{arith}
 use native.Mathlib.Nat.{div-add-mod', mul-mod-left, mul-div-cancel}
-use lib.Dec.{eqb, leb}
+use lib.Dec.{eqb, ltb, leb}
 use lib.ListN.{length}
-use borrow.Author.Tests.{leb-true, le-leb, eqb-true, eqb-false, eq-eqb}
+use borrow.Author.Tests.{ltb-true, lt-ltb, leb-true, le-leb, eqb-true, eqb-false, eq-eqb}
 use Rattle.grammar.specs.Bytes.{Bytes}
 use Rattle.grammar.specs.Fields.{isBid}
 use Rattle.grammar.proofs.Basics.{and2, both}
-use Rattle.places.specs.Places.{bidMax, recordLen, knownLen, entryLen, sessionLen}
+use Rattle.places.specs.Places.{bidMax, partners, recordLen, knownLen, entryLen, sessionLen}
 use Rattle.layout.specs.Layout.{byteAt, fieldIn, entryAt, knownSize, knownOf}
 use Rattle.entries.specs.Decoded.{knownCount, knownBids}
 use Rattle.entries.proofs.Laws.{entries-at, entries-length}
@@ -115,9 +115,10 @@ module _ (L : Lending) where
           (h j (subst (λ (n : ℕ). j < n) (sym known-count) (omega arith)))))
 
   -- THE LAW
-  pub sound-decides : Decides (leb (L .role) 1 && (sizesOk (L .session) (L .table) (L .known) (L .inbox) && knownOk (L .known))) (Sound L)
+  pub sound-decides : Decides (ltb (L .partner) partners && (leb (L .role) 1 && (sizesOk (L .session) (L .table) (L .known) (L .inbox) && knownOk (L .known)))) (Sound L)
   sound-decides =
-      as-well (both-decide (leb (L .role) 1) _ (role-decides (L .role))
-      (both-decide (sizesOk (L .session) (L .table) (L .known) (L .inbox)) (knownOk (L .known)) (sizes-decide (L .session) (L .table) (L .known) (L .inbox)) known-decides))
-      (λ p. record { role = p .0; session = p .1 .0 .0; table = p .1 .0 .1 .0; known = p .1 .0 .1 .1 .0; bids = p .1 .1; inbox = p .1 .0 .1 .1 .1 })
-      (λ s. (s .role, ((s .session, (s .table, (s .known, s .inbox))), s .bids)))
+      as-well (both-decide (ltb (L .partner) partners) _ (ltb-true (L .partner) partners, lt-ltb (L .partner) partners)
+      (both-decide (leb (L .role) 1) _ (role-decides (L .role))
+      (both-decide (sizesOk (L .session) (L .table) (L .known) (L .inbox)) (knownOk (L .known)) (sizes-decide (L .session) (L .table) (L .known) (L .inbox)) known-decides)))
+      (λ q. let p = q .1 in record { partner = q .0; role = p .0; session = p .1 .0 .0; table = p .1 .0 .1 .0; known = p .1 .0 .1 .1 .0; bids = p .1 .1; inbox = p .1 .0 .1 .1 .1 })
+      (λ s. (s .partner, (s .role, ((s .session, (s .table, (s .known, s .inbox))), s .bids))))

@@ -6,13 +6,13 @@ use mathlib.Core.List.{_++_}
 use mathlib.Core.Logic.{_⊎_, inl, inr, _≢_}
 use Prim.Native.Nat.{ℕ, zero, suc, _+_, _-_, _≤_, _<_}
 use native.Mathlib.Omega.{arith}
-use lib.Dec.{eqb, leb}
+use lib.Dec.{eqb, ltb, leb}
 use lib.ListN.{length, take, drop, replicate}
 use lib.Seq.{drop-drop}
 use borrow.Author.Tests.{eqb-true, eqb-false, eq-eqb, ne-eqb, leb-true, leb-false}
 use Rattle.grammar.specs.Bytes.{Bytes}
 use Rattle.grammar.specs.Refusals.{badMemory, noPlace}
-use Rattle.places.specs.Places.{numbersStart, numbersEnd, freeLen, arraysLen, arraysEnd, sessionLen}
+use Rattle.places.specs.Places.{numbersStart, numbersEnd, freeLen, arraysLen, arraysEnd, partners, sessionLen}
 use Rattle.session_memory.specs.State.{saveOf, saveSizes, sizesOut, freshOf, numberPart, smallOut, numbersOut, tailOut, arraysOut}
 use Rattle.session_memory.specs.declared.Sizes.{Sizes}
 use Rattle.session_memory.proofs.Laws.{saved, sizes-saved, sizes-length}
@@ -72,14 +72,14 @@ module _ (L : Lending) where
 
 -- ---------------------------------------------------------------- what an accepted open leaves
 
-numbers-are : (r : ℕ) → IsRole r → numberPart (freshOf (eqb r 1)) ≡ numbersAtFirst r
+numbers-are : (r p : ℕ) → IsRole r → numberPart (freshOf (eqb r 1) p) ≡ numbersAtFirst r p
 unfolding freshOf smallOut numbersOut tailOut
-numbers-are r (inl e) = subst (λ (x : ℕ). numberPart (freshOf (eqb x 1)) ≡ numbersAtFirst x) (sym e) refl
-numbers-are r (inr e) = subst (λ (x : ℕ). numberPart (freshOf (eqb x 1)) ≡ numbersAtFirst x) (sym e) refl
+numbers-are r p (inl e) = subst (λ (x : ℕ). numberPart (freshOf (eqb x 1) p) ≡ numbersAtFirst x p) (sym e) refl
+numbers-are r p (inr e) = subst (λ (x : ℕ). numberPart (freshOf (eqb x 1) p) ≡ numbersAtFirst x p) (sym e) refl
 
-arrays-are : (caller : Bool) → arraysOut (freshOf caller) ≡ replicate arraysLen 0
+arrays-are : (caller : Bool) (p : ℕ) → arraysOut (freshOf caller p) ≡ replicate arraysLen 0
 unfolding freshOf arraysOut
-arrays-are caller = refl
+arrays-are caller p = refl
 
 module _ (L : Lending) where
   abbrev sizes : Sizes
@@ -92,16 +92,16 @@ module _ (L : Lending) where
   unfolding sizesOut
   marked-is h = sizes-saved (L .session) sizes h
 
-  left-is : IsRole (L .role) → length (L .session) ≡ sessionLen → saveOf (saveSizes (L .session) sizes) (freshOf (eqb (L .role) 1)) ≡ sessionAtFirst L
+  left-is : IsRole (L .role) → length (L .session) ≡ sessionLen → saveOf (saveSizes (L .session) sizes) (freshOf (eqb (L .role) 1) (L .partner)) ≡ sessionAtFirst L
   left-is r n =
-      let s = freshOf (eqb (L .role) 1) in
+      let s = freshOf (eqb (L .role) 1) (L .partner) in
       let m = saveSizes (L .session) sizes in
-      saved m s (sizes-length (L .session) sizes ∙ n) (ap length (arrays-are (eqb (L .role) 1)))
+      saved m s (sizes-length (L .session) sizes ∙ n) (ap length (arrays-are (eqb (L .role) 1) (L .partner)))
       ∙ ap (λ (x : Bytes). take numbersStart x ++ (numberPart s ++ (take freeLen (drop numbersEnd x) ++ (arraysOut s ++ drop arraysEnd x)))) (marked-is (omega arith))
-      ∙ ap (λ (x : Bytes). sizesKept L ++ (x ++ (take freeLen (drop numbersEnd marked) ++ (arraysOut s ++ drop arraysEnd marked)))) (numbers-are (L .role) r)
-      ∙ ap (λ (x : Bytes). sizesKept L ++ (numbersAtFirst (L .role) ++ (take freeLen x ++ (arraysOut s ++ drop arraysEnd marked)))) (drop-drop (numbersEnd - numbersStart) numbersStart (L .session))
-      ∙ ap (λ (x : Bytes). sizesKept L ++ (numbersAtFirst (L .role) ++ (take freeLen (drop numbersEnd (L .session)) ++ (x ++ drop arraysEnd marked)))) (arrays-are (eqb (L .role) 1))
-      ∙ ap (λ (x : Bytes). sizesKept L ++ (numbersAtFirst (L .role) ++ (take freeLen (drop numbersEnd (L .session)) ++ (replicate arraysLen 0 ++ x)))) (drop-drop (arraysEnd - numbersStart) numbersStart (L .session))
+      ∙ ap (λ (x : Bytes). sizesKept L ++ (x ++ (take freeLen (drop numbersEnd marked) ++ (arraysOut s ++ drop arraysEnd marked)))) (numbers-are (L .role) (L .partner) r)
+      ∙ ap (λ (x : Bytes). sizesKept L ++ (numbersAtFirst (L .role) (L .partner) ++ (take freeLen x ++ (arraysOut s ++ drop arraysEnd marked)))) (drop-drop (numbersEnd - numbersStart) numbersStart (L .session))
+      ∙ ap (λ (x : Bytes). sizesKept L ++ (numbersAtFirst (L .role) (L .partner) ++ (take freeLen (drop numbersEnd (L .session)) ++ (x ++ drop arraysEnd marked)))) (arrays-are (eqb (L .role) 1) (L .partner))
+      ∙ ap (λ (x : Bytes). sizesKept L ++ (numbersAtFirst (L .role) (L .partner) ++ (take freeLen (drop numbersEnd (L .session)) ++ (replicate arraysLen 0 ++ x)))) (drop-drop (arraysEnd - numbersStart) numbersStart (L .session))
 
 -- ---------------------------------------------------------------- the three situations
 
@@ -115,27 +115,29 @@ module _ (L : Lending) where
   fault = tableFault (L .table) (L .titles) (L .names) (L .bodies)
 
   abbrev fresh : Bytes
-  fresh = saveOf (saveSizes (L .session) (sizes L)) (freshOf (eqb (L .role) 1))
+  fresh = saveOf (saveSizes (L .session) (sizes L)) (freshOf (eqb (L .role) 1) (L .partner))
 
   abbrev bad : ℕ → Opened
   bad place = opened (reply badMemory place 0) (L .session)
 
-  -- open by its four tests
-  tested : Bool → Bool → Bool → Bool → Opened
-  tested a b c d = cond a (cond b (cond c (cond d (opened (reply 0 0 0) fresh) (bad fault)) (bad noPlace)) (bad noPlace)) (bad noPlace)
+  -- open by its five tests
+  tested : Bool → Bool → Bool → Bool → Bool → Opened
+  tested o a b c d =
+      cond o (cond a (cond b (cond c (cond d (opened (reply 0 0 0) fresh) (bad fault)) (bad noPlace)) (bad noPlace)) (bad noPlace)) (bad noPlace)
 
   abbrev before : Bool
-  before = leb (L .role) 1 && (sizesOk (L .session) (L .table) (L .known) (L .inbox) && knownOk (L .known))
+  before = ltb (L .partner) partners && (leb (L .role) 1 && (sizesOk (L .session) (L .table) (L .known) (L .inbox) && knownOk (L .known)))
 
   by-tests : openOn L ≡ cond before (cond (eqb fault noPlace) (opened (reply 0 0 0) fresh) (bad fault)) (bad noPlace)
   unfolding openOf tested
-  by-tests = go (leb (L .role) 1) (sizesOk (L .session) (L .table) (L .known) (L .inbox)) (knownOk (L .known)) (eqb fault noPlace)
+  by-tests = go (ltb (L .partner) partners) (leb (L .role) 1) (sizesOk (L .session) (L .table) (L .known) (L .inbox)) (knownOk (L .known)) (eqb fault noPlace)
     where
-      go : (a b c d : Bool) → tested a b c d ≡ cond (a && (b && c)) (cond d (opened (reply 0 0 0) fresh) (bad fault)) (bad noPlace)
-      go true true true d = refl
-      go true true false d = refl
-      go true false c d = refl
-      go false b c d = refl
+      go : (o a b c d : Bool) → tested o a b c d ≡ cond (o && (a && (b && c))) (cond d (opened (reply 0 0 0) fresh) (bad fault)) (bad noPlace)
+      go true true true true d = refl
+      go true true true false d = refl
+      go true true false c d = refl
+      go true false b c d = refl
+      go false a b c d = refl
 
   few : recordCount (L .table) ≤ 64
   few = omega arith

@@ -7,7 +7,7 @@ use Rattle.grammar.specs.Fields.{isCall, isAt, isBid, sameBid}
 use Rattle.places.specs.Places.{sessionLen}
 use Rattle.marking.specs.States.{statesOf}
 use Rattle.give.specs.declared.Reply.{Reply}
-use Rattle.open.specs.Opening.{openOf, sizesOk, knownOk, tableFault, placeOk, recordOk, numbersOk, fieldsOk, textsOk, headingOk, within}
+use Rattle.open.specs.Opening.{openOf, sizesOk, knownOk, tableFault, placeOk, recordOk, statesOk, numbersOk, fieldsOk, textsOk, headingOk, within}
 use Rattle.open_accepts.specs.Lending.{Lending}
 use Rattle.open_accepts.specs.Claim.{Opens}
 use Rattle.open_accepts.specs.Good.{Acceptable, FirstBad, Sound, called}
@@ -15,7 +15,7 @@ use Rattle.open_accepts.specs.Examples.{examples, answered, expected, le
 use Rattle.open_accepts.proofs.Claim.{accepts-exactly}
 
 pub seen : map answered examples ≡ map expected examples
-unfolding openOf sizesOk knownOk tableFault placeOk recordOk numbersOk fieldsOk textsOk headingOk within isCall isAt isBid sameBid
+unfolding openOf sizesOk knownOk tableFault placeOk recordOk statesOk numbersOk fieldsOk textsOk headingOk within isCall isAt isBid sameBid
 seen = refl
 
 -- an empty table and one record are good
@@ -24,17 +24,17 @@ unfolding openOf sizesOk knownOk tableFault
 empty-good = accepts-exactly (lent called sessionLen [] [] 0) .accepts .0 refl
 
 pub one-good : Acceptable (holding first)
-unfolding openOf sizesOk knownOk tableFault placeOk recordOk numbersOk fieldsOk textsOk headingOk within isCall isAt isBid sameBid
+unfolding openOf sizesOk knownOk tableFault placeOk recordOk statesOk numbersOk fieldsOk textsOk headingOk within isCall isAt isBid sameBid
 one-good = accepts-exactly (holding first) .accepts .0 refl
 
 -- and so is one that was forwarded
 pub settled-good : Acceptable (holding second)
-unfolding openOf sizesOk knownOk tableFault placeOk recordOk numbersOk fieldsOk textsOk headingOk within isCall isAt isBid sameBid
+unfolding openOf sizesOk knownOk tableFault placeOk recordOk statesOk numbersOk fieldsOk textsOk headingOk within isCall isAt isBid sameBid
 settled-good = accepts-exactly (holding second) .accepts .0 refl
 
 -- of two records with one BID the later is the first bad one
 pub twin-bad : FirstBad (holding (first ++ (second ++ first))) 2
-unfolding openOf sizesOk knownOk tableFault placeOk recordOk numbersOk fieldsOk textsOk headingOk within isCall isAt isBid sameBid
+unfolding openOf sizesOk knownOk tableFault placeOk recordOk statesOk numbersOk fieldsOk textsOk headingOk within isCall isAt isBid sameBid
 twin-bad = accepts-exactly (holding (first ++ (second ++ first))) .badRecord 2 (λ e. omega arith) .0 refl
 
 -- nothing is sound with role 2

@@ -19,12 +19,12 @@ use Rattle.grammar.specs.Transfers.{partOf}
 use Rattle.grammar.proofs.Basics.{and2, both, no-both, not-so, or2, or-left, or-right}
 use Rattle.session.specs.Choices.{among}
 use Rattle.mail.specs.Mail.{Record, noRecord}
-use Rattle.places.specs.Places.{atMax, bidMax, callMax, recordAt, recordBid, recordBody, recordBodyLength, recordForm, recordFrom, recordName, recordNameLength, recordSizeAt, recordTitle, recordTitleLength, recordTo, recordType}
+use Rattle.places.specs.Places.{atMax, bidMax, callMax, partners, recordAt, recordBid, recordBody, recordBodyLength, recordForm, recordFrom, recordName, recordNameLength, recordSizeAt, recordTitle, recordTitleLength, recordTo, recordType}
 use Rattle.layout.specs.Layout.{byteAt, le2At, le4At, fieldIn, recordSize, recordOf}
 use Rattle.entries.specs.Decoded.{entriesFrom, entries, recordCount, recordsOf}
 use Rattle.entries.proofs.Laws.{entries-at, entries-length}
 use Rattle.marking.specs.States.{statesOf}
-use Rattle.open.specs.Opening.{lengthOk, numbersOk, fieldsOk, within, headingOk, textsOk, recordOk, placeOk}
+use Rattle.open.specs.Opening.{lengthOk, statesFrom, statesOk, numbersOk, fieldsOk, within, headingOk, textsOk, recordOk, placeOk}
 use Rattle.open_accepts.specs.Words.{Callsign, At, Bid, Field, Lies, Headed, Bodied, NeedsTitle, NeedsName}
 use Rattle.open_accepts.specs.Lending.{Lending, recordsIn, recordIn, stateIn, bytesIn}
 use Rattle.open_accepts.specs.Good.{IsType, IsState, GoodRecord, GoodAt}
@@ -196,10 +196,33 @@ module _ (L : Lending) (c : Bytes) where
   abbrev form : ℕ
   form = byteAt c recordForm
 
-  numbers-decide : Decides (numbersOk c) (IsState (byteAt c 0) × ((form ≡ formNumber (r .form)) × (IsType (r .type) × (r .size ≤ 999999))))
+  states-only : (n p : ℕ) → statesFrom c p n ≡ true → (q : ℕ) → p ≤ q → q < p + n → leb (byteAt c q) 2 ≡ true
+  states-only zero p e q h k = absurd (omega arith)
+  states-only (suc n) p e q h k =
+      let z = and2 (leb (byteAt c p) 2) (statesFrom c (suc p) n) e in go (z .0) (eqb q p) refl (states-only n (suc p) (z .1) q)
+    where
+      go : leb (byteAt c p) 2 ≡ true → (t : Bool) → eqb q p ≡ t → (suc p ≤ q → q < suc p + n → leb (byteAt c q) 2 ≡ true) → leb (byteAt c q) 2 ≡ true
+      go y true f ih = ap (λ (x : ℕ). leb (byteAt c x) 2) (eqb-true q p f) ∙ y
+      go y false f ih = let z = eqb-false q p f in ih (omega arith) (omega arith)
+
+  states-if : (n p : ℕ) → ((q : ℕ) → p ≤ q → q < p + n → leb (byteAt c q) 2 ≡ true) → statesFrom c p n ≡ true
+  states-if zero p h = refl
+  states-if (suc n) p h = both (leb (byteAt c p) 2) (statesFrom c (suc p) n) (h p (omega arith) (omega arith)) (states-if n (suc p) (λ q k l. h q (omega arith) (omega arith)))
+
+  abbrev States : Type 0
+  States = (p : ℕ) → p < partners → IsState (byteAt c p)
+
+  states-decide : Decides (statesOk c) States
+  unfolding statesOk
+  states-decide = (
+    λ e p h. state-decides (byteAt c p) .0 (states-only partners 0 e p (omega arith) (omega arith)),
+    λ h. states-if partners 0 (λ q a k. state-decides (byteAt c q) .1 (h q (omega arith))),
+  )
+
+  numbers-decide : Decides (numbersOk c) (States × ((form ≡ formNumber (r .form)) × (IsType (r .type) × (r .size ≤ 999999))))
   unfolding numbersOk
   numbers-decide =
-      both-decide (leb (byteAt c 0) 2) _ (state-decides (byteAt c 0))
+      both-decide (statesOk c) _ states-decide
       (both-decide (leb form 2) _ (form-decides form)
       (both-decide (isType (byteAt c recordType)) (leb (le4At c recordSizeAt) 999999) (type-decides (byteAt c recordType)) (leb-decides (le4At c recordSizeAt) 999999)))
 
@@ -229,7 +252,7 @@ module _ (L : Lending) (c : Bytes) where
       (headed-decides (L .names) (le4At c recordName) (byteAt c recordNameLength) (eqb form 2) (NeedsName (r .form)) (needs-name form))
       (bodied-decides (L .bodies) (le4At c recordBody) (le2At c recordBodyLength) (r .form)))
 
-  pub record-decides : Decides (recordOk c (L .titles) (L .names) (L .bodies)) (GoodRecord L (byteAt c 0) c r)
+  pub record-decides : Decides (recordOk c (L .titles) (L .names) (L .bodies)) (GoodRecord L (byteAt c) c r)
   unfolding recordOk
   record-decides =
       as-well (both-decide (numbersOk c) (fieldsOk c && textsOk c (L .titles) (L .names) (L .bodies)) numbers-decide
@@ -238,7 +261,7 @@ module _ (L : Lending) (c : Bytes) where
       record {
         form = p .0 .1 .0;
         type = p .0 .1 .1 .0;
-        state = p .0 .0;
+        states = p .0 .0;
         from = p .1 .0 .0;
         at = p .1 .0 .1 .0;
         to = p .1 .0 .1 .1 .0;
@@ -248,7 +271,24 @@ module _ (L : Lending) (c : Bytes) where
         name = p .1 .1 .1 .0;
         body = p .1 .1 .1 .1;
       })
-      (λ g. ((g .state, (g .form, (g .type, g .size))), ((g .from, (g .at, (g .to, g .bid))), (g .title, (g .name, g .body)))))
+      (λ g. ((g .states, (g .form, (g .type, g .size))), ((g .from, (g .at, (g .to, g .bid))), (g .title, (g .name, g .body)))))
+
+-- the same states, read in another way
+other-states : (L : Lending) (s t : ℕ → ℕ) (c : Bytes) (r : Record) → ((p : ℕ) → s p ≡ t p) → GoodRecord L s c r → GoodRecord L t c r
+other-states L s t c r e g =
+    record {
+      form = g .form;
+      type = g .type;
+      states = λ p h. subst IsState (e p) (g .states p h);
+      from = g .from;
+      at = g .at;
+      to = g .to;
+      bid = g .bid;
+      size = g .size;
+      title = g .title;
+      name = g .name;
+      body = g .body;
+    }
 
 -- ---------------------------------------------------------------- the record at a place
 
@@ -267,9 +307,9 @@ module _ (L : Lending) where
   unfolding recordsOf
   record-there i h = entries-at (recordOf (L .titles) (L .names) (L .bodies)) recordSize (L .table) count i noRecord h
 
-  state-there : (i : ℕ) → i < count → stateIn L i ≡ byteAt (bytesIn L i) 0
+  state-there : (i : ℕ) → i < count → (p : ℕ) → stateIn L p i ≡ byteAt (bytesIn L i) p
   unfolding statesOf
-  state-there i h = entries-at (λ (c : Bytes). byteAt c 0) recordSize (L .table) count i 0 h
+  state-there i h p = entries-at (λ (c : Bytes). byteAt c p) recordSize (L .table) count i 0 h
 
   bid-there : (i : ℕ) → i < count → recordIn L i .bid ≡ bidAt i
   bid-there i h = ap (λ (x : Record). x .bid) (record-there i h)
@@ -317,5 +357,5 @@ module _ (L : Lending) where
   unfolding placeOk
   place-decides i h =
       as-well (both-decide (recordOk (bytesIn L i) (L .titles) (L .names) (L .bodies)) _ (record-decides L (bytesIn L i)) (new-decides i h))
-      (λ p. record { good = subst (λ (s : ℕ). GoodRecord L s (bytesIn L i) (recordIn L i)) (sym (state-there i h)) (subst (λ (x : Record). GoodRecord L (byteAt (bytesIn L i) 0) (bytesIn L i) x) (sym (record-there i h)) (p .0)); new = p .1 })
-      (λ g. (subst (λ (x : Record). GoodRecord L (byteAt (bytesIn L i) 0) (bytesIn L i) x) (record-there i h) (subst (λ (s : ℕ). GoodRecord L s (bytesIn L i) (recordIn L i)) (state-there i h) (g .good)), g .new))
+      (λ p. record { good = other-states L (byteAt (bytesIn L i)) (λ (q : ℕ). stateIn L q i) (bytesIn L i) (recordIn L i) (λ q. sym (state-there i h q)) (subst (λ (x : Record). GoodRecord L (byteAt (bytesIn L i)) (bytesIn L i) x) (sym (record-there i h)) (p .0)); new = p .1 })
+      (λ g. (subst (λ (x : Record). GoodRecord L (byteAt (bytesIn L i)) (bytesIn L i) x) (record-there i h) (other-states L (λ (q : ℕ). stateIn L q i) (byteAt (bytesIn L i)) (bytesIn L i) (recordIn L i) (state-there i h) (g .good)), g .new))

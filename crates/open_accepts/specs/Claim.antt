@@ -1,4 +1,4 @@
--- WHEN OPEN ACCEPTS, what it answers else, and what it leaves: for every role and whatever is lent. The proof is proofs/Claim; it speaks of the
+-- WHEN OPEN ACCEPTS, what it answers else, and what it leaves: for every role, every partner and whatever is lent. The proof is proofs/Claim; it speaks of the
 -- definition in the contract of `fringemole_open`, and of none of its tests.
 use mathlib.Core.Path.{_≡_}
 use mathlib.Core.Bool.{cond}
@@ -11,7 +11,7 @@ use Rattle.grammar.specs.Bytes.{Bytes}
 use Rattle.grammar.specs.Ascii.{text}
 use Rattle.grammar.specs.Refusals.{badMemory, noPlace}
 use Rattle.phase.specs.Phase.{phaseCallerSid, pieceSidAndPrompt}
-use Rattle.places.specs.Places.{numbersStart, phaseAt, firstAt, numbersLen, numbersEnd, freeLen, arraysLen, arraysEnd}
+use Rattle.places.specs.Places.{numbersStart, phaseAt, firstAt, partnerAt, numbersLen, numbersEnd, freeLen, arraysLen, arraysEnd}
 use Rattle.layout.specs.Layout.{le8}
 use Rattle.give.specs.Giving.{reply}
 use Rattle.give.specs.declared.Reply.{Reply}
@@ -27,18 +27,19 @@ sizesKept L =
     text "FM01" ++ (le8 (length (L .table)) ++ (le8 (length (L .titles)) ++ (le8 (length (L .names)) ++ (le8 (length (L .bodies))
     ++ (le8 (length (L .known)) ++ (le8 (length (L .inbox)) ++ le8 (length (L .store))))))))
 
--- The numbers of a session that begins, all 0 but one. Called: "we send it, CR, `>`, CR, and await the caller's SID"; caller: "we await the SID".
-abbrev pub numbersAtFirst : ℕ → Bytes
-numbersAtFirst role =
-    cond (eqb role called)
+-- The numbers of a session that begins, all 0 but the partner and one more. Called: "we send it, CR, `>`, CR, and await the caller's SID"; caller: "we await the SID".
+abbrev pub numbersAtFirst : ℕ → ℕ → Bytes
+numbersAtFirst role partner =
+    set (cond (eqb role called)
     (set (replicate numbersLen 0) (firstAt - numbersStart) pieceSidAndPrompt)
-    (set (replicate numbersLen 0) (phaseAt - numbersStart) phaseCallerSid)
+    (set (replicate numbersLen 0) (phaseAt - numbersStart) phaseCallerSid))
+    (partnerAt - numbersStart) partner
 
 -- Session memory, from its first byte to its last: docs/MEMORY.md has the places. Free bytes stay as they are.
 abbrev pub sessionAtFirst : Lending → Bytes
 sessionAtFirst L =
     sizesKept L
-    ++ (numbersAtFirst (L .role)
+    ++ (numbersAtFirst (L .role) (L .partner)
     ++ (take freeLen (drop numbersEnd (L .session)) ++ (replicate arraysLen 0 ++ drop arraysEnd (L .session))))
 
 -- ---------------------------------------------------------------- the claim
@@ -54,7 +55,7 @@ pub record Opens (L : Lending) (o : Opened) : Type 0 where
   pub accepts : (o .reply .answer ≡ 0) ↔ Acceptable L
   -- "1: open: bad table or buffers: place = first bad record, from 0"
   pub badRecord : (i : ℕ) → i ≢ noPlace → (o .reply ≡ reply badMemory i 0) ↔ FirstBad L i
-  -- "255 for role, sizes, known BIDs"
+  -- "255 for role, sizes, known BIDs", and for a partner of 8 or more
   pub badBefore : (o .reply ≡ reply badMemory noPlace 0) ↔ (Sound L → ⊥)
   -- and no other answer; "Place is 0 in every answer but 1", and so is the count
   pub noOther : (o .reply ≡ reply 0 0 0) ⊎ Refusal (o .reply)

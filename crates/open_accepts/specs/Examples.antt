@@ -10,7 +10,7 @@ use Rattle.grammar.specs.Ascii.{text}
 use Rattle.grammar.specs.Fields.{formNumber, plain, file}
 use Rattle.grammar.specs.Refusals.{badMemory, noPlace}
 use Rattle.phase.specs.Phase.{stateWaiting, stateForwarded, stateDeclined}
-use Rattle.places.specs.Places.{recordForm, recordType, recordFrom, recordAt, recordTo, recordBid, recordSizeAt, recordTitle, recordTitleLength, recordName, recordBodyLength, recordLen, entryLen, sessionLen, bidMax}
+use Rattle.places.specs.Places.{recordForm, recordType, recordFrom, recordAt, recordTo, recordBid, recordSizeAt, recordTitle, recordTitleLength, recordName, recordBodyLength, recordLen, entryLen, sessionLen, bidMax, partners}
 use Rattle.layout.specs.Layout.{le2, le4, proposalOut, fieldOut}
 use Rattle.marking.specs.States.{statesOf}
 use Rattle.give.specs.Giving.{reply}
@@ -22,11 +22,11 @@ use Rattle.open_accepts.specs.Good.{called, caller, letterP}
 
 -- ---------------------------------------------------------------- what is lent
 
--- A record in these states, with this BID: a plain text with the first title and the first eight bytes of the body store.
+-- A record in this state for every partner, with this BID: a plain text with the first title and the first eight bytes of the body store.
 abbrev pub letter : ℕ → Bytes → Bytes
 letter state bid =
-    (state ∷ proposalOut (formNumber plain) letterP (text "F0ABC") (text "N0SUD.TST.FRA.EU") (text "F0XYZ") bid 160)
-    ++ (le4 0 ++ (5 ∷ (le4 0 ++ (0 ∷ (le4 0 ++ le2 8)))))
+    replicate partners state ++ (proposalOut (formNumber plain) letterP (text "F0ABC") (text "N0SUD.TST.FRA.EU") (text "F0XYZ") bid 160
+    ++ (le4 0 ++ (5 ∷ (le4 0 ++ (0 ∷ (le4 0 ++ le2 8))))))
 
 abbrev pub first : Bytes
 first = letter stateWaiting (text "101_N0NOR")
@@ -52,10 +52,11 @@ abbrev pub known : Bytes → Bytes
 known bid = fieldOut bidMax bid
 
 -- A title, a name, and a body store in which a 0x1A follows the first eight bytes.
-abbrev pub lent : ℕ → ℕ → Bytes → Bytes → ℕ → Lending
-lent role session table bids inbox =
+abbrev pub lentFor : ℕ → ℕ → ℕ → Bytes → Bytes → ℕ → Lending
+lentFor partner role session table bids inbox =
     record {
       role = role;
+      partner = partner;
       session = replicate session 0;
       table = table;
       titles = text "Hello";
@@ -65,6 +66,16 @@ lent role session table bids inbox =
       inbox = replicate inbox 0;
       store = [];
     }
+
+-- One partner, and the last one.
+abbrev pub aPartner : ℕ
+aPartner = 3
+
+abbrev pub lastPartner : ℕ
+lastPartner = 7
+
+abbrev pub lent : ℕ → ℕ → Bytes → Bytes → ℕ → Lending
+lent role session table bids inbox = lentFor aPartner role session table bids inbox
 
 -- All good, and only the table differs.
 abbrev pub holding : Bytes → Lending
@@ -88,24 +99,25 @@ badBefore = reply badMemory noPlace 0
 abbrev pub badAt : ℕ → Reply
 badAt place = reply badMemory place 0
 
--- an empty table; one record; records in all three states; BIDs that differ as letters do and in no letter
+-- an empty table; the last partner; one record; records in all three states; BIDs that differ as letters do and in no letter
 abbrev pub goodOnes : List Example
 goodOnes =
-    gets (lent called sessionLen [] [] 0) accepted ∷ gets (lent caller sessionLen [] [] 0) accepted ∷ gets (holding first) accepted
+    gets (lent called sessionLen [] [] 0) accepted ∷ gets (lent caller sessionLen [] [] 0) accepted ∷ gets (lentFor lastPartner called sessionLen first [] 0) accepted ∷ gets (holding first) accepted
     ∷ gets (holding (first ++ (second ++ third))) accepted ∷ gets (holding (bracket ++ brace)) accepted ∷ []
 
--- role; session memory too short; half a record; 65 records; half a known BID; a known BID with a space, one that is longer than its room; 65 inbox places
+-- a partner too many, also where a record is bad; role; session memory too short; half a record; 65 records; half a known BID; a known BID with a space, one that is longer than its room; 65 inbox places
 abbrev pub badBeforeRecords : List Example
 badBeforeRecords =
-    gets (lent 2 sessionLen [] [] 0) badBefore ∷ gets (lent called 1023 [] [] 0) badBefore ∷ gets (lent called sessionLen (0 ∷ first) [] 0) badBefore
+    gets (lentFor partners called sessionLen [] [] 0) badBefore ∷ gets (lentFor partners called sessionLen (set first recordForm 3) [] 0) badBefore
+    ∷ gets (lent 2 sessionLen [] [] 0) badBefore ∷ gets (lent called 1023 [] [] 0) badBefore ∷ gets (lent called sessionLen (0 ∷ first) [] 0) badBefore
     ∷ gets (lent called sessionLen (replicate (65 * recordLen) 0) [] 0) badBefore ∷ gets (lent called sessionLen [] (1 ∷ 65 ∷ []) 0) badBefore
     ∷ gets (lent called sessionLen [] (known (text "A B")) 0) badBefore ∷ gets (lent called sessionLen [] (known (text "1234567890123")) 0) badBefore
     ∷ gets (lent called sessionLen [] [] (65 * entryLen)) badBefore ∷ []
 
--- One byte of a good record changed: state, form, type, from, at, to, BID, size, title, name and body, each out of its rule or out of its store.
+-- One byte of a good record changed: the state for partner 0, for the session's, for the last one; form, type, from, at, to, BID, size, title, name and body, each out of its rule or out of its store.
 abbrev pub slips : List Bytes
 slips =
-    set first 0 3 ∷ set first recordForm 3 ∷ set first recordType SP ∷ set first recordFrom 0 ∷ set first recordFrom 7 ∷ set first (recordAt + 1) point
+    set first 0 3 ∷ set first aPartner 3 ∷ set first lastPartner 3 ∷ set first recordForm 3 ∷ set first recordType SP ∷ set first recordFrom 0 ∷ set first recordFrom 7 ∷ set first (recordAt + 1) point
     ∷ set first recordAt 39 ∷ set first (recordTo + 1) atSign ∷ set first (recordBid + 1) SP ∷ set first recordBid 13 ∷ set first (recordSizeAt + 2) 16
     ∷ set first recordTitle 1 ∷ set first recordTitleLength 0 ∷ set first recordName 6 ∷ set first recordForm (formNumber file)
     ∷ set first recordBodyLength 9 ∷ set first recordBodyLength 10 ∷ []
@@ -142,7 +154,7 @@ abbrev pub isWaiting : ℕ → Bool
 isWaiting s = eqb s stateWaiting
 
 abbrev pub ofWaitingOnly : Lending → Opened
-ofWaitingOnly L = cond (every isWaiting (statesOf (L .table))) (openOn L) (refusing L)
+ofWaitingOnly L = cond (every isWaiting (statesOf (L .partner) (L .table))) (openOn L) (refusing L)
 
 abbrev pub atPlace0 : Lending → Opened
 atPlace0 L = record { reply = reply (openOn L .reply .answer) 0 0; sm = openOn L .sm }

@@ -9,7 +9,7 @@ use Rattle.grammar.specs.Bytes.{Bytes}
 use Rattle.grammar.specs.Fields.{formNumber}
 use Rattle.mail.specs.Mail.{Record}
 use Rattle.phase.specs.Phase.{stateWaiting, stateForwarded, stateDeclined}
-use Rattle.places.specs.Places.{recordForm, recordFrom, recordAt, recordTo, recordBid, recordTitle, recordTitleLength, recordName, recordNameLength, recordBody, recordBodyLength, recordLen, knownLen, entryLen, sessionLen}
+use Rattle.places.specs.Places.{recordForm, recordFrom, recordAt, recordTo, recordBid, recordTitle, recordTitleLength, recordName, recordNameLength, recordBody, recordBodyLength, recordLen, partners, knownLen, entryLen, sessionLen}
 use Rattle.layout.specs.Layout.{byteAt, le2At, le4At}
 use Rattle.open_accepts.specs.Words.{Callsign, At, Bid, Field, Headed, Bodied, NeedsTitle, NeedsName}
 use Rattle.open_accepts.specs.Lending.{Lending, recordsIn, recordIn, stateIn, bytesIn, knownIn, bidIn, knownBytesIn}
@@ -34,6 +34,8 @@ pub record Entries (size most : ℕ) (s : Bytes) : Type 0 where
 
 -- All that open checks before the records.
 pub record Sound (L : Lending) : Type 0 where
+  -- "partner 8 or more gets 1 with place 255, tested first"
+  pub partner : L .partner < partners
   pub role : IsRole (L .role)
   -- "session memory hasn't its fixed size"
   pub session : length (L .session) ≡ sessionLen
@@ -62,12 +64,13 @@ IsType t = (t ≡ letterP) ⊎ (t ≡ letterB)
 abbrev pub IsState : ℕ → Type 0
 IsState s = (s ≡ stateWaiting) ⊎ ((s ≡ stateForwarded) ⊎ (s ≡ stateDeclined))
 
--- r, as read from the bytes c; s, its state.
-pub record GoodRecord (L : Lending) (s : ℕ) (c : Bytes) (r : Record) : Type 0 where
+-- r, as read from the bytes c; s, its state for each partner.
+pub record GoodRecord (L : Lending) (s : ℕ → ℕ) (c : Bytes) (r : Record) : Type 0 where
   -- "a form (0 plain text, 1 packed message, 2 packed file)": the number there is that of the form read
   pub form : byteAt c recordForm ≡ formNumber (r .form)
   pub type : IsType (r .type)
-  pub state : IsState s
+  -- "one state a partner, 0 to 7": every one of them, whoever the partner is
+  pub states : (p : ℕ) → p < partners → IsState (s p)
   pub from : Field Callsign (byteAt c recordFrom) (r .from)
   pub at : Field At (byteAt c recordAt) (r .at)
   pub to : Field Callsign (byteAt c recordTo) (r .to)
@@ -80,7 +83,7 @@ pub record GoodRecord (L : Lending) (s : ℕ) (c : Bytes) (r : Record) : Type 0 
 
 -- The record at place i, counted from 0.
 pub record GoodAt (L : Lending) (i : ℕ) : Type 0 where
-  pub good : GoodRecord L (stateIn L i) (bytesIn L i) (recordIn L i)
+  pub good : GoodRecord L (λ (p : ℕ). stateIn L p i) (bytesIn L i) (recordIn L i)
   -- "of two records with one BID the later is bad"
   pub new : (j : ℕ) → j < i → OneBid (recordIn L j .bid) (recordIn L i .bid) → ⊥
 

@@ -14,7 +14,7 @@ use Rattle.buffer.specs.Put.{putBytes}
 use Rattle.region.specs.Region.{region, lent}
 use Rattle.transfer_step.specs.Step.{startOf}
 use Rattle.transfer_step.specs.declared.Reader.{Reader}
-use Rattle.session_memory.specs.State.{at, noFive, noTerms, saveOf, freshOf}
+use Rattle.session_memory.specs.State.{at, noFive, termsWith, saveOf, freshOf}
 use Rattle.session_memory.specs.declared.Five.{Five}
 use Rattle.session_memory.specs.Session.{Session}
 use Rattle.numbers.specs.declared.Numbers.{Numbers}
@@ -22,13 +22,13 @@ use Rattle.numbers.specs.Whole.{wholeOf, numberBytes}
 use Rattle.numbers.proofs.Laws.{save-whole}
 use Rattle.open_memory.specs.Fresh.{freshNumbers}
 
-pub fresh-caller : {r : Numbers} → r ≡ freshNumbers 1 0 → {c : Bool} → c ≡ true → wholeOf r (replicate arraysLen 0) ≡ freshOf c
+pub fresh-caller : {r : Numbers} {p : ℕ} → r ≡ freshNumbers p 1 0 → {c : Bool} → c ≡ true → wholeOf r (replicate arraysLen 0) ≡ freshOf c p
 unfolding wholeOf freshOf region
-fresh-caller e t = ap (λ (h : Numbers). wholeOf h (replicate arraysLen 0)) e ∙ ap freshOf (sym t)
+fresh-caller {p = p} e t = ap (λ (h : Numbers). wholeOf h (replicate arraysLen 0)) e ∙ ap (λ (x : Bool). freshOf x p) (sym t)
 
-pub fresh-called : {r : Numbers} → r ≡ freshNumbers 0 1 → {c : Bool} → c ≡ false → wholeOf r (replicate arraysLen 0) ≡ freshOf c
+pub fresh-called : {r : Numbers} {p : ℕ} → r ≡ freshNumbers p 0 1 → {c : Bool} → c ≡ false → wholeOf r (replicate arraysLen 0) ≡ freshOf c p
 unfolding wholeOf freshOf region
-fresh-called e t = ap (λ (h : Numbers). wholeOf h (replicate arraysLen 0)) e ∙ ap freshOf (sym t)
+fresh-called {p = p} e t = ap (λ (h : Numbers). wholeOf h (replicate arraysLen 0)) e ∙ ap (λ (x : Bool). freshOf x p) (sym t)
 
 -- zeros in the place of the arrays, then the numbers
 pub fresh-saved : (sm : Bytes) → length sm ≡ sessionLen → (h : Numbers) {s : Session} {m x : Bytes} → m ≡ putBytes sm (at arraysAt) (replicate arraysLen 0)
@@ -43,14 +43,14 @@ fresh-saved sm n h e f g =
     g ∙ ap (λ (y : Bytes). putBytes y (at places.numbersStart) (numberBytes h)) (e ∙ k) ∙ save-whole sm h z n l ∙ ap (saveOf sm) f
 
 -- the parts of the numbers
-pub numbers-are : (awaited first : ℕ) {f : Five} {r : Reader} → f ≡ noFive → r ≡ startOf 0
+pub numbers-are : (partner awaited first : ℕ) {f : Five} {r : Reader} → f ≡ noFive → r ≡ startOf 0
     → _≡_ {A = Numbers}
     (record {
       now = record { phase = awaited; ff = false; current = 0; proposals = 0; ours = f; sum = 0 };
       say = record { first = first; then = 0; pos = 0; signs = f };
-      keep = record { framed = false; terms = noTerms; kept = 0; used = 0; sending = f };
+      keep = record { framed = false; terms = termsWith partner; kept = 0; used = 0; sending = f };
       reader = r;
       line = record { «after_cr» = false; len = 0 };
     })
-    (freshNumbers awaited first)
-numbers-are awaited first e f = simp (e, f)
+    (freshNumbers partner awaited first)
+numbers-are partner awaited first e f = simp (e, f)

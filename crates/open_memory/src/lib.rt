@@ -65,9 +65,9 @@ fn no_five() -> Five
     }
 }
 
-// The numbers of a session that awaits this and says this first.
-fn numbers_of(awaited: u8, first: u8) -> Numbers
-    ensures { λ r. ⌜ r ≡ freshNumbers awaited first ⌝ }
+// The numbers of a session with this partner that awaits this and says this first.
+fn numbers_of(partner: u8, awaited: u8, first: u8) -> Numbers
+    ensures { λ r. ⌜ r ≡ freshNumbers partner awaited first ⌝ }
 {
     let none = no_five();
     Numbers {
@@ -87,7 +87,10 @@ fn numbers_of(awaited: u8, first: u8) -> Numbers
         },
         keep: KeepNumbers {
             framed: false,
-            terms: Terms { level: 0 },
+            terms: Terms {
+                level: 0,
+                partner: partner,
+            },
             kept: 0,
             used: 0,
             sending: none,
@@ -101,19 +104,19 @@ fn numbers_of(awaited: u8, first: u8) -> Numbers
 }
 
 // The numbers right after an accepted open: the caller awaits the SID and says nothing, the called station says SID and prompt.
-fn fresh(caller: bool) -> Numbers
-    ensures { λ r. ⌜ wholeOf r (replicate arraysLen 0) ≡ freshOf caller ⌝ }
+fn fresh(caller: bool, partner: u8) -> Numbers
+    ensures { λ r. ⌜ wholeOf r (replicate arraysLen 0) ≡ freshOf caller partner ⌝ }
 {
     if caller {
-        return numbers_of(phase::CALLER_SID, phase::PIECE_NONE);
+        return numbers_of(partner, phase::CALLER_SID, phase::PIECE_NONE);
     }
-    numbers_of(phase::CALLED_SID, phase::PIECE_SID_AND_PROMPT)
+    numbers_of(partner, phase::CALLED_SID, phase::PIECE_SID_AND_PROMPT)
 }
 
 // A fresh session into session memory.
-pub fn save_fresh(sm: &mut [u8], caller: bool)
+pub fn save_fresh(sm: &mut [u8], caller: bool, partner: u8)
     requires { ⌜ length (now sm) ≡ sessionLen ⌝ }
-    ensures { λ _. ⌜ now (sm .exit) ≡ saveOf (now (sm .entry)) (freshOf caller) ⌝ }
+    ensures { λ _. ⌜ now (sm .exit) ≡ saveOf (now (sm .entry)) (freshOf caller partner) ⌝ }
 {
     let none = [0u8; places::ARRAYS_LENGTH];
     let _c = buffer::put(
@@ -124,5 +127,5 @@ pub fn save_fresh(sm: &mut [u8], caller: bool)
         },
         &none,
     );
-    numbers::save(sm, fresh(caller));
+    numbers::save(sm, fresh(caller, partner));
 }

@@ -1,4 +1,4 @@
--- Our block, from a record on: it passes a record that is not wanted, adds one that is while it has room, and is whole at the table's end.
+-- Our block for partner p, from a record on: it passes a record that is not wanted, adds one that is while it has room, and is whole at the table's end.
 use mathlib.Core.Path.{_≡_, refl, sym, ap, _∙_}
 use mathlib.Core.Bool.{Bool, true, false, cond, not, _&&_}
 use mathlib.Core.List.{List, [], _∷_, _++_, append-nil}
@@ -43,23 +43,23 @@ mode-plain false = refl
 
 -- ---------------------------------------------------------------- our block from a record on
 
-module _ (table : Bytes) (framed : Bool) (flags : List ℕ) (n : ℕ) where
+module _ (p : ℕ) (table : Bytes) (framed : Bool) (flags : List ℕ) (n : ℕ) where
   abbrev T : List Record
   T = entries (recordOf [] [] []) recordSize table n
 
   abbrev states : List ℕ
-  states = entries (λ (c : Bytes). byteAt c 0) recordSize table n
+  states = entries (λ (c : Bytes). byteAt c p) recordSize table n
 
   -- what is chosen from record i on, where k records of b bytes in all are in
   abbrev pub blockFrom : ℕ → ℕ → ℕ → List ℕ
   blockFrom i k b = ourBlock (sizeAt T) k b (candidates framed states flags i (entriesFrom (recordOf [] [] []) recordSize table i (n - i)))
 
   abbrev pub isWanted : ℕ → Bool
-  isWanted i = wanted framed (recordOf [] [] [] (entryAt recordSize table i)) (byteAt (entryAt recordSize table i) 0) (getD flags i 0)
+  isWanted i = wanted framed (recordOf [] [] [] (entryAt recordSize table i)) (byteAt (entryAt recordSize table i) p) (getD flags i 0)
 
   pub block-pass : (i k b : ℕ) → i < n → isWanted i ≡ false → blockFrom i k b ≡ blockFrom (i + 1) k b
   block-pass i k b h e =
-      rw (entries-more (recordOf [] [] []) recordSize table i n h, entries-at (λ (c : Bytes). byteAt c 0) recordSize table n i 0 h, e, add-one i)
+      rw (entries-more (recordOf [] [] []) recordSize table i n h, entries-at (λ (c : Bytes). byteAt c p) recordSize table n i 0 h, e, add-one i)
 
   -- record i, which is wanted: it is added while the block has room
   abbrev addedOr : ℕ → ℕ → ℕ → ℕ → List ℕ
@@ -67,7 +67,7 @@ module _ (table : Bytes) (framed : Bool) (flags : List ℕ) (n : ℕ) where
 
   block-step : (i k b : ℕ) → i < n → isWanted i ≡ true → blockFrom i k b ≡ addedOr i k b (sizeAt T i)
   block-step i k b h e =
-      rw (entries-more (recordOf [] [] []) recordSize table i n h, entries-at (λ (c : Bytes). byteAt c 0) recordSize table n i 0 h, e, add-one i)
+      rw (entries-more (recordOf [] [] []) recordSize table i n h, entries-at (λ (c : Bytes). byteAt c p) recordSize table n i 0 h, e, add-one i)
 
   block-next : (i k b : ℕ) → i < n → isWanted i ≡ true → blockFrom i k b ≡ addedOr i k b (le4At (entryAt recordSize table i) recordSizeAt)
   block-next i k b h e =
@@ -107,26 +107,26 @@ size-small s j at h = le4-small (entryAt recordSize s j) (entry-small recordSize
 -- ---------------------------------------------------------------- the loop
 
 -- records are being chosen: those held, then what is chosen from record i on, are the whole; total has room for one size more
-pub record Choosing (table : Bytes) (framed : Bool) (flags : List ℕ) (n : ℕ) (places : Five) (total i : ℕ) : Type 0 where
+pub record Choosing (p : ℕ) (table : Bytes) (framed : Bool) (flags : List ℕ) (n : ℕ) (places : Five) (total i : ℕ) : Type 0 where
   pub filled : Filled places
   pub small : total < 4294977536
-  pub whole : blockFrom table framed flags n 0 0 0 ≡ held places ++ blockFrom table framed flags n i (places .count) total
+  pub whole : blockFrom p table framed flags n 0 0 0 ≡ held places ++ blockFrom p table framed flags n i (places .count) total
 
-module _ (table : Bytes) (framed : Bool) (flags : List ℕ) (n : ℕ) where
-  pub choosing-none : {f : Five} → f ≡ fiveOf [] → Choosing table framed flags n f 0 0
+module _ (p : ℕ) (table : Bytes) (framed : Bool) (flags : List ℕ) (n : ℕ) where
+  pub choosing-none : {f : Five} → f ≡ fiveOf [] → Choosing p table framed flags n f 0 0
   choosing-none {f} e = rw e (record { filled = refl; small = omega arith; whole = refl })
 
-  module _ {places : Five} {total i : ℕ} (c : Choosing table framed flags n places total i) (h : i < n) where
-    pub choosing-pass : isWanted table framed flags n i ≡ false → Choosing table framed flags n places total (i + 1)
+  module _ {places : Five} {total i : ℕ} (c : Choosing p table framed flags n places total i) (h : i < n) where
+    pub choosing-pass : isWanted p table framed flags n i ≡ false → Choosing p table framed flags n places total (i + 1)
     choosing-pass e =
         record {
           filled = c .filled;
           small = c .small;
-          whole = c .whole ∙ ap (λ (l : List ℕ). held places ++ l) (block-pass table framed flags n i (places .count) total h e);
+          whole = c .whole ∙ ap (λ (l : List ℕ). held places ++ l) (block-pass p table framed flags n i (places .count) total h e);
         }
 
-    pub choosing-add : isWanted table framed flags n i ≡ true → places .count < 5 → total < 10240 → {f : Five} {size : ℕ} → f ≡ fiveOf (held places ++ (i ∷ []))
-        → size ≡ le4At (entryAt recordSize table i) recordSizeAt → size < 4294967296 → Choosing table framed flags n f (total + size) (i + 1)
+    pub choosing-add : isWanted p table framed flags n i ≡ true → places .count < 5 → total < 10240 → {f : Five} {size : ℕ} → f ≡ fiveOf (held places ++ (i ∷ []))
+        → size ≡ le4At (entryAt recordSize table i) recordSizeAt → size < 4294967296 → Choosing p table framed flags n f (total + size) (i + 1)
     choosing-add w k b {f} {size} e s m =
         let xs = held places ++ (i ∷ []) in
         let d : f .count ≡ places .count + 1 = five-next f places i (c .filled) e in
@@ -135,22 +135,22 @@ module _ (table : Bytes) (framed : Bool) (flags : List ℕ) (n : ℕ) where
           small = omega arith;
           whole =
               c .whole
-              ∙ rw (block-more table framed flags n i (places .count) total h w k b, ← s, five-held f xs e, d)
-              (sym (append-snoc (held places) i (blockFrom table framed flags n (i + 1) (places .count + 1) (total + size))));
+              ∙ rw (block-more p table framed flags n i (places .count) total h w k b, ← s, five-held f xs e, d)
+              (sym (append-snoc (held places) i (blockFrom p table framed flags n (i + 1) (places .count + 1) (total + size))));
         }
 
-  chosen-all : n ≡ recordCount table → chosen (recordsOf [] [] [] table) framed (statesOf table) flags ≡ blockFrom table framed flags n 0 0 0
+  chosen-all : n ≡ recordCount table → chosen (recordsOf [] [] [] table) framed (statesOf p table) flags ≡ blockFrom p table framed flags n 0 0 0
   unfolding chosen recordsOf statesOf
   chosen-all e =
       rw (← e)
-      (ap (λ (l : List Record). ourBlock (sizeAt (T table framed flags n)) 0 0 (candidates framed (states table framed flags n) flags 0 l))
+      (ap (λ (l : List Record). ourBlock (sizeAt (T p table framed flags n)) 0 0 (candidates framed (states p table framed flags n) flags 0 l))
       (entries-all (recordOf [] [] []) recordSize table n))
 
-  pub chosen-now : {places : Five} {total i : ℕ} → n ≡ recordCount table → Choosing table framed flags n places total i
-      → blockFrom table framed flags n i (places .count) total ≡ [] → places ≡ chooseOf table framed flags
+  pub chosen-now : {places : Five} {total i : ℕ} → n ≡ recordCount table → Choosing p table framed flags n places total i
+      → blockFrom p table framed flags n i (places .count) total ≡ [] → places ≡ chooseOf p table framed flags
   unfolding chooseOf
   chosen-now {places} {total} {i} e c h =
-      let w : blockFrom table framed flags n 0 0 0 ≡ held places = c .whole ∙ ap (λ (l : List ℕ). held places ++ l) h ∙ append-nil (held places) in
+      let w : blockFrom p table framed flags n 0 0 0 ≡ held places = c .whole ∙ ap (λ (l : List ℕ). held places ++ l) h ∙ append-nil (held places) in
       c .filled ∙ ap fiveOf (sym w ∙ sym (chosen-all e))
 
 -- ---------------------------------------------------------------- for callers

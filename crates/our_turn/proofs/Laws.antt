@@ -9,7 +9,7 @@ use Rattle.numbers.specs.declared.Numbers.{Numbers}
 use Rattle.numbers.specs.Whole.{awaitOf}
 use Rattle.our_turn.specs.Turn.{chooseOf, Spoken, spoken, speaking, speakOf, Speaks}
 
-module _ (s : Numbers) (deferred table : Bytes) (ff : Bool) {places : Five} (f : places ≡ chooseOf table (s .keep .framed) deferred) where
+module _ (s : Numbers) (deferred table : Bytes) (ff : Bool) {places : Five} (f : places ≡ chooseOf (s .keep .terms .partner) table (s .keep .framed) deferred) where
   pub speak-by : {w : AwaitNumbers} {y : Say} {r : Numbers} → r ≡ record { now = w; say = y; keep = s .keep; reader = s .reader; line = s .line }
       → ((block : Bytes) → spoken (awaitOf w block) y ≡ speaking places ff (awaitOf (s .now) block) (s .say)) → Speaks s deferred table ff r
   unfolding speakOf

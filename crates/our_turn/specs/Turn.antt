@@ -3,6 +3,7 @@ use mathlib.Core.Path.{_≡_}
 use mathlib.Core.Bool.{Bool, true, cond}
 use mathlib.Core.List.{[]}
 use lib.Dec.{eqb}
+use Prim.Native.Nat.{ℕ}
 use Rattle.grammar.specs.Bytes.{Bytes}
 use Rattle.session.specs.Choices.{chosen}
 use Rattle.phase.specs.Phase.{phaseLeaving, pieceFF, pieceFQ, pieceBlock}
@@ -17,9 +18,9 @@ use Rattle.numbers.specs.declared.Numbers.{Numbers}
 use Rattle.numbers.specs.Whole.{awaitOf, keepOf}
 use Rattle.line_effect.specs.Judge.{inPhase, toTurn, toAnswer, saysThen}
 
--- The places of the records that we propose now.
-unfoldable pub chooseOf : Bytes → Bool → Bytes → Five
-chooseOf table framed deferred = fiveOf (chosen (recordsOf [] [] [] table) framed (statesOf table) deferred)
+-- The places of the records that we propose to this partner now.
+unfoldable pub chooseOf : ℕ → Bytes → Bool → Bytes → Five
+chooseOf partner table framed deferred = fiveOf (chosen (recordsOf [] [] [] table) framed (statesOf partner table) deferred)
 
 -- What we await after our turn, and what we say in it.
 pub record Spoken : Type 0 where
@@ -37,7 +38,7 @@ speaking places ff w y =
 
 -- ff: the partner's turn just now was FF
 unfoldable pub speakOf : Await → Say → Keep → Bytes → Bool → Spoken
-speakOf w y k table ff = speaking (chooseOf table (k .framed) (k .deferred)) ff w y
+speakOf w y k table ff = speaking (chooseOf (k .terms .partner) table (k .framed) (k .deferred)) ff w y
 
 -- The numbers r after our turn, from the numbers s: what is awaited and said is that turn, and the rest stays.
 pub record Speaks (s : Numbers) (deferred table : Bytes) (ff : Bool) (r : Numbers) : Type 0 where

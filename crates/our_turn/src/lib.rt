@@ -33,22 +33,22 @@ fn in_mode(framed: bool, form: u8) -> bool
     !framed
 }
 
-// The record in these bytes waits, is of the mode's form and was not deferred.
-fn wanted(framed: bool, bytes: &[u8], flag: u8) -> bool
-    ensures { λ r. ⌜ r ≡ wanted framed (recordOf [] [] [] (now (bytes .entry))) (byteAt (now (bytes .entry)) 0) flag ⌝ }
+// The record in these bytes waits for the partner, is of the mode's form and was not deferred.
+fn wanted(partner: u8, framed: bool, bytes: &[u8], flag: u8) -> bool
+    ensures { λ r. ⌜ r ≡ wanted framed (recordOf [] [] [] (now (bytes .entry))) (byteAt (now (bytes .entry)) partner) flag ⌝ }
 {
     if !in_mode(framed, byte_at(bytes, places::RECORD_FORM as usize)) {
         return false;
     }
-    if byte_at(bytes, 0) != phase::STATE_WAITING {
+    if byte_at(bytes, partner as usize) != phase::STATE_WAITING {
         return false;
     }
     flag == 0
 }
 
-// The places of the records that we propose now.
-pub fn choose(table: &[u8], framed: bool, deferred: &[u8]) -> Five
-    ensures { λ r. ⌜ r ≡ chooseOf (now (table .entry)) framed (now (deferred .entry)) ⌝ }
+// The places of the records that we propose to this partner now.
+pub fn choose(partner: u8, table: &[u8], framed: bool, deferred: &[u8]) -> Five
+    ensures { λ r. ⌜ r ≡ chooseOf partner (now (table .entry)) framed (now (deferred .entry)) ⌝ }
 {
     let n = entries::records(table);
     let mut chosen = none();
@@ -57,7 +57,7 @@ pub fn choose(table: &[u8], framed: bool, deferred: &[u8]) -> Five
     while i < n {
         let bytes = entry(places::RECORD, table, i);
         let at = i as usize;
-        if !wanted(framed, bytes, byte_at(deferred, at)) {
+        if !wanted(partner, framed, bytes, byte_at(deferred, at)) {
             i += 1;
             continue;
         }
@@ -89,7 +89,7 @@ fn with_turn(s: Numbers, awaited: AwaitNumbers, say: Say) -> Numbers
 pub fn speak(s: Numbers, deferred: &[u8], table: &[u8], ff: bool) -> Numbers
     ensures { λ r. ⌜ Speaks s (now (deferred .entry)) (now (table .entry)) ff r ⌝ }
 {
-    let chosen = choose(table, s.keep.framed, deferred);
+    let chosen = choose(s.keep.terms.partner, table, s.keep.framed, deferred);
     let mut awaited = s.now;
     let mut say = s.say;
     if chosen.count == 0 {

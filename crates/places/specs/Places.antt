@@ -46,10 +46,14 @@ proposalSizeAt = fieldsSize
 abbrev pub proposalLen : ℕ
 proposalLen = proposalSizeAt + 4
 
--- ---------------------------------------------------------------- A record of the table: its state, then a proposal's parts, then where title, name and body lie, each a start of 4 bytes and a length
+-- ---------------------------------------------------------------- A record of the table: its states, a byte a partner, then a proposal's parts, then where title, name and body lie, each a start of 4 bytes and a length
+
+-- "one state a partner, 0 to 7"
+abbrev pub partners : ℕ
+partners = 8
 
 abbrev pub statesLen : ℕ
-statesLen = 1
+statesLen = partners
 
 abbrev pub recordForm : ℕ
 recordForm = statesLen + formAt
@@ -219,8 +223,11 @@ blockSumAt = tailAt
 abbrev pub levelAt : ℕ
 levelAt = blockSumAt + 1
 
+abbrev pub partnerAt : ℕ
+partnerAt = levelAt + 1
+
 abbrev pub numbersEnd : ℕ
-numbersEnd = levelAt + 1
+numbersEnd = partnerAt + 1
 
 abbrev pub tailLen : ℕ
 tailLen = numbersEnd - tailAt

@@ -29,8 +29,11 @@ pub const PROPOSAL_SIZE: u8 = FIELDS;
 
 pub const PROPOSAL: u8 = PROPOSAL_SIZE + 4;
 
-// A record of the table: its state, then a proposal's parts, then where title, name and body lie, each a start of 4 bytes and a length.
-pub const STATES: u8 = 1;
+// "one state a partner, 0 to 7"
+pub const PARTNERS: u8 = 8;
+
+// A record of the table: its states, a byte a partner, then a proposal's parts, then where title, name and body lie, each a start of 4 bytes and a length.
+pub const STATES: u8 = PARTNERS;
 
 pub const RECORD_FORM: u8 = STATES + FORM;
 
@@ -143,7 +146,9 @@ pub const BLOCK_SUM: usize = TAIL;
 
 pub const LEVEL: usize = BLOCK_SUM + 1;
 
-pub const NUMBERS_END: usize = LEVEL + 1;
+pub const PARTNER: usize = LEVEL + 1;
+
+pub const NUMBERS_END: usize = PARTNER + 1;
 
 pub const NUMBERS_LENGTH: usize = NUMBERS_END - NUMBERS;
 

@@ -10,7 +10,6 @@ use lib.Seq.{take-add, take-take, drop-at, drop-drop, length-take-le}
 use borrow.Author.Tests.{eqb-false}
 use Rattle.grammar.specs.Bytes.{Bytes, CR}
 use Rattle.grammar.specs.Lines.{ends, trim}
-use Rattle.session_memory.specs.State.{held}
 use Rattle.session_memory.specs.Session.{Await}
 use Rattle.session_memory.specs.Session.{Keep}
 use Rattle.session_memory.specs.Session.{Session}
@@ -23,8 +22,7 @@ use Rattle.line_effect.specs.Judged.{Judged}
 use Rattle.line_effect.specs.Judge.{lineSum, judgeOf}
 use Rattle.line_effect.specs.Verdict.{judgedIn, betweenIn, Judges}
 use Rattle.line_effect.proofs.Kept.{Kept, judge-kept}
-use Rattle.receive_defined.specs.Receiving.{settled, refusedOf, spokenOf, settleOf, lineMoved}
-use Rattle.marking.specs.States.{markAll}
+use Rattle.receive_defined.specs.Receiving.{settled, refusedOf, spokenOf, markedBy, settleOf, lineMoved}
 
 -- heading and line within what no line changes
 heading-in : (m : Bytes) → headingIn m ≡ take 80 (betweenIn m)
@@ -46,7 +44,7 @@ unfolding settleOf wholeOf refusedOf
 settle-frame s m e j afterCr table a b c = go (eqb (j .answer) 0) refl
   where
     marked : Bytes
-    marked = markAll (held (j .marks .places)) (j .marks .state) table
+    marked = markedBy j table
 
     go : (t : Bool) → eqb (j .answer) 0 ≡ t
         → cond t (settled 0 (spokenOf (wholeOf s e) j afterCr marked) marked) (settled (j .answer) (refusedOf (j .answer) (wholeOf s e)) table)

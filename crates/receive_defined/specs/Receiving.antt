@@ -78,11 +78,15 @@ pub record Settled : Type 0 where
 abbrev pub settled : ℕ → Session → Bytes → Settled
 settled n s table = record { answer = n; session = s; table = table }
 
+-- The table with what was judged marked in the partner's column.
+abbrev pub markedBy : Judged → Bytes → Bytes
+markedBy j table = markAll (j .keep .terms .partner) (held (j .marks .places)) (j .marks .state) table
+
 -- Marks first, then our turn.
 unfoldable pub settleOf : Session → Judged → Bool → Bytes → Settled
 settleOf s j afterCr table =
     cond (eqb (j .answer) 0)
-    (settled 0 (spokenOf s j afterCr (markAll (held (j .marks .places)) (j .marks .state) table)) (markAll (held (j .marks .places)) (j .marks .state) table))
+    (settled 0 (spokenOf s j afterCr (markedBy j table)) (markedBy j table))
     (settled (j .answer) (refusedOf (j .answer) s) table)
 
 -- ---------------------------------------------------------------- a byte of a line

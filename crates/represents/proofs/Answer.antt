@@ -87,10 +87,10 @@ module _ (F : Fixed) (E : Shelf) (s : Session) (a : Bool) (i st : Bytes)
         subst
             (λ (js : List ℕ). Represents F E
             (cs (left F E s a i st (toTurn false w) (transfersAfter (fiveOf (picked 43 is zs)) y) (sends (fiveOf (picked 43 is zs)) (flagged (picked 61 is zs) (k .deferred)) k) r)
-            (markAll (held (fiveOf (picked 45 is zs))) 2 t) i st)
+            (markAll (k .terms .partner) (held (fiveOf (picked 45 is zs))) 2 t) i st)
             (settle.after F E s a i st (on-lists.newTurn false) (on-lists.answerMarks is ss m) (transfersText (E .table) js)))
             (picked-accepted is ss z)
-            (sending-law (picked 43 is zs) (flagged (picked 61 is zs) (k .deferred)) (markAll (held (fiveOf (picked 45 is zs))) 2 t) (on-lists.answerMarks is ss m)
+            (sending-law (picked 43 is zs) (flagged (picked 61 is zs) (k .deferred)) (markAll (k .terms .partner) (held (fiveOf (picked 45 is zs))) 2 t) (on-lists.answerMarks is ss m)
             (holds-answer F E k t i st m (ready .holds) is ss z idle)),
       )
 

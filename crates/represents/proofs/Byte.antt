@@ -25,7 +25,6 @@ use Rattle.form_closed.specs.Fixed.{Fixed}
 use Rattle.represents.specs.Represents.{Says, lineNumber, Awaits, Represents}
 use Rattle.represents.specs.Frame.{reachOf, Spared}
 use Rattle.represents.specs.Link.{Moving, Receiving}
-use Rattle.marking.proofs.States.{only-same, only-then}
 use Rattle.represents.proofs.Says.{first-nothing, then-nothing}
 use Rattle.form_closed.proofs.Waiting.{waits-none}
 use Rattle.represents.proofs.Parts.{refuse-law}
@@ -119,7 +118,7 @@ module _ (F : Fixed) (E : Shelf) {nt ni ns : ℕ} (c : Cs) (g : Good F nt ni ns 
           part = h .part;
           afterCr = refl;
         };
-        spared = record { table = only-same (c .table); inbox = kept-same _ _ (c .inbox) (omega arith); store = kept-same _ _ (c .store) (omega arith) };
+        spared = record { inbox = kept-same _ _ (c .inbox) (omega arith); store = kept-same _ _ (c .store) (omega arith) };
       }
 
   refused-law : (n : ℕ) → Moves (moved n (cs (refusedOf n (c .session)) (c .table) (c .inbox) (c .store))) (on-lists.refused v n)
@@ -128,7 +127,7 @@ module _ (F : Fixed) (E : Shelf) {nt ni ns : ℕ} (c : Cs) (g : Good F nt ni ns 
       record {
         answer = refl;
         represents = refuse-law F E c v n h;
-        spared = record { table = only-same (c .table); inbox = kept-same _ _ (c .inbox) (omega arith); store = kept-same _ _ (c .store) (reach-most (c .session)) };
+        spared = record { inbox = kept-same _ _ (c .inbox) (omega arith); store = kept-same _ _ (c .store) (reach-most (c .session)) };
       }
 
   module _ (quiet : waits (c .session .say) ≡ false) where
@@ -142,7 +141,6 @@ module _ (F : Fixed) (E : Shelf) {nt ni ns : ℕ} (c : Cs) (g : Good F nt ni ns 
           answer = t .answer;
           represents = t .represents;
           spared = record {
-            table = t .table;
             inbox = kept-same _ _ (c .inbox) (omega (arith, t .count));
             store = kept-same _ _ (c .store) (omega (arith, t .spent, reach-line (c .session) n e low, reach-least (lineStepOf (c .session) b (c .table) (F .known) (c .inbox) (length (c .store)) .session)));
           };
@@ -190,12 +188,11 @@ byte-law F E c v b g h live =
 -- ---------------------------------------------------------------- a receive
 
 pub spared-same : (c : Cs) → Spared c c
-spared-same c = record { table = only-same (c .table); inbox = kept-same _ _ (c .inbox) (omega arith); store = kept-same _ _ (c .store) (omega arith) }
+spared-same c = record { inbox = kept-same _ _ (c .inbox) (omega arith); store = kept-same _ _ (c .store) (omega arith) }
 
 pub spared-then : (c d e : Cs) → Spared c d → Spared d e → Spared c e
 spared-then c d e p q =
     record {
-      table = only-then (c .table) (d .table) (e .table) (p .table) (q .table);
       inbox = kept-then _ _ _ (c .inbox) (d .inbox) (e .inbox) (p .inbox) (q .inbox);
       store = kept-then _ _ _ (c .store) (d .store) (e .store) (p .store) (q .store);
     }

@@ -24,9 +24,9 @@ use Rattle.session_memory.specs.Session.{Keep}
 use Rattle.represents.specs.Represents.{messagesFrom, messagesOf}
 
 -- the records that we propose
-pub choose-law : (ti na bo t : Bytes) (md : Bool) (fl : List ℕ) → chooseOf t md fl ≡ fiveOf (chosen (recordsOf ti na bo t) md (statesOf t) fl)
+pub choose-law : (ti na bo : Bytes) (p : ℕ) (t : Bytes) (md : Bool) (fl : List ℕ) → chooseOf p t md fl ≡ fiveOf (chosen (recordsOf ti na bo t) md (statesOf p t) fl)
 unfolding chooseOf
-choose-law ti na bo t md fl = ap fiveOf (sym (chosen-stores ti na bo t md (statesOf t) fl))
+choose-law ti na bo p t md fl = ap fiveOf (sym (chosen-stores ti na bo t md (statesOf p t) fl))
 
 -- the BIDs of the messages, and how many there are: bodies are no part of them
 heads-bids : (inbox store : Bytes) (i n : ℕ) → messageBids (entriesFrom (λ (c : Bytes). messageOf c []) entrySize inbox i n) ≡ messageBids (messagesFrom inbox store i n)

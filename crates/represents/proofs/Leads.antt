@@ -18,12 +18,10 @@ use Rattle.line_effect.specs.Judge.{judged}
 use Rattle.our_turn.specs.Turn.{speakOf}
 use Rattle.line_effect.specs.Judged.{Judged}
 use Rattle.line_effect.specs.declared.Marks.{Marks}
-use Rattle.receive_defined.specs.Receiving.{cs, settledOf, spokenOf, Settled, settled, settleOf, refusedOf}
+use Rattle.receive_defined.specs.Receiving.{cs, settledOf, spokenOf, Settled, settled, markedBy, settleOf, refusedOf}
 use Rattle.marking.specs.States.{markAll}
 use Rattle.form_closed.specs.Fixed.{Fixed}
 use Rattle.represents.specs.Represents.{Represents}
-use Rattle.marking.specs.States.{StatesOnly}
-use Rattle.marking.proofs.States.{only-same, only-mark}
 use Rattle.represents.proofs.Settle.{after, Settles}
 
 -- a whole line or transfer settled as the session on lists has it, so many messages kept and bytes used then
@@ -32,10 +30,10 @@ pub record Settling (F : Fixed) (E : Shelf) (i st : Bytes) (kept used : ℕ) (t 
   pub represents : Represents F E (cs (v .session) (v .table) i st) (o .session)
   pub count : v .session .keep .kept ≡ kept
   pub spent : v .session .keep .used ≡ used
-  pub table : StatesOnly t (v .table)
 
-abbrev pub marking : Marks → Bytes → Bytes
-marking mk t = markAll (held (mk .places)) (mk .state) t
+-- the marks in the partner's column
+abbrev pub marking : Keep → Marks → Bytes → Bytes
+marking k mk t = markAll (k .terms .partner) (held (mk .places)) (mk .state) t
 
 module _ (F : Fixed) (E : Shelf) (s : Session) (a : Bool) (i st : Bytes) (kept used : ℕ) (t : Bytes) where
   -- no refusal
@@ -43,14 +41,14 @@ module _ (F : Fixed) (E : Shelf) (s : Session) (a : Bool) (i st : Bytes) (kept u
   Goes j (refuses n) = ⊥
   Goes j (goesOn p m o) =
       (j .answer ≡ 0) × (j .keep .kept ≡ kept) × (j .keep .used ≡ used)
-      × Represents F E (cs (spokenOf s j a (marking (j .marks) t)) (marking (j .marks) t) i st) (after F E s a i st p m o)
+      × Represents F E (cs (spokenOf s j a (markedBy j t)) (markedBy j t) i st) (after F E s a i st p m o)
 
   -- any outcome
   abbrev pub Leads : Judged → Outcome → Type 0
   Leads j (refuses n) = (j .answer ≡ n) × (eqb n 0 ≡ false)
   Leads j (goesOn p m o) =
       (j .answer ≡ 0) × (j .keep .kept ≡ kept) × (j .keep .used ≡ used)
-      × Represents F E (cs (spokenOf s j a (marking (j .marks) t)) (marking (j .marks) t) i st) (after F E s a i st p m o)
+      × Represents F E (cs (spokenOf s j a (markedBy j t)) (markedBy j t) i st) (after F E s a i st p m o)
 
   pub goes-leads : (j : Judged) (o : Outcome) → Goes j o → Leads j o
   goes-leads j (refuses n) h = absurd h
@@ -61,7 +59,7 @@ module _ (F : Fixed) (E : Shelf) (s : Session) (a : Bool) (i st : Bytes) (kept u
   module _ (mk : Marks) (w : Await) (y : Say) (k : Keep) (r : Reader) (same : k .kept ≡ kept) (spent : k .used ≡ used) where
     -- it is our turn; ff: the partner's was FF
     pub goes-speaking : (ff : Bool) (o : Outcome)
-        → Settles F E s a i st (speakOf w y k (marking mk t) ff .now) (speakOf w y k (marking mk t) ff .say) k r (marking mk t) o → Goes (judged 0 (cond ff 2 1) mk w y k r) o
+        → Settles F E s a i st (speakOf w y k (marking k mk t) ff .now) (speakOf w y k (marking k mk t) ff .say) k r (marking k mk t) o → Goes (judged 0 (cond ff 2 1) mk w y k r) o
     goes-speaking ff (refuses n) h = absurd h
     goes-speaking true (goesOn p m o) h = (refl, same, spent, h)
     goes-speaking false (goesOn p m o) h = (refl, same, spent, h)
@@ -81,7 +79,7 @@ module _ (F : Fixed) (E : Shelf) (s : Session) (a : Bool) (i st : Bytes) (kept u
   unfolding settleOf
   settle-goes v j (refuses n) h = absurd h
   settle-goes v j (goesOn p m o) h =
-      let t′ = marking (j .marks) t in
+      let t′ = markedBy j t in
       subst
       (λ (n : ℕ). Settling F E i st kept used t (cond (eqb n 0) (settled 0 (spokenOf s j a t′) t′) (settled n (refusedOf n s) t)) (on-lists.settled v a (goesOn p m o)))
       (sym (h .0))
@@ -90,7 +88,6 @@ module _ (F : Fixed) (E : Shelf) (s : Session) (a : Bool) (i st : Bytes) (kept u
         represents = h .3;
         count = ap (λ (k : Keep). k .kept) (keep-spoken j t′) ∙ h .1;
         spent = ap (λ (k : Keep). k .used) (keep-spoken j t′) ∙ h .2;
-        table = only-mark (held (j .marks .places)) (j .marks .state) t;
       })
 
   pub settle-law : (v : on-lists.Session) → s .keep .kept ≡ kept → s .keep .used ≡ used
@@ -98,8 +95,8 @@ module _ (F : Fixed) (E : Shelf) (s : Session) (a : Bool) (i st : Bytes) (kept u
       → (j : Judged) (o : Outcome) → Leads j o → Settling F E i st kept used t (settleOf s j a t) (on-lists.settled v a o)
   unfolding settleOf refusedOf
   settle-law v same spent refused j (refuses n) h =
-      let t′ = marking (j .marks) t in
+      let t′ = markedBy j t in
       subst (λ (l : ℕ). Settling F E i st kept used t (cond (eqb l 0) (settled 0 (spokenOf s j a t′) t′) (settled l (refusedOf l s) t)) (on-lists.settled v a (refuses n))) (sym (h .0))
       (subst (λ (c : Bool). Settling F E i st kept used t (cond c (settled 0 (spokenOf s j a t′) t′) (settled n (refusedOf n s) t)) (on-lists.settled v a (refuses n))) (sym (h .1))
-      (record { answer = refl; represents = refused n; count = same; spent = spent; table = only-same t }))
+      (record { answer = refl; represents = refused n; count = same; spent = spent }))
   settle-law v same spent refused j (goesOn p m o) h = settle-goes v j (goesOn p m o) h

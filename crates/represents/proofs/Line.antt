@@ -103,7 +103,7 @@ module _ (F : Fixed) (E : Shelf) (s : Session) (a : Bool) (i st : Bytes) where
 
     -- the table when what was being sent is forwarded
     abbrev forwarded : Bytes
-    forwarded = markAll (held (k .sending)) 1 t
+    forwarded = markAll (k .terms .partner) (held (k .sending)) 1 t
 
     -- nothing is said
     pub went-on : (w′ : Await) (k′ : Keep) (p : Phase) (m′ : Memory) → Entries (w′ .block) (w′ .proposals) → Holds F E k′ t i st m′
@@ -119,11 +119,11 @@ module _ (F : Fixed) (E : Shelf) (s : Session) (a : Bool) (i st : Bytes) where
     )
 
     -- our turn, after o
-    speaks : (ff : Bool) (mk : Marks) (y′ : Say) (k′ : Keep) (m′ : Memory) (o : Bytes) → Holds F E k′ (marking mk t) i st m′
+    speaks : (ff : Bool) (mk : Marks) (y′ : Say) (k′ : Keep) (m′ : Memory) (o : Bytes) → Holds F E k′ (marking k′ mk t) i st m′
         → k′ .kept ≡ k .kept → k′ .used ≡ k .used → firstText (y′ .first) (y′ .signs) ≡ o
         → Lead (judged 0 (cond ff 2 1) mk w y′ k′ r) (on-lists.ourTurn E o ff m′)
     speaks ff mk y′ k′ m′ o h′ same spent said =
-        let u = marking mk t in
+        let u = marking k′ mk t in
         goes-leads F E s a i st (k .kept) (k .used) t (judged 0 (cond ff 2 1) mk w y′ k′ r) (on-lists.ourTurn E o ff m′)
         (goes-speaking F E s a i st (k .kept) (k .used) t mk w y′ k′ r same spent ff (on-lists.ourTurn E o ff m′)
         (subst (λ (x : Bytes). Settles F E s a i st (speakOf w y′ k′ u ff .now) (speakOf w y′ k′ u ff .say) k′ r u (on-lists.ourTurn E x ff m′)) said

@@ -31,7 +31,6 @@ use Rattle.form_closed.specs.Fixed.{Fixed}
 use Rattle.represents.specs.Represents.{Says, lineNumber, Awaits, Represents}
 use Rattle.form_closed.proofs.Waiting.{waits-none}
 use Rattle.represents.proofs.Parts.{Ready, refuse-law}
-use Rattle.marking.proofs.States.{only-same}
 use Rattle.represents.proofs.Leads.{Settling, Leads, settle-law}
 use Rattle.represents.proofs.Line.{went-on, sid-law, text-law, turn-law}
 use Rattle.represents.proofs.Answer.{fs-law}
@@ -144,7 +143,7 @@ module _ (F : Fixed) (E : Shelf) {nt ni ns : ℕ} (c : Cs) (g : Good F nt ni ns 
   byte-moves : (b : ℕ) (a : on-lists.Awaited) → v .phase ≡ on-lists.aLine a → (l : LineByte) → RoomIf l
       → Moves (lineMoved l s b (c .table) (F .known) (c .inbox) (length (c .store))) (on-lists.lineMoved E a v b l)
   unfolding refusedOf
-  byte-moves b a x dropped room = record { answer = refl; represents = h; count = refl; spent = refl; table = only-same (c .table) }
+  byte-moves b a x dropped room = record { answer = refl; represents = h; count = refl; spent = refl }
   byte-moves b a x ends room =
       subst
       (λ (w : Bytes). Moves (lineMoved ends s b (c .table) (F .known) (c .inbox) (length (c .store))) (on-lists.settled v true (on-lists.lineJudged E a m w)))
@@ -167,10 +166,9 @@ module _ (F : Fixed) (E : Shelf) {nt ni ns : ℕ} (c : Cs) (g : Good F nt ni ns 
         };
         count = refl;
         spent = refl;
-        table = only-same (c .table);
       }
   byte-moves b a x overruns room =
-      record { answer = refl; represents = refuse-law F E c v lineTooLong h; count = refl; spent = refl; table = only-same (c .table) }
+      record { answer = refl; represents = refuse-law F E c v lineTooLong h; count = refl; spent = refl }
 
   -- A BYTE OF A LINE
   pub line-step : (b : ℕ) (a : on-lists.Awaited) → v .phase ≡ on-lists.aLine a → Moves (lineStepOf s b (c .table) (F .known) (c .inbox) (length (c .store))) (on-lists.lineStep E a v b)

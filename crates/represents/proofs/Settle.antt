@@ -2,7 +2,7 @@
 use mathlib.Core.Path.{_≡_, refl, sym, ap, _∙_, subst}
 use mathlib.Core.Bool.{Bool, true, false, cond}
 use mathlib.Core.List.{List, [], _∷_, _++_, map}
-use Prim.Native.Nat.{ℕ, suc}
+use Prim.Native.Nat.{ℕ, suc, _<_}
 use native.Mathlib.Omega.{arith}
 use lib.ListN.{length, take}
 use borrow.Author.Tests.{ne-eqb}
@@ -14,6 +14,7 @@ use Rattle.session.specs.Choices.{Shelf, chosen}
 use Rattle.session.specs.Session as on-lists
 use Rattle.session.specs.Session.{Memory, Phase, Outcome, refuses, goesOn}
 use Rattle.transfer_step.specs.declared.Reader.{Reader}
+use Rattle.places.specs.Places.{partners}
 use Rattle.session_memory.specs.State.{held, fiveOf}
 use Rattle.session_memory.specs.declared.Five.{Five}
 use Rattle.session_memory.specs.Session.{Await}
@@ -41,27 +42,27 @@ use Rattle.represents.proofs.Parts.{no-entries}
 
 -- ---------------------------------------------------------------- the session's memory after marks
 
-shelved-mark : (F : Fixed) (E : Shelf) (t i st : Bytes) (is : List ℕ) (v : ℕ) → Shelved F E t i st → Shelved F E (markAll is v t) i st
-shelved-mark F E t i st is v h =
+shelved-mark : (F : Fixed) (E : Shelf) (p : ℕ) → p < partners → (t i st : Bytes) (is : List ℕ) (v : ℕ) → Shelved F E t i st → Shelved F E (markAll p is v t) i st
+shelved-mark F E p b t i st is v h =
     record {
-      records = records-mark (F .titles) (F .names) (F .bodies) v is t ∙ h .records;
+      records = records-mark (F .titles) (F .names) (F .bodies) p v b is t ∙ h .records;
       known = h .known;
       places = h .places;
       bytes = h .bytes;
-      table = whole-mark is v t (h .table);
+      table = whole-mark p is v t (h .table);
       inbox = h .inbox;
     }
 
 module _ (F : Fixed) (E : Shelf) (k : Keep) (t i st : Bytes) (m : Memory) (h : Holds F E k t i st m) where
   -- what was being sent is forwarded
-  pub holds-turn : Holds F E (settledKeep k) (markAll (held (k .sending)) 1 t) i st (on-lists.turnMarks m)
+  pub holds-turn : Holds F E (settledKeep k) (markAll (k .terms .partner) (held (k .sending)) 1 t) i st (on-lists.turnMarks m)
   holds-turn =
       record {
-        shelved = shelved-mark F E t i st (held (k .sending)) 1 (h .shelved);
+        shelved = shelved-mark F E (k .terms .partner) (h .terms .partner) t i st (held (k .sending)) 1 (h .shelved);
         boxed = h .boxed;
         framed = h .framed;
         terms = h .terms;
-        states = states-marked (held (k .sending)) t (h .shelved .table) ∙ ap (marked (held (k .sending))) (h .states)
+        states = states-marked (k .terms .partner) (held (k .sending)) t (h .terms .partner) (h .shelved .table) ∙ ap (marked (held (k .sending))) (h .states)
             ∙ ap (λ (is : List ℕ). marked is (m .states)) (h .sending);
         sending = refl;
         flags = h .flags;
@@ -69,21 +70,22 @@ module _ (F : Fixed) (E : Shelf) (k : Keep) (t i st : Bytes) (m : Memory) (h : H
 
   -- what the partner's SID settles
   pub holds-sid : (fs : List ℕ) → Holds F E (judge.inMode (framed fs) (levelInForce fs) k) t i st (on-lists.withSid fs m)
-  holds-sid fs = record { shelved = h .shelved; boxed = h .boxed; framed = refl; terms = record { level = refl }; states = h .states; sending = h .sending; flags = h .flags }
+  holds-sid fs = record { shelved = h .shelved; boxed = h .boxed; framed = refl; terms = record { level = refl; partner = h .terms .partner }; states = h .states; sending = h .sending; flags = h .flags }
 
   -- the partner's signs on our records at these places
   pub holds-answer : (is : List ℕ) (ss : List Sign) (z : ℕ) → k .sending .count ≡ 0
       → Holds F E (sends (fiveOf (picked 43 is (zerosAfter ss z))) (flagged (picked 61 is (zerosAfter ss z)) (k .deferred)) k)
-      (markAll (held (fiveOf (picked 45 is (zerosAfter ss z)))) 2 t) i st (on-lists.answerMarks is ss m)
+      (markAll (k .terms .partner) (held (fiveOf (picked 45 is (zerosAfter ss z)))) 2 t) i st (on-lists.answerMarks is ss m)
   holds-answer is ss z none =
       let zs = zerosAfter ss z in
       let before : m .sending ≡ [] = sym (h .sending) ∙ ap (λ (n : ℕ). take n (k .sending .items)) none in
       record {
-        shelved = shelved-mark F E t i st (held (fiveOf (picked 45 is zs))) 2 (h .shelved);
+        shelved = shelved-mark F E (k .terms .partner) (h .terms .partner) t i st (held (fiveOf (picked 45 is zs))) 2 (h .shelved);
         boxed = h .boxed;
         framed = h .framed;
         terms = h .terms;
-        states = ap (λ (js : List ℕ). statesOf (markAll js 2 t)) (held-five (picked 45 is zs)) ∙ states-declined is ss z t (h .shelved .table)
+        states = ap (λ (js : List ℕ). statesOf (k .terms .partner) (markAll (k .terms .partner) js 2 t)) (held-five (picked 45 is zs))
+            ∙ states-declined (k .terms .partner) (h .terms .partner) is ss z t (h .shelved .table)
             ∙ ap (declined is ss) (h .states);
         sending = held-five (picked 43 is zs) ∙ picked-accepted is ss z ∙ ap (λ (js : List ℕ). js ++ accepted ss is) (sym before);
         flags = flags-deferred is ss z (k .deferred) ∙ ap (on-lists.deferring is ss) (h .flags);
@@ -146,9 +148,9 @@ module _ (F : Fixed) (E : Shelf) (s : Session) (a : Bool) (i st : Bytes) where
         subst (λ (f : Five). SpeaksAs (speaking f ff w y) (on-lists.ourTurn E (firstText (y .first) (y .signs)) ff m)) (sym choice)
         (speak-law ff (chosen (E .table) (m .framed) (m .states) (m .deferred)))
       where
-        choice : chooseOf t (k .framed) (k .deferred) ≡ fiveOf (chosen (E .table) (m .framed) (m .states) (m .deferred))
+        choice : chooseOf (k .terms .partner) t (k .framed) (k .deferred) ≡ fiveOf (chosen (E .table) (m .framed) (m .states) (m .deferred))
         choice =
-            choose-law (F .titles) (F .names) (F .bodies) t (k .framed) (k .deferred)
+            choose-law (F .titles) (F .names) (F .bodies) (k .terms .partner) t (k .framed) (k .deferred)
             ∙ same (h .shelved .records) (h .framed) (h .states) (h .flags)
           where
             same : {T U : List Record} {p q : Bool} {x y z w : List ℕ} → T ≡ U → p ≡ q → x ≡ y → z ≡ w → fiveOf (chosen T p x z) ≡ fiveOf (chosen U q y w)

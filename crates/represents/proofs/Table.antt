@@ -13,7 +13,7 @@ use Rattle.grammar.specs.Bytes.{Bytes}
 use Rattle.grammar.specs.Answers.{Sign, accept, decline, defer, writeSign}
 use Rattle.grammar.specs.Transfers.{partOf}
 use Rattle.mail.specs.Mail.{recordAt, noRecord, marked, declined, accepted}
-use Rattle.places.specs.Places.{recordLen}
+use Rattle.places.specs.Places.{recordLen, partners}
 use Rattle.layout.specs.Layout.{byteAt, entryAt, recordSize, recordOf}
 use Rattle.layout.proofs.Places.{part-in}
 use Rattle.entries.specs.Decoded.{entries, recordCount, recordsOf}
@@ -43,13 +43,13 @@ picked-accepted (i ∷ is) (accept ∷ ss) k = ap (λ (l : List ℕ). i ∷ l) (
 picked-accepted (i ∷ is) (decline ∷ ss) k = picked-accepted is ss k
 picked-accepted (i ∷ is) (defer ∷ ss) k = picked-accepted is ss k
 
-pub states-declined : (is : List ℕ) (ss : List Sign) (k : ℕ) (t : Bytes) → Whole t
-    → statesOf (markAll (picked 45 is (zerosAfter ss k)) 2 t) ≡ declined is ss (statesOf t)
-states-declined [] ss k t w = refl
-states-declined (i ∷ is) [] k t w = ap (λ (l : List ℕ). statesOf (markAll l 2 t)) (picked-none 45 (i ∷ is) k refl)
-states-declined (i ∷ is) (accept ∷ ss) k t w = states-declined is ss k t w
-states-declined (i ∷ is) (decline ∷ ss) k t w = states-declined is ss k (setState t i 2) (whole-set t i 2 w) ∙ ap (declined is ss) (states-set t i 2 w)
-states-declined (i ∷ is) (defer ∷ ss) k t w = states-declined is ss k t w
+pub states-declined : (p : ℕ) → p < partners → (is : List ℕ) (ss : List Sign) (k : ℕ) (t : Bytes) → Whole t
+    → statesOf p (markAll p (picked 45 is (zerosAfter ss k)) 2 t) ≡ declined is ss (statesOf p t)
+states-declined p b [] ss k t w = refl
+states-declined p b (i ∷ is) [] k t w = ap (λ (l : List ℕ). statesOf p (markAll p l 2 t)) (picked-none 45 (i ∷ is) k refl)
+states-declined p b (i ∷ is) (accept ∷ ss) k t w = states-declined p b is ss k t w
+states-declined p b (i ∷ is) (decline ∷ ss) k t w = states-declined p b is ss k (setState p t i 2) (whole-set p t i 2 w) ∙ ap (declined is ss) (states-set p t i 2 b w)
+states-declined p b (i ∷ is) (defer ∷ ss) k t w = states-declined p b is ss k t w
 
 pub flags-deferred : (is : List ℕ) (ss : List Sign) (k : ℕ) (fl : List ℕ) → flagged (picked 61 is (zerosAfter ss k)) fl ≡ deferring is ss fl
 flags-deferred [] ss k fl = refl

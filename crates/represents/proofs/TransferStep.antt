@@ -25,7 +25,6 @@ use Rattle.form_closed.specs.Fixed.{Fixed}
 use Rattle.represents.specs.Represents.{Awaits, Represents}
 use Rattle.represents.specs.Frame.{reachOf}
 use Rattle.represents.specs.Link.{Moving}
-use Rattle.marking.proofs.States.{only-same}
 use Rattle.represents.proofs.Transfer.{afterOne, one-fed, behind, behind′, store′, s′, stepped, store-kept, room-law, goes-on, refused-here}
 use Rattle.represents.proofs.Keep.{keep-law, inbox-kept}
 use Rattle.form_closed.specs.Facts.{Good}
@@ -67,7 +66,7 @@ module _ (F : Fixed) (E : Shelf) {nt ni ns : ℕ} (c : Cs) (g : Good F nt ni ns 
       (record {
         answer = refl;
         represents = refused-here F E c g v h b n;
-        spared = record { table = only-same (c .table); inbox = kept-same _ _ (c .inbox) (omega arith); store = reached (u .keep .used + u .reading .reader .body) (omega arith) };
+        spared = record { inbox = kept-same _ _ (c .inbox) (omega arith); store = reached (u .keep .used + u .reading .reader .body) (omega arith) };
       })
 
   -- it is whole
@@ -80,7 +79,6 @@ module _ (F : Fixed) (E : Shelf) {nt ni ns : ℕ} (c : Cs) (g : Good F nt ni ns 
         answer = e .answer;
         represents = e .represents;
         spared = record {
-          table = e .table;
           inbox = subst (λ (i : ℕ). Kept (u .keep .kept * entryLen) (i * entryLen) (c .inbox) (keptInbox u (c .inbox))) (sym (e .count)) (inbox-kept F E c g v h b quiet p ps sc last a k);
           store = reached (reachOf (keepOf u (c .table) .session)) (omega (arith, e .spent, reach-least (keepOf u (c .table) .session)));
         };
@@ -94,7 +92,6 @@ module _ (F : Fixed) (E : Shelf) {nt ni ns : ℕ} (c : Cs) (g : Good F nt ni ns 
         answer = refl;
         represents = goes-on F E c g v h b p ps sc sc′ a (k .2);
         spared = record {
-          table = only-same (c .table);
           inbox = kept-same _ _ (c .inbox) (omega arith);
           store = reached (reachOf u) (omega (arith, reach-five u (a .0)));
         };

@@ -5,7 +5,6 @@ use lib.Dec.{eqb, ltb}
 use Rattle.layout.specs.Layout.{entrySize}
 use Rattle.transfer_read.specs.Meaning.{Kept}
 use Rattle.session_memory.specs.Session.{Session}
-use Rattle.marking.specs.States.{StatesOnly}
 use Rattle.receive_defined.specs.Receiving.{Cs}
 use Rattle.phase.specs.Phase.{phaseTransfer, phaseLeaving}
 
@@ -14,9 +13,8 @@ use Rattle.phase.specs.Phase.{phaseTransfer, phaseLeaving}
 abbrev pub reachOf : Session → ℕ
 reachOf s = s .keep .used + cond (ltb (s .now .phase) phaseTransfer) 0 (cond (eqb (s .now .phase) phaseLeaving) 0 (s .reading .reader .body))
 
--- From c to d only states of the table, inbox entries from c's count up to d's, and store bytes from where c's reached to where d's reach
--- have changed: "the rest is untouched, and so are inbox places past the count"
+-- From c to d only inbox entries from c's count up to d's, and store bytes from where c's reached to where d's reach have changed: "the rest is
+-- untouched, and so are inbox places past the count". What changes of the table is OneColumn (crates/form_closed)
 pub record Spared (c d : Cs) : Type 0 where
-  pub table : StatesOnly (c .table) (d .table)
   pub inbox : Kept (c .session .keep .kept * entrySize) (d .session .keep .kept * entrySize) (c .inbox) (d .inbox)
   pub store : Kept (reachOf (c .session)) (reachOf (d .session)) (c .store) (d .store)

@@ -14,6 +14,7 @@ use Rattle.grammar.specs.Transfers.{partOf, byteSum}
 use Rattle.mail.specs.Mail.{Message, accepted}
 use Rattle.session.specs.Choices.{Shelf, bodyBytes}
 use Rattle.session.specs.Session as on-lists
+use Rattle.places.specs.Places.{partners}
 use Rattle.layout.specs.Layout.{entryAt, recordSize, entrySize, proposalSize, proposalOf, messageOf, bodyStart, bodyLength}
 use Rattle.transfer_read.specs.Feed.{roomOf}
 use Rattle.transfer_read.specs.Meaning.{Stands}
@@ -96,9 +97,10 @@ pub record Boxed (kept used : ℕ) (i st : Bytes) (ms : List Message) : Type 0 w
   pub small : used ≤ kept * bodyLimit
   pub bytes : used ≡ bodyBytes ms
 
--- What is settled with the partner.
+-- What is settled with the partner, who has a column of the table; the session on lists is handed that column and knows of no other.
 pub record Agreed (t : Terms) (u : on-lists.Terms) : Type 0 where
   pub level : t .level ≡ u .level
+  pub partner : t .partner < partners
 
 -- The session's memory: what is kept k, with table, inbox and store.
 pub record Holds (F : Fixed) (E : Shelf) (k : Keep) (t i st : Bytes) (m : on-lists.Memory) : Type 0 where
@@ -106,7 +108,7 @@ pub record Holds (F : Fixed) (E : Shelf) (k : Keep) (t i st : Bytes) (m : on-lis
   pub boxed : Boxed (k .kept) (k .used) i st (m .inbox)
   pub framed : k .framed ≡ m .framed
   pub terms : Agreed (k .terms) (m .terms)
-  pub states : statesOf t ≡ m .states
+  pub states : statesOf (k .terms .partner) t ≡ m .states
   pub sending : held (k .sending) ≡ m .sending
   pub flags : k .deferred ≡ m .deferred
 

@@ -103,8 +103,8 @@ pub same-say : {a b c d e f : ℕ} {g h : Five} → a ≡ b → c ≡ d → e �
     → _≡_ {A = Say} (record { first = a; then = c; pos = e; signs = g }) (record { first = b; then = d; pos = f; signs = h })
 same-say e₁ e₂ e₃ e₄ = rw (e₁, e₂, e₃, e₄)
 
-pub same-terms : {a b : ℕ} → a ≡ b → _≡_ {A = Terms} (record { level = a }) (record { level = b })
-same-terms e = rw e
+pub same-terms : {a b c d : ℕ} → a ≡ b → c ≡ d → _≡_ {A = Terms} (record { level = a; partner = c }) (record { level = b; partner = d })
+same-terms e₁ e₂ = rw (e₁, e₂)
 
 pub same-keep : {x y : Bool} {t u : Terms} {a b c d : ℕ} {g h : Five} {l m : Bytes} → x ≡ y → t ≡ u → a ≡ b → c ≡ d → g ≡ h → l ≡ m
     → _≡_ {A = Keep} (record { framed = x; terms = t; kept = a; used = c; sending = g; deferred = l })
@@ -221,7 +221,7 @@ module _ (f g t : Bytes) (n : length f ≡ numbersStart) (k : length g ≡ freeL
   keep-back : loadKeep (f ++ rest) ≡ s .keep
   unfolding loadKeep smallOut numbersOut tailOut rest
   keep-back =
-      same-keep (ap (λ (x : ℕ). eqb x 1) (byte 2) ∙ flag-back (s .keep .framed)) (same-terms (byte 57)) (byte 6)
+      same-keep (ap (λ (x : ℕ). eqb x 1) (byte 2) ∙ flag-back (s .keep .framed)) (same-terms (byte 57) (byte 58)) (byte 6)
       (le8-skip f rest numbersStart n 48 ∙ le8-here (s .keep .used) [] (h .keep .used))
       (five 15 (s .keep .sending) (omega arith) (h .keep .sending) refl refl) deferred-back
 

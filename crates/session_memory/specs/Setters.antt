@@ -59,7 +59,7 @@ withTerms x k = record { framed = k .framed; terms = x; kept = k .kept; used = k
 
 -- the level in force, and nothing else of the terms
 abbrev pub withLevel : ℕ → Keep → Keep
-withLevel x k = withTerms (record { level = x }) k
+withLevel x k = withTerms (record { level = x; partner = k .terms .partner }) k
 
 -- how many messages, and how many store bytes they use
 abbrev pub withKept : ℕ → ℕ → Keep → Keep

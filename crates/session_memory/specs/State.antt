@@ -10,7 +10,7 @@ use Rattle.grammar.specs.Ascii.{text}
 use Rattle.grammar.specs.Transfers.{partOf}
 use Rattle.buffer.specs.Put.{putBytes}
 use Rattle.buffer.specs.declared.Cursor.{Cursor}
-use Rattle.places.specs.Places.{markAt, sizeTable, sizeTitles, sizeNames, sizeBodies, sizeKnown, sizeInbox, sizeStore, numbersStart, phaseAt, ffAt, framedAt, afterCrAt, firstAt, thenAt, keptAt, currentAt, proposalsAt, oursAt, sendingAt, signsAt, placeAt, lengthAt, headAt, offsetAt, sumAt, lineLengthAt, leftAt, bodyAt, posAt, usedAt, blockSumAt, levelAt, arraysAt, deferredLen, headingLen, lineLen, blockLen, deferredAt, headingAt, lineAt, blockAt, sessionLen}
+use Rattle.places.specs.Places.{markAt, sizeTable, sizeTitles, sizeNames, sizeBodies, sizeKnown, sizeInbox, sizeStore, numbersStart, phaseAt, ffAt, framedAt, afterCrAt, firstAt, thenAt, keptAt, currentAt, proposalsAt, oursAt, sendingAt, signsAt, placeAt, lengthAt, headAt, offsetAt, sumAt, lineLengthAt, leftAt, bodyAt, posAt, usedAt, blockSumAt, levelAt, partnerAt, arraysAt, deferredLen, headingLen, lineLen, blockLen, deferredAt, headingAt, lineAt, blockAt, sessionLen}
 use Rattle.layout.specs.Layout.{byteAt, le2At, le4At, le8At, le2, le4, le8}
 use Rattle.transfer_step.specs.Step.{startOf}
 use Rattle.session_memory.specs.declared.Five.{Five}
@@ -63,7 +63,7 @@ loadSay sm = record { first = byteAt sm firstAt; then = byteAt sm thenAt; pos = 
 
 -- what is settled with the partner
 abbrev pub termsAt : Bytes → Terms
-termsAt sm = record { level = byteAt sm levelAt }
+termsAt sm = record { level = byteAt sm levelAt; partner = byteAt sm partnerAt }
 
 unfoldable pub loadKeep : Bytes → Keep
 loadKeep sm =
@@ -119,7 +119,7 @@ numbersOut s =
     le2 (s .line .len) ++ (le2 (s .reading .reader .left) ++ (le4 (s .reading .reader .body) ++ (le8 (s .say .pos) ++ le8 (s .keep .used))))
 
 abbrev pub termsOut : Terms → Bytes
-termsOut t = t .level ∷ []
+termsOut t = t .level ∷ t .partner ∷ []
 
 -- The tail: numbers that came later, in the order of their places.
 unfoldable pub tailOut : Session → Bytes
@@ -143,17 +143,17 @@ sizesOut z =
 unfoldable pub saveSizes : Bytes → Sizes → Bytes
 saveSizes sm z = putBytes sm (at markAt) (sizesOut z)
 
--- Nothing is settled before the partner's SID.
-abbrev pub noTerms : Terms
-noTerms = record { level = 0 }
+-- Nothing is settled before the partner's SID but who the partner is.
+abbrev pub termsWith : ℕ → Terms
+termsWith partner = record { level = 0; partner = partner }
 
 -- The state right after an accepted open.
-unfoldable pub freshOf : Bool → Session
-freshOf caller =
+unfoldable pub freshOf : Bool → ℕ → Session
+freshOf caller partner =
     record {
       now = record { phase = flag caller; ff = false; current = 0; proposals = 0; ours = noFive; sum = 0; block = replicate blockLen 0 };
       say = record { first = cond caller 0 1; then = 0; pos = 0; signs = noFive };
-      keep = record { framed = false; terms = noTerms; kept = 0; used = 0; sending = noFive; deferred = replicate deferredLen 0 };
+      keep = record { framed = false; terms = termsWith partner; kept = 0; used = 0; sending = noFive; deferred = replicate deferredLen 0 };
       reading = record { reader = startOf 0; heading = replicate headingLen 0 };
       line = record { «after_cr» = false; len = 0; bytes = replicate lineLen 0 };
     }

@@ -14,9 +14,10 @@ pub struct Say {
     pub signs: Five,
 }
 
-// What is settled with this partner beside the mode. level: the level in force for FS lines; 0 is level 0, every other number counts as level 1.
+// What is settled with this partner beside the mode. level: the level in force for FS lines; 0 is level 0, every other number counts as level 1. partner: whose column of the table this session reads and marks; open is told it.
 pub struct Terms {
     pub level: u8,
+    pub partner: u8,
 }
 
 // The sizes of the lent buffers, as open keeps them.

@@ -6,19 +6,17 @@ use lib.Dec.{eqb}
 use lib.ListN.{take}
 use borrow.Author.Tests.{eq-eqb, ne-eqb}
 use Rattle.grammar.specs.Bytes.{Bytes}
-use Rattle.session_memory.specs.State.{held}
 use Rattle.session_memory.specs.Session.{Session}
 use Rattle.phase.specs.Phase.{ourTurnAfterFF}
 use Rattle.places.specs.Places.{headingAt}
 use Rattle.region.specs.Region.{region}
 use Rattle.numbers.specs.declared.Numbers.{Numbers}
 use Rattle.numbers.specs.Whole.{awaitOf, blockIn, wholeOf}
-use Rattle.marking.specs.States.{markAll}
 use Rattle.line_effect.specs.declared.Verdict.{Verdict}
 use Rattle.line_effect.specs.Judged.{Judged}
 use Rattle.line_effect.specs.Verdict.{judgedIn}
 use Rattle.our_turn.specs.Turn.{Spoken, Speaks}
-use Rattle.receive_defined.specs.Receiving.{refusedOf, settledOf, spokenOf, settled, settleOf}
+use Rattle.receive_defined.specs.Receiving.{refusedOf, settledOf, spokenOf, settled, markedBy, settleOf}
 use Rattle.settling.specs.After.{afterLine}
 
 -- ---------------------------------------------------------------- our turn
@@ -43,6 +41,6 @@ module _ (s : Session) (j : Judged) (a : Bool) (t : Bytes) (x : Session) where
   unfolding settleOf
   settle-no n e = rw (ne-eqb _ _ n) (ap (λ (y : Session). settled (j .answer) y t) e)
 
-  pub settle-yes : (u : Bytes) → j .answer ≡ 0 → u ≡ markAll (held (j .marks .places)) (j .marks .state) t → x ≡ spokenOf s j a u → settled 0 x u ≡ settleOf s j a t
+  pub settle-yes : (u : Bytes) → j .answer ≡ 0 → u ≡ markedBy j t → x ≡ spokenOf s j a u → settled 0 x u ≡ settleOf s j a t
   unfolding settleOf
   settle-yes u n e f = rw (eq-eqb _ _ n) (ap (λ (y : Session). settled 0 y u) f ∙ ap (λ (w : Bytes). settled 0 (spokenOf s j a w) w) e)

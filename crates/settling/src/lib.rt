@@ -76,7 +76,8 @@ pub fn settle(s: Numbers, v: Verdict, after_cr: bool, mem: &[u8], table: &mut [u
     }
     let marks = v.marks;
     let places = marks.places;
-    mark_all(table, places, marks.state);
+    let next = v.next;
+    mark_all(table, next.keep.terms.partner, places, marks.state);
     Left {
         answer: refusal::NONE,
         session: spoken(v, after_cr, mem, table),

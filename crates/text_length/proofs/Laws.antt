@@ -58,10 +58,10 @@ part-none s start len h = go (leb start (length s)) (leb len (length s - start))
 
 module _ (table : Bytes) (i : ℕ) {r : Bytes} (e : r ≡ entryAt recordLen table i) where
   pub entry-none : length r < recordLen → r ≡ []
-  entry-none h = e ∙ part-none table (i * 89) 89 (omega (arith, ap length e))
+  entry-none h = e ∙ part-none table (i * recordLen) recordLen (omega (arith, ap length e))
 
   pub entry-whole : recordLen ≤ length r → length r ≡ recordLen
-  entry-whole h = omega (arith, ap length e, part-short table (i * 89) 89)
+  entry-whole h = omega (arith, ap length e, part-short table (i * recordLen) recordLen)
 
 -- ---------------------------------------------------------------- the transfer of a record of the table
 
@@ -121,7 +121,7 @@ module _ (table : Bytes) (i : ℕ) {r : Bytes} (e : r ≡ entryAt recordLen tabl
 
   pub size-small : ((j : ℕ) → byteAt table j < 256) → {s : ℕ} → s ≡ le4At r recordSizeAt → s < 4294967296
   size-small o q =
-      omega (arith, q, ap (λ (c : Bytes). le4At c 69) e, le4-small (entryAt recordLen table i) (λ j. part-octets table o (i * 89) 89 j) 69)
+      omega (arith, q, ap (λ (c : Bytes). le4At c recordSizeAt) e, le4-small (entryAt recordLen table i) (λ j. part-octets table o (i * recordLen) recordLen j) recordSizeAt)
 
   pub proposal-length : {a b c d s n : ℕ} → a ≡ length (fieldIn callMax recordFrom r) → b ≡ length (fieldIn atMax recordAt r) → c ≡ length (fieldIn callMax recordTo r)
       → d ≡ length (fieldIn bidMax recordBid r) → s ≡ le4At r recordSizeAt → n ≡ length (decimal s)

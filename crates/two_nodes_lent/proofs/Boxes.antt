@@ -27,13 +27,13 @@ use Rattle.entries.proofs.Laws.{entries-length}
 use Rattle.layout.specs.Layout.{recordSize, recordOf}
 use Rattle.represents.specs.Represents.{messagesOf}
 use Rattle.main_theorem.specs.Demand2.{callOf}
-use Rattle.main_theorem.specs.Calls.{Buffer, Memory, fixedIn, lentIn, receives, received, messageCount}
+use Rattle.main_theorem.specs.Calls.{Buffer, OpenCall, fixedIn, lentIn, receives, received, messageCount, openedBy}
 use Rattle.main_theorem.specs.Demand2.{shelfIn}
-use Rattle.main_theorem.specs.Demand3.{openedBy, CallsOn, finally, traced}
+use Rattle.main_theorem.specs.Demand3.{CallsOn, finally, traced}
 use Rattle.main_theorem.proofs.Accepted.{table-good, table-sendable}
 use Rattle.main_theorem.proofs.Opening.{accepted}
 use Rattle.main_theorem.proofs.Demand2.{demand-2-lent}
-use Rattle.main_theorem.proofs.Demand3.{ran}
+use Rattle.main_theorem.proofs.Demand3.{ran, states-held}
 use Rattle.two_nodes.proofs.OneSession.{one-session}
 use Rattle.two_nodes.specs.Link.{Linked}
 use Rattle.two_nodes.specs.Fates.{messageFor, Has, allSendable, Sound}
@@ -49,20 +49,20 @@ use Rattle.two_nodes_lent.specs.Boxes.{Box, records, states, statesAfter
 
 -- the end on lists
 abbrev endOf : Box → End
-endOf x = record { shelf = shelfIn (x .memory); caller = eqb (x .role) 1; states = states x; calls = map callOf (x .calls) }
+endOf x = record { shelf = shelfIn (x .opening); caller = eqb (x .opening .role) 1; states = states x; calls = map callOf (x .calls) }
 
 states-are : (x : Box) → statesAfter x ≡ on-lists-end.ran (endOf x) .memory .states
-states-are x = ran (x .role) (x .memory) (x .opens) (x .calls) .held .represents .holds .states
+states-are x = states-held (x .opening) (x .opens) (x .calls)
 
 kept-are : (x : Box) → kept x ≡ on-lists-end.ran (endOf x) .memory .inbox
-kept-are x = ran (x .role) (x .memory) (x .opens) (x .calls) .held .represents .holds .boxed .messages
+kept-are x = ran (x .opening) (x .opens) (x .calls) .held .represents .holds .boxed .messages
 
 events-are : (x : Box) → events x ≡ on-lists-end.traced (endOf x)
-events-are x = ran (x .role) (x .memory) (x .opens) (x .calls) .events
+events-are x = ran (x .opening) (x .opens) (x .calls) .events
 
 records-stay : (x : Box)
-    → recordsOf (x .memory .titles .bytes) (x .memory .names .bytes) (x .memory .bodies .bytes) (finally (x .role) (x .memory) (x .calls) .table) ≡ records x
-records-stay x = ran (x .role) (x .memory) (x .opens) (x .calls) .held .represents .holds .shelved .records
+    → recordsOf (x .opening .titles .bytes) (x .opening .names .bytes) (x .opening .bodies .bytes) (finally (x .opening) (x .calls) .table) ≡ records x
+records-stay x = ran (x .opening) (x .opens) (x .calls) .held .represents .holds .shelved .records
 
 -- ---------------------------------------------------------------- what open accepts is sound
 
@@ -70,20 +70,20 @@ all-of : (T : List Record) → ((i : ℕ) → i < length T → sendable (recordA
 all-of [] h = refl
 all-of (r ∷ T) h = both (sendable (r .form) (headingFor (r .form) r) (r .body)) (allSendable T) (h zero (omega arith)) (all-of T (λ i k. h (suc i) (omega arith)))
 
-record-count : (x : Box) → length (records x) ≡ recordCount (x .memory .table .bytes)
+record-count : (x : Box) → length (records x) ≡ recordCount (x .opening .table .bytes)
 unfolding recordsOf
 record-count x =
-    entries-length (recordOf (x .memory .titles .bytes) (x .memory .names .bytes) (x .memory .bodies .bytes)) recordSize (x .memory .table .bytes) 0
-    (recordCount (x .memory .table .bytes))
+    entries-length (recordOf (x .opening .titles .bytes) (x .opening .names .bytes) (x .opening .bodies .bytes)) recordSize (x .opening .table .bytes) 0
+    (recordCount (x .opening .table .bytes))
 
-pub sound-of : (x : Box) → Sound (shelfIn (x .memory))
+pub sound-of : (x : Box) → Sound (shelfIn (x .opening))
 sound-of x =
-    let f = accepted (x .role) (fixedIn (x .memory)) (lentIn (x .memory)) (x .opens) .fault in
+    let f = accepted (x .opening) (x .opens) .fault in
     record {
-      table = table-good (x .memory .table .bytes) (x .memory .titles .bytes) (x .memory .names .bytes) (x .memory .bodies .bytes) f;
+      table = table-good (x .opening .table .bytes) (x .opening .titles .bytes) (x .opening .names .bytes) (x .opening .bodies .bytes) f;
       texts =
           all-of (records x)
-          (λ i k. table-sendable (x .memory .table .bytes) (x .memory .titles .bytes) (x .memory .names .bytes) (x .memory .bodies .bytes) f i
+          (λ i k. table-sendable (x .opening .table .bytes) (x .opening .titles .bytes) (x .opening .names .bytes) (x .opening .bodies .bytes) f i
           (subst (λ (n : ℕ). i < n) (record-count x) k));
     }
 
@@ -91,23 +91,23 @@ sound-of x =
 
 -- the node before the session of x; ms: what it has kept so far
 abbrev nodeOf : Box → List Message → Node
-nodeOf x ms = record { table = records x; states = states x; known = knownBids (x .memory .known .bytes); kept = ms }
+nodeOf x ms = record { table = records x; states = states x; known = knownBids (x .opening .known .bytes); kept = ms }
 
 abbrev meetingOf : Visit → Meeting
 meetingOf v =
     record {
-      calls = eqb (v .here .role) 1;
-      placesHere = placeCount (v .here .memory .inbox .bytes);
-      bytesHere = length (v .here .memory .store .bytes);
+      calls = eqb (v .here .opening .role) 1;
+      placesHere = placeCount (v .here .opening .inbox .bytes);
+      bytesHere = length (v .here .opening .store .bytes);
       callsHere = map callOf (v .here .calls);
-      placesThere = placeCount (v .there .memory .inbox .bytes);
-      bytesThere = length (v .there .memory .store .bytes);
+      placesThere = placeCount (v .there .opening .inbox .bytes);
+      bytesThere = length (v .there .opening .store .bytes);
       callsThere = map callOf (v .there .calls);
     }
 
 there-is : (v : Visit) (l : List Message) → on-lists.there (nodeOf (v .there) l) (meetingOf v) ≡ endOf (v .there)
 there-is v l =
-    ap (λ (c : Bool). record { shelf = shelfIn (v .there .memory); caller = c; states = states (v .there); calls = map callOf (v .there .calls) }) (sym (v .roles))
+    ap (λ (c : Bool). record { shelf = shelfIn (v .there .opening); caller = c; states = states (v .there); calls = map callOf (v .there .calls) }) (sym (v .roles))
 
 node-is : (a b : Node) → a .table ≡ b .table → a .states ≡ b .states → a .known ≡ b .known → a .kept ≡ b .kept → a ≡ b
 node-is a b t s k m =
@@ -120,13 +120,13 @@ carried : (x y : Box) (ms : List Message) → CarriesOver x y → afterward (nod
 carried x y ms h =
     node-is (afterward (nodeOf x ms) (on-lists-end.ran (endOf x))) (nodeOf y (ms ++ kept x))
     (sym
-    (ap (λ (b : Bytes). recordsOf b (y .memory .names .bytes) (y .memory .bodies .bytes) (y .memory .table .bytes)) (h .titles)
-    ∙ ap (λ (b : Bytes). recordsOf (x .memory .titles .bytes) b (y .memory .bodies .bytes) (y .memory .table .bytes)) (h .names)
-    ∙ ap (λ (b : Bytes). recordsOf (x .memory .titles .bytes) (x .memory .names .bytes) b (y .memory .table .bytes)) (h .bodies)
-    ∙ ap (recordsOf (x .memory .titles .bytes) (x .memory .names .bytes) (x .memory .bodies .bytes)) (h .table)
+    (ap (λ (b : Bytes). recordsOf b (y .opening .names .bytes) (y .opening .bodies .bytes) (y .opening .table .bytes)) (h .titles)
+    ∙ ap (λ (b : Bytes). recordsOf (x .opening .titles .bytes) b (y .opening .bodies .bytes) (y .opening .table .bytes)) (h .names)
+    ∙ ap (λ (b : Bytes). recordsOf (x .opening .titles .bytes) (x .opening .names .bytes) b (y .opening .table .bytes)) (h .bodies)
+    ∙ ap (recordsOf (x .opening .titles .bytes) (x .opening .names .bytes) (x .opening .bodies .bytes)) (h .table)
     ∙ records-stay x))
-    (sym (ap statesOf (h .table) ∙ states-are x))
-    (ap (λ (l : List Message). knownBids (x .memory .known .bytes) ++ messageBids l) (sym (kept-are x)) ∙ sym (h .known))
+    (sym (ap (λ (p : ℕ). statesOf p (y .opening .table .bytes)) (h .partner) ∙ ap (statesOf (x .opening .partner)) (h .table) ∙ states-are x))
+    (ap (λ (l : List Message). knownBids (x .opening .known .bytes) ++ messageBids l) (sym (kept-are x)) ∙ sym (h .known))
     (ap (λ (l : List Message). ms ++ l) (sym (kept-are x)))
 
 carried-there : (v w : Visit) (l : List Message) → CarriesOver (v .there) (w .there)
@@ -185,14 +185,14 @@ at-last (w ∷ ws) v k l h =
 -- ---------------------------------------------------------------- FQ
 
 -- the session on lists after these calls
-abbrev sessionOf : (x : Box) → CallsOn (x .memory) → Session
-sessionOf x cs = (on-lists-run.run (shelfIn (x .memory)) (opened (eqb (x .role) 1) (states x)) (map callOf cs)) .0
+abbrev sessionOf : (x : Box) → CallsOn (x .opening) → Session
+sessionOf x cs = (on-lists-run.run (shelfIn (x .opening)) (opened (eqb (x .opening .role) 1) (states x)) (map callOf cs)) .0
 
-answers-are : (x : Box) (cs : CallsOn (x .memory)) (b : Buffer)
-    → received (fixedIn (x .memory)) (finally (x .role) (x .memory) cs) (b .bytes) .reply .answer ≡ receive (shelfIn (x .memory)) (sessionOf x cs) (b .bytes) .answer
+answers-are : (x : Box) (cs : CallsOn (x .opening)) (b : Buffer)
+    → received (fixedIn (x .opening)) (finally (x .opening) cs) (b .bytes) .reply .answer ≡ receive (shelfIn (x .opening)) (sessionOf x cs) (b .bytes) .answer
 answers-are x cs b =
-    let d = demand-2-lent (x .role) (x .memory) (x .opens) cs in
-    ap (λ (y : Reply). y .answer) (d .receives b) ∙ ap (λ (s : Session). receive (shelfIn (x .memory)) s (b .bytes) .answer) (d .same)
+    let d = demand-2-lent (x .opening) (x .opens) cs in
+    ap (λ (y : Reply). y .answer) (d .receives b) ∙ ap (λ (s : Session). receive (shelfIn (x .opening)) s (b .bytes) .answer) (d .same)
 
 nothing : Buffer
 nothing = record { bytes = []; octets = refl; short = omega arith }
@@ -233,8 +233,8 @@ run-both E (on-lists-run.refusedCall ∷ cs) ds s = run-both E cs ds s
 fq-on-lists : (x : Box) → FqComes x → on-lists-end.FqArrives (endOf x)
 unfolding nothing
 fq-on-lists x h =
-    let E : Shelf = shelfIn (x .memory) in
-    let s : Session = opened (eqb (x .role) 1) (states x) in
+    let E : Shelf = shelfIn (x .opening) in
+    let s : Session = opened (eqb (x .opening .role) 1) (states x) in
     let u : Session = sessionOf x (h .before) in
     record {
       before = map callOf (h .before);
@@ -254,8 +254,8 @@ fq-on-lists x h =
 
 none-left : (x : Box) → on-lists-end.NoneLeft (endOf x) → NoneLeft x
 none-left x h i =
-    let r = ran (x .role) (x .memory) (x .opens) (x .calls) .held .represents .holds in
-    ap (λ (l : List ℕ). mayPropose (records x) true l (loadOf (finally (x .role) (x .memory) (x .calls) .sm) .keep .deferred) i) (r .states)
+    let r = ran (x .opening) (x .opens) (x .calls) .held .represents .holds in
+    ap (λ (l : List ℕ). mayPropose (records x) true l (loadOf (finally (x .opening) (x .calls) .sm) .keep .deferred) i) (states-are x)
     ∙ ap (λ (l : List ℕ). mayPropose (records x) true (on-lists-end.ran (endOf x) .memory .states) l i) (r .flags)
     ∙ h i
 
@@ -292,7 +292,7 @@ settled x z y after later ms s k h =
           subst (λ (l : List Message). Has (messageFor (recordAt (records x) i)) l × (copies (recordAt (records x) i .bid) l ≡ 1)) k
           (h .forwarded i w (ap (λ (l : List ℕ). getD l i 0) s ∙ e));
       declined = λ i w e.
-          subst (λ (l : List Message). haveBid (shelfIn (y .memory)) l [] (recordAt (records x) i .bid) ≡ true) k
+          subst (λ (l : List Message). haveBid (shelfIn (y .opening)) l [] (recordAt (records x) i .bid) ≡ true) k
           (h .declined i w (ap (λ (l : List ℕ). getD l i 0) s ∙ e));
     }
 
@@ -301,8 +301,8 @@ new-by : (E F : Shelf) → ((seen : List Bytes) (b : Bytes) → hasBid E seen b 
 new-by E F h [] seen k = tt
 new-by E F h (b ∷ bs) seen k = (sym (h seen b) ∙ k .0, new-by E F h bs (seen ++ (b ∷ [])) (k .1))
 
-once-in : (x : Box) (ms : List Message) → KeptOnce (shelfOf (nodeOf x []) 0 0) ms → KeptOnce (shelfIn (x .memory)) ms
-once-in x ms k = new-by (shelfOf (nodeOf x []) 0 0) (shelfIn (x .memory)) (λ seen b. refl) (messageBids ms) [] k
+once-in : (x : Box) (ms : List Message) → KeptOnce (shelfOf (nodeOf x []) 0 0) ms → KeptOnce (shelfIn (x .opening)) ms
+once-in x ms k = new-by (shelfOf (nodeOf x []) 0 0) (shelfIn (x .opening)) (λ seen b. refl) (messageBids ms) [] k
 
 pub two-nodes-lent : Claim
 two-nodes-lent v ws h =

@@ -127,9 +127,9 @@ module _ (E : Shelf) (b : Bytes) where
       go true e z = absurd (has-same seen (x .bid) e h (k .0))
       go false e z = z
 
-never-twice : (x : Box) (ms : List Message) → KeptOnce (shelfIn (x .memory)) ms → NeverTwice x ms
+never-twice : (x : Box) (ms : List Message) → KeptOnce (shelfIn (x .opening)) ms → NeverTwice x ms
 never-twice x ms k =
-    record { once = λ b. at-most-one (shelfIn (x .memory)) b ms [] k; new = λ b h. none-kept (shelfIn (x .memory)) b ms [] h k }
+    record { once = λ b. at-most-one (shelfIn (x .opening)) b ms [] k; new = λ b h. none-kept (shelfIn (x .opening)) b ms [] h k }
 
 -- ---------------------------------------------------------------- THE THEOREM
 
@@ -137,7 +137,7 @@ means : (x z y : Box) (ms : List Message) → Settled x z y ms → Means x z y m
 means x z y ms s =
     record {
       forwarded = λ i w e. let k = s .forwarded i w e in arrived (recordAt (records x) i) ms (k .0) (k .1);
-      declined = λ i w e. has-it (recordAt (records x) i .bid) (shelfIn (y .memory)) ms (s .declined i w e);
+      declined = λ i w e. has-it (recordAt (records x) i .bid) (shelfIn (y .opening)) ms (s .declined i w e);
     }
 
 pub in-words : ClaimInWords

@@ -12,57 +12,58 @@ use Rattle.entries.specs.Decoded.{recordsOf, knownBids, placeCount}
 use Rattle.marking.specs.States.{statesOf}
 use Rattle.represents.specs.Represents.{messagesOf}
 use Rattle.main_theorem.specs.Demand2.{callOf}
-use Rattle.main_theorem.specs.Calls.{Buffer, Memory, fixedIn, receives, received, messageCount}
+use Rattle.main_theorem.specs.Calls.{Buffer, OpenCall, fixedIn, receives, received, messageCount, openedBy, statesIn}
 use Rattle.grammar.specs.Refusals.{sessionEnded}
 use Rattle.session_memory.specs.State.{loadOf}
 use Rattle.demand2.specs.OurTurn.{mayPropose}
 use Rattle.main_theorem.specs.Demand2.{shelfIn}
-use Rattle.main_theorem.specs.Demand3.{openedBy, CallsOn, finally, traced}
+use Rattle.main_theorem.specs.Demand3.{CallsOn, finally, traced}
 use Rattle.two_nodes.specs.Link.{Linked}
 use Rattle.two_nodes.specs.Fates.{messageFor, Has}
 use Rattle.two_nodes.specs.Once.{KeptOnce}
 use Rattle.two_nodes.specs.Series.{copies}
 
--- One end of one session: an accepted open of this memory in this role, and the calls after it.
+-- One end of one session: an accepted open, and the calls after it.
 pub record Box : Type 0 where
-  pub role : ℕ
-  pub memory : Memory
-  pub opens : openedBy role memory .reply .answer ≡ 0
-  pub calls : CallsOn memory
+  pub opening : OpenCall
+  pub opens : openedBy opening .reply .answer ≡ 0
+  pub calls : CallsOn opening
 
--- the table's records and states before it, the states after it, and the messages kept in it
+-- the table's records and its states for the other node before it, those states after it, and the messages kept in it
 abbrev pub records : Box → List Record
-records x = recordsOf (x .memory .titles .bytes) (x .memory .names .bytes) (x .memory .bodies .bytes) (x .memory .table .bytes)
+records x = recordsOf (x .opening .titles .bytes) (x .opening .names .bytes) (x .opening .bodies .bytes) (x .opening .table .bytes)
 
 abbrev pub states : Box → List ℕ
-states x = statesOf (x .memory .table .bytes)
+states x = statesIn (x .opening)
 
 abbrev pub statesAfter : Box → List ℕ
-statesAfter x = statesOf (finally (x .role) (x .memory) (x .calls) .table)
+statesAfter x = statesOf (x .opening .partner) (finally (x .opening) (x .calls) .table)
 
 abbrev pub kept : Box → List Message
 kept x =
-    messagesOf (finally (x .role) (x .memory) (x .calls) .inbox) (finally (x .role) (x .memory) (x .calls) .store)
-    (messageCount (finally (x .role) (x .memory) (x .calls)))
+    messagesOf (finally (x .opening) (x .calls) .inbox) (finally (x .opening) (x .calls) .store)
+    (messageCount (finally (x .opening) (x .calls)))
 
 -- the bytes consumed and given
 abbrev pub events : Box → List Event
-events x = traced (x .role) (x .memory) (x .calls)
+events x = traced (x .opening) (x .calls)
 
 -- "The tables and their stores carry over, and only the sessions write them. .. Between sessions kept messages move to the known list, which forgets
 -- nothing and has room.": y is the same node's end of the next session
 pub record CarriesOver (x y : Box) : Type 0 where
-  pub table : y .memory .table .bytes ≡ finally (x .role) (x .memory) (x .calls) .table
-  pub titles : y .memory .titles .bytes ≡ x .memory .titles .bytes
-  pub names : y .memory .names .bytes ≡ x .memory .names .bytes
-  pub bodies : y .memory .bodies .bytes ≡ x .memory .bodies .bytes
-  pub known : knownBids (y .memory .known .bytes) ≡ knownBids (x .memory .known .bytes) ++ messageBids (kept x)
+  -- "Under Q-7 this reads for the states they hold for each other.": the other node is the same partner in both
+  pub partner : y .opening .partner ≡ x .opening .partner
+  pub table : y .opening .table .bytes ≡ finally (x .opening) (x .calls) .table
+  pub titles : y .opening .titles .bytes ≡ x .opening .titles .bytes
+  pub names : y .opening .names .bytes ≡ x .opening .names .bytes
+  pub bodies : y .opening .bodies .bytes ≡ x .opening .bodies .bytes
+  pub known : knownBids (y .opening .known .bytes) ≡ knownBids (x .opening .known .bytes) ++ messageBids (kept x)
 
 -- One session: "one calling and the other called"; "The link delivers at each end a beginning of what the other gave, unaltered."
 pub record Visit : Type 0 where
   pub here : Box
   pub there : Box
-  pub roles : eqb (there .role) 1 ≡ not (eqb (here .role) 1)
+  pub roles : eqb (there .opening .role) 1 ≡ not (eqb (here .opening .role) 1)
   pub linked : Linked (events here) (events there)
 
 -- "one after another"
@@ -86,17 +87,17 @@ keptThere v (w ∷ ws) = kept (v .there) ++ keptThere w ws
 -- "FQ received ends the session at its CR: receive answers 0", as a host sees it: after some of the calls a receive of no bytes answers 0, then a receive
 -- answers 0, and then a receive of no bytes answers 12.
 pub record FqComes (x : Box) : Type 0 where
-  pub before : CallsOn (x .memory)
+  pub before : CallsOn (x .opening)
   pub bytes : Buffer
-  pub rest : CallsOn (x .memory)
+  pub rest : CallsOn (x .opening)
   pub calls : x .calls ≡ before ++ receives bytes ∷ rest
-  pub live : received (fixedIn (x .memory)) (finally (x .role) (x .memory) before) [] .reply .answer ≡ 0
-  pub answer : received (fixedIn (x .memory)) (finally (x .role) (x .memory) before) (bytes .bytes) .reply .answer ≡ 0
-  pub over : received (fixedIn (x .memory)) (finally (x .role) (x .memory) (before ++ receives bytes ∷ [])) [] .reply .answer ≡ sessionEnded
+  pub live : received (fixedIn (x .opening)) (finally (x .opening) before) [] .reply .answer ≡ 0
+  pub answer : received (fixedIn (x .opening)) (finally (x .opening) before) (bytes .bytes) .reply .answer ≡ 0
+  pub over : received (fixedIn (x .opening)) (finally (x .opening) (before ++ receives bytes ∷ [])) [] .reply .answer ≡ sessionEnded
 
 -- Every record that waits after the session is plain, or has its flag in session memory: it was deferred in this session.
 abbrev pub NoneLeft : Box → Type 0
-NoneLeft x = (i : ℕ) → mayPropose (records x) true (statesAfter x) (loadOf (finally (x .role) (x .memory) (x .calls) .sm) .keep .deferred) i ≡ false
+NoneLeft x = (i : ℕ) → mayPropose (records x) true (statesAfter x) (loadOf (finally (x .opening) (x .calls) .sm) .keep .deferred) i ≡ false
 
 -- "Where FQ arrives whole, only plain records and those deferred in that session still wait, at both ends."
 pub record Parted (v : Visit) : Type 0 where
@@ -112,14 +113,14 @@ pub record Settled (x z y : Box) (ms : List Message) : Type 0 where
   pub forwarded : (i : ℕ) → getD (states x) i 0 ≡ 0 → getD (statesAfter z) i 0 ≡ 1
       → Has (messageFor (recordAt (records x) i)) ms × (copies (recordAt (records x) i .bid) ms ≡ 1)
   pub declined : (i : ℕ) → getD (states x) i 0 ≡ 0 → getD (statesAfter z) i 0 ≡ 2
-      → haveBid (shelfIn (y .memory)) ms [] (recordAt (records x) i .bid) ≡ true
+      → haveBid (shelfIn (y .opening)) ms [] (recordAt (records x) i .bid) ≡ true
 
 pub record TwoNodes (v : Visit) (ws : List Visit) : Type 0 where
   pub here : Settled (v .here) (last v ws .here) (v .there) (keptThere v ws)
   pub there : Settled (v .there) (last v ws .there) (v .here) (keptHere v ws)
   pub each : AllParted v ws
-  pub onceHere : KeptOnce (shelfIn (v .here .memory)) (keptHere v ws)
-  pub onceThere : KeptOnce (shelfIn (v .there .memory)) (keptThere v ws)
+  pub onceHere : KeptOnce (shelfIn (v .here .opening)) (keptHere v ws)
+  pub onceThere : KeptOnce (shelfIn (v .there .opening)) (keptThere v ws)
 
 -- THE CLAIM
 abbrev pub Claim : Type 0

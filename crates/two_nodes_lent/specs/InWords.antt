@@ -57,11 +57,11 @@ pub data HasIt (b : Bytes) (table : List Record) (known : List Bytes) (ms : List
 pub record Means (x z y : Box) (ms : List Message) : Type 0 where
   pub forwarded : (i : ℕ) → getD (states x) i 0 ≡ 0 → getD (statesAfter z) i 0 ≡ 1 → Arrived (recordAt (records x) i) ms
   pub declined : (i : ℕ) → getD (states x) i 0 ≡ 0 → getD (statesAfter z) i 0 ≡ 2
-      → HasIt (recordAt (records x) i .bid) (records y) (knownBids (y .memory .known .bytes)) ms
+      → HasIt (recordAt (records x) i .bid) (records y) (knownBids (y .opening .known .bytes)) ms
 
 -- The deferral flag of a record in session memory.
 abbrev pub flagOf : Box → ℕ → ℕ
-flagOf x i = getD (loadOf (finally (x .role) (x .memory) (x .calls) .sm) .keep .deferred) i 0
+flagOf x i = getD (loadOf (finally (x .opening) (x .calls) .sm) .keep .deferred) i 0
 
 -- STILL WAITING after FQ: a plain text, which never goes between two of these nodes, or deferred by the other in this very session.
 pub data WhyWaiting (x : Box) (i : ℕ) : Type 0 where
@@ -83,7 +83,7 @@ AllFarewells v (w ∷ ws) = Farewell v × AllFarewells w ws
 -- NEVER TWICE: of any BID a node keeps one message at most, over all sessions, and none of a BID that its table or its known list had at the start.
 pub record NeverTwice (x : Box) (ms : List Message) : Type 0 where
   pub once : (b : Bytes) → copies b ms ≤ 1
-  pub new : (b : Bytes) → hasBid (shelfIn (x .memory)) [] b ≡ true → copies b ms ≡ 0
+  pub new : (b : Bytes) → hasBid (shelfIn (x .opening)) [] b ≡ true → copies b ms ≡ 0
 
 pub record InWords (v : Visit) (ws : List Visit) : Type 0 where
   pub here : Means (v .here) (last v ws .here) (v .there) (keptThere v ws)

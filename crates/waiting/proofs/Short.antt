@@ -23,7 +23,7 @@ use Rattle.our_line.specs.Lines.{fsText}
 use Rattle.session_memory.specs.State.{held}
 use Rattle.session_memory.specs.declared.Five.{Five}
 use Rattle.session_memory.specs.Session.{Session}
-use Rattle.places.specs.Places.{recordTitle, recordTitleLength, recordName, recordNameLength, recordBody, recordBodyLength}
+use Rattle.places.specs.Places.{callMax, atMax, bidMax, recordLen, recordFrom, recordAt, recordTo, recordBid, recordTitle, recordTitleLength, recordName, recordNameLength, recordBody, recordBodyLength}
 use Rattle.waiting.specs.Waiting.{proposalAt, firstText, blockText, sendingText, thenText, waitingOf}
 
 -- ---------------------------------------------------------------- parts, fields and lists of five
@@ -41,7 +41,7 @@ unfolding proposalLine
 line-short table i =
     let c = entryAt recordSize table i in
     let d = num-field 9 (proposalAt table i .size) .most in
-    simp length-append (omega (arith, field-short 6 3 c, field-short 38 10 c, field-short 6 49 c, field-short 12 56 c))
+    simp length-append (omega (arith, field-short callMax recordFrom c, field-short atMax recordAt c, field-short callMax recordTo c, field-short bidMax recordBid c))
 
 lines-short : (table : Bytes) (is : List ℕ) → length (proposalLines (map (proposalAt table) is)) ≤ 90 * length is
 lines-short table [] = omega arith
@@ -71,7 +71,7 @@ pub record-short : (table titles names bodies : Bytes) → ((i : ℕ) → byteAt
 record-short table titles names bodies o i =
     let c : Bytes = entryAt recordSize table i in
     let r : Record = recordOf titles names bodies c in
-    let b : (j : ℕ) → byteAt c j < 256 = part-octets table o (i * 89) 89 in
+    let b : (j : ℕ) → byteAt c j < 256 = part-octets table o (i * recordLen) recordLen in
     let t : length (r .title) ≤ 255 = omega (arith, part-short titles (le4At c recordTitle) (byteAt c recordTitleLength), b recordTitleLength) in
     let n : length (r .name) ≤ 255 = omega (arith, part-short names (le4At c recordName) (byteAt c recordNameLength), b recordNameLength) in
     let x : length (r .body) ≤ 65535 = omega (arith, part-short bodies (le4At c recordBody) (le2At c recordBodyLength), le2-small c b recordBodyLength) in

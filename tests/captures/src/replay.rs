@@ -10,6 +10,9 @@ use second::log::Side;
 use second::memory::State;
 use std::fmt::{self, Display};
 
+/// Whom our node has the mailbox for.
+const PARTNER: u8 = 4;
+
 /// What our node makes of a capture.
 #[derive(Clone, Debug, PartialEq, Eq)]
 pub struct Outcome {
@@ -39,7 +42,7 @@ pub struct Outcome {
 pub fn play(random: &mut Random, capture: &Capture, portion: usize) -> Checked<Outcome> {
     let shelf = Shelf::of(capture);
     let mut pair = Pair::new(random, &shelf.buffers());
-    pair.open(capture.we_called().into())?;
+    pair.open(capture.we_called().into(), PARTNER)?;
     let mut answer = 0;
     for (at, said) in capture.script.iter().enumerate() {
         let last = at + 1 == capture.script.len();
@@ -64,7 +67,7 @@ pub fn play(random: &mut Random, capture: &Capture, portion: usize) -> Checked<O
     let second = pair.second().expect("open accepted");
     let outcome = Outcome::read(capture, second, answer, over, before);
     // After a drop the host can open again on what stands.
-    pair.open(capture.we_called().into())?;
+    pair.open(capture.we_called().into(), PARTNER)?;
     Ok(outcome)
 }
 
@@ -109,7 +112,11 @@ impl Outcome {
         let captured = capture.with_our_sid();
         let leaves = (0..given.len()).find(|&at| captured.get(at) != Some(&given[at]));
         let states = [State::Waiting, State::Forwarded, State::Declined].map(|state| {
-            let records = second.memory.table.iter().filter(|record| record.state == state);
+            let records = second
+                .memory
+                .table
+                .iter()
+                .filter(|record| record.states[second.session.partner()] == state);
             records.map(|record| shown(&record.envelope.bid)).collect()
         });
         let messages = second.memory.inbox[..second.session.kept()].iter().flatten();

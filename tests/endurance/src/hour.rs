@@ -19,6 +19,8 @@ pub const HOUR: usize = 3_600 * BYTES_A_SECOND;
 const ROOM: usize = 400_000;
 /// The longest body.
 const BODY: usize = 6_000;
+/// Whom each end has the other for.
+const PARTNER: u8 = 7;
 
 #[derive(Debug, Default)]
 pub struct Hour {
@@ -39,15 +41,15 @@ pub fn run(random: &mut Random, bytes: usize, portion: usize) -> Checked<Result<
         let mut ends = [first, second].map(|letters| end(random, letters));
         let start = Instant::now();
         let [caller, called] = &mut ends;
-        caller.open(1)?;
-        called.open(0)?;
+        caller.open(1, PARTNER)?;
+        called.open(0, PARTNER)?;
         let run = link::run(random, [caller, called], Portion::Of(portion), None)?;
         hour.busy += start.elapsed();
         hour.bytes += run.delivered;
         hour.sessions += 1;
         hour.messages += letters.iter().map(Vec::len).sum::<usize>();
         for (ours, theirs) in [(0, 1), (1, 0)] {
-            let all = ends[ours].states().iter().all(|&state| state == State::Forwarded);
+            let all = ends[ours].states(PARTNER).iter().all(|&state| state == State::Forwarded);
             if !run.quit || !all || !arrived(&letters[ours], &ends[theirs]) {
                 return Ok(Err(format!("session {} lost mail: {run:?}", hour.sessions)));
             }

@@ -18,6 +18,8 @@ const FORMS: [Form; 3] = [Form::Plain, Form::Message, Form::File];
 
 /// Sessions of one pair of bases before the last, which isn't dropped.
 const DROPPED: usize = 100;
+/// Whom each end has the other for.
+const PARTNER: u8 = 3;
 /// A session is dropped within so many bytes, or anywhere.
 const EARLY: [usize; 4] = [60, 300, 1_500, usize::MAX];
 
@@ -124,8 +126,8 @@ fn one_session(random: &mut Random, bases: &mut [Base; 2], last: bool) -> Checke
     };
     let run = {
         let [caller, called] = order;
-        caller.open(1)?;
-        called.open(0)?;
+        caller.open(1, PARTNER)?;
+        called.open(0, PARTNER)?;
         link::run(random, [caller, called], portion, drop_after)?
     };
     for (base, end) in bases.iter_mut().zip(&ends) {
@@ -148,7 +150,7 @@ impl Base {
         let mut host = Buffers::new(places, room);
         self.letters.iter().for_each(|letter| host.add(letter));
         for (entry, state) in host.table.chunks_mut(RECORD_BYTES).zip(&self.states) {
-            entry[0] = *state as u8;
+            entry[usize::from(PARTNER)] = *state as u8;
         }
         self.kept.iter().for_each(|kept| host.know(&kept.envelope.bid));
         Compared(Pair::new(random, &host))

@@ -7,6 +7,7 @@ use fuzz::tally::Tally;
 use fuzz::{sessions, tables};
 use inputs::random::Random;
 use second::log::Side;
+use second::memory::PARTNERS;
 
 #[derive(Debug, Default)]
 pub struct Noise {
@@ -33,7 +34,7 @@ fn session(random: &mut Random, noise: &mut Noise) -> Checked {
     let host = tables::buffers(random);
     let mut pair = Pair::new(random, &host);
     let role = random.below(2) as u8;
-    if pair.open(role)?.answer != 0 {
+    if pair.open(role, random.below(PARTNERS) as u8)?.answer != 0 {
         return Ok(());
     }
     let openings: &[&[u8]] = match role {

@@ -12,7 +12,7 @@ use second::memory::State;
 use second::session::Reply;
 
 pub trait Station {
-    fn open(&mut self, role: u8) -> Checked<Reply>;
+    fn open(&mut self, role: u8, partner: u8) -> Checked<Reply>;
     /// Bytes from the link.
     fn receive(&mut self, bytes: &[u8]) -> Checked<Reply>;
     /// So many bytes at most that the link takes now.
@@ -30,9 +30,11 @@ impl Bare {
         Bare { memory: Memory::new(random, host), buffer: Vec::new() }
     }
 
-    pub fn states(&self) -> Vec<State> {
+    /// For one partner.
+    pub fn states(&self, partner: u8) -> Vec<State> {
+        let column = usize::from(partner);
         let entries = self.memory.part(TABLE).chunks(RECORD_BYTES);
-        entries.map(|entry| read_record(entry).expect("a record").state).collect()
+        entries.map(|entry| read_record(entry).expect("a record").states[column]).collect()
     }
 
     pub fn kept(&self) -> Vec<Kept> {
@@ -50,8 +52,8 @@ impl Bare {
 }
 
 impl Station for Bare {
-    fn open(&mut self, role: u8) -> Checked<Reply> {
-        Ok(library::open(role, self.memory.lend(None)))
+    fn open(&mut self, role: u8, partner: u8) -> Checked<Reply> {
+        Ok(library::open(role, partner, self.memory.lend(None)))
     }
 
     fn receive(&mut self, bytes: &[u8]) -> Checked<Reply> {
@@ -71,7 +73,8 @@ pub struct Compared(pub Pair);
 impl Compared {
     pub fn states(&self) -> Vec<State> {
         let second = self.0.second().expect("an accepted open");
-        second.memory.table.iter().map(|record| record.state).collect()
+        let partner = second.session.partner();
+        second.memory.table.iter().map(|record| record.states[partner]).collect()
     }
 
     pub fn kept(&self) -> Vec<Kept> {
@@ -87,8 +90,8 @@ impl Compared {
 }
 
 impl Station for Compared {
-    fn open(&mut self, role: u8) -> Checked<Reply> {
-        self.0.open(role)
+    fn open(&mut self, role: u8, partner: u8) -> Checked<Reply> {
+        self.0.open(role, partner)
     }
 
     fn receive(&mut self, bytes: &[u8]) -> Checked<Reply> {

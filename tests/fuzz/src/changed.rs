@@ -10,7 +10,8 @@ use crate::sessions::Driver;
 use crate::tally::Tally;
 use inputs::random::Random;
 use inputs::{byte, damaged, fs_line, line, proposal_fields, short_turn_line, sid, spaced};
-use second::layout::{RECORD_BYTES, SESSION_FREE, SESSION_LEVEL};
+use second::layout::{RECORD_BYTES, SESSION_FREE, SESSION_LEVEL, SESSION_PARTNER};
+use second::memory::PARTNERS;
 use second::refusal::{reason_after, ANSWERS};
 use second::session::Reply;
 use std::fmt::{self, Display};
@@ -22,6 +23,11 @@ pub struct Changed {
     pub calls: u64,
     /// Calls that answered 1, by the item of the form test that says so.
     pub ones: [u64; form::ITEM_COUNT],
+    /// Those of them on a partner that there isn't.
+    pub no_partner: u64,
+    /// Calls of receive that marked a record for another partner than open was told, by
+    /// the number that somebody has put in its place.
+    pub moved: u64,
     /// Calls of receive without bytes on memory that passes it.
     pub empty: u64,
     /// Calls of give that handed over bytes of a line that says why.
@@ -36,7 +42,9 @@ impl Changed {
         let empty = (self.empty == 0).then(|| "changed memory: receive without bytes".to_owned());
         let reasons =
             (self.reasons == 0).then(|| "changed memory: a line that says why".to_owned());
-        items.chain(empty).chain(reasons).collect()
+        let none = (self.no_partner == 0).then(|| "form test: no such partner".to_owned());
+        let moved = (self.moved == 0).then(|| "changed memory: another column".to_owned());
+        items.chain(empty).chain(reasons).chain(none).chain(moved).collect()
     }
 }
 
@@ -46,13 +54,16 @@ impl Display for Changed {
             sessions,
             calls,
             ones: [mark, sizes, counts, messages, awaited, waits, reason],
+            no_partner,
+            moved,
             empty,
             reasons,
         } = self;
         writeln!(f, "  {sessions} sessions, {calls} calls, {empty} of them receive without bytes")?;
         writeln!(f, "  {reasons} times give handed over bytes of a line that says why")?;
         write!(f, "  answered 1 by item 1: {mark}, 2: {sizes}, 3: {counts}, 4: {messages}, ")?;
-        writeln!(f, "5: {awaited}, 6: {waits}, 7: {reason}")
+        writeln!(f, "5: {awaited}, 6: {waits}, 7: {reason}")?;
+        writeln!(f, "  on a partner that there isn't: {no_partner}; marks in a column that was moved to: {moved}")
     }
 }
 
@@ -66,6 +77,8 @@ struct Alone<'a> {
     history: History,
     /// The last call did not answer 1 and nobody has written since.
     intact: bool,
+    /// Whom open was told.
+    partner: usize,
     /// What the last intact call says of the next: receive must answer 12, give
     /// must give nothing.
     over: bool,
@@ -87,8 +100,18 @@ pub fn run(random: &mut Random, tally: &mut Tally, seen: &mut Changed) -> Checke
     seen.sessions += 1;
     let (memory, history) = driver.into_pair().into_lent();
     let good = memory.clone();
-    let mut alone =
-        Alone { random, seen, memory, good, history, intact: true, over: false, empty: false };
+    let partner = form::partner(&memory);
+    let mut alone = Alone {
+        random,
+        seen,
+        memory,
+        good,
+        history,
+        intact: true,
+        partner,
+        over: false,
+        empty: false,
+    };
     for _ in 0..alone.random.within(5, 30) {
         alone.step()?;
     }
@@ -141,7 +164,7 @@ impl Alone<'_> {
     fn session_field(&mut self) -> (usize, Vec<u8>) {
         let small = self.random.pick(&[0, 0, 1, 2, 3, 4, 5, 6, 7, 63, 64, 80, 81, 88, 255]);
         let large = self.random.pick(&[0, 1, 255, 256, 257, 65_535, 65_536, usize::MAX]);
-        match self.random.below(14) {
+        match self.random.below(16) {
             0 => {
                 let at = self.random.pick(&[form::LINE_BYTES, form::BLOCK_LEFT]);
                 (at, large.to_le_bytes()[..2].to_vec())
@@ -157,6 +180,8 @@ impl Alone<'_> {
             9 => (form::BLOCK_SUM, vec![self.random.byte()]),
             10 => (SESSION_LEVEL, vec![self.random.byte()]),
             11 => (form::AWAITED, self.parting()),
+            12 => (SESSION_PARTNER, vec![self.random.pick(&[7, 8, 9, 255])]),
+            13 => (SESSION_PARTNER, vec![self.random.below(PARTNERS) as u8]),
             _ => (self.random.within(form::AWAITED, form::SUM), vec![small]),
         }
     }
@@ -292,7 +317,10 @@ impl Alone<'_> {
         self.check_reply(reply, failed, most)?;
         if let Some(item) = failed {
             self.seen.ones[item - 1] += 1;
+            self.seen.no_partner += u64::from(item == 3 && form::partner(before) >= PARTNERS);
         }
+        let marked = self.memory.part(TABLE) != before.part(TABLE);
+        self.seen.moved += u64::from(marked && form::partner(before) != self.partner);
         self.check_memory(reply, before, may_change)
     }
 
@@ -313,14 +341,18 @@ impl Alone<'_> {
         Ok(())
     }
 
-    /// Only what the call may write has changed; of the table, only states, and of
-    /// session memory no free byte.
+    /// Only what the call may write has changed; of the table, only states of the partner
+    /// that session memory names, and of session memory no free byte.
     fn check_memory(&self, reply: Reply, before: &Memory, may_change: &[usize]) -> Checked {
         let mut expected = before.clone();
         for &buffer in may_change {
             let now = self.memory.part(buffer);
-            let step = if buffer == TABLE { RECORD_BYTES } else { 1 };
-            for (byte, now) in expected.part_mut(buffer).iter_mut().zip(now).step_by(step) {
+            let (skip, step) = match buffer {
+                TABLE => (form::partner(before), RECORD_BYTES),
+                _ => (0, 1),
+            };
+            let bytes = expected.part_mut(buffer).iter_mut().zip(now);
+            for (byte, now) in bytes.skip(skip).step_by(step) {
                 *byte = *now;
             }
         }

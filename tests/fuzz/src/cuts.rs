@@ -8,6 +8,7 @@ use inputs::random::Random;
 use second::examples::{self, Example, Said, Taken};
 use second::layout::RECORD_BYTES;
 use second::log::{Kept, Side};
+use second::memory::PARTNERS;
 use second::refusal::reason_after;
 use second::session::Reply;
 
@@ -39,7 +40,7 @@ pub fn run(random: &mut Random) -> Checked<Cuts> {
 /// bytes. Before each give bytes arrive, and at each the link drops.
 fn say_why(random: &mut Random, example: &Example, room: usize, cuts: &mut Cuts) -> Checked {
     let mut pair = Pair::new(random, &example.buffers());
-    pair.open(example.role())?;
+    pair.open(example.role(), random.below(PARTNERS) as u8)?;
     for said in &example.script[..example.script.len().saturating_sub(1)] {
         let (Said::Us(bytes) | Said::Partner(bytes)) = said;
         go_on(random, &mut pair, said, bytes)?;
@@ -54,7 +55,7 @@ fn say_why(random: &mut Random, example: &Example, room: usize, cuts: &mut Cuts)
         let place = random.below(20);
         let count = pair.give(random, (room + place, place), None)?.count;
         given += count;
-        drop_link(&mut pair.clone())?;
+        drop_link(random, &mut pair.clone())?;
         cuts.cuts += 1;
         if room == 0 {
             return pair.must(count == 0, "given without room");
@@ -69,7 +70,8 @@ fn say_why(random: &mut Random, example: &Example, room: usize, cuts: &mut Cuts)
 /// drops inside it: a copy of both ends goes on with a part of the portion only.
 fn play(random: &mut Random, example: &Example, portion: usize, cuts: &mut Cuts) -> Checked {
     let mut pair = Pair::new(random, &example.buffers());
-    pair.open(example.role())?;
+    let partner = random.below(PARTNERS);
+    pair.open(example.role(), partner as u8)?;
     let mut answer = 0;
     for said in &example.script {
         let mut rest: &[u8] = match said {
@@ -80,7 +82,7 @@ fn play(random: &mut Random, example: &Example, portion: usize, cuts: &mut Cuts)
             for length in 0..part.len() {
                 let mut cut = pair.clone();
                 go_on(random, &mut cut, said, &part[..length])?;
-                drop_link(&mut cut)?;
+                drop_link(random, &mut cut)?;
                 cuts.cuts += 1;
             }
             let ours = matches!(said, Said::Us(_));
@@ -94,7 +96,7 @@ fn play(random: &mut Random, example: &Example, portion: usize, cuts: &mut Cuts)
     }
     pair.must(answer == example.answer, "not the answer of the script")?;
     check_end(random, &mut pair, example)?;
-    drop_link(&mut pair)?;
+    drop_link(random, &mut pair)?;
     cuts.cuts += 1;
     Ok(())
 }
@@ -113,8 +115,9 @@ fn check_end(random: &mut Random, pair: &mut Pair, example: &Example) -> Checked
     let given = pair.second().map(|second| second.trace().bytes(Side::Us));
     pair.must(given == Some(&ours), "not our bytes of the script")?;
     let states: Vec<u8> = example.states.iter().map(|state| *state as u8).collect();
+    let partner = pair.second().map_or(0, |second| second.session.partner());
     let table = pair.lent().table.chunks(RECORD_BYTES);
-    pair.must(table.map(|record| record[0]).eq(states), "not the states of the script")?;
+    pair.must(table.map(|record| record[partner]).eq(states), "not the states of the script")?;
     let kept = pair.library_kept().unwrap_or_default();
     let same = |kept: &Kept, taken: &Taken| {
         (&*kept.envelope.bid, &*kept.heading, &*kept.body) == (taken.0, taken.1, taken.2)
@@ -134,8 +137,8 @@ fn ours(said: &Said) -> Option<&[u8]> {
     }
 }
 
-/// What stands after a drop is the log's, and the host can open again on it.
-fn drop_link(pair: &mut Pair) -> Checked {
+/// What stands after a drop is the log's, and the host can open again on it, for whomever.
+fn drop_link(random: &mut Random, pair: &mut Pair) -> Checked {
     pair.demand_3()?;
-    pair.open(0).map(drop)
+    pair.open(0, random.below(PARTNERS) as u8).map(drop)
 }

@@ -30,10 +30,11 @@ pub fn memory(memory: &Memory) -> String {
                 let envelope = &record.envelope;
                 let fields = [&envelope.from, &envelope.at, &envelope.to, &envelope.bid];
                 let fields = fields.map(|field| field.escape_ascii().to_string()).join(" ");
-                let (form, state, size) = (envelope.form, record.state, record.size);
+                let (form, size) = (envelope.form, record.size);
+                let states = record.states.map(|state| state as u8);
                 let spans = [record.title, record.name, record.body];
                 let spans = spans.map(|span| format!("{}+{}", span.start, span.length));
-                write!(text, "\n  record {place}: {state:?} {form:?} {fields} {size} {spans:?}")
+                write!(text, "\n  record {place}: {states:?} {form:?} {fields} {size} {spans:?}")
             }
         };
     }

@@ -3,9 +3,9 @@
 
 use crate::lent::{Memory, BODIES, INBOX, NAMES, SESSION, STORE, TABLE, TITLES};
 use second::field::{AT_LIMIT, BID_LIMIT, BODY_LIMIT, CALL_LIMIT, HEADING_LIMIT};
-use second::layout::{MESSAGE_BYTES, RECORD_BYTES, SESSION_BYTES, SESSION_KEPT};
+use second::layout::{MESSAGE_BYTES, RECORD_BYTES, SESSION_BYTES, SESSION_KEPT, SESSION_PARTNER};
 use second::line::LINE_LIMIT;
-use second::memory::{Span, MESSAGE_LIMIT};
+use second::memory::{Span, MESSAGE_LIMIT, PARTNERS};
 use second::proposal::{write_fields, BLOCK_LIMIT};
 use second::record::Form;
 use second::refusal;
@@ -79,13 +79,19 @@ fn sizes_are_kept(memory: &Memory) -> bool {
 }
 
 /// "3. counts fit their arrays: line 256, places and signs 5 each, proposals 5,
-/// heading 80".
+/// heading 80", and the partner is below 8.
 fn counts_fit(memory: &Memory) -> bool {
     let session = memory.part(SESSION);
     let fits = |at: &usize| usize::from(session[*at]) <= BLOCK_LIMIT;
     number(session, LINE_BYTES, 2) <= LINE_LIMIT as u64
         && [PROPOSALS, PROPOSED, SENDING, SIGNS].iter().all(fits)
         && usize::from(session[HEADING_BYTES]) <= HEADING_LIMIT
+        && partner(memory) < PARTNERS
+}
+
+/// Whose column the session reads and writes.
+pub fn partner(memory: &Memory) -> usize {
+    memory.part(SESSION)[SESSION_PARTNER].into()
 }
 
 /// "4. the inbox has at most 64 places, the messages kept have theirs, their
@@ -210,7 +216,7 @@ impl<'a> Entry<'a> {
     }
 
     fn form(&self) -> Form {
-        match self.bytes[1] {
+        match self.bytes[8] {
             1 => Form::Message,
             2 => Form::File,
             _ => Form::Plain,
@@ -233,20 +239,20 @@ impl<'a> Entry<'a> {
     }
 
     fn proposal(&self) -> Vec<u8> {
-        let from = self.field(3, CALL_LIMIT);
-        let at = self.field(10, AT_LIMIT);
-        let to = self.field(49, CALL_LIMIT);
-        let bid = self.field(56, BID_LIMIT);
-        let size = self.number(69, 4) as u32;
-        write_fields(self.form(), self.bytes[2], [from, at, to, bid], size)
+        let from = self.field(10, CALL_LIMIT);
+        let at = self.field(17, AT_LIMIT);
+        let to = self.field(56, CALL_LIMIT);
+        let bid = self.field(63, BID_LIMIT);
+        let size = self.number(76, 4) as u32;
+        write_fields(self.form(), self.bytes[9], [from, at, to, bid], size)
     }
 
     fn transfer(&self) -> Vec<u8> {
-        let body = self.part(BODIES, 83, 2);
+        let body = self.part(BODIES, 90, 2);
         match self.form() {
-            Form::Plain => write_plain(self.part(TITLES, 73, 1), body),
-            Form::Message => write_framed(self.part(TITLES, 73, 1), body),
-            Form::File => write_framed(self.part(NAMES, 78, 1), body),
+            Form::Plain => write_plain(self.part(TITLES, 80, 1), body),
+            Form::Message => write_framed(self.part(TITLES, 80, 1), body),
+            Form::File => write_framed(self.part(NAMES, 85, 1), body),
         }
     }
 }

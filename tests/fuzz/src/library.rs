@@ -17,6 +17,7 @@ mod c {
     extern "C" {
         pub fn fringemole_open(
             role: u8,
+            partner: u8,
             session: *mut u8,
             session_len: usize,
             table: *const u8,
@@ -106,10 +107,10 @@ pub struct Lent<'a> {
 /// SAFETY: pointers and lengths come from one slice each, which lives through
 /// the call and, being lent by `&mut`, is seen by nothing else meanwhile.
 macro_rules! call {
-    ($function:ident, ($($first:expr)?), $lent:expr $(, $more:expr)*) => {
+    ($function:ident, ($($first:expr),*), $lent:expr $(, $more:expr)*) => {
         unsafe {
             c::$function(
-                $($first,)?
+                $($first,)*
                 $lent.session.as_mut_ptr(),
                 $lent.session.len(),
                 $lent.table.as_mut_ptr(),
@@ -132,9 +133,9 @@ macro_rules! call {
     };
 }
 
-pub fn open(role: u8, lent: Lent<'_>) -> Reply {
+pub fn open(role: u8, partner: u8, lent: Lent<'_>) -> Reply {
     watch::call();
-    call!(fringemole_open, (role), lent).into()
+    call!(fringemole_open, (role, partner), lent).into()
 }
 
 pub fn receive(lent: Lent<'_>, bytes: &[u8]) -> Reply {

@@ -9,8 +9,9 @@ use inputs::random::Random;
 use second::host::Buffers;
 use second::layout::{
     read_message, write_message, MESSAGE_BYTES, RECORD_BYTES, SESSION_KEPT, SESSION_LEVEL,
+    SESSION_PARTNER,
 };
-use second::log::{self, Kept, Trace};
+use second::log::{self, Kept, Trace, With};
 use second::memory::{self, Record};
 use second::session::{self, Reply, Session};
 use second::sid::Level;
@@ -20,7 +21,7 @@ use second::sid::Level;
 pub struct Second {
     pub session: Session,
     pub memory: memory::Memory,
-    we_called: bool,
+    with: With,
     /// The table as open found it, in records and in bytes.
     opened: Vec<Record>,
     opened_bytes: Vec<u8>,
@@ -37,6 +38,8 @@ pub struct Pair {
     /// last call left it.
     expected: Memory,
     second: Option<Second>,
+    /// Calls before the last accepted open.
+    before: usize,
     /// The number that somebody has put in the place of level 1.
     relevelled: Option<u8>,
     history: History,
@@ -49,6 +52,7 @@ impl Pair {
             expected: lent.clone(),
             lent,
             second: None,
+            before: 0,
             relevelled: None,
             history: History::default(),
         }
@@ -64,8 +68,9 @@ impl Pair {
         self.lent.second()
     }
 
+    /// Calls of this session so far.
     pub fn calls(&self) -> usize {
-        self.history.count()
+        self.history.count() - self.before
     }
 
     /// The library's buffers, for runs on changed memory.
@@ -75,15 +80,16 @@ impl Pair {
 
     /// Opens. "A refused open changes no lent byte", so DECISIONS 52: a live
     /// session goes on.
-    pub fn open(&mut self, role: u8) -> Checked<Reply> {
-        self.history.begin(Call::Open { role });
-        let reply = library::open(role, self.lent.lend(None));
-        let expected = match session::open(role, &self.expected.second()) {
+    pub fn open(&mut self, role: u8, partner: u8) -> Checked<Reply> {
+        self.history.begin(Call::Open { role, partner });
+        let reply = library::open(role, partner, self.lent.lend(None));
+        let expected = match session::open(role, partner, &self.expected.second()) {
             Err(refused) => refused,
             Ok((session, memory)) => {
                 self.relevelled = None;
+                self.before = self.history.count();
                 self.second = Some(Second {
-                    we_called: role == 1,
+                    with: With { we_called: role == 1, partner: session.partner() },
                     opened: memory.table.clone(),
                     opened_bytes: self.expected.part(TABLE).to_vec(),
                     trace: Trace::new(),
@@ -177,7 +183,8 @@ impl Pair {
         };
         let table = self.expected.part_mut(TABLE).chunks_mut(RECORD_BYTES);
         for (entry, record) in table.zip(&second.memory.table) {
-            entry[0] = record.state as u8;
+            // The other seven columns stand as open found them.
+            entry[second.with.partner] = record.states[second.with.partner] as u8;
         }
         let inbox = self.expected.part_mut(INBOX).chunks_mut(MESSAGE_BYTES);
         let new = second.written..second.session.kept();
@@ -207,6 +214,10 @@ impl Pair {
         if kept.map_or(false, |kept| usize::from(self.lent.part(SESSION)[SESSION_KEPT]) != kept) {
             return self.differs(format!("count of messages kept: expected {kept:?}"));
         }
+        let partner = self.second.as_ref().map(|second| second.with.partner);
+        if partner.map_or(false, |p| usize::from(self.lent.part(SESSION)[SESSION_PARTNER]) != p) {
+            return self.differs(format!("partner of the session: expected {partner:?}"));
+        }
         let level = self.second.as_ref().map(|second| second.session.level().number());
         let level = self.relevelled.or(level);
         if level.map_or(false, |level| self.lent.part(SESSION)[SESSION_LEVEL] != level) {
@@ -216,18 +227,18 @@ impl Pair {
     }
 
     /// Demand 3, on both sides: "after the list, the table is as open found it but
-    /// with the log's states, and the inbox up to its count is the log's messages
+    /// with the log's states" in the partner's column, "and the inbox up to its count is the log's messages
     /// kept, in order".
     pub fn demand_3(&self) -> Checked {
         let second = match &self.second {
             Some(second) => second,
             None => return Ok(()),
         };
-        let Second { we_called, opened, trace, memory, .. } = second;
-        let log = log::read(*we_called, opened, &memory.stores, trace);
+        let Second { with, opened, trace, memory, .. } = second;
+        let log = log::read(*with, opened, &memory.stores, trace);
         let mut table = second.opened_bytes.clone();
         for (entry, state) in table.chunks_mut(RECORD_BYTES).zip(&log.states) {
-            entry[0] = *state as u8;
+            entry[with.partner] = *state as u8;
         }
         if self.lent.part(TABLE) != table {
             return self.differs("demand 3: the library's table isn't the log's".into());
@@ -235,8 +246,11 @@ impl Pair {
         if self.library_kept() != Some(log.kept.clone()) {
             return self.differs("demand 3: the library's inbox isn't the log's".into());
         }
-        let states: Vec<_> = memory.table.iter().map(|record| record.state).collect();
-        if states != log.states || second.kept() != log.kept {
+        let mut records = opened.clone();
+        for (record, state) in records.iter_mut().zip(&log.states) {
+            record.states[with.partner] = *state;
+        }
+        if memory.table != records || second.kept() != log.kept {
             return self.differs("demand 3: the second implementation isn't the log's".into());
         }
         Ok(())

@@ -47,7 +47,7 @@ pub struct Partner {
 impl Partner {
     /// A partner for this host: mostly one to whom its records can be sent.
     pub fn new(random: &mut Random, host: &Buffers) -> Partner {
-        let packed = host.table.get(1).map(|&form| form != Form::Plain as u8);
+        let packed = host.table.get(8).map(|&form| form != Form::Plain as u8);
         let (turns, ff) =
             random.pick(&[(1, 4), (2, 4), (3, 4), (5, 4), (8, 4), (12, 40), (60, 400)]);
         Partner {

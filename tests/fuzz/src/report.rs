@@ -15,6 +15,7 @@ const PRINTED: usize = 400;
 pub enum Call {
     Open {
         role: u8,
+        partner: u8,
     },
     Receive {
         bytes: Vec<u8>,
@@ -42,7 +43,7 @@ impl Display for Call {
             None => String::new(),
         };
         match self {
-            Call::Open { role } => write!(f, "open, role {role}"),
+            Call::Open { role, partner } => write!(f, "open, role {role}, partner {partner}"),
             Call::Receive { bytes, resize } => {
                 let (length, size) = (bytes.len(), other_size(resize));
                 write!(f, "receive {length} bytes \"{}\"{size}", escaped(bytes))

@@ -10,6 +10,7 @@ use crate::tally::Tally;
 use crate::wrong;
 use inputs::random::Random;
 use second::layout::{KNOWN_BYTES, MESSAGE_BYTES, RECORD_BYTES, SESSION_BYTES};
+use second::memory::PARTNERS;
 use second::session::{Phase, Reply};
 
 /// How much longer or shorter a buffer is lent: by a byte, an entry of each kind,
@@ -66,25 +67,22 @@ pub struct Driver<'a> {
     refusal: u8,
 }
 
-/// Runs one random session, at times a second one on the same memory.
+/// Runs one random session, at times a second one on the same memory, for whomever; and
+/// at times one for each partner, one after another.
 pub fn run(random: &mut Random, tally: &mut Tally) -> Checked {
     let mut driver = Driver::new(random, tally);
     if driver.random.once_in(20) {
         driver.idle()?;
     }
-    loop {
-        if !driver.open()? {
-            driver.idle()?;
-            return Ok(());
+    if driver.random.once_in(16) {
+        let first = driver.random.below(PARTNERS);
+        for number in first..first + PARTNERS {
+            driver.session(Some((number % PARTNERS) as u8))?;
         }
-        while driver.step()? {}
-        driver.end()?;
-        if !driver.random.once_in(4) {
-            return Ok(());
-        }
-        driver.partner = driver.partner.another(driver.random);
-        driver.queue.clear();
+        return Ok(());
     }
+    while driver.session(None)? && driver.random.once_in(4) {}
+    Ok(())
 }
 
 impl<'a> Driver<'a> {
@@ -123,15 +121,47 @@ impl<'a> Driver<'a> {
         self.pair
     }
 
-    /// Opens in either role, at times in one that isn't any.
+    /// One session for this partner, or for anybody, with another station than before.
+    /// False if it is refused.
+    fn session(&mut self, partner: Option<u8>) -> Checked<bool> {
+        if self.second().is_some() {
+            self.partner = self.partner.another(self.random);
+            self.queue.clear();
+        }
+        if !self.open_for(partner)? {
+            self.idle()?;
+            return Ok(false);
+        }
+        while self.step()? {}
+        self.end()?;
+        Ok(true)
+    }
+
     pub fn open(&mut self) -> Checked<bool> {
+        self.open_for(None)
+    }
+
+    /// A partner, at times one that there isn't.
+    fn anybody(&mut self) -> u8 {
+        match self.random.below(32) {
+            0 => self.random.pick(&[8, 9, 16, 255]),
+            _ => self.random.below(PARTNERS) as u8,
+        }
+    }
+
+    /// Opens in either role, at times in one that isn't any.
+    fn open_for(&mut self, partner: Option<u8>) -> Checked<bool> {
         let role = match self.random.below(40) {
             0 => self.random.within(2, 255) as u8,
             number => (number % 2) as u8,
         };
-        let reply = self.pair.open(role)?;
+        let partner = match partner {
+            Some(partner) => partner,
+            None => self.anybody(),
+        };
+        let reply = self.pair.open(role, partner)?;
         self.tally.opened(reply);
-        self.tally.rivals(&self.pair.lent());
+        self.tally.rivals(partner, &self.pair.lent());
         self.tally.sessions += 1;
         self.left = self.length();
         Ok(reply.answer == 0)
@@ -279,7 +309,9 @@ impl<'a> Driver<'a> {
                 self.give_into(room, place, None)
             }
             3 => {
-                let reply: Reply = self.pair.open(self.random.pick(&[2, 3, 255]))?;
+                let (role, partner) =
+                    self.random.pick(&[(2, 0), (3, 7), (255, 8), (0, 8), (1, 255)]);
+                let reply: Reply = self.pair.open(role, partner)?;
                 self.tally.opened(reply);
                 Ok(())
             }

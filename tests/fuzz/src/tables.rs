@@ -6,7 +6,8 @@ use inputs::{at, bid, body_of, byte, call, heading, respelt};
 use second::field::{same_bid, BID_LIMIT, BODY_END, BODY_LIMIT};
 use second::host::{append, Buffers};
 use second::layout::{self, KNOWN_BYTES, MESSAGE_BYTES, RECORD_BYTES, SESSION_BYTES};
-use second::memory::{Envelope, Record, Span, State, KNOWN_LIMIT, MESSAGE_LIMIT, RECORD_LIMIT};
+use second::memory::{Envelope, Record, Span, State};
+use second::memory::{KNOWN_LIMIT, MESSAGE_LIMIT, PARTNERS, RECORD_LIMIT};
 use second::record::{Form, Kind};
 use second::session::{self, Lent};
 
@@ -44,26 +45,39 @@ pub fn buffers(random: &mut Random) -> Buffers {
 }
 
 /// Which of several faults open has to find first: bad known BIDs before a bad
-/// record, the first of two bad records.
-pub fn rivals(lent: &Lent<'_>) -> [bool; 2] {
-    let place = |lent: &Lent<'_>| session::open(0, lent).err().map(|reply| reply.place);
+/// record, the first of two bad records, a partner that there isn't before a bad record.
+pub fn rivals(partner: u8, lent: &Lent<'_>) -> [bool; 3] {
+    let place = |lent: &Lent<'_>| session::open(0, 0, lent).err().map(|reply| reply.place);
     match place(lent) {
         Some(255) => {
             let without = place(&Lent { known: &[], ..*lent });
-            [without.map_or(false, |place| place < 255), false]
+            [without.map_or(false, |place| place < 255), false, false]
         }
         Some(first) => {
             let rest = &lent.table[RECORD_BYTES * (usize::from(first) + 1)..];
-            [false, place(&Lent { table: rest, ..*lent }).is_some()]
+            let second = place(&Lent { table: rest, ..*lent }).is_some();
+            [false, second, usize::from(partner) >= PARTNERS]
         }
-        None => [false, false],
+        None => [false; 3],
     }
+}
+
+/// Open was refused at a record that is bad for a state alone: in the session's column,
+/// and in another.
+pub fn bad_states(partner: u8, lent: &Lent<'_>) -> [bool; 2] {
+    let refused = session::open(0, partner, lent).err().filter(|reply| reply.place < 255);
+    let place = refused.map(|reply| usize::from(reply.place) * RECORD_BYTES);
+    let states = place.map_or(&[][..], |at| &lent.table[at..][..PARTNERS]);
+    let bad = |column: usize| states[column] > State::Declined as u8;
+    let mut columns = (0..states.len()).filter(|&column| bad(column)).peekable();
+    let own = columns.peek() == Some(&usize::from(partner));
+    [own, columns.next().is_some() && !own]
 }
 
 /// Open was refused at a record whose BID stands earlier in another case alone.
 pub fn is_twin(lent: &Lent<'_>) -> bool {
     let bid = |entry: &[u8]| layout::read_record(entry).map(|record| record.envelope.bid);
-    let refused = session::open(0, lent).err().filter(|reply| reply.place < 255);
+    let refused = session::open(0, 0, lent).err().filter(|reply| reply.place < 255);
     let place = refused.map_or(0, |reply| usize::from(reply.place));
     let mut earlier = lent.table.chunks(RECORD_BYTES).take(place).filter_map(bid);
     let own = lent.table.chunks(RECORD_BYTES).nth(place).and_then(bid);
@@ -71,7 +85,7 @@ pub fn is_twin(lent: &Lent<'_>) -> bool {
 }
 
 /// Where a record's BID stands (docs/MEMORY.md).
-const BID_AT: usize = 56;
+const BID_AT: usize = 63;
 
 const ALL: [Form; 3] = [Form::Plain, Form::Message, Form::File];
 
@@ -124,14 +138,7 @@ fn record(
     };
     let size = size(random, body.len());
     Record {
-        state: random.pick(&[
-            State::Waiting,
-            State::Waiting,
-            State::Waiting,
-            State::Waiting,
-            State::Forwarded,
-            State::Declined,
-        ]),
+        states: std::array::from_fn(|_| state(random)),
         envelope: Envelope {
             form,
             kind: random.pick(&[Kind::Private, Kind::Bulletin]),
@@ -188,13 +195,22 @@ fn size(random: &mut Random, body: usize) -> u32 {
     }
 }
 
+/// For one partner.
+fn state(random: &mut Random) -> State {
+    match random.below(6) {
+        0 => State::Forwarded,
+        1 => State::Declined,
+        _ => State::Waiting,
+    }
+}
+
 /// "A field is one byte for its length, then its bytes, then bytes that don't
 /// matter".
 fn garble_padding(random: &mut Random, entry: &mut [u8]) {
     if random.once_in(2) {
         return;
     }
-    for (start, limit) in [(3, 6), (10, 38), (49, 6), (56, 12)] {
+    for (start, limit) in [(10, 6), (17, 38), (56, 6), (63, 12)] {
         let length = usize::from(entry[start]);
         random.fill(&mut entry[start + 1 + length..start + 1 + limit]);
     }
@@ -284,10 +300,11 @@ fn spoil_record(random: &mut Random, host: &mut Buffers) {
     let count = host.table.len() / RECORD_BYTES;
     let entry = random.below(count) * RECORD_BYTES;
     let other = random.below(count) * RECORD_BYTES;
-    match random.below(4) {
-        // A length, a form, a state, a start: the bytes that decide most.
+    match random.below(5) {
+        // A length, a form, a start: the bytes that decide most.
         0 => {
-            let offset = random.pick(&[0, 1, 2, 3, 10, 49, 56, 71, 72, 75, 77, 80, 82, 85, 87, 88]);
+            let offsets = [8, 9, 10, 17, 56, 63, 78, 79, 82, 84, 87, 89, 92, 94, 95];
+            let offset = random.pick(&offsets);
             host.table[entry + offset] = random.pick(&[0, 1, 2, 3, 6, 7, 12, 13, 38, 39, 80, 81]);
         }
         1 => {
@@ -299,6 +316,10 @@ fn spoil_record(random: &mut Random, host: &mut Buffers) {
             }
         }
         2 => {
+            let column = random.below(PARTNERS);
+            host.table[entry + column] = random.pick(&[2, 3, 3, 255]);
+        }
+        3 => {
             let offset = random.below(RECORD_BYTES);
             host.table[entry + offset] = host.table[entry + offset].wrapping_add(1);
         }

@@ -6,7 +6,7 @@ use crate::tables;
 use second::field::BODY_LIMIT;
 use second::fs::Sign;
 use second::log::Side;
-use second::memory::{State, MESSAGE_LIMIT};
+use second::memory::{State, MESSAGE_LIMIT, PARTNERS};
 use second::refusal::{reason_after, ANSWERS};
 use second::session::{Inside, Lent, Phase, Reply, Role};
 use second::sid::Mode;
@@ -20,6 +20,8 @@ const MARKS: &[u8] = b"+-=YNLHREA!";
 const LONGEST: [&str; 4] = ["65,534 kept", "65,535 kept", "65,534 forwarded", "65,535 forwarded"];
 const KINDS: [&str; 4] = ["called plain", "called framed", "caller plain", "caller framed"];
 const PLACES: [&str; 4] = ["the table", "the known list", "the inbox", "the block"];
+const RIVALS: [&str; 3] = ["known before record", "first of two records", "partner before record"];
+const COLUMNS: [&str; 2] = ["the partner's column", "another's"];
 const PHASES: [&str; 7] = ["SID", "prompt", "turn", "FS line", "transfers", "our FQ", "nothing"];
 const TURNS: [&str; 6] = ["0", "1 to 2", "3 to 5", "6 to 10", "11 to 20", "over 20"];
 
@@ -33,7 +35,11 @@ pub struct Tally {
     /// Opens refused for a record, and for role, sizes or known BIDs.
     places: [u64; 2],
     /// Opens with more than one fault, by [`tables::rivals`].
-    rivals: [u64; 2],
+    rivals: [u64; 3],
+    /// Opens refused for a state in the session's column alone, and in another.
+    bad_states: [u64; 2],
+    /// For each partner: sessions, records forwarded and declined.
+    partners: [[u64; 3]; PARTNERS],
     /// Opens refused for a BID that stands earlier in another case.
     twins: u64,
     /// The partner's proposals of a BID that stands in another case, by `PLACES`.
@@ -83,8 +89,11 @@ impl Tally {
     }
 
     /// Counts what open had to choose between.
-    pub fn rivals(&mut self, lent: &Lent<'_>) {
-        for (times, came) in self.rivals.iter_mut().zip(tables::rivals(lent)) {
+    pub fn rivals(&mut self, partner: u8, lent: &Lent<'_>) {
+        for (times, came) in self.rivals.iter_mut().zip(tables::rivals(partner, lent)) {
+            *times += u64::from(came);
+        }
+        for (times, came) in self.bad_states.iter_mut().zip(tables::bad_states(partner, lent)) {
             *times += u64::from(came);
         }
         self.twins += u64::from(tables::is_twin(lent));
@@ -174,11 +183,17 @@ impl Tally {
     }
 
     fn count_records(&mut self, second: &Second) {
+        let partner = second.session.partner();
+        self.partners[partner][0] += 1;
         for (record, before) in second.memory.table.iter().zip(second.opened()) {
-            let changed = record.state != before.state;
-            self.records[0] += u64::from(changed && record.state == State::Forwarded);
-            self.count_body(2, record.body.length, changed && record.state == State::Forwarded);
-            self.records[1] += u64::from(changed && record.state == State::Declined);
+            let (state, before) = (record.states[partner], before.states[partner]);
+            let forwarded = state != before && state == State::Forwarded;
+            let declined = state != before && state == State::Declined;
+            self.records[0] += u64::from(forwarded);
+            self.records[1] += u64::from(declined);
+            self.partners[partner][1] += u64::from(forwarded);
+            self.partners[partner][2] += u64::from(declined);
+            self.count_body(2, record.body.length, forwarded);
         }
         self.records[2] += second.session.deferred() as u64;
         for message in second.memory.inbox[..second.session.kept()].iter().flatten() {
@@ -200,7 +215,11 @@ impl Tally {
             ("receive answered", numbered(&self.receives)),
             ("give answered", numbered(&self.gives)),
             ("open refused for", named(&["a record", "what comes before"], &self.places)),
-            ("open found", named(&["known before record", "first of two records"], &self.rivals)),
+            ("open found", named(&RIVALS, &self.rivals)),
+            ("open found a state over 2 in", named(&COLUMNS, &self.bad_states)),
+            ("sessions with partner", numbered(&self.partners.map(|partner| partner[0]))),
+            ("forwarded to partner", numbered(&self.partners.map(|partner| partner[1]))),
+            ("declined by partner", numbered(&self.partners.map(|partner| partner[2]))),
             ("open found a BID", named(&["in another case"], &[self.twins])),
             ("proposed in another case: BIDs of", named(&PLACES, &self.respelt)),
             ("our records", named(&["forwarded", "declined", "deferred"], &self.records)),

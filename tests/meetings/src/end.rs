@@ -75,6 +75,7 @@ impl Awaited {
 
 pub struct End {
     host: Buffers,
+    partner: usize,
     /// The buffers as open found them.
     before: Buffers,
     /// All bytes given so far, and how many of the other end's were taken.
@@ -94,6 +95,7 @@ impl End {
         let mut end = End {
             before: host.clone(),
             host,
+            partner: node.partner,
             given: Vec::new(),
             taken: 0,
             fq_came: false,
@@ -101,7 +103,8 @@ impl End {
             refused_at: None,
             buffer: Vec::new(),
         };
-        let reply = library::open(if caller { CALLER } else { CALLED }, end.lent());
+        let role = if caller { CALLER } else { CALLED };
+        let reply = library::open(role, node.partner as u8, end.lent());
         match reply.answer {
             0 => Ok(end),
             answer => Err(format!("open answers {answer}, place {}", reply.place)),
@@ -178,7 +181,7 @@ impl End {
     }
 
     /// "The tables and their stores carry over, and only the sessions write
-    /// them": states alone.
+    /// them": states alone, and of those the other node's.
     fn states(&self) -> Result<Vec<State>, String> {
         let (now, before) = (&self.host, &self.before);
         let same_stores = now.titles == before.titles
@@ -187,10 +190,11 @@ impl End {
             && now.known == before.known;
         let mut states = Vec::new();
         for (entry, old) in now.table.chunks(RECORD_BYTES).zip(before.table.chunks(RECORD_BYTES)) {
-            if entry[1..] != old[1..] || !same_stores {
+            let rest = |entry: &[u8]| [&entry[..self.partner], &entry[self.partner + 1..]].concat();
+            if rest(entry) != rest(old) || !same_stores {
                 return Err("a record or a store was written".into());
             }
-            states.push(match entry[0] {
+            states.push(match entry[self.partner] {
                 0 => State::Waiting,
                 1 => State::Forwarded,
                 2 => State::Declined,

@@ -3,7 +3,7 @@
 use second::host::{Buffers, Letter};
 use second::layout::RECORD_BYTES;
 use second::log::Kept;
-use second::memory::{State, MESSAGE_LIMIT};
+use second::memory::{State, MESSAGE_LIMIT, PARTNERS};
 use second::record::Form;
 
 /// The table with its states, the BIDs known at the start, and every message
@@ -14,6 +14,8 @@ pub struct Node {
     pub states: Vec<State>,
     pub known: Vec<Vec<u8>>,
     pub kept: Vec<Kept>,
+    /// Which of its partners the other node is. For the others all is declined.
+    pub partner: usize,
 }
 
 /// Inbox places and store bytes lent for one meeting.
@@ -43,7 +45,8 @@ impl Node {
         let mut host = Buffers::new(room.places, room.bytes);
         self.letters.iter().for_each(|letter| host.add(letter));
         for (entry, state) in host.table.chunks_mut(RECORD_BYTES).zip(&self.states) {
-            entry[0] = *state as u8;
+            entry[..PARTNERS].fill(State::Declined as u8);
+            entry[self.partner] = *state as u8;
         }
         self.known.iter().for_each(|bid| host.know(bid));
         if carrying == Carrying::Whole {

@@ -5,7 +5,7 @@ use inputs::random::Random;
 use inputs::{at, bid, body_of, call, heading};
 use second::field::BID_LIMIT;
 use second::host::Letter;
-use second::memory::{Envelope, State, MESSAGE_LIMIT, RECORD_LIMIT};
+use second::memory::{Envelope, State, MESSAGE_LIMIT, PARTNERS, RECORD_LIMIT};
 use second::record::{Form, Kind};
 
 /// "`=` if the size is over 65,535"
@@ -99,6 +99,7 @@ pub fn random(random: &mut Random) -> [Node; 2] {
     let mut number = 0;
     let mut nodes = [Node::default(), Node::default()];
     for node in &mut nodes {
+        node.partner = random.below(PARTNERS);
         let count = match random.below(8) {
             0 => RECORD_LIMIT,
             1 | 2 => random.within(0, RECORD_LIMIT),

@@ -1,13 +1,13 @@
 //! A host's buffers: the bytes that both implementations are lent.
 
 use crate::layout::{self, MESSAGE_BYTES, SESSION_BYTES};
-use crate::memory::{Envelope, Record, Span, State};
+use crate::memory::{Envelope, Record, Span, State, PARTNERS};
 use crate::proposal::{self, TurnLine};
 use crate::record::Form;
 use crate::session::Lent;
 use crate::sid::Mode;
 
-/// A message that waits in the table, with its title or name and its body.
+/// A message that waits in the table for every partner, with its title or name and its body.
 #[derive(Clone, Debug, PartialEq, Eq)]
 pub struct Letter {
     pub envelope: Envelope,
@@ -62,7 +62,7 @@ impl Buffers {
         let (title, name): (&[u8], &[u8]) =
             if file { (b"", &letter.heading) } else { (&letter.heading, b"") };
         let record = Record {
-            state: State::Waiting,
+            states: [State::Waiting; PARTNERS],
             envelope: letter.envelope.clone(),
             size: letter.size,
             title: append(&mut self.titles, title),

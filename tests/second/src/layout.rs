@@ -6,14 +6,14 @@
 //! that don't matter (zeros where the library writes them)."
 
 use crate::field::{AT_LIMIT, BID_LIMIT, CALL_LIMIT, HEADING_LIMIT};
-use crate::memory::{Envelope, Message, Record, Span, State};
+use crate::memory::{Envelope, Message, Record, Span, State, PARTNERS};
 use crate::record::{Form, Kind};
 use std::ops::Range;
 
 /// "session memory | exactly 1,024 bytes"
 pub const SESSION_BYTES: usize = 1_024;
-/// "0 to 64 records of 89 bytes"
-pub const RECORD_BYTES: usize = 89;
+/// "0 to 64 records of 96 bytes"
+pub const RECORD_BYTES: usize = 96;
 /// "0 to 1,024 entries of 13 bytes"
 pub const KNOWN_BYTES: usize = 13;
 /// "0 to 64 places of 155 bytes"
@@ -22,8 +22,10 @@ pub const MESSAGE_BYTES: usize = 155;
 pub const SESSION_KEPT: usize = 66;
 /// The level in force, at 117: 0, or any other number for 1.
 pub const SESSION_LEVEL: usize = 117;
-/// "Bytes 118 to 159 and 920 to 1,023 are free: no call reads or writes them".
-pub const SESSION_FREE: [Range<usize>; 2] = [118..160, 920..SESSION_BYTES];
+/// The partner that open was told, at 118.
+pub const SESSION_PARTNER: usize = 118;
+/// "Bytes 119 to 159 and 920 to 1,023 are free: no call reads or writes them".
+pub const SESSION_FREE: [Range<usize>; 2] = [119..160, 920..SESSION_BYTES];
 
 /// An entry being written.
 #[derive(Default)]
@@ -60,10 +62,11 @@ impl Out {
     }
 }
 
-/// "A record of the table (89 bytes, `RECORD`)". A field over its limit is cut, but not
+/// "A record of the table (96 bytes, `RECORD`)": eight states, then as a proposal, then
+/// the texts. A field over its limit is cut, but not
 /// its length, so that it is bad in bytes too.
 pub fn write_record(record: &Record) -> Vec<u8> {
-    let mut out = Out(vec![record.state as u8]);
+    let mut out = Out(record.states.iter().map(|state| *state as u8).collect());
     out.envelope(&record.envelope);
     out.number(record.size as usize, 4);
     out.span(record.title, 1);
@@ -134,6 +137,12 @@ fn state(number: usize) -> Option<State> {
     }
 }
 
+/// One a partner, partner 0 first.
+fn states(bytes: &[u8]) -> Option<[State; PARTNERS]> {
+    let states: Option<Vec<State>> = bytes.iter().map(|&byte| state(byte.into())).collect();
+    states?.try_into().ok()
+}
+
 fn form(number: usize) -> Option<Form> {
     match number {
         0 => Some(Form::Plain),
@@ -153,7 +162,7 @@ fn kind(number: usize) -> Option<Kind> {
 pub fn read_record(entry: &[u8]) -> Option<Record> {
     let mut entry = In(entry);
     Some(Record {
-        state: state(entry.number(1)?)?,
+        states: states(entry.bytes(PARTNERS)?)?,
         envelope: entry.envelope()?,
         size: entry.number(4)? as u32,
         title: entry.span(1)?,
@@ -194,7 +203,16 @@ mod tests {
 
     fn record() -> Record {
         Record {
-            state: State::Declined,
+            states: [
+                State::Declined,
+                State::Waiting,
+                State::Forwarded,
+                State::Waiting,
+                State::Waiting,
+                State::Declined,
+                State::Waiting,
+                State::Forwarded,
+            ],
             envelope: envelope(),
             size: 0x0003_0201,
             title: Span { start: 0x1413_1211, length: 0x15 },
@@ -207,16 +225,17 @@ mod tests {
     fn a_record_has_the_offsets_of_the_table() {
         let entry = write_record(&record());
         assert_eq!(entry.len(), RECORD_BYTES);
-        assert_eq!(entry[..3], [2, 2, b'B']);
-        assert_eq!(entry[3..10], *b"\x05F6FBB\0");
-        assert_eq!(entry[10..29], *b"\x12FC1GHV.FFPC.FRA.EU");
-        assert_eq!(entry[29..49], [0; 20]);
-        assert_eq!(entry[49..56], *b"\x06FC1MVP");
-        assert_eq!(entry[56..69], *b"\x0B24657_F6FBB\0");
-        assert_eq!(entry[69..73], [1, 2, 3, 0]);
-        assert_eq!(entry[73..78], [0x11, 0x12, 0x13, 0x14, 0x15]);
-        assert_eq!(entry[78..83], [0x21, 0x22, 0x23, 0x24, 0x25]);
-        assert_eq!(entry[83..], [0x31, 0x32, 0x33, 0x34, 0x35, 0x36]);
+        assert_eq!(entry[..8], [2, 0, 1, 0, 0, 2, 0, 1]);
+        assert_eq!(entry[8..10], [2, b'B']);
+        assert_eq!(entry[10..17], *b"\x05F6FBB\0");
+        assert_eq!(entry[17..36], *b"\x12FC1GHV.FFPC.FRA.EU");
+        assert_eq!(entry[36..56], [0; 20]);
+        assert_eq!(entry[56..63], *b"\x06FC1MVP");
+        assert_eq!(entry[63..76], *b"\x0B24657_F6FBB\0");
+        assert_eq!(entry[76..80], [1, 2, 3, 0]);
+        assert_eq!(entry[80..85], [0x11, 0x12, 0x13, 0x14, 0x15]);
+        assert_eq!(entry[85..90], [0x21, 0x22, 0x23, 0x24, 0x25]);
+        assert_eq!(entry[90..], [0x31, 0x32, 0x33, 0x34, 0x35, 0x36]);
         assert_eq!(read_record(&entry), Some(record()));
     }
 
@@ -249,15 +268,17 @@ mod tests {
     #[test]
     fn bytes_past_a_field_do_not_matter() {
         let mut entry = write_record(&record());
-        entry[9] = 0xFF;
-        entry[40] = 0x20;
-        entry[68] = 0x07;
+        entry[16] = 0xFF;
+        entry[47] = 0x20;
+        entry[75] = 0x07;
         assert_eq!(read_record(&entry), Some(record()));
     }
 
     #[test]
     fn bytes_that_stand_for_nothing_are_no_record() {
-        for (place, bad) in [(0, 3), (1, 3), (2, b'p'), (2, b'T'), (3, 7), (10, 39), (56, 13)] {
+        for (place, bad) in
+            [(0, 3), (5, 3), (7, 255), (8, 3), (9, b'p'), (9, b'T'), (10, 7), (17, 39), (63, 13)]
+        {
             let mut entry = write_record(&record());
             entry[place] = bad;
             assert_eq!(read_record(&entry), None);

@@ -41,14 +41,24 @@ pub struct Log {
     pub kept: Vec<Kept>,
 }
 
-/// Reads the log of a session that called us, or that we called, on this table.
-pub fn read(we_called: bool, table: &[Record], stores: &Stores, trace: &Trace) -> Log {
-    let log = Log { states: table.iter().map(|record| record.state).collect(), kept: Vec::new() };
+/// Who the session is with.
+#[derive(Clone, Copy, Debug, PartialEq, Eq)]
+pub struct With {
+    pub we_called: bool,
+    /// "Demand 3 and 01's log then read for that partner's states."
+    pub partner: usize,
+}
+
+/// Reads the log of a session with this partner, which called us or which we called, on
+/// this table.
+pub fn read(with: With, table: &[Record], stores: &Stores, trace: &Trace) -> Log {
+    let column = table.iter().map(|record| record.states[with.partner]);
+    let log = Log { states: column.collect(), kept: Vec::new() };
     let link = Link::new(trace);
     let (mode, level) = (Mode::Plain, Level::Zero);
     let mut reading = Reading { link, table, stores, mode, level, sent: Vec::new(), log };
     // Nothing left, FQ, or a thing forbidden: the log is what it is by then.
-    let _ = reading.follow(we_called);
+    let _ = reading.follow(with.we_called);
     reading.log
 }
 

@@ -13,6 +13,9 @@ pub const MESSAGE_LIMIT: usize = 64;
 /// "announced size 0 to 999,999"
 pub const SIZE_LIMIT: u32 = 999_999;
 
+/// "one state a partner, 0 to 7"
+pub const PARTNERS: usize = 8;
+
 /// "a state (0 waiting, 1 forwarded, 2 declined)"
 #[derive(Clone, Copy, Debug, PartialEq, Eq)]
 #[repr(u8)]
@@ -84,7 +87,8 @@ pub struct Stores {
 /// One record of the table.
 #[derive(Clone, Debug, PartialEq, Eq)]
 pub struct Record {
-    pub state: State,
+    /// "A record's state becomes one state a partner": its column of the table.
+    pub states: [State; PARTNERS],
     pub envelope: Envelope,
     pub size: u32,
     pub title: Span,
@@ -182,7 +186,7 @@ mod tests {
 
     fn record(form: Form) -> Record {
         Record {
-            state: State::Waiting,
+            states: [State::Waiting; PARTNERS],
             envelope: Envelope {
                 form,
                 kind: Kind::Private,

@@ -107,6 +107,8 @@ pub enum Inside {
 #[derive(Clone, Debug)]
 pub struct Session {
     role: Role,
+    /// Whose column of the table counts.
+    partner: usize,
     /// Receive and give are lent the same sizes as open was.
     sizes: Sizes,
     phase: Phase,
@@ -140,6 +142,10 @@ pub struct Session {
 impl Session {
     pub fn role(&self) -> Role {
         self.role
+    }
+
+    pub fn partner(&self) -> usize {
+        self.partner
     }
 
     pub fn phase(&self) -> &Phase {

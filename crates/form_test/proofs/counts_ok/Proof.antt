@@ -1,5 +1,5 @@
 -- The definition's tests are the code's.
-use borrow.Author.Tests.{le-leb, lt-leb}
+use borrow.Author.Tests.{le-leb, lt-leb, le-ltb, lt-ltb}
 use Rattle.session_memory.specs.State.{loadOf, loadAwait, loadSay, loadKeep, loadReading, loadLine}
 use Rattle.form_test.specs.Form.{countsOk}
 use Rattle.form_test.proofs.Laws.{read-le, read-gt}
@@ -49,9 +49,16 @@ returns-6 : tie.Need-returns-6
 unfolding countsOk loadOf loadAwait loadSay loadKeep loadReading loadLine
 returns-6 c = rw (read-le 256 (c .before .before .before .before .before .before .before .before .before .before .before .two .ensures) (c .before .before .before .before .before .before .before .before .before .before .if1 .left), le-leb _ _ (c .before .before .before .before .before .before .before .before .if2 .left), le-leb _ _ (c .before .before .before .before .before .before .if3 .left), le-leb _ _ (c .before .before .before .before .if4 .left), le-leb _ _ (c .before .before .if5 .left), lt-leb _ _ (c .if6 .taken))
 
+shared-slice-read-if7 : tie.Need-shared-slice-read-if7
+shared-slice-read-if7 c = search needs
+
 returns-7 : tie.Need-returns-7
 unfolding countsOk loadOf loadAwait loadSay loadKeep loadReading loadLine
-returns-7 c = rw (read-le 256 (c .before .before .before .before .before .before .before .before .before .before .before .two .ensures) (c .before .before .before .before .before .before .before .before .before .before .if1 .left), le-leb _ _ (c .before .before .before .before .before .before .before .before .if2 .left), le-leb _ _ (c .before .before .before .before .before .before .if3 .left), le-leb _ _ (c .before .before .before .before .if4 .left), le-leb _ _ (c .before .before .if5 .left), le-leb _ _ (c .if6 .left))
+returns-7 c = rw (read-le 256 (c .before .before .before .before .before .before .before .before .before .before .before .before .before .two .ensures) (c .before .before .before .before .before .before .before .before .before .before .before .before .if1 .left), le-leb _ _ (c .before .before .before .before .before .before .before .before .before .before .if2 .left), le-leb _ _ (c .before .before .before .before .before .before .before .before .if3 .left), le-leb _ _ (c .before .before .before .before .before .before .if4 .left), le-leb _ _ (c .before .before .before .before .if5 .left), le-leb _ _ (c .before .before .if6 .left), le-ltb _ _ (c .if7 .taken))
+
+returns-8 : tie.Need-returns-8
+unfolding countsOk loadOf loadAwait loadSay loadKeep loadReading loadLine
+returns-8 c = rw (read-le 256 (c .before .before .before .before .before .before .before .before .before .before .before .before .before .two .ensures) (c .before .before .before .before .before .before .before .before .before .before .before .before .if1 .left), le-leb _ _ (c .before .before .before .before .before .before .before .before .before .before .if2 .left), le-leb _ _ (c .before .before .before .before .before .before .before .before .if3 .left), le-leb _ _ (c .before .before .before .before .before .before .if4 .left), le-leb _ _ (c .before .before .before .before .if5 .left), le-leb _ _ (c .before .before .if6 .left), lt-ltb _ _ (c .if7 .left))
 
 pub counts-ok-spec : {M : Type 1} → statement M
 counts-ok-spec =
@@ -69,4 +76,6 @@ counts-ok-spec =
     returns-5
     shared-slice-read-if6
     returns-6
-    returns-7)
+    shared-slice-read-if7
+    returns-7
+    returns-8)

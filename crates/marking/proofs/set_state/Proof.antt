@@ -1,6 +1,6 @@
 -- Past the end nothing is set.
 use mathlib.Core.Path.{sym}
-use Prim.Native.Nat.{_*_}
+use Prim.Native.Nat.{_+_, _*_}
 use lib.Seq.{set-out}
 use Rattle.marking.specs.States.{setState}
 use borrow.Author.Needs.{needs}
@@ -14,9 +14,12 @@ cast-at c = search needs
 mul-at : tie.Need-mul-at
 mul-at c = search needs
 
+add-at : tie.Need-add-at
+add-at c = search needs
+
 returns : tie.Need-returns
 unfolding setState
-returns c = sym (set-out (c .before .args .table .now) (c .before .args .i * recordLen) (c .before .args .state) (c .if1 .taken))
+returns c = sym (set-out (c .before .args .table .now) (c .before .args .i * recordLen + c .before .args .partner) (c .before .args .state) (c .if1 .taken))
 
 slice-write-table : tie.Need-slice-write-table
 slice-write-table c = search needs
@@ -30,4 +33,4 @@ returns-2 c = search needs
 
 pub set-state-spec : {M : Type 1} → statement M
 set-state-spec =
-    tie.close (tie.spec cast-at mul-at returns slice-write-table same-length returns-2)
+    tie.close (tie.spec cast-at mul-at add-at returns slice-write-table same-length returns-2)

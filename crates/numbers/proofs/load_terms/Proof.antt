@@ -6,8 +6,11 @@ use Rattle.numbers.proofs.load_terms.Tie as tie
 byte-requires : tie.Need-byte-requires
 byte-requires c κs = search needs
 
+byte-requires-2 : tie.Need-byte-requires-2
+byte-requires-2 c κs = search needs
+
 returns : tie.Need-returns
-returns c = same-terms (c .byte .ensures)
+returns c = same-terms (c .before .byte .ensures) (c .byte2 .ensures)
 
 pub load-terms-spec : {M : Type 1} → statement M
-load-terms-spec = tie.close (tie.spec byte-requires returns)
+load-terms-spec = tie.close (tie.spec byte-requires byte-requires-2 returns)

@@ -1,5 +1,5 @@
--- One law for each way out: role, sizes, known BIDs, a record, and the session opened.
-use Rattle.open.proofs.Laws.{open-role, open-sizes, open-known, open-fault, open-good, size-told}
+-- One law for each way out: partner, role, sizes, known BIDs, a record, and the session opened.
+use Rattle.open.proofs.Laws.{open-partner, open-role, open-sizes, open-known, open-fault, open-good, size-told}
 use borrow.Author.Needs.{needs}
 use Rattle.form_test.specs.Form.{lentSizes}
 use Rattle.open.specs.Opening.{sizesOk}
@@ -12,24 +12,20 @@ bad-requires c κs = search needs
 returns : tie.Need-returns
 returns c =
     let a = c .before .before .before .before .before .before .before .before .before .before .args in
-    open-role (a .role) (a .sm .now) (a .table .now) (a .titles .now) (a .names .now) (a .bodies .now) (a .known .now) (a .inbox .now) (a .store .now)
+    open-partner (a .role) (a .partner) (a .sm .now) (a .table .now) (a .titles .now) (a .names .now) (a .bodies .now) (a .known .now) (a .inbox .now) (a .store .now)
     _ (c .bad .ensures) (c .before .if1 .taken)
-
-sizes-ok-requires : tie.Need-sizes-ok-requires
-sizes-ok-requires c κs = search needs
 
 bad-requires-2 : tie.Need-bad-requires-2
 bad-requires-2 c κs = search needs
 
 returns-2 : tie.Need-returns-2
-unfolding sizesOk
 returns-2 c =
-    let a = c .before .before .before .before .before .before .before .before .before .before .before .before .args in
-    open-sizes (a .role) (a .sm .now) (a .table .now) (a .titles .now) (a .names .now) (a .bodies .now) (a .known .now) (a .inbox .now) (a .store .now)
-    (c .before .before .before .if1 .left) (c .before .before .sizes-ok .ensures) (c .before .if2 .taken) _ (c .bad2 .ensures)
+    let a = c .before .before .before .before .before .before .before .before .before .before .before .args in
+    open-role (a .role) (a .partner) (a .sm .now) (a .table .now) (a .titles .now) (a .names .now) (a .bodies .now) (a .known .now) (a .inbox .now) (a .store .now)
+    (c .before .before .if1 .left) _ (c .bad2 .ensures) (c .before .if2 .taken)
 
-known-ok-requires : tie.Need-known-ok-requires
-known-ok-requires c κs = search needs
+sizes-ok-requires : tie.Need-sizes-ok-requires
+sizes-ok-requires c κs = search needs
 
 bad-requires-3 : tie.Need-bad-requires-3
 bad-requires-3 c κs = search needs
@@ -37,12 +33,12 @@ bad-requires-3 c κs = search needs
 returns-3 : tie.Need-returns-3
 unfolding sizesOk
 returns-3 c =
-    let a = c .before .before .before .before .before .before .before .before .before .before .before .before .before .before .args in
-    open-known (a .role) (a .sm .now) (a .table .now) (a .titles .now) (a .names .now) (a .bodies .now) (a .known .now) (a .inbox .now) (a .store .now)
-    (c .before .before .before .before .before .if1 .left) (c .before .before .before .before .sizes-ok .ensures) (c .before .before .before .if2 .left) (c .before .before .known-ok .ensures) (c .before .if3 .taken) _ (c .bad3 .ensures)
+    let a = c .before .before .before .before .before .before .before .before .before .before .before .before .before .args in
+    open-sizes (a .role) (a .partner) (a .sm .now) (a .table .now) (a .titles .now) (a .names .now) (a .bodies .now) (a .known .now) (a .inbox .now) (a .store .now)
+    (c .before .before .before .before .if1 .left) (c .before .before .before .if2 .left) (c .before .before .sizes-ok .ensures) (c .before .if3 .taken) _ (c .bad3 .ensures)
 
-table-fault-requires : tie.Need-table-fault-requires
-table-fault-requires c κs = search needs
+known-ok-requires : tie.Need-known-ok-requires
+known-ok-requires c κs = search needs
 
 bad-requires-4 : tie.Need-bad-requires-4
 bad-requires-4 c κs = search needs
@@ -50,9 +46,22 @@ bad-requires-4 c κs = search needs
 returns-4 : tie.Need-returns-4
 unfolding sizesOk
 returns-4 c =
-    let a = c .before .before .before .before .before .before .before .before .before .before .before .before .before .before .before .before .args in
-    open-fault (a .role) (a .sm .now) (a .table .now) (a .titles .now) (a .names .now) (a .bodies .now) (a .known .now) (a .inbox .now) (a .store .now)
-    (c .before .before .before .before .before .before .before .if1 .left) (c .before .before .before .before .before .before .sizes-ok .ensures) (c .before .before .before .before .before .if2 .left) (c .before .before .before .before .known-ok .ensures) (c .before .before .before .if3 .left) _ (c .before .before .table-fault .ensures) (c .before .if4 .taken) _ (c .bad4 .ensures)
+    let a = c .before .before .before .before .before .before .before .before .before .before .before .before .before .before .before .args in
+    open-known (a .role) (a .partner) (a .sm .now) (a .table .now) (a .titles .now) (a .names .now) (a .bodies .now) (a .known .now) (a .inbox .now) (a .store .now)
+    (c .before .before .before .before .before .before .if1 .left) (c .before .before .before .before .before .if2 .left) (c .before .before .before .before .sizes-ok .ensures) (c .before .before .before .if3 .left) (c .before .before .known-ok .ensures) (c .before .if4 .taken) _ (c .bad4 .ensures)
+
+table-fault-requires : tie.Need-table-fault-requires
+table-fault-requires c κs = search needs
+
+bad-requires-5 : tie.Need-bad-requires-5
+bad-requires-5 c κs = search needs
+
+returns-5 : tie.Need-returns-5
+unfolding sizesOk
+returns-5 c =
+    let a = c .before .before .before .before .before .before .before .before .before .before .before .before .before .before .before .before .before .args in
+    open-fault (a .role) (a .partner) (a .sm .now) (a .table .now) (a .titles .now) (a .names .now) (a .bodies .now) (a .known .now) (a .inbox .now) (a .store .now)
+    (c .before .before .before .before .before .before .before .before .if1 .left) (c .before .before .before .before .before .before .before .if2 .left) (c .before .before .before .before .before .before .sizes-ok .ensures) (c .before .before .before .before .before .if3 .left) (c .before .before .before .before .known-ok .ensures) (c .before .before .before .if4 .left) _ (c .before .before .table-fault .ensures) (c .before .if5 .taken) _ (c .bad5 .ensures)
 
 save-sizes-requires : tie.Need-save-sizes-requires
 save-sizes-requires c κs = search needs
@@ -60,19 +69,19 @@ save-sizes-requires c κs = search needs
 save-fresh-requires : tie.Need-save-fresh-requires
 unfolding sizesOk
 save-fresh-requires c κs =
-    let a = c .before .before .before .before .before .before .before .before .before .before .before .before .before .before .before .before .before .before .before .before .args in
-    size-told (a .sm .now) (a .table .now) (a .known .now) (a .inbox .now) (c .before .before .before .before .before .before .before .before .before .before .sizes-ok .ensures) (c .before .before .before .before .before .before .before .before .before .if2 .left)
+    let a = c .before .before .before .before .before .before .before .before .before .before .before .before .before .before .before .before .before .before .before .before .before .args in
+    size-told (a .sm .now) (a .table .now) (a .known .now) (a .inbox .now) (c .before .before .before .before .before .before .before .before .before .before .sizes-ok .ensures) (c .before .before .before .before .before .before .before .before .before .if3 .left)
     (lentSizes (a .table .now) (a .titles .now) (a .names .now) (a .bodies .now) (a .known .now) (a .inbox .now) (a .store .now)) (c .before .before .before .save-sizes .ensures)
 
 same-length : tie.Need-same-length
 same-length c = search needs
 
-returns-5 : tie.Need-returns-5
+returns-6 : tie.Need-returns-6
 unfolding sizesOk
-returns-5 c =
-    let a = c .before .before .before .before .before .before .before .before .before .before .before .before .before .before .before .before .before .before .before .before .before .before .before .args in
-    open-good (a .role) (a .sm .now) (a .table .now) (a .titles .now) (a .names .now) (a .bodies .now) (a .known .now) (a .inbox .now) (a .store .now)
-    (c .before .before .before .before .before .before .before .before .before .before .before .before .before .before .if1 .left) (c .before .before .before .before .before .before .before .before .before .before .before .before .before .sizes-ok .ensures) (c .before .before .before .before .before .before .before .before .before .before .before .before .if2 .left) (c .before .before .before .before .before .before .before .before .before .before .before .known-ok .ensures) (c .before .before .before .before .before .before .before .before .before .before .if3 .left) _ (c .before .before .before .before .before .before .before .before .before .table-fault .ensures) (c .before .before .before .before .before .before .before .before .if4 .left) _ (c .before .before .before .before .before .before .save-sizes .ensures) _ (c .before .before .save-fresh .ensures)
+returns-6 c =
+    let a = c .before .before .before .before .before .before .before .before .before .before .before .before .before .before .before .before .before .before .before .before .before .before .before .before .args in
+    open-good (a .role) (a .partner) (a .sm .now) (a .table .now) (a .titles .now) (a .names .now) (a .bodies .now) (a .known .now) (a .inbox .now) (a .store .now)
+    (c .before .before .before .before .before .before .before .before .before .before .before .before .before .before .before .if1 .left) (c .before .before .before .before .before .before .before .before .before .before .before .before .before .before .if2 .left) (c .before .before .before .before .before .before .before .before .before .before .before .before .before .sizes-ok .ensures) (c .before .before .before .before .before .before .before .before .before .before .before .before .if3 .left) (c .before .before .before .before .before .before .before .before .before .before .before .known-ok .ensures) (c .before .before .before .before .before .before .before .before .before .before .if4 .left) _ (c .before .before .before .before .before .before .before .before .before .table-fault .ensures) (c .before .before .before .before .before .before .before .before .if5 .left) _ (c .before .before .before .before .before .before .save-sizes .ensures) _ (c .before .before .save-fresh .ensures)
 
 pub open-spec : {M : Type 1} → statement M
 open-spec =
@@ -80,16 +89,18 @@ open-spec =
     (tie.spec
     bad-requires
     returns
-    sizes-ok-requires
     bad-requires-2
     returns-2
-    known-ok-requires
+    sizes-ok-requires
     bad-requires-3
     returns-3
-    table-fault-requires
+    known-ok-requires
     bad-requires-4
     returns-4
+    table-fault-requires
+    bad-requires-5
+    returns-5
     save-sizes-requires
     save-fresh-requires
     same-length
-    returns-5)
+    returns-6)

@@ -10,10 +10,10 @@ use Rattle.our_turn.proofs.choose.Statement.{statement}
 use Rattle.our_turn.proofs.choose.Tie as tie
 
 abbrev Inv-loop : tie.InvT-loop
-Inv-loop table framed deferred n chosen₀ total₀ i₀ chosen total i = (i ≤ n) × Choosing table framed deferred n chosen total i
+Inv-loop partner table framed deferred n chosen₀ total₀ i₀ chosen total i = (i ≤ n) × Choosing partner table framed deferred n chosen total i
 
 abbrev μ-loop : tie.MeasureT-loop
-μ-loop table framed deferred n chosen₀ total₀ i₀ chosen total i = n - i
+μ-loop partner table framed deferred n chosen₀ total₀ i₀ chosen total i = n - i
 
 records-requires : tie.Need-records-requires Inv-loop μ-loop
 records-requires c κs = search needs
@@ -23,7 +23,7 @@ none-requires c κs = search needs
 
 loop-holds : tie.Need-loop-holds Inv-loop μ-loop
 loop-holds c =
-    (search needs, choosing-none (c .before .before .before .before .args .table .now) (c .before .before .before .before .args .framed) (c .before .before .before .before .args .deferred .now) _ (c .none .ensures))
+    (search needs, choosing-none (c .before .before .before .before .args .partner) (c .before .before .before .before .args .table .now) (c .before .before .before .before .args .framed) (c .before .before .before .before .args .deferred .now) _ (c .none .ensures))
 
 entry-requires : tie.Need-entry-requires Inv-loop μ-loop
 entry-requires c κs = search needs
@@ -46,7 +46,7 @@ loop-less c = search needs
 loop-again : tie.Need-loop-again Inv-loop μ-loop
 loop-again c = (
   search needs,
-  choosing-pass (c .before .before .before .before .before .before .before .before .before .before .args .table .now) (c .before .before .before .before .before .before .before .before .before .before .args .framed) (c .before .before .before .before .before .before .before .before .before .before .args .deferred .now) _ (c .before .before .before .before .before .loop .inv .1) (c .before .before .before .before .loop-test .taken)
+  choosing-pass (c .before .before .before .before .before .before .before .before .before .before .args .partner) (c .before .before .before .before .before .before .before .before .before .before .args .table .now) (c .before .before .before .before .before .before .before .before .before .before .args .framed) (c .before .before .before .before .before .before .before .before .before .before .args .deferred .now) _ (c .before .before .before .before .before .loop .inv .1) (c .before .before .before .before .loop-test .taken)
       (rw (← c .before .before .before .entry .ensures, ← c .before .before .byte-at .ensures, ← c .before .wanted .ensures) (not-true _ (c .if1 .taken))),
 )
 
@@ -63,14 +63,14 @@ add-sum c =
 
 returns : tie.Need-returns Inv-loop μ-loop
 returns c =
-    chosen-now (c .before .before .before .before .before .before .before .before .before .before .before .before .before .args .table .now) (c .before .before .before .before .before .before .before .before .before .before .before .before .before .args .framed) (c .before .before .before .before .before .before .before .before .before .before .before .before .before .args .deferred .now) _ (c .before .before .before .before .before .before .before .before .before .before .records .ensures) (c .before .before .before .before .before .before .before .before .loop .inv .1)
-    (block-five (c .before .before .before .before .before .before .before .before .before .before .before .before .before .args .table .now) (c .before .before .before .before .before .before .before .before .before .before .before .before .before .args .framed) (c .before .before .before .before .before .before .before .before .before .before .before .before .before .args .deferred .now) _ (c .before .before .before .before .before .before .before .before .loop .i) (c .before .before .before .before .before .before .before .before .loop .chosen .count) (c .before .before .before .before .before .before .before .before .loop .total) (c .before .before .before .before .before .before .before .loop-test .taken)
+    chosen-now (c .before .before .before .before .before .before .before .before .before .before .before .before .before .args .partner) (c .before .before .before .before .before .before .before .before .before .before .before .before .before .args .table .now) (c .before .before .before .before .before .before .before .before .before .before .before .before .before .args .framed) (c .before .before .before .before .before .before .before .before .before .before .before .before .before .args .deferred .now) _ (c .before .before .before .before .before .before .before .before .before .before .records .ensures) (c .before .before .before .before .before .before .before .before .loop .inv .1)
+    (block-five (c .before .before .before .before .before .before .before .before .before .before .before .before .before .args .partner) (c .before .before .before .before .before .before .before .before .before .before .before .before .before .args .table .now) (c .before .before .before .before .before .before .before .before .before .before .before .before .before .args .framed) (c .before .before .before .before .before .before .before .before .before .before .before .before .before .args .deferred .now) _ (c .before .before .before .before .before .before .before .before .loop .i) (c .before .before .before .before .before .before .before .before .loop .chosen .count) (c .before .before .before .before .before .before .before .before .loop .total) (c .before .before .before .before .before .before .before .loop-test .taken)
     (rw (← c .before .before .before .before .before .before .entry .ensures, ← c .before .before .before .before .before .byte-at .ensures, ← c .before .before .before .before .wanted .ensures) (not-false _ (c .before .before .before .if1 .left))) (omega (arith, c .if2 .taken)))
 
 returns-2 : tie.Need-returns-2 Inv-loop μ-loop
 returns-2 c =
-    chosen-now (c .before .before .before .before .before .before .before .before .before .before .before .before .before .before .args .table .now) (c .before .before .before .before .before .before .before .before .before .before .before .before .before .before .args .framed) (c .before .before .before .before .before .before .before .before .before .before .before .before .before .before .args .deferred .now) _ (c .before .before .before .before .before .before .before .before .before .before .before .records .ensures) (c .before .before .before .before .before .before .before .before .before .loop .inv .1)
-    (block-full (c .before .before .before .before .before .before .before .before .before .before .before .before .before .before .args .table .now) (c .before .before .before .before .before .before .before .before .before .before .before .before .before .before .args .framed) (c .before .before .before .before .before .before .before .before .before .before .before .before .before .before .args .deferred .now) _ (c .before .before .before .before .before .before .before .before .before .loop .i) (c .before .before .before .before .before .before .before .before .before .loop .chosen .count) (c .before .before .before .before .before .before .before .before .before .loop .total) (c .before .before .before .before .before .before .before .before .loop-test .taken)
+    chosen-now (c .before .before .before .before .before .before .before .before .before .before .before .before .before .before .args .partner) (c .before .before .before .before .before .before .before .before .before .before .before .before .before .before .args .table .now) (c .before .before .before .before .before .before .before .before .before .before .before .before .before .before .args .framed) (c .before .before .before .before .before .before .before .before .before .before .before .before .before .before .args .deferred .now) _ (c .before .before .before .before .before .before .before .before .before .before .before .records .ensures) (c .before .before .before .before .before .before .before .before .before .loop .inv .1)
+    (block-full (c .before .before .before .before .before .before .before .before .before .before .before .before .before .before .args .partner) (c .before .before .before .before .before .before .before .before .before .before .before .before .before .before .args .table .now) (c .before .before .before .before .before .before .before .before .before .before .before .before .before .before .args .framed) (c .before .before .before .before .before .before .before .before .before .before .before .before .before .before .args .deferred .now) _ (c .before .before .before .before .before .before .before .before .before .loop .i) (c .before .before .before .before .before .before .before .before .before .loop .chosen .count) (c .before .before .before .before .before .before .before .before .before .loop .total) (c .before .before .before .before .before .before .before .before .loop-test .taken)
     (rw (← c .before .before .before .before .before .before .before .entry .ensures, ← c .before .before .before .before .before .before .byte-at .ensures, ← c .before .before .before .before .before .wanted .ensures) (not-false _ (c .before .before .before .before .if1 .left))) (omega (arith, c .before .if2 .left)) (omega (arith, c .if3 .taken)))
 
 cast-add : tie.Need-cast-add Inv-loop μ-loop
@@ -88,7 +88,7 @@ loop-less-2 c = search needs
 loop-again-2 : tie.Need-loop-again-2 Inv-loop μ-loop
 loop-again-2 c = (
   search needs,
-  choosing-add (c .before .before .before .before .before .before .before .before .before .before .before .before .before .before .before .args .table .now) (c .before .before .before .before .before .before .before .before .before .before .before .before .before .before .before .args .framed) (c .before .before .before .before .before .before .before .before .before .before .before .before .before .before .before .args .deferred .now) _ (c .before .before .before .before .before .before .before .before .before .before .loop .inv .1) (c .before .before .before .before .before .before .before .before .before .loop-test .taken)
+  choosing-add (c .before .before .before .before .before .before .before .before .before .before .before .before .before .before .before .args .partner) (c .before .before .before .before .before .before .before .before .before .before .before .before .before .before .before .args .table .now) (c .before .before .before .before .before .before .before .before .before .before .before .before .before .before .before .args .framed) (c .before .before .before .before .before .before .before .before .before .before .before .before .before .before .before .args .deferred .now) _ (c .before .before .before .before .before .before .before .before .before .before .loop .inv .1) (c .before .before .before .before .before .before .before .before .before .loop-test .taken)
       (rw (← c .before .before .before .before .before .before .before .before .entry .ensures, ← c .before .before .before .before .before .before .before .byte-at .ensures, ← c .before .before .before .before .before .before .wanted .ensures) (not-false _ (c .before .before .before .before .before .if1 .left)))
       (omega (arith, c .before .before .if2 .left)) (omega (arith, c .before .if3 .left)) (c .add .ensures) (rw (c .before .before .before .before .number4 .ensures, c .before .before .before .before .before .before .before .before .entry .ensures))
       (rw (c .before .before .before .before .number4 .ensures, c .before .before .before .before .before .before .before .before .entry .ensures) (size-small (c .before .before .before .before .before .before .before .before .before .before .before .before .before .before .before .args .table .now) (c .before .before .before .before .before .before .before .before .before .before .loop .i) recordSizeAt (λ k. omega (arith, c .before .before .before .before .before .before .before .before .before .before .before .before .before .before .shared-slice-known .given k)))),
@@ -96,7 +96,7 @@ loop-again-2 c = (
 
 returns-3 : tie.Need-returns-3 Inv-loop μ-loop
 returns-3 c =
-    chosen-now (c .before .before .before .before .before .before .args .table .now) (c .before .before .before .before .before .before .args .framed) (c .before .before .before .before .before .before .args .deferred .now) _ (c .before .before .before .records .ensures) (c .before .loop .inv .1) (block-end (c .before .before .before .before .before .before .args .table .now) (c .before .before .before .before .before .before .args .framed) (c .before .before .before .before .before .before .args .deferred .now) _ _ _ _ (c .loop-test .left))
+    chosen-now (c .before .before .before .before .before .before .args .partner) (c .before .before .before .before .before .before .args .table .now) (c .before .before .before .before .before .before .args .framed) (c .before .before .before .before .before .before .args .deferred .now) _ (c .before .before .before .records .ensures) (c .before .loop .inv .1) (block-end (c .before .before .before .before .before .before .args .partner) (c .before .before .before .before .before .before .args .table .now) (c .before .before .before .before .before .before .args .framed) (c .before .before .before .before .before .before .args .deferred .now) _ _ _ _ (c .loop-test .left))
 
 pub choose-spec : {M : Type 1} → statement M
 choose-spec =

@@ -25,7 +25,7 @@ fn log(pieces: &[Piece<'_>]) -> Log {
     {
         buffers.add(&Letter::new(Mode::Plain, line, title, b"text"));
     }
-    let (_, memory) = open(0, &buffers.lent()).expect("accepted");
+    let (_, memory) = open(0, 0, &buffers.lent()).expect("accepted");
     let mut trace = Trace::new();
     for piece in pieces {
         match piece {
@@ -33,7 +33,7 @@ fn log(pieces: &[Piece<'_>]) -> Log {
             Them(bytes) => trace.consumed(bytes),
         }
     }
-    read(false, &memory.table, &memory.stores, &trace)
+    read(With { we_called: false, partner: 0 }, &memory.table, &memory.stores, &trace)
 }
 
 /// The states after our block is out and these pieces followed.

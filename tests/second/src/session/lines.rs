@@ -102,7 +102,7 @@ impl Session {
     fn mark_sent(&mut self, memory: &mut Memory) {
         self.turns += 1;
         for place in self.sent.drain(..) {
-            memory.table[place].state = State::Forwarded;
+            memory.table[place].states[self.partner] = State::Forwarded;
         }
     }
 
@@ -115,7 +115,7 @@ impl Session {
         for (&place, sign) in proposed.iter().zip(signs) {
             match sign {
                 Sign::Accept => self.send(memory, place),
-                Sign::Decline => memory.table[place].state = State::Declined,
+                Sign::Decline => memory.table[place].states[self.partner] = State::Declined,
                 Sign::Defer => self.deferred.push(place),
             }
         }

@@ -3,7 +3,8 @@
 use super::{Phase, Reply, Role, Session};
 use crate::field::{is_bid, same_bid};
 use crate::layout::{self, KNOWN_BYTES, MESSAGE_BYTES, RECORD_BYTES, SESSION_BYTES};
-use crate::memory::{Memory, Record, Sizes, Stores, KNOWN_LIMIT, MESSAGE_LIMIT, RECORD_LIMIT};
+use crate::memory::{Memory, Record, Sizes, Stores};
+use crate::memory::{KNOWN_LIMIT, MESSAGE_LIMIT, PARTNERS, RECORD_LIMIT};
 use crate::sid::{self, Level, Mode};
 
 /// The buffers that a host lends, as bytes. Of session memory only the size
@@ -36,9 +37,13 @@ impl Lent<'_> {
 }
 
 /// "Open checks role (0 called, 1 caller), sizes and known BIDs first, then
-/// records in order". Gives the session and the memory that it works on, or the
-/// refusal.
-pub fn open(role: u8, lent: &Lent<'_>) -> Result<(Session, Memory), Reply> {
+/// records in order"; "partner 8 or more gets 1 with place 255, tested first". Gives the
+/// session and the memory that it works on, or the refusal.
+pub fn open(role: u8, partner: u8, lent: &Lent<'_>) -> Result<(Session, Memory), Reply> {
+    let partner = usize::from(partner);
+    if partner >= PARTNERS {
+        return Err(Reply::BAD_BUFFERS);
+    }
     let role = Role::read(role).ok_or(Reply::BAD_BUFFERS)?;
     let sizes = lent.sizes();
     if !are_valid(&sizes) {
@@ -53,7 +58,7 @@ pub fn open(role: u8, lent: &Lent<'_>) -> Result<(Session, Memory), Reply> {
     let table = read_table(lent.table, &stores)?;
     let inbox = lent.inbox.chunks(MESSAGE_BYTES).map(layout::read_message).collect();
     let store = lent.store.to_vec();
-    Ok((start(role, sizes), Memory { sizes, table, stores, known, inbox, store }))
+    Ok((start(role, partner, sizes), Memory { sizes, table, stores, known, inbox, store }))
 }
 
 /// "Sizes are bad exactly if a limit above is passed, a buffer of entries holds
@@ -92,13 +97,14 @@ fn read_table(bytes: &[u8], stores: &Stores) -> Result<Vec<Record>, Reply> {
 
 /// "Called: we send it, CR, `>`, CR, and await the caller's SID [...]. Caller: we
 /// await the SID".
-fn start(role: Role, sizes: Sizes) -> Session {
+fn start(role: Role, partner: usize, sizes: Sizes) -> Session {
     let waiting = match role {
         Role::Called => [sid::OURS, b"\r>\r"].concat(),
         Role::Caller => Vec::new(),
     };
     Session {
         role,
+        partner,
         sizes,
         phase: Phase::Sid,
         mode: Mode::Plain,

@@ -28,7 +28,7 @@ impl Session {
 
     /// The places of the records in our next block. "We propose waiting records
     /// in table order: form 0 in plain mode, 1 and 2 in framed mode, none
-    /// deferred in this session."
+    /// deferred in this session." They wait for the session's partner.
     fn block(&self, memory: &Memory) -> Vec<usize> {
         let in_mode = |record: &Record| match record.envelope.form {
             Form::Plain => self.mode == Mode::Plain,
@@ -36,7 +36,9 @@ impl Session {
         };
         let may = |place: &usize| {
             let record = &memory.table[*place];
-            record.state == State::Waiting && in_mode(record) && !self.deferred.contains(place)
+            record.states[self.partner] == State::Waiting
+                && in_mode(record)
+                && !self.deferred.contains(place)
         };
         let mut places: Vec<usize> = (0..memory.table.len()).filter(may).collect();
         let sizes: Vec<u32> = places.iter().map(|&place| memory.table[place].size).collect();

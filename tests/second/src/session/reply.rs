@@ -11,7 +11,7 @@ pub struct Reply {
 }
 
 impl Reply {
-    /// "255 for role, sizes, known BIDs or changed memory"
+    /// "255 for role, sizes, known BIDs or changed memory", and for the partner
     pub const BAD_BUFFERS: Reply = Reply::bad_memory(255);
 
     /// "no refusal"

@@ -4,6 +4,7 @@ mod answers;
 mod end;
 mod opening;
 mod papers;
+mod partners;
 mod reasons;
 mod received;
 mod refusals;

@@ -1,6 +1,6 @@
 //! "Our answer, per proposal in order".
 
-use super::end::{plain_table, End};
+use super::end::{plain_table, state_at, End, PARTNER};
 use crate::host::Buffers;
 
 /// Proposals of these BIDs and sizes, and `F>`.
@@ -25,8 +25,8 @@ fn signs(end: &mut End, proposals: &[(&str, u32)]) -> String {
 fn copies_are_declined() {
     let mut buffers = plain_table(&[1, 1, 1]);
     buffers.know(b"7_KNOWN");
-    buffers.table[89] = 1;
-    buffers.table[2 * 89] = 2;
+    buffers.table[state_at(1, PARTNER)] = 1;
+    buffers.table[state_at(2, PARTNER)] = 2;
     let mut end = End::called(&buffers);
     let first = [("1_US", 5), ("2_US", 5), ("3_US", 5), ("7_KNOWN", 5), ("1_US ", 5)];
     assert_eq!(signs(&mut end, &first), "-----");

@@ -1,13 +1,21 @@
 //! One end of a session under test.
 
 use crate::host::{Buffers, Letter};
-use crate::log::{self, Kept, Trace};
+use crate::layout::RECORD_BYTES;
+use crate::log::{self, Kept, Trace, With};
 use crate::memory::{Memory, Record, State};
 use crate::session::{open, Reply, Session};
 use crate::sid::Mode;
 
 pub const CALLED: u8 = 0;
 pub const CALLER: u8 = 1;
+/// Whom the sessions of these tests are with.
+pub const PARTNER: u8 = 5;
+
+/// Where the table has this partner's state of a record.
+pub fn state_at(record: usize, partner: u8) -> usize {
+    RECORD_BYTES * record + usize::from(partner)
+}
 
 /// Our end, its memory, and all that went over the link.
 #[derive(Clone)]
@@ -21,7 +29,11 @@ pub struct End {
 
 impl End {
     pub fn open(role: u8, buffers: &Buffers) -> End {
-        let (session, memory) = open(role, &buffers.lent()).expect("an accepted open");
+        End::with(PARTNER, role, buffers)
+    }
+
+    pub fn with(partner: u8, role: u8, buffers: &Buffers) -> End {
+        let (session, memory) = open(role, partner, &buffers.lent()).expect("an accepted open");
         let opened = memory.table.clone();
         End { session, memory, role, opened, trace: Trace::new() }
     }
@@ -109,7 +121,12 @@ impl End {
     }
 
     pub fn states(&self) -> Vec<State> {
-        self.memory.table.iter().map(|record| record.state).collect()
+        self.column(self.session.partner())
+    }
+
+    /// The states of a partner, whoever the session is with.
+    pub fn column(&self, partner: usize) -> Vec<State> {
+        self.memory.table.iter().map(|record| record.states[partner]).collect()
     }
 
     /// The inbox up to its count.
@@ -128,9 +145,11 @@ impl End {
     /// log's states, and the inbox up to its count is the log's messages kept".
     fn check_log(&self) {
         let stores = &self.memory.stores;
-        let log = log::read(self.role == CALLER, &self.opened, stores, &self.trace);
+        let partner = self.session.partner();
+        let with = With { we_called: self.role == CALLER, partner };
+        let log = log::read(with, &self.opened, stores, &self.trace);
         let mut table = self.opened.clone();
-        table.iter_mut().zip(&log.states).for_each(|(record, &state)| record.state = state);
+        table.iter_mut().zip(&log.states).for_each(|(r, &state)| r.states[partner] = state);
         assert_eq!(self.memory.table, table);
         assert_eq!(self.kept(), log.kept);
     }

@@ -1,12 +1,17 @@
 //! Open: 1 with the place of the first bad record, or 255.
 
-use super::end::plain_table;
+use super::end::{plain_table, state_at, PARTNER};
 use crate::host::Buffers;
+use crate::layout::RECORD_BYTES;
 use crate::session::{open, Reply};
 
 /// The place of a refused open, `None` if it is accepted.
 fn place(role: u8, buffers: &Buffers) -> Option<u8> {
-    let refused = open(role, &buffers.lent()).err()?;
+    place_for(PARTNER, role, buffers)
+}
+
+fn place_for(partner: u8, role: u8, buffers: &Buffers) -> Option<u8> {
+    let refused = open(role, partner, &buffers.lent()).err()?;
     assert_eq!(refused, Reply { answer: 1, place: refused.place, count: 0 });
     Some(refused.place)
 }
@@ -20,6 +25,33 @@ fn changed(change: impl Fn(&mut Buffers)) -> Option<u8> {
 
 fn shorten(buffer: &mut Vec<u8>) {
     buffer.pop();
+}
+
+/// "partner 8 or more gets 1 with place 255, tested first": before a bad record, whose
+/// place is another.
+#[test]
+fn partners_are_0_to_7_tested_first() {
+    let good = plain_table(&[5]);
+    let mut bad = plain_table(&[5, 5]);
+    bad.table[state_at(1, 2)] = 3;
+    for partner in 0..=255 {
+        let (fine, worse) = if partner < 8 { (None, Some(1)) } else { (Some(255), Some(255)) };
+        assert_eq!(place_for(partner, 0, &good), fine, "{partner}");
+        assert_eq!(place_for(partner, 0, &bad), worse, "{partner}");
+        assert_eq!(place_for(partner, 2, &good), Some(255), "{partner}");
+    }
+}
+
+/// All eight columns are judged, whoever the session is with.
+#[test]
+fn a_state_over_2_is_bad_in_every_column() {
+    for (column, partner) in (0..8).flat_map(|column| (0..8).map(move |p| (column, p))) {
+        for (state, bad) in [(0, None), (1, None), (2, None), (3, Some(1)), (255, Some(1))] {
+            let mut buffers = plain_table(&[5, 5, 5]);
+            buffers.table[state_at(1, column)] = state;
+            assert_eq!(place_for(partner, 1, &buffers), bad, "{column} {partner} {state}");
+        }
+    }
 }
 
 #[test]
@@ -73,12 +105,12 @@ fn known_bids_obey_the_bid_rule() {
 #[test]
 fn the_first_bad_record_is_the_place() {
     for record in 0..3 {
-        let state = |buffers: &mut Buffers| buffers.table[89 * record] = 3;
+        let state = |buffers: &mut Buffers| buffers.table[state_at(record, PARTNER)] = 3;
         assert_eq!(changed(state), Some(record as u8));
     }
     let two = |buffers: &mut Buffers| {
-        buffers.table[89] = 3;
-        buffers.table[2 * 89] = 3;
+        buffers.table[state_at(1, 0)] = 3;
+        buffers.table[state_at(2, PARTNER)] = 3;
     };
     assert_eq!(changed(two), Some(1));
     let with_known = |buffers: &mut Buffers| {
@@ -95,8 +127,9 @@ fn the_first_bad_record_is_the_place() {
 /// within the known list, or of a table BID, are allowed."
 #[test]
 fn of_two_records_with_one_bid_the_later_is_bad() {
-    let bid =
-        |buffers: &mut Buffers, record: usize, digit: u8| buffers.table[89 * record + 57] = digit;
+    let bid = |buffers: &mut Buffers, record: usize, digit: u8| {
+        buffers.table[RECORD_BYTES * record + 64] = digit
+    };
     assert_eq!(changed(|buffers| bid(buffers, 2, b'1')), Some(2));
     assert_eq!(changed(|buffers| bid(buffers, 1, b'1')), Some(1));
     assert_eq!(changed(|buffers| (1..3).for_each(|record| bid(buffers, record, b'1'))), Some(1));
@@ -108,8 +141,8 @@ fn of_two_records_with_one_bid_the_later_is_bad() {
 #[test]
 fn of_two_records_with_one_bid_in_another_case_the_later_is_bad() {
     let bids = |buffers: &mut Buffers, spelt: [&[u8; 5]; 3]| {
-        for (entry, bid) in buffers.table.chunks_mut(89).zip(spelt) {
-            entry[56..62].copy_from_slice(&[&[5], &bid[..]].concat());
+        for (entry, bid) in buffers.table.chunks_mut(RECORD_BYTES).zip(spelt) {
+            entry[63..69].copy_from_slice(&[&[5], &bid[..]].concat());
         }
     };
     for (spelt, place) in [
@@ -131,35 +164,37 @@ fn record_bytes() {
         (0, 1, false),
         (0, 2, false),
         (0, 3, true),
-        (1, 1, false),
-        (1, 2, true), // form 2 has no name here
-        (1, 3, true),
-        (2, b'B', false),
-        (2, b'p', true),
-        (3, 0, true),
-        (3, 7, true),
-        (4, b'@', true),
-        (4, 0x7F, true),
+        (7, 2, false),
+        (7, 3, true),
+        (8, 1, false),
+        (8, 2, true), // form 2 has no name here
+        (8, 3, true),
+        (9, b'B', false),
+        (9, b'p', true),
         (10, 0, true),
-        (10, 39, true),
-        (11, b'.', true),
-        (49, 0, true),
-        (50, b'.', true),
+        (10, 7, true),
+        (11, b'@', true),
+        (11, 0x7F, true),
+        (17, 0, true),
+        (17, 39, true),
+        (18, b'.', true),
         (56, 0, true),
-        (56, 13, true),
-        (57, 0x20, true),
-        (57, 0xFF, false),
-        (72, 1, true),   // 16,777,221 announced
-        (71, 15, false), // 983,045
-        (71, 16, true),  // 1,048,581
-        (76, 1, true),   // the title starts far outside
-        (77, 0, true),
-        (77, 81, true),
-        (82, 1, true), // a name where the store has none
-        (78, 1, true),
-        (88, 1, true),
+        (57, b'.', true),
+        (63, 0, true),
+        (63, 13, true),
+        (64, 0x20, true),
+        (64, 0xFF, false),
+        (79, 1, true),   // 16,777,221 announced
+        (78, 15, false), // 983,045
+        (78, 16, true),  // 1,048,581
+        (83, 1, true),   // the title starts far outside
+        (84, 0, true),
+        (84, 81, true),
+        (89, 1, true), // a name where the store has none
+        (85, 1, true),
+        (95, 1, true),
     ] {
-        let change = |buffers: &mut Buffers| buffers.table[89 + offset] = value;
+        let change = |buffers: &mut Buffers| buffers.table[RECORD_BYTES + offset] = value;
         assert_eq!(changed(change), bad.then_some(1), "{offset} {value}");
     }
 }
@@ -177,7 +212,7 @@ fn headings_and_bodies_in_their_stores() {
     // 0x1A is allowed in a packed body.
     let packed = |buffers: &mut Buffers| {
         buffers.bodies[5] = 0x1A;
-        buffers.table[89 + 1] = 1;
+        buffers.table[RECORD_BYTES + 8] = 1;
     };
     assert_eq!(changed(packed), None);
 }

@@ -157,7 +157,7 @@ fn bytes_from_0x80_go_through_unchanged() {
 fn our_bytes_from_0x80_go_out_unchanged() {
     let mut buffers = packed_table(&[5]);
     buffers.titles = b"\xE9\xFF".to_vec();
-    buffers.table[56 + 1] = 0xE9;
+    buffers.table[63 + 1] = 0xE9;
     let mut end = End::called_framed(&buffers);
     end.hears(b"FF\r");
     end.says(b"FA P US THEM YOU \xE9_US 5\rF>\r");

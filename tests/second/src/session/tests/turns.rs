@@ -1,6 +1,7 @@
 //! Turns: who proposes what, and how a session ends.
 
-use super::end::{packed_table, plain_table, proposals, transfers, End, CALLER};
+use super::end::{packed_table, plain_table, proposals, state_at, transfers};
+use super::end::{End, CALLER, PARTNER};
 use crate::host::{Buffers, Letter};
 use crate::memory::State::{Declined, Forwarded, Waiting};
 use crate::session::Reply;
@@ -56,8 +57,8 @@ fn only_waiting_records_of_the_mode_are_proposed() {
     end.hears(b"FF\r");
     end.says(b"FB P US THEM YOU 3_US 1\rFA B US THEM YOU 4_US 1\rF>\r");
     // The first is forwarded and the second declined already.
-    buffers.table[0] = 1;
-    buffers.table[89] = 2;
+    buffers.table[state_at(0, PARTNER)] = 1;
+    buffers.table[state_at(1, PARTNER)] = 2;
     let mut end = End::called(&buffers);
     end.hears(b"FF\r");
     end.says(b"FQ\r");
