@@ -6,6 +6,8 @@
 mod calls;
 mod end;
 mod one_byte;
+#[cfg(feature = "words")]
+mod sums;
 mod timing;
 #[cfg(feature = "words")]
 mod words;
@@ -17,7 +19,8 @@ use second::transfer::writer::{write_framed, write_plain};
 use std::process::ExitCode;
 
 const USAGE: &str = "bench                        times, in tables
-bench --rows                 the rows that a tool can count: name, sides, body bytes
+bench --rows                 the rows that a tool can count: name, sides, and either body
+                             bytes or the call to count
 bench --play ROW SIDE TIMES  plays one side of a row so many times";
 
 /// The longest body. It holds no end mark, so that it serves both modes.
@@ -41,6 +44,8 @@ fn times() {
     {
         words::run();
         println!();
+        sums::run();
+        println!();
     }
     calls::run();
     println!();
@@ -49,11 +54,26 @@ fn times() {
 
 fn list() {
     for row in calls::rows() {
-        println!("{}|library|second|{}", row.name, row.bytes());
+        println!("{}|library|second|{}|", row.name, row.bytes());
     }
     for row in one_byte::rows() {
-        println!("{}|empty|full|", row.name);
+        println!("{}|empty|full||{}", row.name, row.symbol());
     }
+    #[cfg(feature = "words")]
+    for row in sums::rows() {
+        println!("{}|rounds|each||words_checksum*", row.name);
+    }
+}
+
+#[cfg(feature = "words")]
+fn play_sum(name: &str, side: &str, times: usize) -> bool {
+    let row = sums::rows().into_iter().find(|row| row.name == name);
+    row.map_or(false, |row| sums::play(&row, side, times))
+}
+
+#[cfg(not(feature = "words"))]
+fn play_sum(_name: &str, _side: &str, _times: usize) -> bool {
+    false
 }
 
 fn play(name: &str, side: &str, times: usize) -> bool {
@@ -61,6 +81,7 @@ fn play(name: &str, side: &str, times: usize) -> bool {
     let one_byte = one_byte::rows().into_iter().find(|row| row.name == name);
     calls.map_or(false, |row| calls::play(&row, side, times))
         || one_byte.map_or(false, |row| one_byte::play(&row, side, times))
+        || play_sum(name, side, times)
 }
 
 fn main() -> ExitCode {

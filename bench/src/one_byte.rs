@@ -34,6 +34,14 @@ impl Row {
         Row { name, call, reply: Reply::ok(1), empty, full }
     }
 
+    /// The library's function that is called.
+    pub fn symbol(&self) -> &'static str {
+        match self.call {
+            Call::Receive(_) => "fringemole_receive",
+            Call::Give => "fringemole_give",
+        }
+    }
+
     fn answers(self, answer: u8, place: u8) -> Row {
         Row { reply: Reply { answer, place, count: 0 }, ..self }
     }

@@ -1,17 +1,165 @@
--- The sum of a list's first bytes, one more at a time, modulo 256. Assumes nothing.
-use Prim.Native.Nat.{ℕ, _+_, _%_, _<_, _≤_}
-use mathlib.Core.Path.{_≡_}
+-- Sums of a list's bytes, by rounds of eight and one by one, modulo 256. Assumes nothing.
+use Prim.Native.Nat.{ℕ, suc, _+_, _-_, _%_, _<_, _≤_}
+use mathlib.Core.Path.{_≡_, refl, sym, ap, _∙_}
+use mathlib.Core.List.{[], _∷_, _++_}
+use native.Mathlib.Nat.{mod-add-mod, add-mod-mod}
 use native.Mathlib.Numerals.{add-one}
-use lib.ListN.{length, take, getD}
-use lib.Seq.{take-suc, take-all}
+use native.Mathlib.Omega.{arith}
+use lib.ListN.{length, take, drop, getD, length-drop, take-append-drop}
+use lib.Seq.{take-suc, take-all, take-add, take-take, drop-cons, drop-drop}
 use Rattle.grammar.specs.Bytes.{Bytes}
 use Rattle.grammar.specs.Transfers.{byteSum}
-use Rattle.grammar.proofs.TransferBack.{sum-wraps}
+use Rattle.grammar.proofs.TransferBack.{sum-snoc}
+use Rattle.checksum.specs.declared.Lanes.{Lanes}
+use Rattle.checksum.specs.declared.Four.{Four}
+use Rattle.checksum.specs.Lanes.{lanesSum, fourSum}
 
--- a turn of the loop: t is the sum of the first i bytes, modulo 256
-pub sum-more : (s : Bytes) (i t : ℕ) → i < length s → t ≡ byteSum (take i s) % 256 → (t + getD s i 0) % 256 ≡ byteSum (take (i + 1) s) % 256
-sum-more s i t h e = rw (add-one i, take-suc s i 0 h, sum-wraps (take i s) (getD s i 0), e)
+sum-append : (x y : Bytes) → byteSum (x ++ y) ≡ byteSum x + byteSum y
+sum-append [] y = omega arith
+sum-append (b ∷ x) y = rw (sum-append x y) (omega arith)
+
+-- ---------------------------------------------------------------- one by one
+
+pub starts : (t : ℕ) → t < 256 → t ≡ (t + 0) % 256
+starts t h = omega arith
+
+-- one byte more: r is t and the first i bytes
+pub byte-more : (s : Bytes) (i t r : ℕ) → i < length s → r ≡ (t + byteSum (take i s)) % 256 → (r + getD s i 0) % 256 ≡ (t + byteSum (take (i + 1) s)) % 256
+byte-more s i t r h e = rw (add-one i, take-suc s i 0 h, sum-snoc (take i s) (getD s i 0)) (omega arith)
 
 -- the loop's end
-pub sum-all : (s : Bytes) (i t : ℕ) → length s ≤ i → t ≡ byteSum (take i s) % 256 → t ≡ byteSum s % 256
-sum-all s i t h e = rw (take-all i s h) at e
+pub bytes-all : (s : Bytes) (i t r : ℕ) → length s ≤ i → r ≡ (t + byteSum (take i s)) % 256 → r ≡ (t + byteSum s) % 256
+bytes-all s i t r h e = rw (take-all i s h) at e
+
+-- ---------------------------------------------------------------- a round
+
+next : (s : Bytes) (k n : ℕ) → k < length s → byteSum (take (suc n) (drop k s)) ≡ getD s k 0 + byteSum (take n (drop (suc k) s))
+next s k n h = rw (drop-cons s k 0 h)
+
+eight : (s : Bytes) → 8 ≤ length s
+    → byteSum (take 8 s) ≡ getD s 0 0 + (getD s 1 0 + (getD s 2 0 + (getD s 3 0 + (getD s 4 0 + (getD s 5 0 + (getD s 6 0 + getD s 7 0))))))
+eight s h =
+    let a : byteSum (take 8 s) ≡ getD s 0 0 + byteSum (take 7 (drop 1 s)) = next s 0 7 (omega arith) in
+    let b : byteSum (take 7 (drop 1 s)) ≡ getD s 1 0 + byteSum (take 6 (drop 2 s)) = next s 1 6 (omega arith) in
+    let c : byteSum (take 6 (drop 2 s)) ≡ getD s 2 0 + byteSum (take 5 (drop 3 s)) = next s 2 5 (omega arith) in
+    let d : byteSum (take 5 (drop 3 s)) ≡ getD s 3 0 + byteSum (take 4 (drop 4 s)) = next s 3 4 (omega arith) in
+    let e : byteSum (take 4 (drop 4 s)) ≡ getD s 4 0 + byteSum (take 3 (drop 5 s)) = next s 4 3 (omega arith) in
+    let f : byteSum (take 3 (drop 5 s)) ≡ getD s 5 0 + byteSum (take 2 (drop 6 s)) = next s 5 2 (omega arith) in
+    let g : byteSum (take 2 (drop 6 s)) ≡ getD s 6 0 + byteSum (take 1 (drop 7 s)) = next s 6 1 (omega arith) in
+    let z : byteSum (take 1 (drop 7 s)) ≡ getD s 7 0 + 0 = next s 7 0 (omega arith) in
+    omega arith
+
+both : (p q x y : ℕ) → p % 256 ≡ x % 256 → q % 256 ≡ y % 256 → (p + q) % 256 ≡ (x + y) % 256
+both p q x y e f =
+    sym (mod-add-mod p 256 q) ∙ (ap (λ (n : ℕ). (n + q) % 256) e ∙ (mod-add-mod x 256 q
+    ∙ (sym (add-mod-mod x q 256) ∙ (ap (λ (n : ℕ). (x + n) % 256) f ∙ add-mod-mod x y 256))))
+
+lane : (p x y : ℕ) → p ≡ (x + y) % 256 → p % 256 ≡ (x + y) % 256
+lane p x y e = omega arith
+
+-- each lane takes its byte
+pub round-sum : (t r : Lanes) (s : Bytes) → 8 ≤ length s
+    → r .a ≡ (t .a + getD s 0 0) % 256 → r .b ≡ (t .b + getD s 1 0) % 256 → r .c ≡ (t .c + getD s 2 0) % 256 → r .d ≡ (t .d + getD s 3 0) % 256
+    → r .e ≡ (t .e + getD s 4 0) % 256 → r .f ≡ (t .f + getD s 5 0) % 256 → r .g ≡ (t .g + getD s 6 0) % 256 → r .h ≡ (t .h + getD s 7 0) % 256
+    → lanesSum r % 256 ≡ (lanesSum t + byteSum (take 8 s)) % 256
+unfolding lanesSum
+round-sum t r s n a b c d e f g h =
+    both _ _ _ _ (both _ _ _ _ (both _ _ _ _ (lane _ _ _ a) (lane _ _ _ b)) (both _ _ _ _ (lane _ _ _ c) (lane _ _ _ d)))
+    (both _ _ _ _ (both _ _ _ _ (lane _ _ _ e) (lane _ _ _ f)) (both _ _ _ _ (lane _ _ _ g) (lane _ _ _ h)))
+    ∙ rw (eight s n) (ap (λ (x : ℕ). x % 256) (omega arith))
+
+-- lanes added in pairs
+pub folded-sum : (t : Lanes)
+    → (((t .a + t .b) % 256 + (t .c + t .d) % 256) % 256 + ((t .e + t .f) % 256 + (t .g + t .h) % 256) % 256) % 256 ≡ lanesSum t % 256
+unfolding lanesSum
+folded-sum t = simp (mod-add-mod, add-mod-mod)
+
+-- ---------------------------------------------------------------- a turn
+
+-- the first eight of so many bytes, and the others
+round-of : (s : Bytes) (k n : ℕ) → byteSum (take (8 + n) (drop k s)) ≡ byteSum (take 8 (drop k s)) + byteSum (take n (drop (k + 8) s))
+round-of s k n =
+    ap (λ (x : Bytes). byteSum x) (take-add 8 n (drop k s))
+    ∙ (sum-append (take 8 (drop k s)) (take n (drop 8 (drop k s)))
+    ∙ ap (λ (x : Bytes). byteSum (take 8 (drop k s)) + byteSum (take n x)) (drop-drop 8 k s))
+
+-- the bytes that a slice from k on begins with
+from : (s : Bytes) (k t r : ℕ) → k + 8 ≤ length s → r % 256 ≡ (t + byteSum (take 8 (take (length s - k) (drop k s)))) % 256
+    → r % 256 ≡ (t + byteSum (take 8 (drop k s))) % 256
+from s k t r h e = let m : 8 ≤ length s - k = omega arith in rw (take-take 8 (length s - k) (drop k s) m) at e
+
+-- each set of lanes takes its round
+pub turn-sum : (f r : Four) (s : Bytes) → 32 ≤ length s
+    → lanesSum (r .t) % 256 ≡ (lanesSum (f .t) + byteSum (take 8 s)) % 256
+    → lanesSum (r .u) % 256 ≡ (lanesSum (f .u) + byteSum (take 8 (take (length s - 8) (drop 8 s)))) % 256
+    → lanesSum (r .v) % 256 ≡ (lanesSum (f .v) + byteSum (take 8 (take (length s - 16) (drop 16 s)))) % 256
+    → lanesSum (r .w) % 256 ≡ (lanesSum (f .w) + byteSum (take 8 (take (length s - 24) (drop 24 s)))) % 256
+    → fourSum r % 256 ≡ (fourSum f + byteSum (take 32 s)) % 256
+unfolding fourSum
+turn-sum f r s h t u v w =
+    let a : byteSum (take 32 s) ≡ byteSum (take 8 s) + byteSum (take 24 (drop 8 s)) = round-of s 0 24 in
+    let b : byteSum (take 24 (drop 8 s)) ≡ byteSum (take 8 (drop 8 s)) + byteSum (take 16 (drop 16 s)) = round-of s 8 16 in
+    let c : byteSum (take 16 (drop 16 s)) ≡ byteSum (take 8 (drop 16 s)) + byteSum (take 8 (drop 24 s)) = round-of s 16 8 in
+    both _ _ _ _
+    (both _ _ _ _ t (from s 8 (lanesSum (f .u)) (lanesSum (r .u)) (omega arith) u))
+    (both _ _ _ _ (from s 16 (lanesSum (f .v)) (lanesSum (r .v)) (omega arith) v) (from s 24 (lanesSum (f .w)) (lanesSum (r .w)) (omega arith) w))
+    ∙ rw (a, b, c) (ap (λ (x : ℕ). x % 256) (omega arith))
+
+pub four-empty : (f : Four) → lanesSum (f .t) ≡ 0 → lanesSum (f .u) ≡ 0 → lanesSum (f .v) ≡ 0 → lanesSum (f .w) ≡ 0 → fourSum f % 256 ≡ 0
+unfolding fourSum
+four-empty f t u v w = rw (t, u, v, w)
+
+-- sets of lanes added in pairs
+four-folded : (f : Four)
+    → ((lanesSum (f .t) % 256 + lanesSum (f .u) % 256) % 256 + (lanesSum (f .v) % 256 + lanesSum (f .w) % 256) % 256) % 256 ≡ fourSum f % 256
+unfolding fourSum
+four-folded f = simp (mod-add-mod, add-mod-mod)
+
+-- ---------------------------------------------------------------- any number of rounds
+
+-- Of m bytes left the next n are summed, a round or a turn: the lanes held t, and hold r.
+pub rounds-more : (s : Bytes) (i m n t r : ℕ) → n ≤ m → t % 256 ≡ byteSum (take i s) % 256 → r % 256 ≡ (t + byteSum (take n (take m (drop i s)))) % 256
+    → r % 256 ≡ byteSum (take (i + n) s) % 256
+rounds-more s i m n t r h e f =
+    rw (take-add i n s, sum-append (take i s) (take n (drop i s)))
+    ((rw (take-take n m (drop i s) h) at f) ∙ both t (byteSum (take n (drop i s))) (byteSum (take i s)) (byteSum (take n (drop i s))) e refl)
+
+-- the loop's end: f is what the lanes hold, r that beside t
+pub rounds-all : (s : Bytes) (i t u f r : ℕ) → length s ≤ i → u % 256 ≡ byteSum (take i s) % 256 → f ≡ u % 256 → r ≡ (t + f) % 256
+    → r ≡ (t + byteSum s) % 256
+rounds-all s i t u f r h e g k =
+    k ∙ (ap (λ (n : ℕ). (t + n) % 256) g ∙ (add-mod-mod t u 256 ∙ both t u t (byteSum s) refl (rw (take-all i s h) at e)))
+
+-- fewer bytes than a turn's
+pub turns-none : (s : Bytes) → length s < 32 → 0 ≡ byteSum (take (length s - length s % 32) s) % 256
+turns-none s h = let e : length s - length s % 32 ≡ 0 = omega arith in rw e
+
+-- the loop's end, and the lanes added in pairs
+pub turns-all : (s : Bytes) (i : ℕ) (l : Four) (a b c d p q r : ℕ) → i ≤ length s → i % 32 ≡ 0 → length s - 32 < i → fourSum l % 256 ≡ byteSum (take i s) % 256
+    → a ≡ lanesSum (l .t) % 256 → b ≡ lanesSum (l .u) % 256 → p ≡ (a + b) % 256
+    → c ≡ lanesSum (l .v) % 256 → d ≡ lanesSum (l .w) % 256 → q ≡ (c + d) % 256 → r ≡ (p + q) % 256
+    → r ≡ byteSum (take (length s - length s % 32) s) % 256
+turns-all s i l a b c d p q r h k n e A B P C D Q R =
+    let z : length s - length s % 32 ≡ i = omega arith in
+    rw z (R ∙ rw (P, Q, A, B, C, D) (four-folded l ∙ e))
+
+-- ---------------------------------------------------------------- turns, rounds and the rest
+
+-- whole turns alone
+pub turns-whole : (s : Bytes) (r : ℕ) → length s % 32 ≡ 0 → r ≡ byteSum (take (length s - length s % 32) s) % 256 → r ≡ byteSum s % 256
+turns-whole s r h e = rw (take-all (length s - length s % 32) s (omega arith)) at e
+
+parts : (x y z t r q : ℕ) → t ≡ x % 256 → r ≡ (t + y) % 256 → q ≡ (r + z) % 256 → q ≡ (x + y + z) % 256
+parts x y z t r q e f g = g ∙ rw (f, e, mod-add-mod x 256 y, mod-add-mod (x + y) 256 z)
+
+-- the bytes before i, those before j, the rest
+pub parts-sum : (s : Bytes) (i j t r q : ℕ) → i ≤ j → j ≤ length s → t ≡ byteSum (take i s) % 256 → r ≡ (t + byteSum (take (j - i) (drop i s))) % 256
+    → q ≡ (r + byteSum (take (length s - j) (drop j s))) % 256 → q ≡ byteSum s % 256
+parts-sum s i j t r q h k e f g =
+    let a : i + (j - i) ≡ j = omega arith in
+    let l : length (drop j s) ≤ length s - j = rw (length-drop j s) (omega arith) in
+    let x : byteSum (take j s) ≡ byteSum (take i s) + byteSum (take (j - i) (drop i s)) =
+    ap (λ (n : ℕ). byteSum (take n s)) (sym a) ∙ (ap (λ (y : Bytes). byteSum y) (take-add i (j - i) s) ∙ sum-append (take i s) (take (j - i) (drop i s))) in
+    let y : byteSum (take j s) + byteSum (drop j s) ≡ byteSum s = sym (sum-append (take j s) (drop j s)) ∙ ap (λ (y : Bytes). byteSum y) (take-append-drop j s) in
+    let z : byteSum (take i s) + byteSum (take (j - i) (drop i s)) + byteSum (drop j s) ≡ byteSum s = omega arith in
+    parts (byteSum (take i s)) (byteSum (take (j - i) (drop i s))) (byteSum (drop j s)) t r q e f (rw (take-all (length s - j) (drop j s) l) at g) ∙ ap (λ (n : ℕ). n % 256) z

@@ -1,19 +1,159 @@
-// The checksum of a framed transfer, by wrapping sums of bytes.
-ghost use Prim.Native.Nat.{_+_, _%_};
+// The checksum of a framed transfer, by wrapping sums of bytes: eight bytes a round, each into a lane, which is a sum of its own. Lanes don't
+// wait for one another, so the machine adds them side by side.
+ghost use Prim.Native.Nat.{_+_, _-_, _%_, _≤_};
 ghost use mathlib.Core.Path.{_≡_};
+ghost use lib.ListN.{length, take};
 ghost use Rattle.grammar.specs.Transfers.{byteSum, checksum};
+ghost use Rattle.checksum.specs.Lanes.{lanesSum, fourSum};
 
-// The sum of the bytes, modulo 256.
+// Bytes of a round.
+const ROUND: usize = 8;
+// Bytes of a turn: four rounds, each into lanes of its own.
+const TURN: usize = 32;
+
+// Eight lanes: the sums of each round's first bytes, of its second ones, and so on.
+struct Lanes {
+    a: u8,
+    b: u8,
+    c: u8,
+    d: u8,
+    e: u8,
+    f: u8,
+    g: u8,
+    h: u8,
+}
+
+// The lanes of a turn, a set for each of its rounds.
+struct Four {
+    t: Lanes,
+    u: Lanes,
+    v: Lanes,
+    w: Lanes,
+}
+
+fn add(a: u8, b: u8) -> u8
+    ensures { λ r. ⌜ r ≡ (a + b) % 256 ⌝ }
+{
+    std::num::wrapping_add_u8(a, b)
+}
+
+// The bytes one by one, added to t.
+pub fn each(t: u8, s: &[u8]) -> u8
+    ensures { λ r. ⌜ r ≡ (t + byteSum (now (s .entry))) % 256 ⌝ }
+{
+    let mut r = t;
+    let mut i = 0;
+    while i < s.len() {
+        r = add(r, s[i]);
+        i += 1;
+    }
+    r
+}
+
+// No byte summed yet.
+fn empty() -> Lanes
+    ensures { λ r. ⌜ lanesSum r ≡ 0 ⌝ }
+{
+    Lanes {
+        a: 0,
+        b: 0,
+        c: 0,
+        d: 0,
+        e: 0,
+        f: 0,
+        g: 0,
+        h: 0,
+    }
+}
+
+// The lanes after a round.
+fn round(t: Lanes, s: &[u8]) -> Lanes
+    requires { ⌜ 8 ≤ length (now s) ⌝ }
+    ensures { λ r. ⌜ lanesSum r % 256 ≡ (lanesSum t + byteSum (take 8 (now (s .entry)))) % 256 ⌝ }
+{
+    Lanes {
+        a: add(t.a, s[0]),
+        b: add(t.b, s[1]),
+        c: add(t.c, s[2]),
+        d: add(t.d, s[3]),
+        e: add(t.e, s[4]),
+        f: add(t.f, s[5]),
+        g: add(t.g, s[6]),
+        h: add(t.h, s[7]),
+    }
+}
+
+// The sum of the lanes.
+fn folded(t: Lanes) -> u8
+    ensures { λ r. ⌜ r ≡ lanesSum t % 256 ⌝ }
+{
+    let front = add(add(t.a, t.b), add(t.c, t.d));
+    let back = add(add(t.e, t.f), add(t.g, t.h));
+    add(front, back)
+}
+
+// The lanes of a turn after four rounds, each by its own.
+fn turn(f: Four, s: &[u8]) -> Four
+    requires { ⌜ 32 ≤ length (now s) ⌝ }
+    ensures { λ r. ⌜ fourSum r % 256 ≡ (fourSum f + byteSum (take 32 (now (s .entry)))) % 256 ⌝ }
+{
+    Four {
+        t: round(f.t, s),
+        u: round(f.u, &s[ROUND..]),
+        v: round(f.v, &s[2 * ROUND..]),
+        w: round(f.w, &s[3 * ROUND..]),
+    }
+}
+
+// The bytes of whole turns. The test is against the last place where a turn may begin: tested by what is left, the compiler unrolls the loop, and
+// the longest bodies take a tenth longer.
+fn turns(s: &[u8]) -> u8
+    ensures { λ r. ⌜ r ≡ byteSum (take (length (now (s .entry)) - length (now (s .entry)) % 32) (now (s .entry))) % 256 ⌝ }
+{
+    if s.len() < TURN {
+        return 0;
+    }
+    let last = s.len() - TURN;
+    let mut f = Four {
+        t: empty(),
+        u: empty(),
+        v: empty(),
+        w: empty(),
+    };
+    let mut i = 0;
+    while i <= last {
+        f = turn(f, &s[i..]);
+        i += TURN;
+    }
+    add(add(folded(f.t), folded(f.u)), add(folded(f.v), folded(f.w)))
+}
+
+// The bytes of whole rounds, added to t.
+fn rounds(t: u8, s: &[u8]) -> u8
+    requires { ⌜ length (now s) % 8 ≡ 0 ⌝ }
+    ensures { λ r. ⌜ r ≡ (t + byteSum (now (s .entry))) % 256 ⌝ }
+{
+    let mut u = empty();
+    let mut i = 0;
+    while i < s.len() {
+        u = round(u, &s[i..]);
+        i += ROUND;
+    }
+    add(t, folded(u))
+}
+
+// The sum of the bytes, modulo 256: whole turns, the rounds after them, and the last 0 to 7 bytes one by one. A whole block of 256 is turns alone.
 pub fn sum(s: &[u8]) -> u8
     ensures { λ r. ⌜ r ≡ byteSum (now (s .entry)) % 256 ⌝ }
 {
-    let mut t = 0u8;
-    let mut i = 0;
-    while i < s.len() {
-        t = std::num::wrapping_add_u8(t, s[i]);
-        i += 1;
+    let t = turns(s);
+    let rest = s.len() % TURN;
+    if rest == 0 {
+        return t;
     }
-    t
+    let whole = s.len() - s.len() % ROUND;
+    let u = rounds(t, &s[s.len() - rest..whole]);
+    each(u, &s[whole..])
 }
 
 // The byte that makes the sum of all data bytes plus itself 0 modulo 256.

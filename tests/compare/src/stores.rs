@@ -10,12 +10,15 @@ use second::buffer::put;
 use second::{record, transfer};
 
 const CHECKSUM: &str = "words_checksum";
+const CHECKSUM_EACH: &str = "words_checksum_each";
 const HEADING: &str = "words_heading";
 
 fn check_sum(run: &mut Run, data: &[u8]) -> Checked {
     run.tally.count(CHECKSUM);
     let input = || Input::new().bytes("data", data);
-    same(CHECKSUM, words::checksum(data), transfer::checksum(data), input)
+    same(CHECKSUM, words::checksum(data), transfer::checksum(data), input)?;
+    run.tally.count(CHECKSUM_EACH);
+    same(CHECKSUM_EACH, words::checksum_each(data), transfer::checksum(data), input)
 }
 
 fn check_heading(run: &mut Run, at: &HeadingAt<'_>, size: usize) -> Checked {

@@ -86,6 +86,7 @@ mod c {
             body_len: usize,
         ) -> usize;
         pub fn words_checksum(data: *const u8, n: usize) -> u8;
+        pub fn words_checksum_each(data: *const u8, n: usize) -> u8;
         pub fn words_heading(
             titles: *const u8,
             titles_len: usize,
@@ -289,6 +290,11 @@ pub fn write_framed(room: Room<'_>, heading: &[u8], body: &[u8]) -> usize {
 
 pub fn checksum(data: &[u8]) -> u8 {
     unsafe { c::words_checksum(data.as_ptr(), data.len()) }
+}
+
+/// The same, summed one byte at a time.
+pub fn checksum_each(data: &[u8]) -> u8 {
+    unsafe { c::words_checksum_each(data.as_ptr(), data.len()) }
 }
 
 /// The stores of titles and names, and a place in one of them.

@@ -1,53 +1,66 @@
--- The loop's invariant: t is the sum of the first i bytes, modulo 256. The measure is how many bytes are left.
-use Prim.Native.Nat.{_≤_, _-_, _%_}
-use mathlib.Core.Path.{_≡_, refl, _∙_}
+use Prim.Native.Nat.{_-_, _%_}
 use native.Mathlib.Omega.{arith}
-use lib.ListN.{length, take}
+use lib.ListN.{length}
 use borrow.Author.Needs.{needs}
-use Rattle.grammar.specs.Transfers.{byteSum}
-use Rattle.checksum.proofs.Laws.{sum-more, sum-all}
+use Rattle.checksum.proofs.Laws.{turns-whole, parts-sum}
 use Rattle.checksum.proofs.sum.Statement.{statement}
 use Rattle.checksum.proofs.sum.Tie as tie
 
-abbrev Inv-loop : tie.InvT-loop
-Inv-loop s t₀ i₀ t i = (i ≤ length s) × (t ≡ byteSum (take i s) % 256)
+turns-requires : tie.Need-turns-requires
+turns-requires c κs = search needs
 
-abbrev μ-loop : tie.MeasureT-loop
-μ-loop s t₀ i₀ t i = length s - i
+returns : tie.Need-returns
+returns c = turns-whole (c .before .before .before .args .s .now) _ (c .if1 .taken) (c .before .turns .ensures)
 
-loop-holds : tie.Need-loop-holds Inv-loop μ-loop
-loop-holds c = (search needs, refl)
+sub-whole : tie.Need-sub-whole
+sub-whole c = search needs
 
-shared-slice-read-wrapping-add-u8 : tie.Need-shared-slice-read-wrapping-add-u8 Inv-loop μ-loop
-shared-slice-read-wrapping-add-u8 c = search needs
+sub-rounds : tie.Need-sub-rounds
+sub-rounds c = search needs
 
-wrapping-add-u8-requires : tie.Need-wrapping-add-u8-requires Inv-loop μ-loop
-wrapping-add-u8-requires c κs = search needs
+sub-rounds-2 : tie.Need-sub-rounds-2
+sub-rounds-2 c = search needs
 
-add-i : tie.Need-add-i Inv-loop μ-loop
-add-i c = search needs
+part-rounds-start : tie.Need-part-rounds-start
+part-rounds-start c = search needs
 
-loop-less : tie.Need-loop-less Inv-loop μ-loop
-loop-less c = search needs
+part-rounds-end : tie.Need-part-rounds-end
+part-rounds-end c = search needs
 
-loop-again : tie.Need-loop-again Inv-loop μ-loop
-loop-again c =
-    let l = c .before .before .before .loop in
-    (search needs, c .wrapping-add-u8 .ensures ∙ sum-more (c .before .before .before .before .before .args .s .now) (l .i) (l .t) (omega arith) (l .inv .1))
+rounds-requires : tie.Need-rounds-requires
+rounds-requires c κs = search needs
 
-returns : tie.Need-returns Inv-loop μ-loop
-returns c = let l = c .before .loop in sum-all (c .before .before .before .args .s .now) (l .i) (l .t) (c .loop-test .left) (l .inv .1)
+sub-each : tie.Need-sub-each
+sub-each c = search needs
+
+part-each-start : tie.Need-part-each-start
+part-each-start c = search needs
+
+part-each-end : tie.Need-part-each-end
+part-each-end c = search needs
+
+each-requires : tie.Need-each-requires
+each-requires c κs = search needs
+
+returns-2 : tie.Need-returns-2
+returns-2 c =
+    let s = c .before .before .before .before .before .before .before .args .s .now in
+    parts-sum s (length s - length s % 32) (length s - length s % 8) _ _ _ (omega arith) (omega arith) (c .before .before .before .before .before .turns .ensures) (c .before .before .rounds .ensures) (c .each .ensures)
 
 pub sum-spec : {M : Type 1} → statement M
 sum-spec =
     tie.close
     (tie.spec
-    Inv-loop
-    μ-loop
-    loop-holds
-    shared-slice-read-wrapping-add-u8
-    wrapping-add-u8-requires
-    add-i
-    loop-less
-    loop-again
-    returns)
+    turns-requires
+    returns
+    sub-whole
+    sub-rounds
+    sub-rounds-2
+    part-rounds-start
+    part-rounds-end
+    rounds-requires
+    sub-each
+    part-each-start
+    part-each-end
+    each-requires
+    returns-2)

@@ -1,0 +1,2 @@
+-- The sum of the lanes. Definitions only: nothing is assumed.
+pub mod Lanes
