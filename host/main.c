@@ -7,6 +7,7 @@
 #include "options.h"
 #include "partners.h"
 #include "radio.h"
+#include "replay.h"
 #include "route.h"
 #include "serve.h"
 #include "stop.h"
@@ -49,6 +50,7 @@ static const struct command commands[] = {
     { "export", 1, 1, boxes_export },
     { "list", 0, 0, boxes_list },
     { "trace", 1, 9999, boxes_trace },
+    { "replay", 1, 1, replay_run },
     { "whitepages", 0, 9999, boxes_whitepages },
     { "home", 1, 1, boxes_home },
     { "sessions", 0, 0, boxes_sessions },

@@ -21,6 +21,7 @@ static const char commands_help[] =
     "  export FOLDER        write each message of the inbox to a file of its own\n"
     "  list                 show both boxes\n"
     "  trace BID|FILE..     show a message's way by its routing headers, copies side by side\n"
+    "  replay FILE          show what our node would have made of a capture; needs no base\n"
     "  whitepages FILE|BID..\n"
     "                       keep and show the home mailboxes that a mail of white pages names\n"
     "  home CALL            where CALL's mail goes, by the newest white page\n"
@@ -91,7 +92,7 @@ static const char options_help_text[] =
 
 static const char ends_help[] =
     "\n"
-    "--help and --version need no base.\n"
+    "--help, --version and replay need no base (one that is named replay: ./replay).\n"
     "\n"
     "Exit codes\n"
     "  0  done; a session ended by FQ\n"
@@ -230,10 +231,13 @@ static void defaults(struct options *options)
     options->drop_after = -1;
 }
 
-/* Base and command come first among the words that are no options; the others are moved together at the front of `words`. */
+/* Base and command come first among the words that are no options; the others are moved together at the front of `words`. A capture is
+ * replayed without a base. */
 static void take_word(struct options *options, char **words, char *word)
 {
-    if (!options->base)
+    if (!options->base && !options->command && !strcmp(word, "replay"))
+        options->command = word;
+    else if (!options->base && !options->command)
         options->base = word;
     else if (!options->command)
         options->command = word;

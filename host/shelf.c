@@ -47,7 +47,7 @@ static void put_part(uint8_t *at, size_t bytes, struct bytes *store, struct part
     bytes_add(store, part.at, part.n);
 }
 
-static struct message kept_message(const struct shelf *shelf, size_t place)
+struct message shelf_message(const struct shelf *shelf, size_t place)
 {
     const uint8_t *entry = shelf->inbox.at + place * FRINGEMOLE_ENTRY_SIZE;
     struct part heading = get_field(entry + FRINGEMOLE_ENTRY_HEADING);
@@ -159,7 +159,7 @@ static bool write_changes(const struct shelf *shelf, struct base *base, const st
             return false;
     }
     for (place = shelf->kept; place < shelf->session[FRINGEMOLE_SESSION_KEPT]; place++) {
-        struct message message = kept_message(shelf, place);
+        struct message message = shelf_message(shelf, place);
         if (!base_keep(base, &message, passage))
             return false;
     }

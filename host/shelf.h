@@ -33,6 +33,8 @@ bool shelf_save_deferred(const struct shelf *shelf, struct base *base, const str
 void shelf_unoffered(const struct shelf *shelf, size_t *plain, size_t *packed);
 void shelf_clear(struct shelf *shelf);
 
+/* A message that is kept; its fields lie on the shelf. */
+struct message shelf_message(const struct shelf *shelf, size_t place);
 size_t shelf_records(const struct shelf *shelf);
 struct part shelf_bid(const struct shelf *shelf, size_t place);
 
