@@ -29,7 +29,7 @@ def run(world, name, function, arguments):
         print(f"interop: {name}: FAILED\n  {failed}", flush=True)
         return False
     except Exception:
-        print(f"interop: {name}: FAILED\n{traceback.format_exc()}", flush=True)
+        print(f"interop: {name}: FAILED\n{traceback.format_exc()}{world.logs()}", flush=True)
         return False
     print(f"interop: {name}: ok ({time.monotonic() - start:.1f} s)", flush=True)
     return True

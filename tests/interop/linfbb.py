@@ -18,17 +18,25 @@ HEAD = re.compile(rb"(?:R:[^\r]*\r\n?)+\r\n?From: [^\r]*\r\n?To  : [^\r]*\r\n?\r
 
 
 CONSOLE_PATIENCE = 10  # seconds until the console shows what happens
+STARTS = 3  # so often a mailbox is begun until it greets
+LOG_SHOWN = 2000  # bytes of its log, where a case fails
+
+
+GIVEN = set()  # to mailboxes of this run, which don't all listen yet
 
 
 def free_port():
     """One where nobody listens, below those that the system gives to callers (32768 on Linux): it stays free while nobody listens there."""
     while True:
         port = random.randrange(20000, 32000)
+        if port in GIVEN:
+            continue
         try:
             listener(port).close()
-            return port
         except OSError:
-            pass
+            continue
+        GIVEN.add(port)
+        return port
 
 
 def partner_message(message):
@@ -39,7 +47,18 @@ def partner_message(message):
 
 class Box:
     def __init__(self, folder, name, comp="OK 3", fwd="OK 160", extra=""):
-        self.folder = os.path.join(folder, name)
+        """A mailbox that greets its callers. One that is up and hangs up on them instead is begun anew, on other ports: nothing can be tested on it."""
+        said = ""
+        for attempt in range(STARTS):
+            self.folder = os.path.join(folder, f"{name}-{attempt}" if attempt else name)
+            self.start(comp, fwd, extra)
+            if self.greets():
+                return
+            said = self.log()
+            self.stop()
+        raise RuntimeError("LinFBB hangs up on whoever calls it:\n" + said)
+
+    def start(self, comp, fwd, extra):
         self.port, self.call_port, self.console_port = free_port(), free_port(), free_port()
         self.console_word = "%016x" % random.SystemRandom().getrandbits(64)
         env = dict(os.environ, CONSOLE_PORT=str(self.console_port), CONSOLE_WORD=self.console_word, TELNET_PORT=str(self.port), CALL_PORT=str(self.call_port), FBBCOMP=comp, FBBFWD=fwd,
@@ -47,6 +66,20 @@ class Box:
         done = subprocess.run([SETUP, "start", self.folder], env=env, stdout=subprocess.PIPE, stderr=subprocess.PIPE)
         if done.returncode != 0:
             raise RuntimeError("LinFBB doesn't start: " + done.stderr.decode("latin-1"))
+
+    def greets(self):
+        try:
+            link = partner.login_call(self.port, None)
+            link.until(b"Callsign : ")
+            link.s.close()
+            return True
+        except (partner.Closed, partner.Silent, OSError):
+            return False
+
+    def log(self):
+        """The end of what LinFBB has said of itself."""
+        with open(os.path.join(self.folder, "xfbbd.log"), "rb") as file:
+            return file.read()[-LOG_SHOWN:].decode("latin-1")
 
     def stop(self):
         if os.path.exists(os.path.join(self.folder, "xfbbd.pid")):

@@ -41,6 +41,10 @@ class World:
         for box in self.boxes.values():
             box.stop()
 
+    def logs(self):
+        """What the mailboxes have said of themselves."""
+        return "".join(f"{name}: {box.log()}\n" for name, box in self.boxes.items())
+
     def node(self, *messages):
         """A node with a fresh base and these messages waiting."""
         self.nodes += 1
