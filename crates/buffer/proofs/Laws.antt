@@ -8,7 +8,7 @@ use native.Mathlib.Nat.{add-zero, sub-zero, zero-sub, suc-sub-suc, add-assoc, ze
 use native.Mathlib.Numerals.{add-one}
 use lib.Dec.{ltb}
 use lib.ListN.{length, take, drop, getD, set, length-append, length-take, length-drop, take-append-drop, drop-of-length-le}
-use lib.Seq.{take-at, drop-drop, drop-append-add, take-nil, drop-nil}
+use lib.Seq.{take-at, take-length, drop-drop, drop-append-add, take-nil, drop-nil}
 use borrow.Author.Tests.{lt-ltb, le-ltb, ltb-true, ltb-false}
 use Rattle.grammar.specs.Bytes.{Bytes}
 use Rattle.grammar.proofs.Basics.{to-end}
@@ -188,7 +188,7 @@ puts-then d c p q a b = (b .0 ∙ after-cursor d c p q a, b .1 ∙ after-bytes d
 pub puts-as : (d : Bytes) (c : Cursor) {p q : Bytes} {r : Cursor} {e : Bytes} → p ≡ q → Puts d c p r e → Puts d c q r e
 puts-as d c t a = rw (← t) a
 
--- ---------------------------------------------------------------- for `copy`, `fill` and `put`
+-- ---------------------------------------------------------------- for `copy`, `put_whole`, `fill` and `put`
 
 -- a turn of the loop that copies
 pub copy-more : (s d : Bytes) (i : ℕ) → i < length s → i < length d → set (take i s ++ drop i d) i (getD s i 0) ≡ take (suc i) s ++ drop (suc i) d
@@ -199,6 +199,15 @@ copy-more (x ∷ s) (y ∷ d) (suc i) h k = ap (λ (l : Bytes). x ∷ l) (copy-m
 
 pub copy-next : (s d e : Bytes) (i : ℕ) → e ≡ take i s ++ drop i d → i < length s → i < length d → set e i (getD s i 0) ≡ take (i + 1) s ++ drop (i + 1) d
 copy-next s d e i q h k = rw (q, add-one i) (copy-more s d i h k)
+
+-- nothing lies past a buffer's end
+past-end : (d : Bytes) (at : ℕ) → drop (length d - at) (drop at d) ≡ []
+past-end d at = drop-of-length-le (drop at d) {i = length d - at} (simp length-drop (omega arith))
+
+-- what `copy` did with the buffer from a place on and a whole text
+pub puts-whole : (d s : Bytes) (at : ℕ) (w : Bytes) → w ≡ take (length s) s ++ drop (length s) (take (length d - at) (drop at d))
+    → take at d ++ (w ++ drop (length d - at) (drop at d)) ≡ wrote d at s
+puts-whole d s at w f = rw (past-end d at, append-nil w, f, to-end d at, take-length s, drop-drop)
 
 take-min : (n : ℕ) (l : Bytes) → take (min n (length l)) l ≡ take n l
 take-min zero l = rw zero-min
@@ -221,9 +230,7 @@ module _ (d s : Bytes) (c : Cursor) (h : c .at < length d) (k : c .skip < length
 
   some-bytes : take (c .at) d ++ (w ++ drop (length d - c .at) (drop (c .at) d)) ≡ putBytes d c s
   unfolding putBytes
-  some-bytes =
-      let z : drop (length d - c .at) (drop (c .at) d) ≡ [] = drop-of-length-le (drop (c .at) d) {i = length d - c .at} (simp length-drop (omega arith)) in
-      rw (z, append-nil w, f, to-end d (c .at), to-end s (c .skip), drop-drop, same, count)
+  some-bytes = rw (past-end d (c .at), append-nil w, f, to-end d (c .at), to-end s (c .skip), drop-drop, same, count)
 
   pub puts-some : Puts d c s (cursor (c .at + n) 0) (take (c .at) d ++ (w ++ drop (length d - c .at) (drop (c .at) d)))
   puts-some = (some-cursor, some-bytes)

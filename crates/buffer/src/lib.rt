@@ -1,10 +1,11 @@
 // Text written into a part of a lent buffer: from a place to the end of the buffer at most, and resumed where an earlier give stopped.
-ghost use Prim.Native.Nat.{_≤_, min};
+use part::at_most;
+ghost use Prim.Native.Nat.{_+_, _≤_, min};
 ghost use mathlib.Core.Path.{_≡_};
 ghost use mathlib.Core.List.{[], _∷_, _++_};
 ghost use lib.ListN.{length, take, drop};
 ghost use Rattle.grammar.specs.Bytes.{CR, SP};
-ghost use Rattle.buffer.specs.Put.{Puts};
+ghost use Rattle.buffer.specs.Put.{wrote, Puts};
 
 // at: where the next byte goes. skip: how many bytes of the text are still to be passed over, since an earlier give has handed them out.
 pub struct Cursor {
@@ -28,14 +29,17 @@ fn copy(dst: &mut [u8], src: &[u8], n: usize)
 fn fill(dst: &mut [u8], src: &[u8]) -> usize
     ensures { λ r. ⌜ (r ≡ min (length (now (dst .entry))) (length (now (src .entry)))) × (now (dst .exit) ≡ take r (now (src .entry)) ++ drop r (now (dst .entry))) ⌝ }
 {
-    let room = dst.len();
-    let n = src.len();
-    if n <= room {
-        copy(dst, src, n);
-        return n;
-    }
-    copy(dst, src, room);
-    room
+    let n = at_most(dst.len(), src.len());
+    copy(dst, src, n);
+    n
+}
+
+// A whole text from a place on, where there is room for it.
+pub fn put_whole(buf: &mut [u8], at: usize, src: &[u8])
+    requires { ⌜ at + length (now src) ≤ length (now buf) ⌝ }
+    ensures { λ _. ⌜ now (buf .exit) ≡ wrote (now (buf .entry)) at (now (src .entry)) ⌝ }
+{
+    copy(&mut buf[at..], src, src.len());
 }
 
 // A text at the cursor: what of it isn't passed over and fits. A cursor at the buffer's end or past it writes nothing.

@@ -6,7 +6,7 @@ use native.Mathlib.Nat.{mod-add-mod, add-mod-mod}
 use native.Mathlib.Numerals.{add-one}
 use native.Mathlib.Omega.{arith}
 use lib.ListN.{length, take, drop, getD, length-drop, take-append-drop}
-use lib.Seq.{take-suc, take-all, take-add, take-take, drop-cons, drop-drop}
+use lib.Seq.{length-take-le, take-suc, take-all, take-add, take-take, drop-cons, drop-drop}
 use Rattle.grammar.specs.Bytes.{Bytes}
 use Rattle.grammar.specs.Transfers.{byteSum}
 use Rattle.grammar.proofs.TransferBack.{sum-snoc}
@@ -130,36 +130,47 @@ pub rounds-all : (s : Bytes) (i t u f r : ℕ) → length s ≤ i → u % 256 �
 rounds-all s i t u f r h e g k =
     k ∙ (ap (λ (n : ℕ). (t + n) % 256) g ∙ (add-mod-mod t u 256 ∙ both t u t (byteSum s) refl (rw (take-all i s h) at e)))
 
--- fewer bytes than a turn's
-pub turns-none : (s : Bytes) → length s < 32 → 0 ≡ byteSum (take (length s - length s % 32) s) % 256
-turns-none s h = let e : length s - length s % 32 ≡ 0 = omega arith in rw e
+-- where the loop of turns ends
+pub turns-end : (s : Bytes) (i : ℕ) → 32 ≤ length s → i ≤ length s → i % 32 ≡ 0 → length s - 32 < i → i ≡ length s - length s % 32
+turns-end s i h k m n = omega arith
 
--- the loop's end, and the lanes added in pairs
-pub turns-all : (s : Bytes) (i : ℕ) (l : Four) (a b c d p q r : ℕ) → i ≤ length s → i % 32 ≡ 0 → length s - 32 < i → fourSum l % 256 ≡ byteSum (take i s) % 256
+-- the lanes added in pairs
+pub turns-all : (s : Bytes) (i : ℕ) (l : Four) (a b c d p q r : ℕ) → fourSum l % 256 ≡ byteSum (take i s) % 256
     → a ≡ lanesSum (l .t) % 256 → b ≡ lanesSum (l .u) % 256 → p ≡ (a + b) % 256
     → c ≡ lanesSum (l .v) % 256 → d ≡ lanesSum (l .w) % 256 → q ≡ (c + d) % 256 → r ≡ (p + q) % 256
-    → r ≡ byteSum (take (length s - length s % 32) s) % 256
-turns-all s i l a b c d p q r h k n e A B P C D Q R =
-    let z : length s - length s % 32 ≡ i = omega arith in
-    rw z (R ∙ rw (P, Q, A, B, C, D) (four-folded l ∙ e))
+    → r ≡ byteSum (take i s) % 256
+turns-all s i l a b c d p q r e A B P C D Q R = R ∙ rw (P, Q, A, B, C, D) (four-folded l ∙ e)
 
 -- ---------------------------------------------------------------- turns, rounds and the rest
 
--- whole turns alone
-pub turns-whole : (s : Bytes) (r : ℕ) → length s % 32 ≡ 0 → r ≡ byteSum (take (length s - length s % 32) s) % 256 → r ≡ byteSum s % 256
-turns-whole s r h e = rw (take-all (length s - length s % 32) s (omega arith)) at e
+-- no byte
+pub none-more : (s : Bytes) (t : ℕ) → t < 256 → length s ≡ 0 → t ≡ (t + byteSum s) % 256
+none-more s t h e = bytes-all s 0 t t (omega arith) (starts t h)
 
-parts : (x y z t r q : ℕ) → t ≡ x % 256 → r ≡ (t + y) % 256 → q ≡ (r + z) % 256 → q ≡ (x + y + z) % 256
-parts x y z t r q e f g = g ∙ rw (f, e, mod-add-mod x 256 y, mod-add-mod (x + y) 256 z)
+-- fewer bytes than a turn's: nothing was summed before
+pub from-none : (n r : ℕ) → r ≡ (0 + n) % 256 → r ≡ n % 256
+from-none n r e = omega arith
 
--- the bytes before i, those before j, the rest
-pub parts-sum : (s : Bytes) (i j t r q : ℕ) → i ≤ j → j ≤ length s → t ≡ byteSum (take i s) % 256 → r ≡ (t + byteSum (take (j - i) (drop i s))) % 256
-    → q ≡ (r + byteSum (take (length s - j) (drop j s))) % 256 → q ≡ byteSum s % 256
-parts-sum s i j t r q h k e f g =
-    let a : i + (j - i) ≡ j = omega arith in
+-- the bytes of whole rounds are such
+pub whole-rounds : (s : Bytes) → length (take (length s - length s % 8) s) % 8 ≡ 0
+whole-rounds s = let h : length s - length s % 8 ≤ length s = omega arith in rw (length-take-le (length s - length s % 8) s h) (omega arith)
+
+-- the bytes before j, and those from j on
+two-parts : (s : Bytes) (j : ℕ) → byteSum (take j s) + byteSum (take (length s - j) (drop j s)) ≡ byteSum s
+two-parts s j =
     let l : length (drop j s) ≤ length s - j = rw (length-drop j s) (omega arith) in
-    let x : byteSum (take j s) ≡ byteSum (take i s) + byteSum (take (j - i) (drop i s)) =
-    ap (λ (n : ℕ). byteSum (take n s)) (sym a) ∙ (ap (λ (y : Bytes). byteSum y) (take-add i (j - i) s) ∙ sum-append (take i s) (take (j - i) (drop i s))) in
-    let y : byteSum (take j s) + byteSum (drop j s) ≡ byteSum s = sym (sum-append (take j s) (drop j s)) ∙ ap (λ (y : Bytes). byteSum y) (take-append-drop j s) in
-    let z : byteSum (take i s) + byteSum (take (j - i) (drop i s)) + byteSum (drop j s) ≡ byteSum s = omega arith in
-    parts (byteSum (take i s)) (byteSum (take (j - i) (drop i s))) (byteSum (drop j s)) t r q e f (rw (take-all (length s - j) (drop j s) l) at g) ∙ ap (λ (n : ℕ). n % 256) z
+    rw (take-all (length s - j) (drop j s) l) (sym (sum-append (take j s) (drop j s)) ∙ ap (λ (y : Bytes). byteSum y) (take-append-drop j s))
+
+-- rounds and the rest: r is t and the bytes before j, q r and those from j on
+pub rest-sum : (s : Bytes) (j t r q : ℕ) → r ≡ (t + byteSum (take j s)) % 256 → q ≡ (r + byteSum (take (length s - j) (drop j s))) % 256
+    → q ≡ (t + byteSum s) % 256
+rest-sum s j t r q e f =
+    f ∙ rw (e, mod-add-mod (t + byteSum (take j s)) 256 (byteSum (take (length s - j) (drop j s))))
+    (rw (← two-parts s j) (ap (λ (n : ℕ). n % 256) (omega arith)))
+
+-- turns and the rest: t are the bytes before j, where the turns end, q those and the rest
+pub turns-rest : (s : Bytes) (j t q : ℕ) → j ≡ length s - length s % 32 → t ≡ byteSum (take j s) % 256
+    → q ≡ (t + byteSum (take (j + length s % 32 - j) (drop j s))) % 256 → q ≡ byteSum s % 256
+turns-rest s j t q h e f =
+    let n : j + length s % 32 - j ≡ length s - j = omega arith in
+    f ∙ rw (n, e, mod-add-mod (byteSum (take j s)) 256 (byteSum (take (length s - j) (drop j s)))) (ap (λ (n : ℕ). n % 256) (two-parts s j))

@@ -31,6 +31,12 @@ struct Four {
     w: Lanes,
 }
 
+// The sum of the bytes before a place.
+struct Summed {
+    sum: u8,
+    at: usize,
+}
+
 fn add(a: u8, b: u8) -> u8
     ensures { λ r. ⌜ r ≡ (a + b) % 256 ⌝ }
 {
@@ -105,14 +111,12 @@ fn turn(f: Four, s: &[u8]) -> Four
     }
 }
 
-// The bytes of whole turns. The test is against the last place where a turn may begin: tested by what is left, the compiler unrolls the loop, and
-// the longest bodies take a tenth longer.
-fn turns(s: &[u8]) -> u8
-    ensures { λ r. ⌜ r ≡ byteSum (take (length (now (s .entry)) - length (now (s .entry)) % 32) (now (s .entry))) % 256 ⌝ }
+// The bytes of whole turns, of which there is one at least. The test is against the last place where a turn may begin: where the compiler can
+// tell the number of turns, it unrolls the loop, and sums of up to six turns take more.
+fn turns(s: &[u8]) -> Summed
+    requires { ⌜ 32 ≤ length (now s) ⌝ }
+    ensures { λ r. ⌜ (r .at ≡ length (now (s .entry)) - length (now (s .entry)) % 32) × (r .sum ≡ byteSum (take (r .at) (now (s .entry))) % 256) ⌝ }
 {
-    if s.len() < TURN {
-        return 0;
-    }
     let last = s.len() - TURN;
     let mut f = Four {
         t: empty(),
@@ -125,7 +129,8 @@ fn turns(s: &[u8]) -> u8
         f = turn(f, &s[i..]);
         i += TURN;
     }
-    add(add(folded(f.t), folded(f.u)), add(folded(f.v), folded(f.w)))
+    let sum = add(add(folded(f.t), folded(f.u)), add(folded(f.v), folded(f.w)));
+    Summed { sum: sum, at: i }
 }
 
 // The bytes of whole rounds, added to t.
@@ -142,18 +147,33 @@ fn rounds(t: u8, s: &[u8]) -> u8
     add(t, folded(u))
 }
 
-// The sum of the bytes, modulo 256: whole turns, the rounds after them, and the last 0 to 7 bytes one by one. A whole block of 256 is turns alone.
+// The bytes after whole turns, added to t: whole rounds, and the last 0 to 7 bytes one by one.
+fn rest(t: u8, s: &[u8]) -> u8
+    ensures { λ r. ⌜ r ≡ (t + byteSum (now (s .entry))) % 256 ⌝ }
+{
+    if s.len() == 0 {
+        return t;
+    }
+    if s.len() < ROUND {
+        return each(t, s);
+    }
+    let whole = s.len() - s.len() % ROUND;
+    let u = rounds(t, &s[..whole]);
+    each(u, &s[whole..])
+}
+
+// The sum of the bytes, modulo 256: whole turns and the rest. The rest ends where it does by a remainder, which tells the compiler that it is
+// shorter than a turn. s is lent on as `&s[..]`: so this function, which isn't inlined, is handed pointer and length in registers
+// (docs/PERFORMANCE.md, "Slices in registers").
 pub fn sum(s: &[u8]) -> u8
     ensures { λ r. ⌜ r ≡ byteSum (now (s .entry)) % 256 ⌝ }
 {
-    let t = turns(s);
-    let rest = s.len() % TURN;
-    if rest == 0 {
-        return t;
+    if s.len() < TURN {
+        return rest(0, &s[..]);
     }
-    let whole = s.len() - s.len() % ROUND;
-    let u = rounds(t, &s[s.len() - rest..whole]);
-    each(u, &s[whole..])
+    let x = turns(&s[..]);
+    let at = x.at;
+    rest(x.sum, &s[at..at + s.len() % TURN])
 }
 
 // The byte that makes the sum of all data bytes plus itself 0 modulo 256.

@@ -13,7 +13,7 @@ use borrow.Author.Tests.{eq-eqb, ne-eqb, lt-ltb, eqb-true, ltb-true}
 use Rattle.grammar.specs.Bytes.{Bytes, CTRLZ}
 use Rattle.grammar.specs.Transfers.{byteSum}
 use Rattle.grammar.proofs.Basics.{Lacks}
-use Rattle.buffer.specs.Put.{putBytes}
+use Rattle.buffer.specs.Put.{wrote}
 use Rattle.transfer_step.specs.declared.Reader.{Reader}
 use Rattle.transfer_step.specs.declared.Outcome.the-variants.{More}
 use Rattle.transfer_step.specs.Step.{reader, bodyStep, dataStep, stepAt, stepOf}
@@ -209,12 +209,9 @@ mark-end s i h = rw (drop-of-length-le s h) (omega arith)
 
 -- ---------------------------------------------------------------- for `carry`
 
--- what the buffer's writer leaves, where all bytes fit
-pub put-sets : (d : Bytes) (at : ℕ) (p : Bytes) → at + length p ≤ length d → putBytes d (record { at = at; skip = 0 }) p ≡ sets d at p
-unfolding putBytes
-put-sets d at p h =
-    rw (take-all (length d - at) p (omega arith))
-    (sym (sets-eq p d at h ∙ append-assoc (take at d) p (drop (at + length p) d)))
+-- what the buffer's writer leaves
+pub wrote-sets : (d : Bytes) (at : ℕ) (p : Bytes) → at + length p ≤ length d → wrote d at p ≡ sets d at p
+wrote-sets d at p h = sym (sets-eq p d at h ∙ append-assoc (take at d) p (drop (at + length p) d))
 
 -- the wrapping sums
 pub block-along : (r : Reader) (w : Bytes) (k s : ℕ) → r .place ≡ 7 → k ≡ byteSum w % 256 → s ≡ (r .sum + k) % 256
@@ -226,6 +223,11 @@ pub body-along : (r : Reader) (w : Bytes) → (r .place ≡ 7 → ⊥)
     → reader (r .place) (r .len) (r .head) (r .off) (r .left) (r .sum) (r .body + length w) ≡ along r w
 unfolding along
 body-along r w n = rw (ne-eqb (r .place) 7 n)
+
+-- one byte of a block
+pub byte-along : (r : Reader) (b s : ℕ) → r .place ≡ 7 → s ≡ (r .sum + b) % 256
+    → reader (r .place) (r .len) (r .head) (r .off) (r .left - 1) s (r .body + 1) ≡ along r (b ∷ [])
+byte-along r b s e g = block-along r (b ∷ []) (b % 256) s e (let z : b + 0 ≡ b = omega arith in rw z) (omega arith)
 
 -- ---------------------------------------------------------------- for a turn of the loop in `feed` that carries n bytes
 
@@ -279,3 +281,7 @@ module _ (room : ℕ) (r : Reader) (bs : Bytes) (n : ℕ) (e : n ≡ straightOf 
   all-run hd st st′ t f g =
       let k : n + 0 ≡ length bs = omega (arith, whole-run .within) in
       whole-run .feeds hd st ∙ rw (take-all n bs q, drop-of-length-le bs q, f, g, k)
+
+-- one byte is all
+pub one-byte : (bs : Bytes) → length bs ≡ 1 → bs ≡ getD bs 0 0 ∷ []
+one-byte bs h = drop-cons bs 0 0 (omega arith) ∙ ap (λ (l : Bytes). getD bs 0 0 ∷ l) (drop-of-length-le bs {i = 1} (omega arith))

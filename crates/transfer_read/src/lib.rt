@@ -1,10 +1,11 @@
 // A transfer read byte by byte, in any portions, into lent memory: its heading into an array of 80 bytes, its body into a store.
-use buffer::Cursor;
+use part::at_most;
 use transfer_step::Outcome;
 use transfer_step::Reader;
 use transfer_step::Stepped;
 use transfer_step::step;
 ghost use mathlib.Core.Path.{_≡_};
+ghost use mathlib.Core.List.{[], _∷_};
 ghost use Prim.Native.Nat.{_+_, _≤_, min};
 ghost use lib.ListN.{length};
 ghost use lib.Seq.{sets};
@@ -83,16 +84,6 @@ fn room_of(size: usize) -> u32
     BODY_LIMIT as u32
 }
 
-// The lesser of two numbers.
-fn least(a: usize, b: usize) -> usize
-    ensures { λ r. ⌜ r ≡ min a b ⌝ }
-{
-    if a < b {
-        return a;
-    }
-    b
-}
-
 // How many bytes stand before the first 0x1A; all of them where there is none.
 fn before_mark(s: &[u8]) -> usize
     ensures { λ r. ⌜ r ≡ beforeMark (now (s .entry)) ⌝ }
@@ -114,9 +105,9 @@ fn straight(r: Reader, rest: &[u8], room: u32) -> usize
     if room <= r.body {
         return 0;
     }
-    let most = least((room - r.body) as usize, rest.len());
+    let most = at_most((room - r.body) as usize, rest.len());
     if r.place == DATA {
-        return least(r.left as usize, most);
+        return at_most(r.left as usize, most);
     }
     if r.place == BODY {
         return before_mark(&rest[..most]);
@@ -129,17 +120,30 @@ fn carry(r: Reader, bytes: &[u8], store: &mut [u8]) -> Reader
     requires { ⌜ (r .body + length (now bytes) ≤ roomOf (now store)) × (r .place ≡ 7 → length (now bytes) ≤ r .left) ⌝ }
     ensures { λ t. ⌜ (t ≡ along r (now (bytes .entry))) × (now (store .exit) ≡ sets (now (store .entry)) (r .body) (now (bytes .entry))) ⌝ }
 {
-    let at = Cursor {
-        at: r.body as usize,
-        skip: 0,
-    };
-    buffer::put(store, at, bytes);
+    buffer::put_whole(store, r.body as usize, bytes);
     let n = bytes.len();
     let mut t = r;
     t.body = r.body + n as u32;
     if r.place == DATA {
         t.left = r.left - n as u16;
         t.sum = std::num::wrapping_add_u8(r.sum, checksum::sum(bytes));
+        return t;
+    }
+    t
+}
+
+// The same for one such byte, without the loops that many need: most links bring bytes one by one.
+fn carry_byte(r: Reader, b: u8, store: &mut [u8]) -> Reader
+    requires { ⌜ (r .body + 1 ≤ roomOf (now store)) × (r .place ≡ 7 → 1 ≤ r .left) ⌝ }
+    ensures { λ t. ⌜ (t ≡ along r (b ∷ [])) × (now (store .exit) ≡ sets (now (store .entry)) (r .body) (b ∷ [])) ⌝ }
+{
+    let at = r.body as usize;
+    store[at] = b;
+    let mut t = r;
+    t.body = r.body + 1;
+    if r.place == DATA {
+        t.left = r.left - 1;
+        t.sum = std::num::wrapping_add_u8(r.sum, b);
         return t;
     }
     t
@@ -196,6 +200,12 @@ pub fn run_on(r: Reader, bytes: &[u8], store: &mut [u8]) -> RunOn
         return RunOn {
             all: false,
             reader: r,
+        };
+    }
+    if bytes.len() == 1 {
+        return RunOn {
+            all: true,
+            reader: carry_byte(r, bytes[0], store),
         };
     }
     RunOn {

@@ -5,7 +5,7 @@ use lib.ListN.{length, take}
 use borrow.Author.Needs.{needs}
 use Rattle.grammar.specs.Transfers.{byteSum}
 use Rattle.checksum.specs.Lanes.{fourSum}
-use Rattle.checksum.proofs.Laws.{four-empty, rounds-more, turns-none, turns-all}
+use Rattle.checksum.proofs.Laws.{four-empty, rounds-more, turns-end, turns-all}
 use Rattle.checksum.proofs.turns.Statement.{statement}
 use Rattle.checksum.proofs.turns.Tie as tie
 
@@ -14,9 +14,6 @@ Inv-loop s last f₀ i₀ f i = (i ≤ length s) × (i % 32 ≡ 0) × (fourSum f
 
 abbrev μ-loop : tie.MeasureT-loop
 μ-loop s last f₀ i₀ f i = length s - i
-
-returns : tie.Need-returns Inv-loop μ-loop
-returns c = turns-none (c .before .before .args .s .now) (c .if1 .taken)
 
 sub-last : tie.Need-sub-last Inv-loop μ-loop
 sub-last c = search needs
@@ -49,7 +46,7 @@ turn-requires : tie.Need-turn-requires Inv-loop μ-loop
 turn-requires c κs = search needs
 
 add-i : tie.Need-add-i Inv-loop μ-loop
-add-i c = search (needs, c .before .before .before .before .before .before .before .before .before .before .good)
+add-i c = search (needs, c .before .before .before .before .before .before .before .before .before .good)
 
 loop-less : tie.Need-loop-less Inv-loop μ-loop
 loop-less c = search needs
@@ -57,7 +54,7 @@ loop-less c = search needs
 loop-again : tie.Need-loop-again Inv-loop μ-loop
 loop-again c =
     let l = c .before .before .before .loop in
-    let s = c .before .before .before .before .before .before .before .before .before .before .args .s .now in
+    let s = c .before .before .before .before .before .before .before .before .before .args .s .now in
     (search needs, search needs, rounds-more s (l .i) (length s - l .i) 32 (fourSum (l .f)) _ (search needs) (l .inv .2) (c .turn .ensures))
 
 folded-requires : tie.Need-folded-requires Inv-loop μ-loop
@@ -81,11 +78,15 @@ add-requires-2 c κs = search needs
 add-requires-3 : tie.Need-add-requires-3 Inv-loop μ-loop
 add-requires-3 c κs = search needs
 
-returns-2 : tie.Need-returns-2 Inv-loop μ-loop
-returns-2 c =
+returns : tie.Need-returns Inv-loop μ-loop
+returns c =
     let l = c .before .before .before .before .before .before .before .before .loop in
-    turns-all (c .before .before .before .before .before .before .before .before .before .before .before .before .before .before .before .args .s .now) (l .i) (l .f) _ _ _ _ _ _ _ (l .inv .0) (l .inv .1) (search needs) (l .inv .2)
-    (c .before .before .before .before .before .before .folded .ensures) (c .before .before .before .before .before .folded2 .ensures) (c .before .before .before .before .add .ensures) (c .before .before .before .folded3 .ensures) (c .before .before .folded4 .ensures) (c .before .add2 .ensures) (c .add3 .ensures)
+    let s = c .before .before .before .before .before .before .before .before .before .before .before .before .before .before .args .s .now in
+    let at : l .i ≡ length s - length s % 32 = turns-end s (l .i) (search needs) (l .inv .0) (l .inv .1) (search needs) in (
+      at,
+      turns-all s (l .i) (l .f) _ _ _ _ _ _ _ (l .inv .2)
+          (c .before .before .before .before .before .before .folded .ensures) (c .before .before .before .before .before .folded2 .ensures) (c .before .before .before .before .add .ensures) (c .before .before .before .folded3 .ensures) (c .before .before .folded4 .ensures) (c .before .add2 .ensures) (c .add3 .ensures),
+    )
 
 pub turns-spec : {M : Type 1} → statement M
 turns-spec =
@@ -93,7 +94,6 @@ turns-spec =
     (tie.spec
     Inv-loop
     μ-loop
-    returns
     sub-last
     empty-requires
     empty-requires-2
@@ -114,4 +114,4 @@ turns-spec =
     folded-requires-4
     add-requires-2
     add-requires-3
-    returns-2)
+    returns)

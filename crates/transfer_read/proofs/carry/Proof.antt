@@ -1,16 +1,16 @@
--- The store is what the buffer's writer leaves where all bytes fit (Runs, put-sets); the sum is a wrapping sum of wrapping sums (block-along).
+-- The store is what the buffer's writer leaves (Runs, wrote-sets); the sum is a wrapping sum of wrapping sums (block-along).
 use mathlib.Core.Path.{_∙_}
 use native.Mathlib.Omega.{arith}
-use Rattle.transfer_read.proofs.Runs.{put-sets, block-along, body-along}
+use Rattle.transfer_read.proofs.Runs.{wrote-sets, block-along, body-along}
 use borrow.Author.Needs.{needs}
 use Rattle.transfer_read.proofs.carry.Statement.{statement}
 use Rattle.transfer_read.proofs.carry.Tie as tie
 
-cast-t7 : tie.Need-cast-t7
-cast-t7 c = search needs
+cast-put-whole : tie.Need-cast-put-whole
+cast-put-whole c = search needs
 
-put-requires : tie.Need-put-requires
-put-requires c κs = search needs
+put-whole-requires : tie.Need-put-whole-requires
+put-whole-requires c κs = search needs
 
 cast-t : tie.Need-cast-t
 cast-t c = search needs
@@ -34,20 +34,20 @@ same-length : tie.Need-same-length
 same-length c = search needs
 
 returns : tie.Need-returns
-returns c = let a = c .before .before .before .before .before .before .before .before .before .before .before .before .before .args in (block-along (a .r) (a .bytes .now) (c .before .sum .result) (c .wrapping-add-u8 .result) (c .before .before .before .if1 .taken) (c .before .sum .ensures) (c .wrapping-add-u8 .ensures), c .before .before .before .before .before .before .before .before .put .ensures .1 ∙ put-sets (a .store .now) (a .r .body) (a .bytes .now) (search needs))
+returns c = let a = c .before .before .before .before .before .before .before .before .before .before .before .before .before .args in (block-along (a .r) (a .bytes .now) (c .before .sum .result) (c .wrapping-add-u8 .result) (c .before .before .before .if1 .taken) (c .before .sum .ensures) (c .wrapping-add-u8 .ensures), c .before .before .before .before .before .before .before .before .put-whole .ensures ∙ wrote-sets (a .store .now) (a .r .body) (a .bytes .now) (search needs))
 
 same-length-2 : tie.Need-same-length-2
 same-length-2 c = search needs
 
 returns-2 : tie.Need-returns-2
-returns-2 c = let a = c .before .before .before .before .before .before .before .before .before .before .args in (body-along (a .r) (a .bytes .now) (c .if1 .left), c .before .before .before .before .before .put .ensures .1 ∙ put-sets (a .store .now) (a .r .body) (a .bytes .now) (search needs))
+returns-2 c = let a = c .before .before .before .before .before .before .before .before .before .before .args in (body-along (a .r) (a .bytes .now) (c .if1 .left), c .before .before .before .before .before .put-whole .ensures ∙ wrote-sets (a .store .now) (a .r .body) (a .bytes .now) (search needs))
 
 pub carry-spec : {M : Type 1} → statement M
 carry-spec =
     tie.close
     (tie.spec
-    cast-t7
-    put-requires
+    cast-put-whole
+    put-whole-requires
     cast-t
     add-t
     cast-t-2

@@ -11,34 +11,34 @@ returns : tie.Need-returns
 unfolding straightOf
 returns c = rw (le-ltb _ _ (c .if1 .taken))
 
-sub-least : tie.Need-sub-least
-sub-least c = search needs
+sub-at-most : tie.Need-sub-at-most
+sub-at-most c = search needs
 
-cast-least : tie.Need-cast-least
-cast-least c = search needs
+cast-at-most : tie.Need-cast-at-most
+cast-at-most c = search needs
 
-least-requires : tie.Need-least-requires
-least-requires c κs = search needs
+at-most-requires : tie.Need-at-most-requires
+at-most-requires c κs = search needs
 
-cast-least-2 : tie.Need-cast-least-2
-cast-least-2 c = search needs
+cast-at-most-2 : tie.Need-cast-at-most-2
+cast-at-most-2 c = search needs
 
-least-requires-2 : tie.Need-least-requires-2
-least-requires-2 c κs = search needs
+at-most-requires-2 : tie.Need-at-most-requires-2
+at-most-requires-2 c κs = search needs
 
 returns-2 : tie.Need-returns-2
 unfolding straightOf
-returns-2 c = rw (lt-ltb _ _ (c .before .before .before .before .before .before .if1 .left), eq-eqb _ _ (c .before .before .if2 .taken), ← c .before .before .before .before .least .ensures) (c .least2 .ensures)
+returns-2 c = rw (lt-ltb _ _ (c .before .before .before .before .before .before .if1 .left), eq-eqb _ _ (c .before .before .if2 .taken), ← c .before .before .before .before .at-most .ensures) (c .at-most2 .ensures)
 
 slice-aggregate-before-mark : tie.Need-slice-aggregate-before-mark
-slice-aggregate-before-mark c = sym (length-take-le (c .before .before .before .before .before .least .result) (c .before .before .before .before .before .before .before .before .before .before .args .rest .now) (search needs))
+slice-aggregate-before-mark c = sym (length-take-le (c .before .before .before .before .before .at-most .result) (c .before .before .before .before .before .before .before .before .before .before .args .rest .now) (search needs))
 
 before-mark-requires : tie.Need-before-mark-requires
 before-mark-requires c κs = search needs
 
 returns-3 : tie.Need-returns-3
 unfolding straightOf
-returns-3 c = rw (lt-ltb _ _ (c .before .before .before .before .before .before .before .before .if1 .left), ne-eqb _ _ (c .before .before .before .before .if2 .left), eq-eqb _ _ (c .before .before .if3 .taken), ← c .before .before .before .before .before .before .least .ensures) (c .before-mark .ensures)
+returns-3 c = rw (lt-ltb _ _ (c .before .before .before .before .before .before .before .before .if1 .left), ne-eqb _ _ (c .before .before .before .before .if2 .left), eq-eqb _ _ (c .before .before .if3 .taken), ← c .before .before .before .before .before .before .at-most .ensures) (c .before-mark .ensures)
 
 returns-4 : tie.Need-returns-4
 unfolding straightOf
@@ -49,11 +49,11 @@ straight-spec =
     tie.close
     (tie.spec
     returns
-    sub-least
-    cast-least
-    least-requires
-    cast-least-2
-    least-requires-2
+    sub-at-most
+    cast-at-most
+    at-most-requires
+    cast-at-most-2
+    at-most-requires-2
     returns-2
     slice-aggregate-before-mark
     before-mark-requires
