@@ -95,7 +95,8 @@ fn is_bid_at(s: &[u8], at: usize, bid: &[u8]) -> bool
     same_from(s, at + 1, bid)
 }
 
-// One of the first n entries of this size, which have a BID at this place, has this one.
+// One of the first n entries of this size, which have a BID at this place, has this one. Not inlined, so slices are lent on as `&s[..]`, which
+// lets it have them in registers (docs/PERFORMANCE.md, "Slices in registers").
 pub fn has_bid(size: u8, s: &[u8], n: u16, at: u8, bid: &[u8]) -> bool
     requires { ⌜ at + 1 + bidMax ≤ size ⌝ }
     ensures { λ r. ⌜ r ≡ among (now (bid .entry)) (entries (fieldIn bidMax at) size (now (s .entry)) n) ⌝ }
@@ -105,7 +106,7 @@ pub fn has_bid(size: u8, s: &[u8], n: u16, at: u8, bid: &[u8]) -> bool
     let mut i = 0usize;
     let mut place = at as usize;
     while i < whole {
-        if is_bid_at(s, place, bid) {
+        if is_bid_at(&s[..], place, &bid[..]) {
             return true;
         }
         place += step;

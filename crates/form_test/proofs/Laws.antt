@@ -2,9 +2,9 @@
 use mathlib.Core.Path.{_≡_, refl, sym, ap, subst, _∙_}
 use mathlib.Core.Bool.{Bool, true, false, cond, not, _&&_, true≢false}
 use mathlib.Core.List.{List, _∷_}
-use Prim.Native.Nat.{ℕ, suc, _+_, _-_, _*_, _/_, _<_, _≤_}
+use Prim.Native.Nat.{ℕ, zero, suc, _+_, _-_, _*_, _/_, _%_, _<_, _≤_}
 use native.Mathlib.Omega.{arith}
-use native.Mathlib.Nat.{sub-zero}
+use native.Mathlib.Nat.{zero-add, add-zero}
 use native.Mathlib.Numerals.{add-one}
 use lib.Dec.{eqb, ltb, leb}
 use lib.ListN.{length, getD, take, drop, length-take, drop-of-length-le, List·getD-eq-default}
@@ -19,7 +19,7 @@ use Rattle.session_memory.specs.declared.Five.{Five}
 use Rattle.session_memory.specs.Session.{Session}
 use Rattle.places.specs.Places.{markAt, signsAt, entryLen}
 use Rattle.waiting.specs.Waiting.{waitingOf}
-use Rattle.waiting.specs.Pieces.{piecesOf}
+use Rattle.waiting.specs.Pieces.{joined, piecesOf}
 use Rattle.waiting.proofs.Pieces.{item-read, pieces-joined}
 use Rattle.give_place.specs.Located.{At, Located}
 use Rattle.give_place.specs.declared.Place.{Place}
@@ -28,26 +28,59 @@ use Rattle.form_test.specs.Form.{markOk, sameSizes, countsOk, usedFrom, 
 
 -- ---------------------------------------------------------------- store bytes of the messages kept
 
-pub used-start : (inbox : Bytes) (n : ℕ) → 0 + usedFrom inbox 0 (n - 0) ≡ usedFrom inbox 0 n
-used-start inbox n = let e = ap (λ (k : ℕ). usedFrom inbox 0 k) (sub-zero n) in omega arith
+-- m messages, and the n after them
+used-append : (inbox : Bytes) (i m n : ℕ) → usedFrom inbox i (m + n) ≡ usedFrom inbox i m + usedFrom inbox (i + m) n
+used-append inbox i zero n = rw (zero-add n, add-zero i) (omega arith)
+used-append inbox i (suc m) n =
+    let e : suc m + n ≡ suc (m + n) = omega arith in
+    let f : suc i + m ≡ i + suc m = omega arith in
+    rw (e, used-append inbox (suc i) m n, f) (omega arith)
 
-used-step : (inbox : Bytes) (i n : ℕ) → i < n
-    → usedFrom inbox i (n - i) ≡ bodyLength (entryAt entrySize inbox i) + usedFrom inbox (i + 1) (n - (i + 1))
-used-step inbox i n h =
-    let e : n - i ≡ suc (n - (i + 1)) = omega arith in
-    ap (λ (k : ℕ). usedFrom inbox i k) e ∙ ap (λ (k : ℕ). bodyLength (entryAt entrySize inbox i) + usedFrom inbox k (n - (i + 1))) (sym (add-one i))
+-- message i + k, and the n after it
+used-next : (inbox : Bytes) (i k n : ℕ) → usedFrom inbox (i + k) (suc n) ≡ bodyLength (entryAt entrySize inbox (i + k)) + usedFrom inbox (i + (k + 1)) n
+used-next inbox i k n = let e : suc (i + k) ≡ i + (k + 1) = omega arith in rw e
 
--- a turn of the loop: message i uses k bytes
-pub used-more : (inbox : Bytes) (i n total k : ℕ) → i < n → k ≡ bodyLength (entryAt entrySize inbox i)
-    → total + usedFrom inbox i (n - i) ≡ usedFrom inbox 0 n → total + k + usedFrom inbox (i + 1) (n - (i + 1)) ≡ usedFrom inbox 0 n
-used-more inbox i n total k h q e = let s = used-step inbox i n h in omega arith
+pairs : (a b c d e f g h : ℕ) → a + b + (c + d) + (e + f + (g + h)) ≡ a + (b + (c + (d + (e + (f + (g + (h + 0)))))))
+pairs a b c d e f g h = omega arith
 
-pub used-end : (inbox : Bytes) (i n total : ℕ) → n ≤ i → total + usedFrom inbox i (n - i) ≡ usedFrom inbox 0 n → total ≡ usedBy inbox n
+-- a round, added in pairs
+pub round-used : (inbox : Bytes) (i a b c d e f g h : ℕ) → a ≡ bodyLength (entryAt entrySize inbox i)
+    → b ≡ bodyLength (entryAt entrySize inbox (i + 1)) → c ≡ bodyLength (entryAt entrySize inbox (i + 2)) → d ≡ bodyLength (entryAt entrySize inbox (i + 3))
+    → e ≡ bodyLength (entryAt entrySize inbox (i + 4)) → f ≡ bodyLength (entryAt entrySize inbox (i + 5)) → g ≡ bodyLength (entryAt entrySize inbox (i + 6))
+    → h ≡ bodyLength (entryAt entrySize inbox (i + 7)) → a + b + (c + d) + (e + f + (g + h)) ≡ usedFrom inbox i 8
+round-used inbox i a b c d e f g h A B C D E F G H =
+    let z : usedFrom inbox i 8 ≡ bodyLength (entryAt entrySize inbox i) + usedFrom inbox (i + 1) 7 = rw (add-one i) in
+    let y : usedFrom inbox (i + 1) 7 ≡ bodyLength (entryAt entrySize inbox (i + 1)) + usedFrom inbox (i + 2) 6 = used-next inbox i 1 6 in
+    let x : usedFrom inbox (i + 2) 6 ≡ bodyLength (entryAt entrySize inbox (i + 2)) + usedFrom inbox (i + 3) 5 = used-next inbox i 2 5 in
+    let w : usedFrom inbox (i + 3) 5 ≡ bodyLength (entryAt entrySize inbox (i + 3)) + usedFrom inbox (i + 4) 4 = used-next inbox i 3 4 in
+    let v : usedFrom inbox (i + 4) 4 ≡ bodyLength (entryAt entrySize inbox (i + 4)) + usedFrom inbox (i + 5) 3 = used-next inbox i 4 3 in
+    let u : usedFrom inbox (i + 5) 3 ≡ bodyLength (entryAt entrySize inbox (i + 5)) + usedFrom inbox (i + 6) 2 = used-next inbox i 5 2 in
+    let t : usedFrom inbox (i + 6) 2 ≡ bodyLength (entryAt entrySize inbox (i + 6)) + usedFrom inbox (i + 7) 1 = used-next inbox i 6 1 in
+    let s : usedFrom inbox (i + 7) 1 ≡ bodyLength (entryAt entrySize inbox (i + 7)) + 0 = used-next inbox i 7 0 in
+    rw (z, y, x, w, v, u, t, s, ← A, ← B, ← C, ← D, ← E, ← F, ← G, ← H) (pairs a b c d e f g h)
+
+-- a turn of the loop of rounds: k rounds use total, the next one r
+pub rounds-used : (inbox : Bytes) (k total r : ℕ) → total ≡ usedFrom inbox 0 (8 * k) → r ≡ usedFrom inbox (8 * k) 8 → total + r ≡ usedFrom inbox 0 (8 * (k + 1))
+rounds-used inbox k total r e f =
+    let n : 8 * (k + 1) ≡ 8 * k + 8 = omega arith in
+    rw (n, used-append inbox 0 (8 * k) 8, zero-add (8 * k), e, f)
+
+-- a turn of the loop of messages: k of them and those before use total, the next one b
+pub added-used : (inbox : Bytes) (before i k total b : ℕ) → total ≡ before + usedFrom inbox i k → b ≡ bodyLength (entryAt entrySize inbox (i + k))
+    → total + b ≡ before + usedFrom inbox i (k + 1)
+added-used inbox before i k total b e f =
+    let s : usedFrom inbox (i + k) 1 ≡ bodyLength (entryAt entrySize inbox (i + k)) + 0 = refl in
+    rw (used-append inbox i k 1, e, f) (omega arith)
+
+-- the rounds and the last messages
+pub all-used : (inbox : Bytes) (k n total r : ℕ) → n / 8 ≤ k → k ≤ n / 8 → total ≡ usedFrom inbox 0 (8 * k) → r ≡ total + usedFrom inbox (n - n % 8) (n % 8)
+    → r ≡ usedBy inbox n
 unfolding usedBy
-used-end inbox i n total h e =
-    let z : n - i ≡ 0 = omega arith in
-    let y : usedFrom inbox i (n - i) ≡ 0 = ap (λ (k : ℕ). usedFrom inbox i k) z in
-    omega arith
+all-used inbox k n total r h l e f =
+    let m : 8 * k ≡ n - n % 8 = omega arith in
+    let p : n - n % 8 + n % 8 ≡ n = omega arith in
+    let q : usedFrom inbox 0 (n - n % 8 + n % 8) ≡ usedFrom inbox 0 (n - n % 8) + usedFrom inbox (0 + (n - n % 8)) (n % 8) = used-append inbox 0 (n - n % 8) (n % 8) in
+    f ∙ rw (e, m) (sym (rw (p, zero-add (n - n % 8)) at q))
 
 -- ---------------------------------------------------------------- signs `+`
 
@@ -198,28 +231,60 @@ module _ (s : Session) (table titles names bodies : Bytes) where
     λ t. (t ∙ sym w, λ o. subst (λ (n : ℕ). At (piecesOf s table titles names bodies) n p) q (a .1 t)),
   )
 
--- ---------------------------------------------------------------- all but the last
+-- the same without the place
+module _ (s : Session) (table titles names bodies : Bytes) where
+  pub quiet-left : waits (s .say) ≡ false → true ≡ waitingOk s table titles names bodies
+  unfolding waitingOk
+  quiet-left w = rw w
 
--- five tests, and then a sixth
-pub and-last : (a b c d e w : Bool) → a && (b && (c && (d && (e && w)))) ≡ (a && (b && (c && (d && e)))) && w
-and-last false b c d e w = refl
-and-last true false c d e w = refl
-and-last true true false d e w = refl
-and-last true true true false e w = refl
-and-last true true true true e w = refl
+  pub pos-left : waits (s .say) ≡ true → {pos : ℕ} {l : Bool} → pos ≡ s .say .pos → l ≡ ltb pos (length (joined (piecesOf s table titles names bodies)))
+      → l ≡ waitingOk s table titles names bodies
+  unfolding waitingOk
+  pos-left w q e = rw w (e ∙ rw (pieces-joined s table titles names bodies, q))
 
--- the form test of a memory of the right size: x is all but what waits
-module _ (sm table titles names bodies known inbox store : Bytes) (n : length sm ≡ sessionSize) {x : Bool}
-    (q : x ≡ markOk sm && (sameSizes (loadSizes sm) (lentSizes table titles names bodies known inbox store) && (countsOk (loadOf sm) && (inboxOk (loadOf sm) inbox store && phaseOk (loadOf sm) inbox store)))) where
-  form-last : formOf sm table titles names bodies known inbox store ≡ x && waitingOk (loadOf sm) table titles names bodies
-  unfolding formOf stateOk
+-- ---------------------------------------------------------------- all but what waits
+
+-- three tests, three more, and then a seventh
+and-last : (s a b c d e w : Bool) → s && (a && (b && (c && (d && (e && w))))) ≡ (s && (a && b)) && ((c && (d && e)) && w)
+and-last false a b c d e w = refl
+and-last true false b c d e w = refl
+and-last true true false c d e w = refl
+and-last true true true false d e w = refl
+and-last true true true true false e w = refl
+and-last true true true true true e w = refl
+
+-- the first of them passed
+first-told : (a b : Bool) {x : Bool} → x ≡ a && b → not x ≡ false → a ≡ true
+first-told false b {x} q e = absurd (true≢false (sym (not-false x e) ∙ q))
+first-told true b q e = refl
+
+-- the form test: x is the size, mark and sizes, y the state but for what waits
+module _ (sm table titles names bodies known inbox store : Bytes) {x : Bool}
+    (q : x ≡ eqb (length sm) sessionSize && (markOk sm && sameSizes (loadSizes sm) (lentSizes table titles names bodies known inbox store))) where
+  rest : Bool
+  rest =
+      (countsOk (loadOf sm) && (inboxOk (loadOf sm) inbox store && phaseOk (loadOf sm) inbox store))
+      && waitingOk (loadOf sm) table titles names bodies
+
+  form-last : formOf sm table titles names bodies known inbox store ≡ x && rest
+  unfolding formOf stateOk rest
   form-last =
-      rw (eq-eqb (length sm) sessionSize n)
-      (and-last (markOk sm) (sameSizes (loadSizes sm) (lentSizes table titles names bodies known inbox store)) (countsOk (loadOf sm)) (inboxOk (loadOf sm) inbox store) (phaseOk (loadOf sm) inbox store) (waitingOk (loadOf sm) table titles names bodies)
-      ∙ ap (λ (b : Bool). b && waitingOk (loadOf sm) table titles names bodies) (sym q))
+      and-last (eqb (length sm) sessionSize) (markOk sm) (sameSizes (loadSizes sm) (lentSizes table titles names bodies known inbox store)) (countsOk (loadOf sm)) (inboxOk (loadOf sm) inbox store) (phaseOk (loadOf sm) inbox store) (waitingOk (loadOf sm) table titles names bodies)
+      ∙ ap (λ (b : Bool). b && rest) (sym q)
 
-  pub form-fails : not x ≡ true → false ≡ formOf sm table titles names bodies known inbox store
-  form-fails e = sym (form-last ∙ ap (λ (b : Bool). b && waitingOk (loadOf sm) table titles names bodies) (not-true x e))
+  pub lent-fails : not x ≡ true → false ≡ formOf sm table titles names bodies known inbox store
+  lent-fails e = sym (form-last ∙ ap (λ (b : Bool). b && rest) (not-true x e))
 
-  pub form-waits : not x ≡ false → {y : Bool} → y ≡ waitingOk (loadOf sm) table titles names bodies → y ≡ formOf sm table titles names bodies known inbox store
-  form-waits e f = f ∙ sym (form-last ∙ ap (λ (b : Bool). b && waitingOk (loadOf sm) table titles names bodies) (not-false x e))
+  pub size-told : not x ≡ false → length sm ≡ sessionSize
+  size-told e = eqb-true (length sm) sessionSize (first-told (eqb (length sm) sessionSize) (markOk sm && sameSizes (loadSizes sm) (lentSizes table titles names bodies known inbox store)) q e)
+
+  module _ (e : not x ≡ false) {y : Bool} (p : y ≡ countsOk (loadOf sm) && (inboxOk (loadOf sm) inbox store && phaseOk (loadOf sm) inbox store)) where
+    state-last : formOf sm table titles names bodies known inbox store ≡ y && waitingOk (loadOf sm) table titles names bodies
+    unfolding rest
+    state-last = form-last ∙ ap (λ (b : Bool). b && rest) (not-false x e) ∙ ap (λ (b : Bool). b && waitingOk (loadOf sm) table titles names bodies) (sym p)
+
+    pub state-fails : not y ≡ true → false ≡ formOf sm table titles names bodies known inbox store
+    state-fails f = sym (state-last ∙ ap (λ (b : Bool). b && waitingOk (loadOf sm) table titles names bodies) (not-true y f))
+
+    pub form-waits : not y ≡ false → {w : Bool} → w ≡ waitingOk (loadOf sm) table titles names bodies → w ≡ formOf sm table titles names bodies known inbox store
+    form-waits f g = g ∙ sym (state-last ∙ ap (λ (b : Bool). b && waitingOk (loadOf sm) table titles names bodies) (not-false y f))

@@ -53,7 +53,7 @@ fn block_length(k: u8, sm: &[u8], table: &[u8]) -> usize
     text_length::proposal(table, sm[places::OURS + k as usize])
 }
 
-// Piece k.
+// Piece k. Not inlined, so slices are lent on as `&sm[..]`, which lets it have them in registers (docs/PERFORMANCE.md, "Slices in registers").
 fn piece_length<'a>(
     k: u8,
     sm: &[u8],
@@ -66,21 +66,21 @@ fn piece_length<'a>(
     ensures { λ r. ⌜ r ≡ length (getD (piecesOf (loadOf (now (sm .entry))) (now (table .entry)) (now (titles .entry)) (now (names .entry)) (now (bodies .entry))) k []) ⌝ }
 {
     if k == 0 {
-        return first_length(sm);
+        return first_length(&sm[..]);
     }
     let then = sm[places::THEN];
     if then < phase::PIECE_BLOCK {
         return text_length::FIXED;
     }
     if then == phase::PIECE_BLOCK {
-        return block_length(k, sm, table);
+        return block_length(k, &sm[..], &table[..]);
     }
     text_length::transfer(
-        table,
+        &table[..],
         sm[places::SENDING + k as usize],
-        titles,
-        names,
-        bodies,
+        &titles[..],
+        &names[..],
+        &bodies[..],
     )
 }
 

@@ -2,6 +2,7 @@
 use mathlib.Core.Bool.{Bool}
 use Prim.Native.Nat.{ℕ}
 use lib.Dec.{ltb}
+use Rattle.grammar.specs.Turns as turns
 
 -- ---------------------------------------------------------------- what is awaited; from `phaseOver` on the session has ended
 
@@ -93,9 +94,9 @@ stateDeclined = 2
 
 -- ---------------------------------------------------------------- a block
 
--- "up to five messages before the direction turns"
+-- "up to five messages before the direction turns": the grammar's number, by this name for what session memory holds
 abbrev pub blockLimit : ℕ
-blockLimit = 5
+blockLimit = turns.blockLimit
 
 -- No proposal of a block: the place after its last.
 abbrev pub noProposal : ℕ

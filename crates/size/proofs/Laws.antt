@@ -10,7 +10,7 @@ use lib.ListN.{length, getD, drop, drop-of-length-le}
 use lib.Seq.{drop-cons}
 use Rattle.grammar.specs.Bytes.{Bytes, isSome}
 use Rattle.grammar.specs.Fields.{digit, isSize, readFrom, readSize, field}
-use Rattle.grammar.proofs.Basics.{field-is}
+use Rattle.grammar.proofs.Basics.{field-is, field-of}
 use Rattle.byte.specs.Classes.{classOf}
 use Rattle.byte.specs.declared.Class.{Class}
 use Rattle.byte.proofs.Laws.{all-get, digit-is}
@@ -20,17 +20,24 @@ pub size-is : (s : Bytes) → field (classOf Class.Digit) 9 s ≡ isSize s
 unfolding isSize classOf
 size-is s = refl
 
-module _ (s : Bytes) (v i : ℕ) (f : isSize s ≡ true) (h : i < length s) (b : v < 10 ^ i) where
-  pub num-digit : (48 ≤ getD s i 0) × (getD s i 0 ≤ 57)
-  unfolding isSize
-  num-digit = digit-is (getD s i 0) (all-get digit s i ((field-is digit 9 s f) .class) h)
+-- it has no more digits than a number may have, and what it says fits in 32 bits
+pub size-digits : (s : Bytes) → isSize s ≡ true → field digit 10 s ≡ true
+unfolding isSize
+size-digits s f = let t = field-is digit 9 s f in let m = t .most in field-of digit 10 s (t .class) (t .least) (omega arith)
 
-  pub num-small : v < 100000000
-  unfolding isSize
+pub size-fits : (s : Bytes) (n : ℕ) → isSize s ≡ true → n < 10 ^ length s → n < 1000000000
+unfolding isSize
+size-fits s n f h = let k : 10 ^ length s ≤ 10 ^ 9 = pow-le-pow-right (omega arith) ((field-is digit 9 s f) .most) in omega (arith, k)
+
+module _ (s : Bytes) (v i : ℕ) (f : field digit 10 s ≡ true) (h : i < length s) (b : v < 10 ^ i) where
+  pub num-digit : (48 ≤ getD s i 0) × (getD s i 0 ≤ 57)
+  num-digit = digit-is (getD s i 0) (all-get digit s i ((field-is digit 10 s f) .class) h)
+
+  pub num-small : v < 1000000000
   num-small =
-      let m = (field-is digit 9 s f) .most in
-      let h8 : i ≤ 8 = omega arith in
-      let k : 10 ^ i ≤ 10 ^ 8 = pow-le-pow-right (omega arith) h8 in
+      let m = (field-is digit 10 s f) .most in
+      let h9 : i ≤ 9 = omega arith in
+      let k : 10 ^ i ≤ 10 ^ 9 = pow-le-pow-right (omega arith) h9 in
       omega (arith, k)
 
   pub num-bound : v * 10 + (getD s i 0 - 48) < 10 ^ (i + 1)

@@ -1,9 +1,11 @@
-// An announced size: 1 to 9 digits.
+// Decimal numbers, and an announced size, which has 1 to 9 digits.
 use byte::Class;
 use field::is_field;
 ghost use mathlib.Core.Path.{_≡_};
 ghost use mathlib.Core.Bool.{true};
-ghost use Rattle.grammar.specs.Fields.{isSize, readFrom, readSize};
+ghost use Prim.Native.Nat.{_^_, _<_};
+ghost use lib.ListN.{length};
+ghost use Rattle.grammar.specs.Fields.{digit, field, readFrom, readSize};
 ghost use Rattle.size.specs.Meaning.{sizeIs, sizeNumber, fieldNumber};
 
 // The size that a field says, or that it says none.
@@ -13,16 +15,16 @@ pub enum Size {
 }
 
 // A byte as a number.
-fn wide(b: u8) -> u32
+fn wide(b: u8) -> u64
     ensures { λ r. ⌜ r ≡ b ⌝ }
 {
-    b as u32
+    b as u64
 }
 
-// The number of 1 to 9 digits.
-fn number(s: &[u8]) -> u32
-    requires { ⌜ isSize (now s) ≡ true ⌝ }
-    ensures { λ r. ⌜ r ≡ readFrom 0 (now (s .entry)) ⌝ }
+// The number of 1 to 10 digits.
+pub fn number(s: &[u8]) -> u64
+    requires { ⌜ field digit 10 (now s) ≡ true ⌝ }
+    ensures { λ r. ⌜ (r ≡ readFrom 0 (now (s .entry))) × (r < 10 ^ length (now (s .entry))) ⌝ }
 {
     let mut v = 0;
     let mut i = 0;
@@ -40,5 +42,5 @@ pub fn read_size(s: &[u8]) -> Size
     if !is_field(s, Class::Digit, 9) {
         return Size::Bad;
     }
-    Size::Value(number(s))
+    Size::Value(number(s) as u32)
 }

@@ -29,19 +29,19 @@ fn put_header(buf: &mut [u8], c: Cursor, heading: &[u8]) -> Cursor
     ensures { λ r. ⌜ Puts (now (buf .entry)) c (headerOut (now (heading .entry))) r (now (buf .exit)) ⌝ }
 {
     let n = heading.len();
-    let start = [1, length_byte(n % 256 + 3)];
-    let c1 = buffer::put(buf, c, &start);
-    let c2 = buffer::put(buf, c1, heading);
-    buffer::put(buf, c2, b"\x000\x00")
+    let c1 = buffer::put_byte(buf, c, 1);
+    let c2 = buffer::put_byte(buf, c1, length_byte(n % 256 + 3));
+    let c3 = buffer::put(buf, c2, heading);
+    buffer::put(buf, c3, b"\x000\x00")
 }
 
 // One block: 02, n, data.
 fn put_block(buf: &mut [u8], c: Cursor, bytes: &[u8]) -> Cursor
     ensures { λ r. ⌜ Puts (now (buf .entry)) c (2 ∷ length (now (bytes .entry)) % 256 ∷ now (bytes .entry)) r (now (buf .exit)) ⌝ }
 {
-    let start = [2, length_byte(bytes.len())];
-    let d = buffer::put(buf, c, &start);
-    buffer::put(buf, d, bytes)
+    let d = buffer::put_byte(buf, c, 2);
+    let e = buffer::put_byte(buf, d, length_byte(bytes.len()));
+    buffer::put(buf, e, bytes)
 }
 
 // Where the block that starts at i ends.
@@ -127,13 +127,14 @@ fn put_end(buf: &mut [u8], c: Cursor, body: &[u8]) -> Cursor
     buffer::put_byte(buf, d, checksum::checksum(body))
 }
 
-// A framed transfer: header, blocks of 256 data bytes and a shorter last one, 04, checksum.
+// A framed transfer: header, blocks of 256 data bytes and a shorter last one, 04, checksum. Not inlined, so slices are lent on as `&body[..]`,
+// which lets it have them in registers (docs/PERFORMANCE.md, "Slices in registers").
 pub fn write_framed(buf: &mut [u8], c: Cursor, heading: &[u8], body: &[u8]) -> Cursor
     ensures { λ r. ⌜ Puts (now (buf .entry)) c (writeFramed (now (heading .entry)) (now (body .entry))) r (now (buf .exit)) ⌝ }
 {
-    let c1 = put_header(buf, c, heading);
-    let c2 = put_body(buf, c1, body);
-    put_end(buf, c2, body)
+    let c1 = put_header(buf, c, &heading[..]);
+    let c2 = put_body(buf, c1, &body[..]);
+    put_end(buf, c2, &body[..])
 }
 
 // The heading of a record's transfer, where it lies: the file name for a file (form 2), else the title.

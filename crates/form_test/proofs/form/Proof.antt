@@ -1,13 +1,28 @@
--- What the test promises, without the place.
+-- Size, mark and sizes, the state, what waits.
+use Rattle.form_test.proofs.Laws.{lent-fails, size-told, state-fails, form-waits}
 use borrow.Author.Needs.{needs}
 use Rattle.form_test.proofs.form.Statement.{statement}
 use Rattle.form_test.proofs.form.Tie as tie
 
-test-requires : tie.Need-test-requires
-test-requires c κs = search needs
+lent-ok-requires : tie.Need-lent-ok-requires
+lent-ok-requires c κs = search needs
 
 returns : tie.Need-returns
-returns c = c .test .ensures .0
+returns c = let a = c .before .before .before .before .before .before .before .before .before .before .args in lent-fails (a .sm .now) (a .table .now) (a .titles .now) (a .names .now) (a .bodies .now) (a .known .now) (a .inbox .now) (a .store .now) (c .before .lent-ok .ensures) (c .if1 .taken)
+
+state-ok-requires : tie.Need-state-ok-requires
+state-ok-requires c κs = let a = c .before .before .before .before .before .before .before .before .before .before .args in size-told (a .sm .now) (a .table .now) (a .titles .now) (a .names .now) (a .bodies .now) (a .known .now) (a .inbox .now) (a .store .now) (c .before .lent-ok .ensures) (c .if1 .left)
+
+returns-2 : tie.Need-returns-2
+returns-2 c = let a = c .before .before .before .before .before .before .before .before .before .before .before .before .args in state-fails (a .sm .now) (a .table .now) (a .titles .now) (a .names .now) (a .bodies .now) (a .known .now) (a .inbox .now) (a .store .now) (c .before .before .before .lent-ok .ensures) (c .before .before .if1 .left) (c .before .state-ok .ensures) (c .if2 .taken)
+
+left-ok-requires : tie.Need-left-ok-requires
+left-ok-requires c κs = let a = c .before .before .before .before .before .before .before .before .before .before .before .before .args in size-told (a .sm .now) (a .table .now) (a .titles .now) (a .names .now) (a .bodies .now) (a .known .now) (a .inbox .now) (a .store .now) (c .before .before .before .lent-ok .ensures) (c .before .before .if1 .left)
+
+returns-3 : tie.Need-returns-3
+returns-3 c = let a = c .before .before .before .before .before .before .before .before .before .before .before .before .before .args in form-waits (a .sm .now) (a .table .now) (a .titles .now) (a .names .now) (a .bodies .now) (a .known .now) (a .inbox .now) (a .store .now) (c .before .before .before .before .lent-ok .ensures) (c .before .before .before .if1 .left) (c .before .before .state-ok .ensures) (c .before .if2 .left) (c .left-ok .ensures)
 
 pub form-spec : {M : Type 1} → statement M
-form-spec = tie.close (tie.spec test-requires returns)
+form-spec =
+    tie.close
+    (tie.spec lent-ok-requires returns state-ok-requires returns-2 left-ok-requires returns-3)

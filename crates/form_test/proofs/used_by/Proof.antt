@@ -1,48 +1,48 @@
--- The loop's invariant: what was counted and what the messages from i on use come to the whole, each counts at most 65,535, and at is
--- where the length of body i stands. The measure is how many messages are left.
-use Prim.Native.Nat.{_≤_, _+_, _-_, _*_}
-use mathlib.Core.Path.{_≡_}
+-- The loop's invariant: total is what k rounds of messages use, each message at most 65,535. The measure is how many rounds are left.
+use Prim.Native.Nat.{_≤_, _-_, _*_, _/_}
+use mathlib.Core.Path.{_≡_, refl}
 use native.Mathlib.Omega.{arith}
 use borrow.Author.Needs.{needs}
-use Rattle.places.specs.Places.{entryLen}
 use Rattle.form_test.specs.Form.{usedFrom}
-use Rattle.form_test.proofs.Laws.{used-start, used-more, used-end, length-read}
+use Rattle.form_test.proofs.Laws.{rounds-used, all-used}
 use Rattle.form_test.proofs.used_by.Statement.{statement}
 use Rattle.form_test.proofs.used_by.Tie as tie
 
 abbrev Inv-loop : tie.InvT-loop
-Inv-loop inbox n total₀ at₀ i₀ total at i =
-    (i ≤ n) × (at ≡ entryLen * i + 153) × (total ≤ 65535 * i) × (total + usedFrom inbox i (n - i) ≡ usedFrom inbox 0 n)
+Inv-loop inbox n rounds total₀ k₀ total k = (k ≤ rounds) × (rounds ≡ n / 8) × (total ≤ 65535 * (8 * k)) × (total ≡ usedFrom inbox 0 (8 * k))
 
 abbrev μ-loop : tie.MeasureT-loop
-μ-loop inbox n total₀ at₀ i₀ total at i = n - i
+μ-loop inbox n rounds total₀ k₀ total k = rounds - k
 
 loop-holds : tie.Need-loop-holds Inv-loop μ-loop
-loop-holds c = (search needs, omega arith, search needs, used-start (c .before .args .inbox .now) (c .before .args .n))
+loop-holds c = (search needs, refl, search needs, refl)
 
-two-requires : tie.Need-two-requires Inv-loop μ-loop
-two-requires c κs = let l = c .before .loop in (omega (arith, l .inv .1, c .before .before .before .pre, c .loop-test .taken), search needs)
+mul-round-uses : tie.Need-mul-round-uses Inv-loop μ-loop
+mul-round-uses c = omega arith
 
-cast-total : tie.Need-cast-total Inv-loop μ-loop
-cast-total c = search needs
+round-uses-requires : tie.Need-round-uses-requires Inv-loop μ-loop
+round-uses-requires c κs = (omega arith, omega (arith, c .before .before .before .pre))
 
 add-total : tie.Need-add-total Inv-loop μ-loop
 add-total c = search needs
 
-add-at : tie.Need-add-at Inv-loop μ-loop
-add-at c = search needs
-
-add-i : tie.Need-add-i Inv-loop μ-loop
-add-i c = search needs
+add-k : tie.Need-add-k Inv-loop μ-loop
+add-k c = search needs
 
 loop-less : tie.Need-loop-less Inv-loop μ-loop
 loop-less c = search needs
 
 loop-again : tie.Need-loop-again Inv-loop μ-loop
-loop-again c = let l = c .before .before .loop in let a = c .before .before .before .before .args in (search needs, omega (arith, l .inv .1), search needs, used-more (a .inbox .now) (l .i) (a .n) (l .total) (c .two .result) (c .before .loop-test .taken) (length-read (a .inbox .now) (l .i) (l .at) (l .inv .1) (omega (arith, c .before .before .before .before .pre, c .before .loop-test .taken)) (c .two .ensures)) (l .inv .3))
+loop-again c = let l = c .before .before .loop in let a = c .before .before .before .before .args in (search needs, l .inv .1, search needs, rounds-used (a .inbox .now) (l .k) (l .total) _ (l .inv .3) (c .round-uses .ensures .0))
+
+sub-added-uses : tie.Need-sub-added-uses Inv-loop μ-loop
+sub-added-uses c = search needs
+
+added-uses-requires : tie.Need-added-uses-requires Inv-loop μ-loop
+added-uses-requires c κs = (omega arith, omega arith, omega (arith, c .before .before .before .pre))
 
 returns : tie.Need-returns Inv-loop μ-loop
-returns c = let l = c .before .loop in used-end (c .before .before .before .args .inbox .now) (l .i) (c .before .before .before .args .n) (l .total) (c .loop-test .left) (l .inv .3)
+returns c = let l = c .before .before .loop in let a = c .before .before .before .before .args in all-used (a .inbox .now) (l .k) (a .n) (l .total) _ (omega arith) (omega arith) (l .inv .3) (c .added-uses .ensures)
 
 pub used-by-spec : {M : Type 1} → statement M
 used-by-spec =
@@ -51,11 +51,12 @@ used-by-spec =
     Inv-loop
     μ-loop
     loop-holds
-    two-requires
-    cast-total
+    mul-round-uses
+    round-uses-requires
     add-total
-    add-at
-    add-i
+    add-k
     loop-less
     loop-again
+    sub-added-uses
+    added-uses-requires
     returns)
