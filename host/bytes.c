@@ -48,6 +48,15 @@ void bytes_free(struct bytes *store)
     memset(store, 0, sizeof *store);
 }
 
+size_t bytes_number(const uint8_t *at, size_t n)
+{
+    size_t value = 0;
+
+    while (n--)
+        value = value << 8 | at[n];
+    return value;
+}
+
 struct part part_of(const char *text)
 {
     struct part part = { (const uint8_t *)text, strlen(text) };

@@ -22,6 +22,9 @@ void bytes_add(struct bytes *store, const void *from, size_t n);
 uint8_t *bytes_zeros(struct bytes *store, size_t n);
 void bytes_free(struct bytes *store);
 
+/* A number of so many bytes, little end first. */
+size_t bytes_number(const uint8_t *at, size_t n);
+
 struct part part_of(const char *text);
 struct part part_all(const struct bytes *store);
 bool part_is(struct part part, const char *text);

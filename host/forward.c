@@ -1,7 +1,7 @@
 #include "forward.h"
 #include "call.h"
+#include "known.h"
 #include "say.h"
-#include "statement.h"
 
 #include <string.h>
 
@@ -267,10 +267,13 @@ static bool take_forward(void *context, sqlite3_stmt *statement)
 {
     struct taker *taker = context;
     struct forward forward = { (uint8_t)sqlite3_column_int(statement, 0), column_part(statement, 1), sqlite3_column_int(statement, 2) != 0,
-        sqlite3_column_int(statement, 3) != 0, sqlite3_column_int64(statement, 4), sqlite3_column_int64(statement, 5) };
+        sqlite3_column_int(statement, 3) != 0, sqlite3_column_int64(statement, 4), sqlite3_column_int64(statement, 5),
+        sqlite3_column_int64(statement, 6) };
 
     return taker->function(taker->context, &forward);
 }
+
+#define WAITS "FROM passage JOIN outbox USING (number) WHERE passage.call = forward.call AND passage.state = 0 AND outbox.state = 0"
 
 bool forward_each(struct base *base, forward_function *function, void *context)
 {
@@ -278,9 +281,9 @@ bool forward_each(struct base *base, forward_function *function, void *context)
 
     return base_rows(base, base_prepare(base,
         "SELECT place, forward.call, partner.call IS NOT NULL, password IS NOT NULL, coalesce(seen, 0),"
-        " (SELECT count(*) FROM passage JOIN outbox USING (number)"
-        "  WHERE passage.call = forward.call AND passage.state = 0 AND outbox.state = 0)"
-        " FROM forward LEFT JOIN partner ON partner.call = forward.call ORDER BY place"), take_forward, &taker);
+        " (SELECT count(*) " WAITS "), (SELECT coalesce(sum(" ANNOUNCED("last") "), 0) " WAITS ")"
+        " FROM (SELECT place, call, " LAST_LEVEL("call") " AS last FROM forward) AS forward"
+        " LEFT JOIN partner ON partner.call = forward.call ORDER BY place"), take_forward, &taker);
 }
 
 /* ---- routes */

@@ -41,7 +41,7 @@ struct forward {
     struct part call; /* empty: nobody */
     bool may_call, has_password;
     long long seen;    /* seconds since 1970; 0: never */
-    long long waiting; /* messages */
+    long long waiting, bytes; /* messages, and the sum of their sizes as a session announces them */
 };
 
 /* In order of places; the callsign lasts until the function returns. It answers whether to go on. */

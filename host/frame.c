@@ -25,13 +25,9 @@ void frame_add(struct bytes *out, const struct frame *frame)
 
 bool frame_number(struct part data, uint32_t *number)
 {
-    size_t i;
-
     if (data.n < NUMBER_BYTES)
         return false;
-    *number = 0;
-    for (i = NUMBER_BYTES; i--;)
-        *number = *number << 8 | data.at[i];
+    *number = (uint32_t)bytes_number(data.at, NUMBER_BYTES);
     return true;
 }
 

@@ -3,6 +3,7 @@
 #define HISTORY_H
 
 #include "base.h"
+#include "panel.h"
 
 struct history {
     long long number, began, ended; /* ended: 0 if it hasn't */
@@ -12,7 +13,9 @@ struct history {
     unsigned refusal;               /* its number, or 0 */
     struct part line;               /* what the partner sent of the line that was refused, or its reason, a line that begins with *** */
     int level;                      /* in force; below 0: no SID came */
-    unsigned long forwarded, declined, deferred, kept, sent, received;
+    struct panel panel;             /* at its end */
+    bool has_panel;                 /* of an older session the base has forwarded, declined and deferred alone */
+    unsigned long kept, sent, received;
 };
 
 /* Gives the new row's number. */

@@ -13,6 +13,14 @@
 #define WAITING_FOR "passage JOIN outbox USING (number) WHERE passage.call = ?5 AND passage.state = 0 AND outbox.state = 0"
 #define FITS_LEVEL "(form = 0 OR level > 0 OR length(body) NOT BETWEEN ?4 AND 65535)"
 
+/* The level that packed texts are lent in to a partner: that of the last session with it that had one, or 1. */
+#define LAST_LEVEL(call) \
+    "coalesce((SELECT level > 0 FROM session WHERE partner = " call " AND level IS NOT NULL ORDER BY number DESC LIMIT 1), 1)"
+
+/* The size that a message of the outbox is announced with at a level: a packed text whose size is its length has it as it is lent (level.h). */
+#define ANNOUNCED(at_level) \
+    "size + CASE WHEN form = 0 OR size <> length(body) OR (level > 0) = " at_level " THEN 0 WHEN " at_level " THEN 2 ELSE -2 END"
+
 void bind_chosen(sqlite3_stmt *statement, const struct receiver *to);
 
 /* Its BID was seen now, the first time or again. */

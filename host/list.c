@@ -38,6 +38,7 @@ struct listing {
     struct base *base;
     char heads[FRINGEMOLE_PARTNERS][STATE_WIDTH + 1];
     uint8_t places[FRINGEMOLE_PARTNERS];
+    long long waiting[FRINGEMOLE_PARTNERS], bytes[FRINGEMOLE_PARTNERS];
     size_t partners;
     bool has_rows;
 };
@@ -99,8 +100,20 @@ static bool take_partner(void *context, const struct forward *forward)
     struct listing *listing = context;
 
     snprintf(listing->heads[listing->partners], sizeof listing->heads[0], "%.*s", (int)forward->call.n, (const char *)forward->call.at);
+    listing->waiting[listing->partners] = forward->waiting;
+    listing->bytes[listing->partners] = forward->bytes;
     listing->places[listing->partners++] = forward->place;
     return listing->partners < FRINGEMOLE_PARTNERS;
+}
+
+/* As a session's front panel shows it. */
+static void show_waiting(const struct listing *listing)
+{
+    bool one = listing->partners == 1;
+    size_t i;
+
+    for (i = 0; i < listing->partners; i++)
+        printf("%lld waiting%s%s, %lld bytes\n", listing->waiting[i], one ? "" : " for ", one ? "" : listing->heads[i], listing->bytes[i]);
 }
 
 enum exit_code boxes_list(const struct options *options)
@@ -120,20 +133,44 @@ enum exit_code boxes_list(const struct options *options)
     if (right && !listing.has_rows)
         puts("inbox: empty");
     right = right && base_count_known(base, &known);
-    if (right)
+    if (right) {
         printf("%lld BIDs known\n", known);
+        show_waiting(&listing);
+    }
     base_close(base);
     return right ? DONE : show_goes_on() ? BAD_BASE : FAILED;
 }
 
 /* ---- sessions */
 
+/* What nobody noted is left blank. */
+static void show_number(bool noted, unsigned long number, int width)
+{
+    if (noted)
+        printf("%*lu ", width, number);
+    else
+        printf("%*s ", width, "");
+}
+
+static void show_panel(const struct history *session)
+{
+    const struct panel *panel = &session->panel;
+
+    show_number(session->has_panel, panel->proposed, 8);
+    show_number(session->ended, panel->forwarded, 9);
+    show_number(session->ended, panel->declined, 8);
+    show_number(session->ended, panel->deferred, 8);
+    show_number(session->has_panel, panel->unsettled, 9);
+    show_number(session->has_panel, panel->waiting, 7);
+    show_number(session->has_panel, panel->bytes, 8);
+}
+
 static bool show_session(void *shown, const struct history *session)
 {
     bool *has_rows = shown;
 
     if (!*has_rows)
-        puts("   no  began (UTC)          seconds  role    partner  forwarded declined deferred kept    sent received  end");
+        puts("   no  began (UTC)          seconds  role    partner  proposed forwarded declined deferred unsettled waiting    bytes kept    sent received  end");
     *has_rows = true;
     printf("%5lld  ", session->number);
     show_time(session->began);
@@ -144,8 +181,8 @@ static bool show_session(void *shown, const struct history *session)
         printf("%7s", "");
     printf("  %-8s", session->role == FRINGEMOLE_CALLER ? "caller" : "called");
     show_field(session->partner, 9);
-    printf("%9lu %8lu %8lu %4lu %7lu %8lu  ", session->forwarded, session->declined, session->deferred, session->kept, session->sent,
-        session->received);
+    show_panel(session);
+    printf("%4lu %7lu %8lu  ", session->kept, session->sent, session->received);
     text_show(stdout, session->ended ? session->ending : part_of("not ended"));
     if (session->refusal)
         printf(", %u: %s: ", session->refusal, reason_is(session->line) ? "the partner says why" : refusal_words(session->refusal));

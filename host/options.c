@@ -55,6 +55,7 @@ static const char options_help_text[] =
     "  --transcript[=FILE]  show both directions as they look on the air (FILE is added to)\n"
     "  --log FILE           add what is said to FILE instead of standard error\n"
     "  --progress           progress lines also where standard error is no terminal\n"
+    "  --panel              the front panel, too: what waits, what became of what was proposed\n"
     "  --room BYTES         for bodies that come in, in one session (4194240)\n"
     "  --once               listen: end after one session, with its exit code\n"
     "  --drop-after BYTES   drop the link after so many bytes, to see what happens\n"
@@ -147,6 +148,7 @@ static const struct option table[] = {
     OPTION("--blank-offset", FLAG, blank_offset),
     OPTION("--once", FLAG, once),
     OPTION("--progress", FLAG, progress),
+    OPTION("--panel", FLAG, panel),
     OPTION("--login", TEXT, login),
     OPTION("--question", TEXT, question),
     OPTION("--timeout", NUMBER, timeout),

@@ -18,7 +18,7 @@ struct options {
     const char *date, *seconds;
     bool older;
     /* sessions */
-    bool caller, called, telnet, blank_offset, once, progress, flow, anyone, listen;
+    bool caller, called, telnet, blank_offset, once, progress, panel, flow, anyone, listen;
     bool asks;        /* no option: callers from outside must log in */
     const char *with; /* no option: whom a radio link is with; NULL if nobody told */
     const char *login, *question, *password, *transcript, *log, *from, *header;

@@ -100,10 +100,10 @@ static bool show_placeless(void *context, const struct partner *partner)
 
 static bool show_forward(void *context, const struct forward *forward)
 {
-    char place[64];
+    char place[80];
 
     (void)context;
-    snprintf(place, sizeof place, "%u, %lld waiting", forward->place, forward->waiting);
+    snprintf(place, sizeof place, "%u, %lld waiting, %lld bytes", forward->place, forward->waiting, forward->bytes);
     if (forward->call.n)
         show_row(forward->call, forward->has_password, forward->seen, place, forward->may_call ? "" : "; may not call");
     return true;

@@ -6,10 +6,15 @@
 
 #define LONG_SECONDS 2 /* what is over sooner needs no line */
 
-void progress_start(struct progress *progress, bool asked, bool quiet)
+bool progress_is_watched(bool asked, bool quiet)
+{
+    return asked || (quiet && isatty(STDERR_FILENO));
+}
+
+void progress_start(struct progress *progress, bool watched)
 {
     memset(progress, 0, sizeof *progress);
-    progress->on = asked || (quiet && isatty(STDERR_FILENO));
+    progress->on = watched;
 }
 
 void progress_end(struct progress *progress)

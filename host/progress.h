@@ -12,8 +12,10 @@ struct progress {
     time_t since, last;
 };
 
-/* On a terminal that shows nothing else; elsewhere, a line a second, if it is asked for. */
-void progress_start(struct progress *progress, bool asked, bool quiet);
+/* Whether what comes in between is shown: on a terminal that shows nothing else, and elsewhere if it is asked for. */
+bool progress_is_watched(bool asked, bool quiet);
+/* Where it is shown; off a terminal a line a second. */
+void progress_start(struct progress *progress, bool watched);
 void progress_add(struct progress *progress, bool ours, size_t n);
 /* Leaves the line, so that something else can be said. */
 void progress_end(struct progress *progress);

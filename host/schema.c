@@ -115,7 +115,14 @@ static const char to_6[] =
     "DROP INDEX waiting;"
     "CREATE INDEX passage_waiting ON passage (call, number) WHERE state = 0;";
 
-static const char *const steps[BASE_VERSION] = { to_1, to_2, to_3, to_4, to_5, to_6 };
+/* The rest of what the front panel showed at a session's end (panel.h), beside forwarded, declined and deferred; NULL if nobody noted it. */
+static const char to_7[] =
+    "ALTER TABLE session ADD COLUMN proposed INTEGER;"
+    "ALTER TABLE session ADD COLUMN unsettled INTEGER;"
+    "ALTER TABLE session ADD COLUMN waiting INTEGER;"
+    "ALTER TABLE session ADD COLUMN waiting_bytes INTEGER;";
+
+static const char *const steps[BASE_VERSION] = { to_1, to_2, to_3, to_4, to_5, to_6, to_7 };
 
 /* Of a file without our mark. */
 static int nothing_yet(struct base *base, long long mark)

@@ -4,7 +4,7 @@
 
 #include "base.h"
 
-#define BASE_VERSION 6
+#define BASE_VERSION 7
 
 /* The version that the file has; 0 if there is nothing in it yet, -1 after saying that it is no base, a newer one, or can't be read. */
 int schema_version(struct base *base);

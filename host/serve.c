@@ -97,13 +97,19 @@ static enum exit_code partner_is_clear(const struct options *options)
     return code;
 }
 
+/* Standard error shows no transcript. */
+static bool is_quiet(const struct options *options)
+{
+    return !options->transcript || strcmp(options->transcript, "-");
+}
+
 /* The session itself, on a link that stands. */
 static enum exit_code run_on(struct link *link, const struct options *options, uint8_t role, const struct call *caller)
 {
     struct base *base = base_for_session(options);
     struct bytes partner = { NULL, 0, 0 };
     struct session_terms terms = { role, (size_t)options->room, part_of(""), 0, part_of(options->header ? options->header : ""),
-        options->blank_offset };
+        options->blank_offset, progress_is_watched(options->panel, is_quiet(options)) };
     enum exit_code code = BAD_BASE;
 
     if (base && options->login && !login(link, options)) {
@@ -124,7 +130,7 @@ static enum exit_code run_session(struct link *link, const struct options *optio
 {
     enum exit_code code = FAILED;
 
-    progress_start(&link->progress, options->progress, !options->transcript || strcmp(options->transcript, "-"));
+    progress_start(&link->progress, progress_is_watched(options->progress, is_quiet(options)));
     if (transcript_open(&link->transcript, options->transcript)) {
         code = run_on(link, options, role, caller);
         if (!transcript_close(&link->transcript) && code == DONE)

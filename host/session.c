@@ -4,6 +4,7 @@
 #include "lend.h"
 #include "level.h"
 #include "offset.h"
+#include "panel.h"
 #include "reason.h"
 #include "refusal.h"
 #include "rest.h"
@@ -35,15 +36,36 @@ struct session {
     struct bytes before;
     size_t greeted;
     struct rest rest; /* what the partner asks for */
+    bool panel_shown;
+    struct panel panel; /* as it was shown last */
 };
+
+/* Something else than progress and transcript is said next. */
+static void end_lines(struct session *session)
+{
+    progress_end(&session->link->progress);
+    transcript_end_line(&session->link->transcript);
+}
 
 /* How it ended, for the operator and for its row. */
 static enum exit_code ended(struct session *session, const char *how, enum exit_code code)
 {
-    progress_end(&session->link->progress);
-    transcript_end_line(&session->link->transcript);
+    end_lines(session);
     session->history.ending = part_of(how);
     return code;
+}
+
+/* The front panel, if somebody watches and it isn't what was shown last. */
+static void show_panel(struct session *session)
+{
+    struct panel now = panel_read(session->shelf.session);
+
+    if (!session->terms->panel || (session->panel_shown && panel_same(&now, &session->panel)))
+        return;
+    end_lines(session);
+    panel_say(&now);
+    session->panel = now;
+    session->panel_shown = true;
 }
 
 /* The partner's reason, if it told one, to the operator; and to the row, instead of this line. */
@@ -184,6 +206,7 @@ static enum exit_code take(struct session *session, struct part bytes, bool *ove
     heard_add(&session->heard, bytes);
     if (!shelf_save(&session->shelf, session->base, &session->passage))
         return not_saved(session);
+    show_panel(session);
     if (reply.answer != FRINGEMOLE_OK)
         return refused(session, reply.answer, come);
     if (rest_is_asked(&session->rest, session->shelf.session))
@@ -228,21 +251,18 @@ static bool sum_up(struct session *session)
 {
     struct history *history = &session->history;
     struct receiver to = { session->terms->partner, session->shelf.level };
+    struct panel panel = panel_read(session->shelf.session);
     long long waiting = 0;
-    size_t place, in_state[3] = { 0, 0, 0 };
 
-    for (place = 0; place < shelf_records(&session->shelf); place++)
-        in_state[session->shelf.states[place] % 3]++;
-    history->forwarded = in_state[FORWARDED];
-    history->declined = in_state[DECLINED];
-    history->deferred = shelf_deferred(&session->shelf);
+    history->panel = panel;
     history->kept = session->shelf.kept;
     history->sent = session->link->sent;
     history->received = session->link->received;
     if (!base_count_waiting(session->base, &to, &waiting))
         return false;
-    say("%lu forwarded, %lu declined, %lld still waiting; %lu kept; %lu bytes sent, %lu received", history->forwarded, history->declined,
-        waiting, history->kept, history->sent, history->received);
+    say("%lu forwarded, %lu declined, %lld still waiting; %lu kept; %lu bytes sent, %lu received", panel.forwarded, panel.declined, waiting,
+        history->kept, history->sent, history->received);
+    panel_say(&panel);
     return true;
 }
 
@@ -287,6 +307,7 @@ static enum exit_code run(struct session *session, const struct session_terms *t
     session->passage.session = session->history.number;
     session->passage.partner = terms->partner;
     session->blank_offset = terms->blank_offset;
+    show_panel(session);
     code = converse(session);
     if (!sum_up(session) || !close_row(session))
         return BAD_BASE;

@@ -13,6 +13,7 @@ struct session_terms {
     uint8_t place;       /* of its column */
     struct part mailbox; /* ours, for the routing header of plain messages; empty if they get none */
     bool blank_offset;   /* blanks in the offset of a framed header count as zeros */
+    bool panel;          /* the front panel is shown whenever it changes, and not only at the end */
 };
 
 /* Runs it to its end, on a base that is locked for a session. Gives DONE if it ended by FQ. */

@@ -13,15 +13,6 @@ static void put_number(uint8_t *at, size_t bytes, size_t value)
         at[i] = (uint8_t)value;
 }
 
-static size_t get_number(const uint8_t *at, size_t bytes)
-{
-    size_t value = 0;
-
-    while (bytes--)
-        value = value << 8 | at[bytes];
-    return value;
-}
-
 /* A field that is too long keeps a wrong length, so that open refuses it. */
 static void put_field(uint8_t *at, size_t limit, struct part field)
 {
@@ -61,8 +52,8 @@ struct message shelf_message(const struct shelf *shelf, size_t place)
     message.to = get_field(entry + FRINGEMOLE_ENTRY_TO);
     message.bid = get_field(entry + FRINGEMOLE_ENTRY_BID);
     *(message.form == PACKED_FILE ? &message.name : &message.title) = heading;
-    message.body.at = shelf->store.at + get_number(entry + FRINGEMOLE_ENTRY_BODY, 4);
-    message.body.n = get_number(entry + FRINGEMOLE_ENTRY_BODY_LEN, 2);
+    message.body.at = shelf->store.at + bytes_number(entry + FRINGEMOLE_ENTRY_BODY, 4);
+    message.body.n = bytes_number(entry + FRINGEMOLE_ENTRY_BODY_LEN, 2);
     message.level = message.form == PLAIN_TEXT ? 0 : level_in_force(shelf->session);
     return message;
 }
@@ -187,15 +178,6 @@ bool shelf_save(struct shelf *shelf, struct base *base, const struct passage *pa
 static bool is_deferred(const struct shelf *shelf, size_t place)
 {
     return shelf->session[FRINGEMOLE_SESSION_DEFERRED + place] == 1 && state_now(shelf, place) == WAITING;
-}
-
-size_t shelf_deferred(const struct shelf *shelf)
-{
-    size_t place, count = 0;
-
-    for (place = 0; place < shelf_records(shelf); place++)
-        count += is_deferred(shelf, place);
-    return count;
 }
 
 void shelf_unoffered(const struct shelf *shelf, size_t *plain, size_t *packed)

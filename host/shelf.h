@@ -26,8 +26,7 @@ bool shelf_know(struct shelf *shelf, struct part bid);
 struct fringemole_reply shelf_open(struct shelf *shelf, uint8_t role);
 /* Writes to the base what receive changed since the last time, in one transaction; none if nothing changed. */
 bool shelf_save(struct shelf *shelf, struct base *base, const struct passage *passage);
-/* How many records the partner deferred; and their rows told so. */
-size_t shelf_deferred(const struct shelf *shelf);
+/* The rows of what the partner deferred are told so. */
 bool shelf_save_deferred(const struct shelf *shelf, struct base *base, const struct passage *passage);
 /* How many records wait that the partner hasn't deferred. */
 void shelf_unoffered(const struct shelf *shelf, size_t *plain, size_t *packed);

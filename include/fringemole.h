@@ -104,11 +104,22 @@ enum { /* our role */
 #define FRINGEMOLE_SESSION_DEFERRED 160  /* a flag a record, 64 bytes: 1 if the partner has deferred it in this session */
 #define FRINGEMOLE_SESSION_LEVEL 117     /* the level in force, 1 byte, once the partner's SID has come: 0 is level 0, any other number level 1 */
 #define FRINGEMOLE_SESSION_PARTNER 118   /* the partner that open was told, 1 byte */
-/* Bytes 119 to 159 and 920 to 1,023 of it are free: no call reads or writes them, but later versions will. */
+/* Bytes 129 to 159 and 920 to 1,023 of it are free: no call reads or writes them, but later versions will. */
 #define FRINGEMOLE_LAST_SID_PHASE 1
 #define FRINGEMOLE_ANSWER_PHASE 4        /* the partner's FS line */
 #define FRINGEMOLE_TRANSFER_PHASE 5
 #define FRINGEMOLE_OFFSET_PLACE 6
+
+/* ---- and what a front panel shows, for the session's partner; right after an accepted open, every receive and every give. A refused byte
+ * changes none of these numbers, FRINGEMOLE_BYTES_WAIT included, nor do give and the answers 1 and 12; a session that is over keeps them. */
+#define FRINGEMOLE_TALLY_WAITING 119     /* records that wait (their state is FRINGEMOLE_WAITING), 1 byte: of any form, deferred ones too */
+#define FRINGEMOLE_TALLY_SIZES 120       /* the sum of their announced sizes, 4 bytes */
+/* The tally sheet of this session, 1 byte each, 0 after an accepted open. The first is always the sum of the other four. */
+#define FRINGEMOLE_TALLY_PROPOSED 124    /* records proposed: from the received byte on that our block answers, before give hands it out */
+#define FRINGEMOLE_TALLY_FORWARDED 125   /* of these: forwarded, by the partner's next whole turn after their transfer */
+#define FRINGEMOLE_TALLY_DECLINED 126    /* declined by the partner's FS line */
+#define FRINGEMOLE_TALLY_DEFERRED 127    /* deferred by it; they still wait */
+#define FRINGEMOLE_TALLY_UNSETTLED 128   /* not settled yet: their FS line hasn't come, or they are accepted and not forwarded; they still wait */
 
 /* ---- the numbers given back */
 enum {

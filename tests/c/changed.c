@@ -6,6 +6,7 @@
 
 #include "lent.h"
 #include "partner.h"
+#include "tally.h"
 
 #include <unistd.h>
 
@@ -20,6 +21,8 @@ static unsigned long calls, answers[FRINGEMOLE_LAST + 1];
 static unsigned long empties;
 /* Calls of give on an ended session that gave bytes of the line that says why. */
 static unsigned long reasons;
+/* Calls of receive that changed the tally sheet: on memory as open left it, and on memory that somebody has written. */
+static unsigned long counted[2];
 
 static void must(int right, const char *what)
 {
@@ -169,8 +172,8 @@ static void only_changed(const struct fringemole_memory *m, const struct before 
 
 /* ---- the calls, each held to what is true of it on any memory */
 
-/* Nobody has written since a call that didn't answer 1. */
-static int intact;
+/* Nobody has written since open; since a call that didn't answer 1. */
+static int untouched, intact;
 /* A call ended the session or found it ended, and nobody has written since; then: what is left of the line that says why. */
 static int over;
 static const char *reason = "";
@@ -190,6 +193,23 @@ static const char *reason_left(const uint8_t *session)
     const char *line = session[FIRST] == PROTOCOL_LINE ? "*** Protocol error\r" : "*** Checksum error\r";
 
     return session[FIRST] == 0 ? "" : line + session[GIVEN];
+}
+
+/* The front panel's numbers: right, until somebody writes. Then an event still takes from one of the sheet what it gives another, modulo 256, and
+ * what waits stands, or is counted anew, as it is where records are marked. `still`: nothing may count. */
+static void check_panel(const struct fringemole_memory *m, const struct before *copy, int still)
+{
+    const uint8_t *now = m->session, *then = copy->bytes[0];
+    size_t whole = FRINGEMOLE_TALLY_UNSETTLED + 1 - FRINGEMOLE_TALLY_WAITING, waits = FRINGEMOLE_TALLY_PROPOSED - FRINGEMOLE_TALLY_WAITING;
+    int same = memcmp(now + FRINGEMOLE_TALLY_WAITING, then + FRINGEMOLE_TALLY_WAITING, whole) == 0;
+    int stands = memcmp(now + FRINGEMOLE_TALLY_WAITING, then + FRINGEMOLE_TALLY_WAITING, waits) == 0;
+    int marked = m->table_len != 0 && memcmp(m->table, copy->bytes[1], m->table_len) != 0;
+
+    must(same || !still, "a number of the front panel changed that may not");
+    must(!untouched || (tally_adds_up(now) && tally_waits(m, now[FRINGEMOLE_SESSION_PARTNER])), "the front panel's numbers don't add up");
+    must(tally_rest(now) == tally_rest(then), "the tally sheet got more or less than an event gives it");
+    must((stands && !marked) || tally_waits(m, now[FRINGEMOLE_SESSION_PARTNER]), "what waits is neither as it was nor counted anew");
+    counted[!untouched] += memcmp(now + FRINGEMOLE_TALLY_PROPOSED, then + FRINGEMOLE_TALLY_PROPOSED, whole - waits) != 0;
 }
 
 static void check_reply(struct fringemole_reply reply, size_t most)
@@ -229,6 +249,7 @@ static void give(struct fringemole_memory *m, size_t room, size_t place)
     }
     /* "Give on an ended session writes nothing", once the line is taken: not into session memory either. */
     only_changed(m, &copy, reply.answer == FRINGEMOLE_BAD_MEMORY || most == 0 || (over && reply.count == 0) ? 0 : SESSION_ONLY);
+    check_panel(m, &copy, 1);
     intact = reply.answer != FRINGEMOLE_BAD_MEMORY;
     free(buffer);
     forget(&copy);
@@ -250,6 +271,7 @@ static int receive(struct fringemole_memory *m, const uint8_t *bytes, size_t n)
     must(reply.answer <= FRINGEMOLE_BAD_MEMORY || reply.answer == FRINGEMOLE_ENDED || reply.count > 0, "a refusal without its byte");
     /* 12: "nothing consumed, nothing changed". "Receiving no bytes on a live session answers 0 and changes nothing." */
     only_changed(m, &copy, reply.answer == FRINGEMOLE_BAD_MEMORY || reply.answer == FRINGEMOLE_ENDED || n == 0 ? 0 : BY_RECEIVE);
+    check_panel(m, &copy, reply.answer != FRINGEMOLE_OK && reply.count <= 1);
     intact = reply.answer != FRINGEMOLE_BAD_MEMORY;
     /* "Receive consumes every byte lent to it, unless it answers 1 or 12 or the session ends on the way". */
     over = reply.answer > FRINGEMOLE_BAD_MEMORY || (reply.answer == FRINGEMOLE_OK && reply.count < n);
@@ -284,7 +306,7 @@ static void scribble(struct fringemole_memory *m)
     size_t sizes[3] = { m->session_len, m->table_len, m->inbox_len };
     size_t i = below(3);
 
-    intact = over = 0;
+    untouched = intact = over = 0;
     if (once_in(2)) {
         scribble_number(m->session);
     } else if (once_in(20)) {
@@ -334,7 +356,9 @@ static void play(void)
     only_changed(&m, &copy, SESSION_ONLY);
     forget(&copy);
     must(reply.answer == FRINGEMOLE_OK && reply.place == 0 && reply.count == 0, "open refused good memory");
-    intact = 1;
+    must(tally_waits(&m, m.session[FRINGEMOLE_SESSION_PARTNER]) && tally_of(m.session).proposed == 0 && tally_adds_up(m.session),
+        "open left other numbers for the front panel");
+    untouched = intact = 1;
     over = 0;
     fresh = 0;
     for (; quiet > 0 && !over; quiet--) {
@@ -362,14 +386,14 @@ int main(int argc, char **argv)
         stream = seed + session_number * 0xD1342543DE82EF95u;
         play();
     }
-    printf("c: changed memory: seed 0x%llx, %lu sessions, %lu calls, %lu of them receive without bytes, %lu of them give why; answers",
-        (unsigned long long)seed, sessions, calls, empties, reasons);
+    printf("c: changed memory: seed 0x%llx, %lu sessions, %lu calls, %lu of them receive without bytes, %lu of them give why, %lu and %lu of them count; answers",
+        (unsigned long long)seed, sessions, calls, empties, reasons, counted[0], counted[1]);
     for (i = 0; i <= FRINGEMOLE_LAST; i++) {
         printf(" %lu: %lu%s", i, answers[i], i < FRINGEMOLE_LAST ? "," : "\n");
     }
     for (i = 0; sessions >= 1000 && i <= FRINGEMOLE_LAST; i++) {
-        if (answers[i] == 0 || reasons == 0) {
-            puts("c: changed memory: a number or a line never came");
+        if (answers[i] == 0 || reasons == 0 || counted[0] == 0 || counted[1] == 0) {
+            puts("c: changed memory: a number, a line or a count never came");
             return 1;
         }
     }

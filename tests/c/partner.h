@@ -20,7 +20,7 @@
 #define USED 108
 #define BLOCK_SUM 116
 #define LEVEL 117
-#define FREE 119
+#define FREE 129
 #define DEFERRED_FLAGS 160
 #define LAST_FREE 920
 

@@ -1,6 +1,8 @@
 /* Plays sessions on the proved library from C, with nothing but its header: 01's whole session, then an exchange of plain messages and one of
- * framed messages, with us called and calling. One line a step; exit status 1 at the first difference. */
+ * framed messages, with us called and calling. After each step the front panel's numbers add up. One line a step; exit status 1 at the first
+ * difference. */
 #include "lent.h"
+#include "tally.h"
 
 #define PLACES 2
 #define ROOM 8
@@ -78,10 +80,24 @@ static void put_known(struct fringemole_memory *m, const char *bid)
 
 #define PARTNER 5 /* of these sessions */
 
+/* On memory that open has accepted: what waits is what the table has, and proposed the sum of the other four. */
+static int panel_adds_up(const struct fringemole_memory *m)
+{
+    return tally_adds_up(m->session) && tally_waits(m, m->session[FRINGEMOLE_SESSION_PARTNER]);
+}
+
+/* "all 0 when open accepts" */
+static int is_fresh(const struct fringemole_memory *m)
+{
+    struct tally t = tally_of(m->session);
+
+    return panel_adds_up(m) && t.proposed == 0;
+}
+
 static void opens_for(const struct fringemole_memory *m, uint8_t role, uint8_t partner, unsigned answer, unsigned place)
 {
     printf("open, role %u, partner %u:", role, partner);
-    verdict(is(fringemole_open_in(m, role, partner), answer, place, 0));
+    verdict(is(fringemole_open_in(m, role, partner), answer, place, 0) && (answer != FRINGEMOLE_OK || is_fresh(m)));
 }
 
 static void opens(const struct fringemole_memory *m, uint8_t role, unsigned answer, unsigned place)
@@ -111,7 +127,7 @@ static void hears(const struct fringemole_memory *m, const char *bytes, size_t n
     }
     printf("receive ");
     show(bytes, n);
-    verdict(is(fringemole_receive_in(m, portion, n), answer, 0, count));
+    verdict(is(fringemole_receive_in(m, portion, n), answer, 0, count) && panel_adds_up(m));
     free(portion);
 }
 
@@ -128,7 +144,7 @@ static void says(const struct fringemole_memory *m, const char *bytes, size_t n)
         size_t count = n - done < 3 ? n - done : 3;
         memset(buffer, 0xA5, 4);
         right = is(fringemole_give_in(m, buffer, 4, 1), FRINGEMOLE_OK, 0, count) && buffer[0] == 0xA5
-            && memcmp(buffer + 1, bytes + done, count) == 0 && (count == 3 || buffer[1 + count] == 0xA5);
+            && memcmp(buffer + 1, bytes + done, count) == 0 && (count == 3 || buffer[1 + count] == 0xA5) && panel_adds_up(m);
         done += count;
     }
     right = right && is(fringemole_give_in(m, buffer, 4, 1), FRINGEMOLE_OK, 0, 0);
@@ -336,6 +352,95 @@ static void partners(void)
     take_back(&m);
 }
 
+/* ---- the front panel */
+
+/* Three plain records of 10, 20 and 30 bytes, as announced: title "HI", body "AB". */
+static void three_records(struct fringemole_memory *m)
+{
+    static const char *const bids[3] = { "1_F6FBB", "2_F6FBB", "3_F6FBB" };
+    size_t i;
+
+    one_record(m, FRINGEMOLE_PLAIN_TEXT);
+    free(m->table);
+    m->table_len = 3 * FRINGEMOLE_RECORD_SIZE;
+    m->table = lend(m->table_len);
+    for (i = 0; i < 3; i++) {
+        uint8_t *record = m->table + i * FRINGEMOLE_RECORD_SIZE;
+        put_record(record, FRINGEMOLE_PLAIN_TEXT, bids[i], 2, 2);
+        put_number(record, FRINGEMOLE_RECORD_SIZE_FIELD, 4, 10 * (i + 1));
+    }
+}
+
+/* "2 waiting, 50 bytes; 3 proposed, 0 forwarded, 1 declined, 1 deferred, 1 not settled" */
+static void shows(const struct fringemole_memory *m, const char *numbers)
+{
+    struct tally t = tally_of(m->session);
+    char line[120];
+
+    snprintf(line, sizeof line, "%lu waiting, %lu bytes; %u proposed, %u forwarded, %u declined, %u deferred, %u not settled", t.waiting, t.sizes,
+        t.proposed, t.forwarded, t.declined, t.deferred, t.unsettled);
+    printf("the panel shows %s:", line);
+    verdict(strcmp(line, numbers) == 0);
+}
+
+/* Our three records are proposed to a caller. */
+static struct fringemole_memory proposed(void)
+{
+    struct fringemole_memory m = memory_with(PLACES, ROOM);
+
+    three_records(&m);
+    opens(&m, FRINGEMOLE_CALLED, FRINGEMOLE_OK, 0);
+    shows(&m, "3 waiting, 60 bytes; 0 proposed, 0 forwarded, 0 declined, 0 deferred, 0 not settled");
+    SAYS(&m, "[NOD-1-B1FH$]\r>\r");
+    HEARS(&m, "[TST-1-F$]\rFF");
+    shows(&m, "3 waiting, 60 bytes; 0 proposed, 0 forwarded, 0 declined, 0 deferred, 0 not settled");
+    HEARS(&m, "\r");
+    shows(&m, "3 waiting, 60 bytes; 3 proposed, 0 forwarded, 0 declined, 0 deferred, 3 not settled");
+    return m;
+}
+
+/* And answered: one is declined, one accepted, one deferred. */
+static struct fringemole_memory answered(void)
+{
+    struct fringemole_memory m = proposed();
+
+    SAYS(&m, "FB P F6FBB FC1GHV FC1MVP 1_F6FBB 10\rFB P F6FBB FC1GHV FC1MVP 2_F6FBB 20\rFB P F6FBB FC1GHV FC1MVP 3_F6FBB 30\rF>\r");
+    HEARS(&m, "FS -+=\r");
+    shows(&m, "2 waiting, 50 bytes; 3 proposed, 0 forwarded, 1 declined, 1 deferred, 1 not settled");
+    return m;
+}
+
+static void front_panel(void)
+{
+    struct fringemole_memory m = answered();
+    uint8_t buffer[6];
+
+    puts("# the front panel, to the end");
+    SAYS(&m, "HI\rAB\x1A\r");
+    shows(&m, "2 waiting, 50 bytes; 3 proposed, 0 forwarded, 1 declined, 1 deferred, 1 not settled");
+    HEARS(&m, "FF\r");
+    shows(&m, "1 waiting, 30 bytes; 3 proposed, 1 forwarded, 1 declined, 1 deferred, 0 not settled");
+    SAYS(&m, "FQ\r");
+    shows(&m, "1 waiting, 30 bytes; 3 proposed, 1 forwarded, 1 declined, 1 deferred, 0 not settled");
+    opens(&m, FRINGEMOLE_CALLER, FRINGEMOLE_OK, 0);
+    shows(&m, "1 waiting, 30 bytes; 0 proposed, 0 forwarded, 0 declined, 0 deferred, 0 not settled");
+    take_back(&m);
+    puts("# the front panel, a byte before the transfer's last is taken");
+    m = answered();
+    stands("all but a byte", is(fringemole_give_in(&m, buffer, 6, 0), FRINGEMOLE_OK, 0, 6));
+    hears(&m, BYTES("F"), FRINGEMOLE_BYTES_WAIT, 1);
+    shows(&m, "2 waiting, 50 bytes; 3 proposed, 0 forwarded, 1 declined, 1 deferred, 1 not settled");
+    take_back(&m);
+    puts("# the front panel, a byte before our turn is taken");
+    m = proposed();
+    hears(&m, BYTES("F"), FRINGEMOLE_BYTES_WAIT, 1);
+    hears(&m, BYTES("F"), FRINGEMOLE_ENDED, 0);
+    shows(&m, "3 waiting, 60 bytes; 3 proposed, 0 forwarded, 0 declined, 0 deferred, 3 not settled");
+    opens(&m, 2, FRINGEMOLE_BAD_MEMORY, FRINGEMOLE_NO_RECORD);
+    shows(&m, "3 waiting, 60 bytes; 3 proposed, 0 forwarded, 0 declined, 0 deferred, 3 not settled");
+    take_back(&m);
+}
+
 int main(void)
 {
     whole_session();
@@ -345,6 +450,7 @@ int main(void)
     reasons();
     refusals();
     partners();
+    front_panel();
     printf("c: %u steps, 0 wrong\n", steps);
     return 0;
 }

@@ -281,6 +281,13 @@ class Folder(unittest.TestCase):
             self.assertNotIn(word, said)
 
 
+def panel_columns(head, row):
+    """What a row of `sessions` has under the names of the front panel's numbers; each stands at the right."""
+    names = ("proposed", "forwarded", "declined", "deferred", "unsettled", "waiting", "bytes")
+    ends = [head.index(" " + name + " ") + 1 + len(name) for name in ("partner ",) + names]
+    return [row[start:end].strip() for start, end in zip(ends, ends[1:])]
+
+
 def last_words(process):
     """Of a node that has ended, or is about to."""
     try:

@@ -177,7 +177,7 @@ class Usage(Folder):
         self.assertEqual((code, err), (DONE, ""))
         text = out.decode()
         for word in ("init", "import", "export", "list", "trace", "sessions", "release", "call", "listen", "stdio", "serial", "--caller", "--called", "--login", "--question",
-                     "--telnet", "--blank-offset", "--transcript", "--progress", "--timeout", "--room", "--once", "--drop-after", "--rtscts", "--log", "--sid-limit", "--progress-limit",
+                     "--telnet", "--blank-offset", "--transcript", "--progress", "--panel", "--timeout", "--room", "--once", "--drop-after", "--rtscts", "--log", "--sid-limit", "--progress-limit",
                      "--least-rate", "--session-limit", "--login-limit", "--linger", "--delay", "--callers", "--from", "--header", "--anyone", "--password", "agw", "--listen", "--radio", "admit", "dismiss", "partners", "--call", "--partner", "--text", "--as-is", "--outbox"):
             self.assertIn("\n  " + word, text.replace(", --called", "\n  --called"))
         for number in range(9):

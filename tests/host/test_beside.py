@@ -69,7 +69,7 @@ class Beside(Folder):
         self.assertIsNone(stuck.poll())
         looking.close()
         out = begun + stuck.communicate(timeout=PATIENCE)[0]
-        self.assertEqual((stuck.returncode, out.count(b"waiting"), b"inbox: empty" in out), (DONE, 1500, True))  # as the base was when it began
+        self.assertEqual((stuck.returncode, out.count(b"waiting "), b"inbox: empty" in out), (DONE, 1500, True))  # as the base was when it began
 
     def test_change_under_way(self):
         "a session waits for another's short change, and saves then"
@@ -181,7 +181,7 @@ class ReadOnly(Folder):
     def is_whole(self, reader, least):
         code, out, err = self.run_as_reader(reader, "list")
         self.says_why((code, err), DONE)
-        rows = [line.split() for line in out.decode().splitlines() if "waiting" in line]
+        rows = [line.split() for line in out.decode().splitlines() if "waiting " in line]
         self.assertGreaterEqual(len(rows), least)
         for i, row in enumerate(rows):
             self.assertEqual((row[0], row[7], row[8]), (str(i + 1), "%d_A" % i, str(3000 * len(str(i)))))
@@ -276,7 +276,7 @@ class Told(Folder):
         (when, *rest), = node.ask("SELECT came, partner, session, copy FROM inbox")
         self.assertTrue(before <= when <= after)
         self.assertEqual(rest, [b"F0SOU", 1, 0])
-        self.assertRegex(node.right("sessions").decode(), r"(?m)^    1  \d{4}-\d\d-\d\d \d\d:\d\d:\d\d +\d+  called  F0SOU +1 +1 +1 +1 +\d+ +\d+  FQ$")
+        self.assertRegex(node.right("sessions").decode(), r"(?m)^    1  \d{4}-\d\d-\d\d \d\d:\d\d:\d\d +\d+  called  F0SOU +3 +1 +1 +1 +0 +1 +0 +1 +\d+ +\d+  FQ$")
 
     def test_refused(self):
         "a refusal's number and the line that was refused"

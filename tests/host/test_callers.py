@@ -68,7 +68,7 @@ class Login(Callers):
                 said = self.stopped(process)
                 self.assertEqual(node.states(), {b"1_US": FORWARDED})
                 self.assertEqual(node.ask("SELECT partner FROM session"), [(b"F0ABC",)])
-                self.assertRegex(node.right("partners").decode(), r"(?m)^F0ABC   yes       \d{4}-\d\d-\d\d \d\d:\d\d  0, \d+ waiting$")
+                self.assertRegex(node.right("partners").decode(), r"(?m)^F0ABC   yes       \d{4}-\d\d-\d\d \d\d:\d\d  0, \d+ waiting, \d+ bytes$")
                 self.assertNotIn("s3cret", said)
 
     def test_wrong(self):
@@ -248,7 +248,7 @@ class Base(Callers):
         self.says_why(node.run("admit", "F0AAA", "-", input=b"x" * 65), BAD_FILE, "1 to 64 bytes")
         node.right("admit", "F0AAA", "-", input=b"x" * 64)
         self.says_why(node.run("admit", "F0BBB"), DONE, "not from outside")
-        self.assertEqual(node.right("partners").decode().splitlines()[1:], ["F0ABC   yes       never             0, 1 waiting", "F0AAA   yes       never             1, 0 waiting", "F0BBB   no        never             2, 0 waiting"])
+        self.assertEqual(node.right("partners").decode().splitlines()[1:], ["F0ABC   yes       never             0, 1 waiting, 7 bytes", "F0AAA   yes       never             1, 0 waiting, 0 bytes", "F0BBB   no        never             2, 0 waiting, 0 bytes"])
         node.right("dismiss", "F0AAA")
         self.says_why(node.run("dismiss", "F0AAA"), BAD_USAGE, "no such partner")
 

@@ -81,7 +81,7 @@ class Places(Club):
         node.right("dismiss", "F0CCC")
         node.right("admit", "F0III")
         self.assertEqual(node.ask("SELECT place FROM forward WHERE call = ?", b"F0III"), [(2,)])
-        self.assertRegex(node.right("partners").decode(), r"(?m)^F0III   no        never             2, 0 waiting$")
+        self.assertRegex(node.right("partners").decode(), r"(?m)^F0III   no        never             2, 0 waiting, 0 bytes$")
 
     def test_who(self):
         "with several partners a session must know whom it is with; a callsign that is none is no partner"

@@ -4,7 +4,8 @@ from node import *
 VERSION_1 = (ROOT / "tests" / "host" / "version1.sql").read_text()
 VERSION_2 = (ROOT / "tests" / "host" / "version2.sql").read_text()
 VERSION_3 = (ROOT / "tests" / "host" / "version3.sql").read_text()
-TODAY = 6
+VERSION_6 = (ROOT / "tests" / "host" / "version6.sql").read_text()
+TODAY = 7
 
 
 def shape(node):
@@ -56,7 +57,7 @@ class Lifted(Folder):
 
     def test_shape(self):
         "a lifted base has the tables of a new one"
-        for number, dump in enumerate((VERSION_1, VERSION_2, VERSION_3)):
+        for number, dump in enumerate((VERSION_1, VERSION_2, VERSION_3, VERSION_6)):
             node = self.old("old%d" % number, dump)
             node.right("list")
             self.assertEqual(shape(node), shape(self.node("new")))
@@ -77,6 +78,16 @@ class Lifted(Folder):
         partner.hears(b"".join(m.transfer() for m in ours))
         partner.process.kill()
         partner.rest()
+
+    def test_panel(self):
+        "a session of version 6 keeps its numbers; what nobody noted then is NULL, and blank in sessions"
+        node = self.old(dump=VERSION_6)
+        head, killed, first = node.right("sessions").decode().splitlines()
+        self.assertEqual(node.ask("SELECT proposed, forwarded, declined, deferred, unsettled, waiting, waiting_bytes FROM session ORDER BY number"),
+                         [(None, 2, 1, 1, None, None, None), (None,) * 7])
+        self.assertEqual(panel_columns(head, first), ["", "2", "1", "1", "", "", ""])
+        self.assertEqual(panel_columns(head, killed), [""] * 7)
+        self.assertRegex(node.right("list").decode(), r"(?m)^2 waiting for F0SOU, 306 bytes\n2 waiting for F0NOR, 10 bytes$")
 
     def test_whole(self):
         "a step that fails leaves the base as it was"

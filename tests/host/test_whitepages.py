@@ -339,6 +339,8 @@ class Bases(Pages):
         node = self.node().add(Message(b"1_A"))
         for table in ("home", "forward", "route", "passage"):
             node.ask("DROP TABLE " + table)
+        for column in ("proposed", "unsettled", "waiting", "waiting_bytes"):
+            node.ask("ALTER TABLE session DROP COLUMN " + column)
         node.ask("CREATE INDEX waiting ON outbox (number) WHERE state = 0")
         node.ask("PRAGMA user_version = 4")
         self.says_why(node.run("home", "OE3DZW"), BAD_USAGE, "no white page")

@@ -8,7 +8,7 @@ use native.Mathlib.Omega.{arith}
 use lib.ListN.{length, length-replicate}
 use borrow.Author.Tests.{eqb-true}
 use Rattle.grammar.specs.Bytes.{Bytes}
-use Rattle.grammar.specs.Turns.{withCr}
+use Rattle.grammar.specs.Turns.{Proposal, withCr}
 use Rattle.grammar.specs.Answers.{Sign, accept, decline, defer, writeSign, readFs, fsLine}
 use Rattle.session.specs.Choices.{Shelf, answersTo}
 use Rattle.session.specs.Session.{awaitsAnswer, aLine, Memory, Session, Stepped, step, ended, levelInForce}
@@ -19,7 +19,7 @@ use Rattle.demand2.specs.Events.{messageFrom, withMessage, endsWithCr, E
 use Rattle.demand2.specs.Reached.{Reached, atOpen, received, given, AnswerExact}
 use Rattle.demand2.proofs.Situations.{refuses-with}
 use Rattle.demand2.proofs.Refusals.{Found, happened, found, byte-found}
-use Rattle.demand2.proofs.Events.{happens, memory-kept, fs-leaves}
+use Rattle.demand2.proofs.Events.{happens, turnCounted, memory-kept, fs-leaves}
 use Rattle.demand2.proofs.Marks.{one-sign}
 use Rattle.demand2.proofs.Portions.{ended-receive, receive-byte}
 use Rattle.demand2.proofs.Reached.{reached-sound}
@@ -27,6 +27,11 @@ use Rattle.demand2.proofs.Reached.{reached-sound}
 -- how many flags there are
 abbrev flags : Memory → ℕ
 flags m = length (m .deferred)
+
+-- our turn leaves them alone
+counted-flags : (E : Shelf) (ps : List Proposal) (m : Memory) → flags (turnCounted E ps m) ≡ flags m
+counted-flags E [] m = refl
+counted-flags E (p ∷ ps) m = refl
 
 event-flags : (E : Shelf) (q : Bytes) (s : Session) (b : ℕ) (t : Session) → Event E q s b t → flags (t .memory) ≡ flags (s .memory)
 event-flags E q s b t (lfGoes e) = refl
@@ -37,15 +42,16 @@ event-flags E q s b t (sidOfCalled ln w p fs r f) = refl
 event-flags E q s b t (textLine ln w p r) = refl
 event-flags E q s b t (prompt ln w p r) = refl
 event-flags E q s b t (proposal ln ff ps w p r l) = refl
-event-flags E q s b t (ffTurn ln w r m l) = ap length (l .deferred)
+event-flags E q s b t (ffTurn ln w r m l) = ap length (l .flags)
 event-flags E q s b t (fqTurn ln w r) = refl
 event-flags E q s b t (blockEnd ln ff p ps w r m l) =
     let ss = answersTo E (s .memory .inbox) (p ∷ ps) in
-    ap flags (memory-kept E true (withCr (fsLine ss)) (withSign accept (p ∷ ps) ss) m) ∙ ap length (l .deferred)
+    ap flags (memory-kept E true (withCr (fsLine ss)) (withSign accept (p ∷ ps) ss) m) ∙ counted-flags E (withSign accept (p ∷ ps) ss) m ∙ ap length (l .flags)
 event-flags E q s b t (fsLineComes ln is w p ss r m l) = l .flags
 event-flags E q s b t (transferGrows p sc sc′ u e) = refl
 event-flags E q s b t (transferWhole p sc u h x e l) =
     ap flags (memory-kept E (endsWithCr (p .form)) [] (u .others) (withMessage (s .memory) (messageFrom p h x)))
+    ∙ counted-flags E (u .others) (withMessage (s .memory) (messageFrom p h x))
 
 step-flags : (E : Shelf) (q : Bytes) (s : Session) (b : ℕ) → Live s → SoFar E (s .phase) (s .memory) q → flags (step E s b .session .memory) ≡ flags (s .memory)
 step-flags E q s b L S = go (byte-found E q s b L S)

@@ -4,7 +4,8 @@ use mathlib.Core.Path.{_≡_, refl, sym, ap, _∙_, subst}
 use mathlib.Core.Bool.{Bool, true, false, cond}
 use mathlib.Core.Option.{some}
 use mathlib.Core.List.{List, [], _∷_, _++_, map, append-assoc}
-use Prim.Native.Nat.{ℕ, _<_}
+use Prim.Native.Nat.{ℕ, _+_, _<_}
+use native.Mathlib.Omega.{arith}
 use lib.Dec.{eqb, ltb}
 use lib.ListN.{length}
 use borrow.Author.Tests.{eq-eqb, lt-ltb}
@@ -18,11 +19,11 @@ use Rattle.grammar.specs.Scan.{Scan, Scanned, goes, got, scanByte}
 use Rattle.grammar.proofs.Refusal.{whole-got}
 use Rattle.mail.specs.Mail.{Record, messageOf, proposalOf, transferOf, recordAt, proposalLines, turnText, transfersText, accepted}
 use Rattle.session.specs.Choices.{Shelf, answersTo}
-use Rattle.session.specs.Session.{awaitsSid, awaitsPrompt, awaitsAnswer, Phase, aLine, newTurn, Memory, Session, withLevel, withFramed, withTerms, withSid, withPart, withAfterCr, between, goesOn, speaking, turnMarks, answering, answered, turnJudged, answerMarks, awaitedJudged, Stepped, moved, settled, lineMoved, isPlain, keptIn, nextTransfer, transferMoved, freeStep, step, levelInForce}
+use Rattle.session.specs.Session.{awaitsSid, awaitsPrompt, awaitsAnswer, Phase, aLine, newTurn, leaving, Memory, Session, withLevel, withFramed, withTerms, withCounts, withSid, withPart, withAfterCr, between, goesOn, speaking, turnMarks, answering, answered, turnJudged, answerMarks, awaitedJudged, Stepped, moved, settled, lineMoved, isPlain, keptIn, nextTransfer, transferMoved, freeStep, step, levelInForce}
 use Rattle.demand2.specs.Room.{room}
 use Rattle.demand2.specs.Marks.{withSign, AnswerLeaves, TurnLeaves}
 use Rattle.demand2.specs.Refusals.{isDropped, Heeded, awaitsLine, WholeLine, TurnSaid, SoFar, TransferByte}
-use Rattle.demand2.specs.Events.{messageFrom, withMessage, metBy, endsWithCr, proposed, blockText, transfersSaid, turnSaid, turnAwaits, weSpeak, transfersOr, EndsBlock, bare, summed, Event, lfGoes, lineGrows, ignored, sidOfCaller, sidOfCalled, textLine, prompt, proposal, ffTurn, fqTurn, blockEnd, fsLineComes, transferGrows, transferWhole}
+use Rattle.demand2.specs.Events.{messageFrom, withMessage, metBy, endsWithCr, proposed, blockText, transfersSaid, turnSaid, turnAwaits, countsProposed, weSpeak, transfersOr, EndsBlock, bare, summed, Event, lfGoes, lineGrows, ignored, sidOfCaller, sidOfCalled, textLine, prompt, proposal, ffTurn, fqTurn, blockEnd, fsLineComes, transferGrows, transferWhole}
 use Rattle.demand2.proofs.Limits.{level-between}
 use Rattle.demand2.proofs.Room.{fits-within}
 use Rattle.demand2.proofs.Marks.{accepted-is, answer-marks, turn-marks, answer-only, turn-only}
@@ -44,12 +45,19 @@ unfolding transfersText
 transfers-are T [] = refl
 transfers-are T (i ∷ is) = ap (λ (l : Bytes). transferOf (recordAt T i) ++ l) (transfers-are T is)
 
+-- FF and FQ count nothing
+none-counted : (m : Memory) → m ≡ countsProposed [] m
+none-counted m =
+    let c = m .counts in
+    let z : c .proposed ≡ c .proposed + 0 = omega arith in
+    ap (λ (n : ℕ). withCounts (record { proposed = n; forwarded = c .forwarded; declined = c .declined; deferred = c .deferred }) m) z
+
 speaks : (E : Shelf) (s : Session) (cr : Bool) (o : Bytes) (ff : Bool) (is : List ℕ) (m : Memory)
-    → settled s cr (speaking E o ff is m) ≡ moved (between (turnAwaits ff is) cr (o ++ turnSaid E ff is) m)
-speaks E s cr o true [] m = refl
-speaks E s cr o false [] m = refl
+    → settled s cr (speaking E o ff is m) ≡ moved (between (turnAwaits ff is) cr (o ++ turnSaid E ff is) (countsProposed is m))
+speaks E s cr o true [] m = ap (λ (n : Memory). moved (between leaving cr (o ++ turnSaid E true []) n)) (none-counted m)
+speaks E s cr o false [] m = ap (λ (n : Memory). moved (between (newTurn true) cr (o ++ turnSaid E false []) n)) (none-counted m)
 speaks E s cr o ff (i ∷ is) m =
-    ap (λ (l : Bytes). moved (between (aLine (awaitsAnswer (i ∷ is))) cr (o ++ l) m)) (block-is (E .table) (i ∷ is))
+    ap (λ (l : Bytes). moved (between (aLine (awaitsAnswer (i ∷ is))) cr (o ++ l) (countsProposed (i ∷ is) m))) (block-is (E .table) (i ∷ is))
 
 answers : (E : Shelf) (s : Session) (cr : Bool) (ss : List Sign) (ps : List Proposal) (m : Memory)
     → settled s cr (answering E ss ps m) ≡ moved (transfersOr E cr (withCr (fsLine ss)) ps m)
@@ -154,10 +162,20 @@ module _ (E : Shelf) (q : Bytes) (s : Session) (b : ℕ) where
 
 -- ---------------------------------------------------------------- what the partner's lines leave of the memory
 
--- what waits and what is awaited is no part of it
-pub memory-kept : (E : Shelf) (cr : Bool) (o : Bytes) (ps : List Proposal) (m : Memory) → transfersOr E cr o ps m .memory ≡ m
+-- what waits and what is awaited is no part of it; where no transfers are awaited, our turn is counted
+abbrev pub turnCounted : Shelf → List Proposal → Memory → Memory
+turnCounted E [] m = countsProposed (proposed E m) m
+turnCounted E (p ∷ ps) m = m
+
+pub memory-kept : (E : Shelf) (cr : Bool) (o : Bytes) (ps : List Proposal) (m : Memory) → transfersOr E cr o ps m .memory ≡ turnCounted E ps m
 memory-kept E cr o [] m = refl
 memory-kept E cr o (p ∷ ps) m = refl
+
+-- the partner's whole turn, and then ours where no transfers of these proposals are awaited
+pub record TurnsLeave (E : Shelf) (ps : List Proposal) (before after : Memory) : Type 0 where
+  pub between : Memory
+  pub theirs : TurnLeaves before between
+  pub ours : after ≡ turnCounted E ps between
 
 module _ (E : Shelf) (s : Session) (b : ℕ) (ln : Bytes) where
   -- ITS VALID FS LINE
@@ -168,15 +186,18 @@ module _ (E : Shelf) (s : Session) (b : ℕ) (ln : Bytes) where
       (answer-marks is ss (s .memory))
 
   -- ITS WHOLE TURN: FF
-  pub ff-leaves : {raw : Bytes} → TurnSaid s b false [] raw ln → readTurnLine (s .memory .framed) ln ≡ saysFF → TurnLeaves (s .memory) (step E s b .session .memory)
+  pub ff-leaves : {raw : Bytes} → TurnSaid s b false [] raw ln → readTurnLine (s .memory .framed) ln ≡ saysFF → TurnsLeave E [] (s .memory) (step E s b .session .memory)
   ff-leaves w r =
-      subst (TurnLeaves (s .memory)) (sym (ap (λ (o : Stepped). o .session .memory) (goes-ff E [] s b ln w r))) (turn-marks (s .memory))
+      record { between = turnMarks (s .memory); theirs = turn-marks (s .memory); ours = ap (λ (o : Stepped). o .session .memory) (goes-ff E [] s b ln w r) }
 
   -- ITS WHOLE TURN: proposals and F>
   pub block-leaves : (ff : Bool) (p : Proposal) (ps : List Proposal) {raw : Bytes} → TurnSaid s b ff (p ∷ ps) raw ln
-      → EndsBlock raw (readTurnLine (s .memory .framed) ln) → TurnLeaves (s .memory) (step E s b .session .memory)
+      → EndsBlock raw (readTurnLine (s .memory .framed) ln)
+      → TurnsLeave E (withSign accept (p ∷ ps) (answersTo E (s .memory .inbox) (p ∷ ps))) (s .memory) (step E s b .session .memory)
   block-leaves ff p ps w r =
-      subst (TurnLeaves (s .memory))
-      (sym (ap (λ (o : Stepped). o .session .memory) (goes-block E [] s b ln ff p ps w r)
-      ∙ memory-kept E true _ (withSign accept (p ∷ ps) (answersTo E (s .memory .inbox) (p ∷ ps))) (turnMarks (s .memory))))
-      (turn-marks (s .memory))
+      record {
+        between = turnMarks (s .memory);
+        theirs = turn-marks (s .memory);
+        ours = ap (λ (o : Stepped). o .session .memory) (goes-block E [] s b ln ff p ps w r)
+            ∙ memory-kept E true _ (withSign accept (p ∷ ps) (answersTo E (s .memory .inbox) (p ∷ ps))) (turnMarks (s .memory));
+      }

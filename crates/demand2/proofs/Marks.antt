@@ -1,9 +1,9 @@
--- MARKS ARE 01's: the session's marks are as AnswerLeaves and TurnLeaves say, and no other memory is. Idea: each of the session's three ways to mark
+-- MARKS ARE 01's, and the tally sheet 02's: the session's marks are as AnswerLeaves and TurnLeaves say, and no other memory is. Idea: each of the session's three ways to mark
 -- sets one number at a list of places; lists of one length with the same entries are the same.
 use mathlib.Core.Path.{_≡_, refl, sym, ap, _∙_}
 use mathlib.Core.Bool.{Bool, true, false, cond, _||_}
 use mathlib.Core.List.{List, [], _∷_, _++_}
-use Prim.Native.Nat.{ℕ, _<_}
+use Prim.Native.Nat.{ℕ, _+_, _<_}
 use native.Mathlib.Omega.{arith}
 use lib.Dec.{eqb}
 use lib.ListN.{length, getD, set, length-set}
@@ -12,7 +12,8 @@ use borrow.Author.Tests.{eqb-true, eqb-false, eq-eqb}
 use Rattle.grammar.specs.Answers.{Sign, accept, decline, defer, writeSign}
 use Rattle.grammar.proofs.Basics.{or-second, no-both}
 use Rattle.mail.specs.Mail.{Message, accepted, marked, declined}
-use Rattle.session.specs.Session.{Terms, withFramed, withTerms, withStates, withSending, withInbox, withDeferred, Memory, turnMarks, deferring, answerMarks}
+use Rattle.mail.specs.Tally.{Counts, declinedOnes, deferredOnes}
+use Rattle.session.specs.Session.{Terms, withFramed, withTerms, withStates, withSending, withInbox, withDeferred, withCounts, Memory, turnMarks, deferring, answerMarks}
 use Rattle.demand2.specs.Marks.{isIn, isSign, withSign, AnswerLeaves, TurnLeaves}
 use Rattle.demand2.specs.OurTurn.{rising}
 use Rattle.demand2.proofs.Candidates.{rising-first, rising-rest}
@@ -68,6 +69,22 @@ accepted-is {A} (i ∷ is) (accept ∷ ss) = ap (λ (l : List A). i ∷ l) (acce
 accepted-is (i ∷ is) (decline ∷ ss) = accepted-is is ss
 accepted-is (i ∷ is) (defer ∷ ss) = accepted-is is ss
 
+declined-ones : (is : List ℕ) (ss : List Sign) → declinedOnes ss is ≡ withSign decline is ss
+declined-ones [] [] = refl
+declined-ones [] (s ∷ ss) = refl
+declined-ones (i ∷ is) [] = refl
+declined-ones (i ∷ is) (accept ∷ ss) = declined-ones is ss
+declined-ones (i ∷ is) (decline ∷ ss) = ap (λ (l : List ℕ). i ∷ l) (declined-ones is ss)
+declined-ones (i ∷ is) (defer ∷ ss) = declined-ones is ss
+
+deferred-ones : (is : List ℕ) (ss : List Sign) → deferredOnes ss is ≡ withSign defer is ss
+deferred-ones [] [] = refl
+deferred-ones [] (s ∷ ss) = refl
+deferred-ones (i ∷ is) [] = refl
+deferred-ones (i ∷ is) (accept ∷ ss) = deferred-ones is ss
+deferred-ones (i ∷ is) (decline ∷ ss) = deferred-ones is ss
+deferred-ones (i ∷ is) (defer ∷ ss) = ap (λ (l : List ℕ). i ∷ l) (deferred-ones is ss)
+
 -- THE SESSION'S MARKS at an FS line are these
 pub answer-marks : (is : List ℕ) (ss : List Sign) (m : Memory) → AnswerLeaves is ss m (answerMarks is ss m)
 answer-marks is ss m =
@@ -77,6 +94,10 @@ answer-marks is ss m =
       flag = λ k h. ap (λ (l : List ℕ). getD l k 0) (deferring-is is ss (m .deferred)) ∙ set-at (withSign defer is ss) 1 (m .deferred) k h;
       flags = ap length (deferring-is is ss (m .deferred)) ∙ set-length (withSign defer is ss) 1 (m .deferred);
       sending = ap (λ (l : List ℕ). m .sending ++ l) (accepted-is is ss);
+      declined = ap (λ (l : List ℕ). m .counts .declined + length l) (declined-ones is ss);
+      deferred = ap (λ (l : List ℕ). m .counts .deferred + length l) (deferred-ones is ss);
+      proposed = refl;
+      forwarded = refl;
       mode = refl;
       terms = refl;
       inbox = refl;
@@ -89,7 +110,11 @@ turn-marks m =
       state = λ k h. ap (λ (l : List ℕ). getD l k 0) (marked-is (m .sending) (m .states)) ∙ set-at (m .sending) 1 (m .states) k h;
       records = ap length (marked-is (m .sending) (m .states)) ∙ set-length (m .sending) 1 (m .states);
       sending = refl;
+      forwarded = refl;
+      proposed = refl;
+      declined = refl;
       deferred = refl;
+      flags = refl;
       mode = refl;
       terms = refl;
       inbox = refl;
@@ -97,16 +122,25 @@ turn-marks m =
 
 -- ---------------------------------------------------------------- and no others
 
--- a memory by its six parts
+-- a tally sheet by its four numbers
+pub counts-are : (c d : Counts) → c .proposed ≡ d .proposed → c .forwarded ≡ d .forwarded → c .declined ≡ d .declined → c .deferred ≡ d .deferred → c ≡ d
+counts-are c d p f e g =
+    ap (λ (x : ℕ). record { proposed = x; forwarded = c .forwarded; declined = c .declined; deferred = c .deferred }) p
+    ∙ ap (λ (x : ℕ). record { proposed = d .proposed; forwarded = x; declined = c .declined; deferred = c .deferred }) f
+    ∙ ap (λ (x : ℕ). record { proposed = d .proposed; forwarded = d .forwarded; declined = x; deferred = c .deferred }) e
+    ∙ ap (λ (x : ℕ). record { proposed = d .proposed; forwarded = d .forwarded; declined = d .declined; deferred = x }) g
+
+-- a memory by its seven parts
 pub memory-is : (m n : Memory) → m .framed ≡ n .framed → m .terms ≡ n .terms → m .states ≡ n .states → m .sending ≡ n .sending → m .inbox ≡ n .inbox
-    → m .deferred ≡ n .deferred → m ≡ n
-memory-is m n a t b c d e =
+    → m .deferred ≡ n .deferred → m .counts ≡ n .counts → m ≡ n
+memory-is m n a t b c d e g =
     ap (λ (x : Bool). withFramed x m) a
     ∙ ap (λ (x : Terms). withTerms x (withFramed (n .framed) m)) t
     ∙ ap (λ (x : List ℕ). withStates x (withTerms (n .terms) (withFramed (n .framed) m))) b
-    ∙ ap (λ (x : List ℕ). withSending x (withInbox (m .inbox) (withDeferred (m .deferred) n))) c
-    ∙ ap (λ (x : List Message). withInbox x (withDeferred (m .deferred) n)) d
-    ∙ ap (λ (x : List ℕ). withDeferred x n) e
+    ∙ ap (λ (x : List ℕ). withSending x (withInbox (m .inbox) (withDeferred (m .deferred) (withCounts (m .counts) n)))) c
+    ∙ ap (λ (x : List Message). withInbox x (withDeferred (m .deferred) (withCounts (m .counts) n))) d
+    ∙ ap (λ (x : List ℕ). withDeferred x (withCounts (m .counts) n)) e
+    ∙ ap (λ (x : Counts). withCounts x n) g
 
 -- two lists, each as long as l and with the entries f
 alike : (f : ℕ → ℕ) (l u v : List ℕ) → length u ≡ length l → length v ≡ length l → ((k : ℕ) → k < length l → getD u k 0 ≡ f k)
@@ -122,6 +156,7 @@ answer-only is ss m n a =
     (a .sending ∙ sym (z .sending)) (a .inbox)
     (alike (λ (k : ℕ). cond (isIn k (withSign defer is ss)) 1 (getD (m .deferred) k 0)) (m .deferred) (n .deferred) (deferring is ss (m .deferred))
     (a .flags) (z .flags) (a .flag) (z .flag))
+    (counts-are (n .counts) (answerMarks is ss m .counts) (a .proposed) (a .forwarded) (a .declined ∙ sym (z .declined)) (a .deferred ∙ sym (z .deferred)))
 
 pub turn-only : (m n : Memory) → TurnLeaves m n → n ≡ turnMarks m
 turn-only m n a =
@@ -129,7 +164,7 @@ turn-only m n a =
     memory-is n (turnMarks m) (a .mode) (a .terms)
     (alike (λ (k : ℕ). cond (isIn k (m .sending)) 1 (getD (m .states) k 0)) (m .states) (n .states) (marked (m .sending) (m .states))
     (a .records) (z .records) (a .state) (z .state))
-    (a .sending) (a .inbox) (a .deferred)
+    (a .sending) (a .inbox) (a .flags) (counts-are (n .counts) (turnMarks m .counts) (a .proposed) (a .forwarded) (a .declined) (a .deferred))
 
 -- ---------------------------------------------------------------- one sign a record
 

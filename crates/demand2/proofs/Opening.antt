@@ -10,7 +10,7 @@ use Rattle.grammar.specs.Bytes.{Bytes}
 use Rattle.grammar.specs.Answers.{Level}
 use Rattle.session.specs.Session.{Phase, Memory, Session, withPhase, withPart, withAfterCr, withOut, withMemory, withLevel, greeting, opened}
 use Rattle.demand2.specs.Opening.{OpenExact}
-use Rattle.demand2.proofs.Marks.{memory-is}
+use Rattle.demand2.proofs.Marks.{counts-are, memory-is}
 
 -- OPEN
 pub open-exact : (caller : Bool) (states : List ℕ) → OpenExact caller states (opened caller states)
@@ -26,6 +26,10 @@ open-exact caller states =
       flag = λ k h. getD-replicate 64 k 0 0 h;
       flags = length-replicate {A = ℕ} 64 0;
       inbox = refl;
+      proposed = refl;
+      forwarded = refl;
+      declined = refl;
+      deferred = refl;
       mode = refl;
       level = refl;
     }
@@ -45,7 +49,8 @@ open-only caller states s h =
     session-is s (opened caller states) (h .awaits) (h .part) (h .noCr) (waits caller (h .called) (h .calling))
     (memory-is (s .memory) (opened caller states .memory) (h .mode) (ap (λ (v : Level). withLevel v (s .memory .terms)) (h .level)) (h .marks) (h .sending) (h .inbox)
     (ext-getD 0 (s .memory .deferred) (replicate 64 0) (h .flags ∙ sym (length-replicate {A = ℕ} 64 0))
-    (λ k l. h .flag k (omega (arith, h .flags)) ∙ sym (getD-replicate 64 k 0 0 (omega (arith, h .flags))))))
+    (λ k l. h .flag k (omega (arith, h .flags)) ∙ sym (getD-replicate 64 k 0 0 (omega (arith, h .flags)))))
+    (counts-are (s .memory .counts) (opened caller states .memory .counts) (h .proposed) (h .forwarded) (h .declined) (h .deferred)))
   where
     waits : (caller : Bool) → (caller ≡ false → s .out ≡ greeting false) → (caller ≡ true → s .out ≡ []) → s .out ≡ greeting caller
     waits true f g = g refl

@@ -19,7 +19,7 @@ use Rattle.grammar.specs.Transfers.{parse, byteSum}
 use Rattle.grammar.specs.Scan.{Scan, goes, scan, scanFrom}
 use Rattle.mail.specs.Mail.{Record, Message, proposalOf, transferOf, recordAt}
 use Rattle.session.specs.Choices.{Shelf, chosen, answersTo}
-use Rattle.session.specs.Session.{awaitsSid, awaitsPrompt, awaitsTurn, awaitsAnswer, Phase, aLine, newTurn, awaitsTransfer, leaving, over, Memory, Session, withLevel, withFramed, withTerms, withInbox, withPhase, withPart, withAfterCr, between}
+use Rattle.session.specs.Session.{awaitsSid, awaitsPrompt, awaitsTurn, awaitsAnswer, Phase, aLine, newTurn, awaitsTransfer, leaving, over, Memory, Session, withLevel, withFramed, withTerms, withInbox, withCounts, withPhase, withPart, withAfterCr, between}
 use Rattle.demand2.specs.Limits.{lineLimit, blockLimit, letterF, levelBetween, levelInForce}
 use Rattle.demand2.specs.Room.{Fits, room}
 use Rattle.demand2.specs.Marks.{withSign, AnswerLeaves, TurnLeaves}
@@ -72,9 +72,21 @@ turnAwaits true [] = leaving
 turnAwaits false [] = newTurn true
 turnAwaits ff (i ∷ is) = aLine (awaitsAnswer (i ∷ is))
 
+-- "Proposed counts at the received byte that our turn answers" (02, Q-3): the records at these places, none for FF and FQ; all else is as it was
+abbrev pub countsProposed : List ℕ → Memory → Memory
+countsProposed is m =
+    withCounts
+    (record {
+      proposed = m .counts .proposed + length is;
+      forwarded = m .counts .forwarded;
+      declined = m .counts .declined;
+      deferred = m .counts .deferred;
+    })
+    m
+
 -- Our turn, said after o; ff: the partner's turn just now was FF
 abbrev pub weSpeak : Shelf → Bool → Bool → Bytes → Memory → Session
-weSpeak E afterCr ff o m = between (turnAwaits ff (proposed E m)) afterCr (o ++ turnSaid E ff (proposed E m)) m
+weSpeak E afterCr ff o m = between (turnAwaits ff (proposed E m)) afterCr (o ++ turnSaid E ff (proposed E m)) (countsProposed (proposed E m) m)
 
 -- "The right to propose passes to whoever sent the FS.": o waits; the transfers of these proposals are awaited, or else it is our turn
 abbrev pub transfersOr : Shelf → Bool → Bytes → List Proposal → Memory → Session

@@ -17,6 +17,10 @@
 -- one that marks otherwise            Events.fs-leaves (the partner's FS line: state 2 for `-`, deferred for `=`, sent for `+`, nothing else), ff-leaves and
 --                                     block-leaves (its whole turn: state 1 for what was being sent, nothing else); Marks.answer-only, turn-only (no
 --                                     other memory is so); Answered.answer-reached (in every session that is reached)
+-- one that tallies otherwise (02,     Events.fs-leaves (declined and deferred, at the FS line), ff-leaves and block-leaves (forwarded, at the partner's
+-- Q-3)                                whole turn, and then proposed, with our turn), happens (proposed, with each turn of ours, and by nothing else);
+--                                     Opening.open-exact (0 at open); Refusals.exact (`leaves`) and Portions.handed-out (`memory`): a refusal and
+--                                     give change no number
 -- one that begins otherwise           Opening.open-exact (what is awaited, what waits, the empty inbox, no mark), open-only (no other session is so)
 -- a consumed count not equal to the   Portions.counted (all, or up to and with the byte that ended the session), count-most, two-portions
 -- bytes dealt with                    (counts of portions add up), no-bytes; Ended.twelve (count 0)

@@ -2,7 +2,7 @@
 use mathlib.Core.Path.{_≡_}
 use mathlib.Core.Bool.{Bool, false, cond, _||_}
 use mathlib.Core.List.{List, [], _∷_, _++_}
-use Prim.Native.Nat.{ℕ, _<_}
+use Prim.Native.Nat.{ℕ, _+_, _<_}
 use lib.Dec.{eqb}
 use lib.ListN.{length, getD}
 use Rattle.grammar.specs.Answers.{Sign, accept, decline, defer, writeSign}
@@ -34,6 +34,11 @@ pub record AnswerLeaves (is : List ℕ) (ss : List Sign) (before after : Memory)
   pub flags : length (after .deferred) ≡ length (before .deferred)
   -- "Accepted records are sent in order."
   pub sending : after .sending ≡ before .sending ++ withSign accept is ss
+  -- "deferred at the FS line" (02, Q-3), and declined: as many more as were given that sign
+  pub declined : after .counts .declined ≡ before .counts .declined + length (withSign decline is ss)
+  pub deferred : after .counts .deferred ≡ before .counts .deferred + length (withSign defer is ss)
+  pub proposed : after .counts .proposed ≡ before .counts .proposed
+  pub forwarded : after .counts .forwarded ≡ before .counts .forwarded
   pub mode : after .framed ≡ before .framed
   pub terms : after .terms ≡ before .terms
   pub inbox : after .inbox ≡ before .inbox
@@ -44,7 +49,12 @@ pub record TurnLeaves (before after : Memory) : Type 0 where
   pub state : (k : ℕ) → k < length (before .states) → getD (after .states) k 0 ≡ cond (isIn k (before .sending)) stateForwarded (getD (before .states) k 0)
   pub records : length (after .states) ≡ length (before .states)
   pub sending : after .sending ≡ []
-  pub deferred : after .deferred ≡ before .deferred
+  -- and they count as forwarded (02, Q-3)
+  pub forwarded : after .counts .forwarded ≡ before .counts .forwarded + length (before .sending)
+  pub proposed : after .counts .proposed ≡ before .counts .proposed
+  pub declined : after .counts .declined ≡ before .counts .declined
+  pub deferred : after .counts .deferred ≡ before .counts .deferred
+  pub flags : after .deferred ≡ before .deferred
   pub mode : after .framed ≡ before .framed
   pub terms : after .terms ≡ before .terms
   pub inbox : after .inbox ≡ before .inbox

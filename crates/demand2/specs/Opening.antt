@@ -26,6 +26,11 @@ pub record OpenExact (caller : Bool) (states : List ℕ) (s : Session) : Type 0 
   pub flags : length (s .memory .deferred) ≡ recordLimit
   -- "Its count stands in session memory, 0 once open accepts."
   pub inbox : s .memory .inbox ≡ []
+  -- "a tally sheet: records proposed, forwarded, declined, deferred, .. all 0 when open accepts" (02, Q-3)
+  pub proposed : s .memory .counts .proposed ≡ 0
+  pub forwarded : s .memory .counts .forwarded ≡ 0
+  pub declined : s .memory .counts .declined ≡ 0
+  pub deferred : s .memory .counts .deferred ≡ 0
   -- "Partner has B: framed mode, .. Otherwise plain mode.": nothing is known of it yet
   pub mode : s .memory .framed ≡ false
   pub level : s .memory .terms .level ≡ level0

@@ -13,12 +13,13 @@ use Rattle.session.specs.Choices.{Shelf}
 use Rattle.session.specs.Session.{Session, Stepped, step, ended, opened}
 use Rattle.session.specs.Calls.{Received, oneMore, stoppedAt, stops, receiveOn, receive, give, handedOut}
 use Rattle.log.specs.Log.{took, gave, Book, log}
+use Rattle.log.specs.Effects.{noAccount}
 use Rattle.log.specs.Fed.{Fed, fedByte, fedAll}
 use Rattle.log.proofs.Spoken.{spoken-nil, greeting-spoken}
 use Rattle.log.proofs.Units.{fedOpened, fed-append, logs-agree}
 use Rattle.demand3.specs.Demand.{Call, receiving, giving, refusedCall, run, GoodTable, Demand3}
 use Rattle.demand3.proofs.Choice.{Sound, sound}
-use Rattle.demand3.proofs.Inv.{Inv, live, bookOf, no-line, give-inv, inv-book}
+use Rattle.demand3.proofs.Inv.{Live, Inv, live, bookOf, no-line, give-inv, inv-book}
 use Rattle.demand3.proofs.Step.{step-inv}
 
 -- ---------------------------------------------------------------- receive
@@ -66,11 +67,12 @@ module _ (E : Shelf) (S : Sound E) where
       (run-inv cs (give s room) _ (give-inv E s f room h))
   run-inv (refusedCall ∷ cs) s f h = run-inv cs s f h
 
+pub open-live : (E : Shelf) (caller : Bool) (states : List ℕ) → Live E (opened caller states) (fedOpened caller states)
+open-live E true states = record { unit = []; course = spoken-nil (E .table) false _; book = refl; afterCr = refl; pending = (no-line, tt) }
+open-live E false states = record { unit = []; course = greeting-spoken (E .table) false noAccount; book = refl; afterCr = refl; pending = (no-line, tt) }
+
 pub open-inv : (E : Shelf) (caller : Bool) (states : List ℕ) → Inv E (opened caller states) (fedOpened caller states)
-open-inv E true states =
-    live (record { unit = []; course = spoken-nil (E .table) false _; book = refl; afterCr = refl; pending = (no-line, tt) })
-open-inv E false states =
-    live (record { unit = []; course = greeting-spoken (E .table) false []; book = refl; afterCr = refl; pending = (no-line, tt) })
+open-inv E caller states = live (open-live E caller states)
 
 -- THE THEOREM: every table that open accepts, either role, any states, every list of calls
 pub demand-3 : (E : Shelf) → GoodTable (E .table) → (caller : Bool) (states : List ℕ) (cs : List Call) → Demand3 E caller states cs

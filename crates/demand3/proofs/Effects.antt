@@ -10,7 +10,8 @@ use Rattle.grammar.specs.Turns.{Proposal}
 use Rattle.grammar.specs.Answers.{Sign, accept, decline, defer}
 use Rattle.grammar.specs.Transfers.{Content}
 use Rattle.mail.specs.Mail.{accepted, marked, declined, messageOf}
-use Rattle.log.specs.Effects.{oneOf, madeFrom, forwardedSent, isMinus, given, acceptedBy, declinedBy, keptAs}
+use Rattle.mail.specs.Tally.{declinedOnes, deferredOnes}
+use Rattle.log.specs.Effects.{oneOf, madeFrom, forwardedSent, isMinus, isEquals, given, acceptedBy, declinedBy, keptAs}
 
 -- ---------------------------------------------------------------- states
 
@@ -59,6 +60,21 @@ accepted-alike (s ∷ ss) [] = refl
 accepted-alike {A} (accept ∷ ss) (x ∷ xs) = ap (λ (l : List A). x ∷ l) (accepted-alike ss xs)
 accepted-alike (decline ∷ ss) (x ∷ xs) = accepted-alike ss xs
 accepted-alike (defer ∷ ss) (x ∷ xs) = accepted-alike ss xs
+
+-- those that count as declined and as deferred (02, Q-3)
+pub declined-ones-alike : {A : Type 0} (ss : List Sign) (xs : List A) → declinedOnes ss xs ≡ given isMinus ss xs
+declined-ones-alike [] xs = refl
+declined-ones-alike (s ∷ ss) [] = refl
+declined-ones-alike (accept ∷ ss) (x ∷ xs) = declined-ones-alike ss xs
+declined-ones-alike {A} (decline ∷ ss) (x ∷ xs) = ap (λ (l : List A). x ∷ l) (declined-ones-alike ss xs)
+declined-ones-alike (defer ∷ ss) (x ∷ xs) = declined-ones-alike ss xs
+
+pub deferred-ones-alike : {A : Type 0} (ss : List Sign) (xs : List A) → deferredOnes ss xs ≡ given isEquals ss xs
+deferred-ones-alike [] xs = refl
+deferred-ones-alike (s ∷ ss) [] = refl
+deferred-ones-alike (accept ∷ ss) (x ∷ xs) = deferred-ones-alike ss xs
+deferred-ones-alike (decline ∷ ss) (x ∷ xs) = deferred-ones-alike ss xs
+deferred-ones-alike {A} (defer ∷ ss) (x ∷ xs) = ap (λ (l : List A). x ∷ l) (deferred-ones-alike ss xs)
 
 -- "A message is kept at its last byte.", and the log's "with its proposal's form and fields as read, and its own heading and body"
 pub message-alike : (p : Proposal) (c : Content) → messageOf p c ≡ keptAs p c

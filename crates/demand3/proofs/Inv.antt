@@ -2,7 +2,7 @@
 -- stands for; its book is the session's; and the session holds what came of the partner's unit. Or the session was refused a byte: the books agree, and
 -- a byte of ours, of the line that says why, is none that the log awaits.
 use mathlib.Core.Path.{_≡_, refl, sym, _∙_, subst}
-use mathlib.Core.Bool.{Bool, false, cond}
+use mathlib.Core.Bool.{Bool, true, false, cond}
 use mathlib.Core.Option.{Option, none, some}
 use mathlib.Core.List.{List, [], _∷_, map}
 use Prim.Native.Nat.{ℕ, _≤_}
@@ -14,11 +14,13 @@ use Rattle.grammar.specs.Scan.{goes}
 use Rattle.grammar.proofs.Refusal.{Reach}
 use Rattle.mail.specs.Mail.{Record}
 use Rattle.session.specs.Choices.{Shelf}
-use Rattle.session.specs.Session.{Awaited, awaitsSid, awaitsPrompt, awaitsTurn, awaitsAnswer, Phase, aLine, awaitsTransfer, leaving, Memory, Session, roomFor}
+use Rattle.session.specs.Session.{Awaited, awaitsSid, awaitsPrompt, awaitsTurn, awaitsAnswer, Phase, aLine, awaitsTransfer, leaving, Memory, Session, Stepped, roomFor}
 use Rattle.session.specs.Calls.{give, handedOut}
 use Rattle.log.specs.Log.{gave, Theirs, theirText, theirSid, theirTurn, theirAnswer, Next, theySay, theirTransfer, Course, Book, isOurs}
+use Rattle.log.specs.Effects.{Account}
 use Rattle.log.specs.Fed.{Fed, unitByte, outOfOrder, fedAll}
 use Rattle.log.proofs.Spoken.{spoken, spoken-append, spoken-none, gave-spoken}
+use Rattle.demand3.specs.Tally.{isRefusal}
 
 -- the line that is awaited, for the log
 abbrev pub lineOf : Awaited → Theirs
@@ -33,8 +35,18 @@ nextOf (awaitsTransfer p ps sc) = theirTransfer p ps
 nextOf leaving = Next.over
 nextOf Phase.over = Next.over
 
+abbrev pub accountOf : Memory → Account
+accountOf m =
+    record {
+      sent = m .sending;
+      proposed = m .counts .proposed;
+      forwarded = m .counts .forwarded;
+      declined = m .counts .declined;
+      deferred = m .counts .deferred;
+    }
+
 abbrev pub courseOf : Phase → Memory → Course
-courseOf p m = record { next = nextOf p; sent = m .sending }
+courseOf p m = record { next = nextOf p; account = accountOf m }
 
 abbrev pub bookOf : Memory → Book
 bookOf m = record { framed = m .framed; level = m .terms .level; states = m .states; kept = m .inbox }
@@ -76,13 +88,22 @@ pub data Inv (E : Shelf) (s : Session) (f : Fed) : Type 0 where
   live : Live E s f → Inv E s f
   gone : Gone s f → Inv E s f
 
+-- what a byte leaves: the session goes on, or the byte was refused
+pub data After (E : Shelf) (o : Stepped) (f : Fed) : Type 0 where
+  went : o .answer ≡ 0 → Live E (o .session) f → After E o f
+  halted : isRefusal (o .answer) ≡ true → Gone (o .session) f → After E o f
+
+pub after-inv : {E : Shelf} {o : Stepped} {f : Fed} → After E o f → Inv E (o .session) f
+after-inv (went e h) = live h
+after-inv (halted e h) = gone h
+
 pub inv-book : {E : Shelf} {s : Session} {f : Fed} → Inv E s f → f .log .book ≡ bookOf (s .memory)
 inv-book (live h) = h .book
 inv-book (gone h) = h .book
 
 -- ---------------------------------------------------------------- give
 
-give-live : (E : Shelf) (s : Session) (f : Fed) (room : ℕ) → Live E s f → Inv E (give s room) (fedAll (E .table) f (map gave (handedOut s room)))
+pub give-live : (E : Shelf) (s : Session) (f : Fed) (room : ℕ) → Live E s f → Live E (give s room) (fedAll (E .table) f (map gave (handedOut s room)))
 unfolding give
 give-live E s f room h = go (spoken T md (some (f .log .course, f .raw)) (take room (s .out))) refl split
   where
@@ -99,11 +120,11 @@ give-live E s f room h = go (spoken T md (some (f .log .course, f .raw)) (take r
 
     go : (o : Option (Course × Bytes)) → spoken T md (some (f .log .course, f .raw)) (take room (s .out)) ≡ o
         → spoken T md o (drop room (s .out)) ≡ some (courseOf (s .phase) (s .memory), h .unit)
-        → Inv E (give s room) (fedAll T f (map gave (take room (s .out))))
+        → Live E (give s room) (fedAll T f (map gave (take room (s .out))))
     go none e k = absurd (let z = sym (spoken-none T md (drop room (s .out))) ∙ k in let y : _≡_ {A = ℕ} 0 1 = cc in omega arith)
     go (some p) e k =
         rw (gave-spoken T (take room (s .out)) f p e)
-        (live (record { unit = h .unit; course = k; book = h .book; afterCr = h .afterCr; pending = h .pending }))
+        (record { unit = h .unit; course = k; book = h .book; afterCr = h .afterCr; pending = h .pending })
 
 -- bytes of ours that the log does not await change nothing in its book, and it awaits none after them
 abbrev Aside : Book → Fed → Type 0
@@ -122,5 +143,5 @@ give-gone E s f room h =
     gone (record { done = h .done; theirs = k .0; book = k .1 ∙ h .book })
 
 pub give-inv : (E : Shelf) (s : Session) (f : Fed) (room : ℕ) → Inv E s f → Inv E (give s room) (fedAll (E .table) f (map gave (handedOut s room)))
-give-inv E s f room (live h) = give-live E s f room h
+give-inv E s f room (live h) = live (give-live E s f room h)
 give-inv E s f room (gone h) = give-gone E s f room h

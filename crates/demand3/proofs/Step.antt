@@ -3,13 +3,15 @@ use mathlib.Core.Path.{_≡_, refl, sym, ap, _∙_, subst}
 use mathlib.Core.Bool.{Bool, true, false, cond, _&&_}
 use mathlib.Core.Option.{Option, none, some}
 use mathlib.Core.List.{List, [], _∷_, _++_, map}
-use Prim.Native.Nat.{ℕ, _≤_}
+use Prim.Native.Nat.{ℕ, _+_, _≤_}
 use native.Mathlib.Omega.{arith}
 use lib.Dec.{eqb, ltb}
 use lib.ListN.{length, length-append, length-map}
 use borrow.Author.Tests.{ltb-true, le-leb}
-use Rattle.grammar.specs.Bytes.{Bytes, CR, LF}
-use Rattle.grammar.specs.Refusals.{lineTooLong, noForwarding, proposalCount, badTransfer, badChecksum, storeFull, bytesWait, sessionEnded, wrongBlockSum}
+use Rattle.grammar.specs.Bytes.{Bytes, CR, LF, isSome}
+use Rattle.grammar.specs.Refusals.{lineTooLong, noForwarding, lineNotAllowed, proposalCount, badAnswer, badTransfer, badChecksum, storeFull, bytesWait, wrongBlockSum}
+use Rattle.grammar.specs.Ascii.{text}
+use Rattle.grammar.specs.Fields
 use Rattle.grammar.specs.Fields.{Form, plain, message, file}
 use Rattle.grammar.specs.Lines.{ends, grows, overruns, trim, isComment, isPrompt}
 use Rattle.grammar.specs.Sid.{readSid, hasFeature, framed}
@@ -17,25 +19,29 @@ use Rattle.grammar.specs.Turns.{Proposal, TurnLine, saysFF, saysFQ, endsBlock, 
 use Rattle.grammar.specs.Answers.{Sign, readFs, fsNumber, fsLine, Level}
 use Rattle.grammar.specs.Transfers.{readTransfer, sumRight}
 use Rattle.grammar.specs.Scan.{Scan, Scanned, goes, got, malformed, wrongSum, noRoom, scanByte, scanFrom}
+use Rattle.grammar.proofs.Basics.{no-both}
 use Rattle.grammar.proofs.Refusal.{Reach, reach-step, from, contentOf, read-as}
 use Rattle.mail.specs.Mail.{Record, messageOf, turnText, transfersText, accepted}
+use Rattle.mail.specs.Tally.{declinedOnes, deferredOnes}
 use Rattle.session.specs.Choices.{Shelf, answersTo}
-use Rattle.session.specs.Session.{Awaited, awaitsSid, awaitsPrompt, awaitsTurn, awaitsAnswer, Phase, aLine, newTurn, awaitsTransfer, leaving, Memory, Session, withSid, withPart, withAfterCr, between, Outcome, refuses, goesOn, speaking, ourTurn as speakNow, turnMarks, answering, answered, turnJudged, answerMarks, answerJudged, afterSid, sidJudged, textJudged, awaitedJudged, lineJudged, refused, settled, lineMoved, keptIn, nextTransfer, transferMoved, roomFor, lineStep, phaseStep, freeStep, step, ended, endedIn}
+use Rattle.session.specs.Session.{Awaited, awaitsSid, awaitsPrompt, awaitsTurn, awaitsAnswer, Phase, aLine, newTurn, awaitsTransfer, leaving, Memory, Session, withSid, withPart, withAfterCr, between, Outcome, refuses, goesOn, proposing, speaking, ourTurn as speakNow, turnMarks, answering, answered, turnJudged, answerMarks, answerJudged, afterSid, sidJudged, textJudged, awaitedJudged, lineJudged, refused, settled, lineMoved, keptIn, nextTransfer, transferMoved, roomFor, lineStep, phaseStep, freeStep, step, ended, endedIn}
 use Rattle.session.specs.Session
 use Rattle.log.specs.Log.{ourNewTurn, took, ourSidLine, ourAnswer, theirText, Next, weSay, theySay, theirTransfer, Course, Book, Log, isOurs, saidOn, inOrder, said, theirsOwed, placesOf, ourProposed, Effect, effect, summedEnd, checked, rawWith, theirSaid, theirTurnLine, theirAnswered, theirSidRead, theirRead, theirLine, judgedLine}
 use Rattle.log.specs.Log
 use Rattle.log.specs.Fed.{Fed, unitByte, outOfOrder, fedByte}
 use Rattle.log.proofs.Levels.{level-alike}
 use Rattle.log.proofs.Said.{said-after}
-use Rattle.log.proofs.Spoken.{spoken, spoken-nil, spoken-append, spoken-alone, spoken-ours, withSpoken, at, AllFit, map-snoc, ff-spoken, fq-spoken, sid-spoken, turn-spoken, fs-spoken, transfers-spoken}
-use Rattle.log.specs.Effects.{forwardedSent}
-use Rattle.demand3.proofs.Effects.{marked-alike, declined-alike, accepted-alike, message-alike}
+use Rattle.log.proofs.Spoken.{spoken, spoken-nil, spoken-append, spoken-alone, spoken-ours, withSpoken, at, after as afterLine, AllFit, map-snoc, ff-spoken, fq-spoken, sid-spoken, turn-spoken, fs-spoken, transfers-spoken}
+use Rattle.log.specs.Effects.{forwardedSent, Account, withForwarded}
+use Rattle.demand3.specs.Tally.{isRefusal}
+use Rattle.demand3.proofs.Effects.{marked-alike, declined-alike, accepted-alike, declined-ones-alike, deferred-ones-alike, message-alike}
 use Rattle.demand3.proofs.Choice.{Sound, ourChoice, proposalsAt}
-use Rattle.demand3.proofs.Inv.{lineOf, Few, nextOf, courseOf, bookOf, no-line, Pending, Live, Inv, live, gone}
+use Rattle.demand3.proofs.Inv.{lineOf, Few, nextOf, accountOf, courseOf, bookOf, no-line, Pending, Live, Inv, live, gone, After, went, halted, after-inv}
 
 -- a refusal with the number n that leaves the log's book; the log awaits no byte of ours
-refusal : (E : Shelf) (s : Session) (n : ℕ) (f : Fed) → isOurs (f .log .course .next) ≡ false → f .log .book ≡ bookOf (s .memory) → Inv E (refused s n .session) f
-refusal E s n f t h = gone (record { done = refl; theirs = t; book = h })
+refusal : (E : Shelf) (s : Session) (n : ℕ) (f : Fed) → isRefusal n ≡ true → isOurs (f .log .course .next) ≡ false → f .log .book ≡ bookOf (s .memory)
+    → After E (refused s n) f
+refusal E s n f r t h = halted r (record { done = refl; theirs = t; book = h })
 
 -- ---------------------------------------------------------------- what we say
 
@@ -45,49 +51,59 @@ after a m c = record { log = record { afterCr = a; course = c; book = bookOf m }
 
 -- the session says o
 says : (E : Shelf) (s : Session) (a : Bool) (p : Phase) (m : Memory) (o : Bytes) (c : Course)
-    → spoken (E .table) (m .framed) (some (c, [])) o ≡ some (courseOf p m, []) → Pending E m p [] [] → Inv E (settled s a (goesOn p m o) .session) (after a m c)
-says E s a p m o c e h = live (record { unit = []; course = e; book = refl; afterCr = refl; pending = h })
+    → spoken (E .table) (m .framed) (some (c, [])) o ≡ some (courseOf p m, []) → Pending E m p [] [] → After E (settled s a (goesOn p m o)) (after a m c)
+says E s a p m o c e h = went refl (record { unit = []; course = e; book = refl; afterCr = refl; pending = h })
 
 our-turn : (E : Shelf) → Sound E → (o : Bytes) (ff : Bool) (m : Memory) (s : Session) (a : Bool) (c : Course)
-    → spoken (E .table) (m .framed) (some (c, [])) o ≡ at (ourNewTurn ff) (m .sending) → Inv E (settled s a (speakNow E o ff m) .session) (after a m c)
+    → spoken (E .table) (m .framed) (some (c, [])) o ≡ at (ourNewTurn ff) (accountOf m) → After E (settled s a (speakNow E o ff m)) (after a m c)
 our-turn E S o ff m s a c e = go ff (ourChoice E m) (S .few m) (S .own m) (S .fit m) e
   where
     T : List Record
     T = E .table
 
     -- o, then x
-    then : (n : Next) (x : Bytes) (p : Phase) → spoken T (m .framed) (some (c, [])) o ≡ at n (m .sending)
-        → spoken T (m .framed) (at n (m .sending)) x ≡ at (nextOf p) (m .sending) → Pending E m p [] [] → Inv E (settled s a (goesOn p m (o ++ x)) .session) (after a m c)
-    then n x p e k h =
-        says E s a p m (o ++ x) c
-        (spoken-append T (m .framed) (some (c, [])) o x ∙ ap (λ (y : Option (Course × Bytes)). spoken T (m .framed) y x) e ∙ k) h
+    then : (n : Next) (x : Bytes) (q : Course × Bytes) → spoken T (m .framed) (some (c, [])) o ≡ at n (accountOf m)
+        → spoken T (m .framed) (at n (accountOf m)) x ≡ some q → spoken T (m .framed) (some (c, [])) (o ++ x) ≡ some q
+    then n x q e k = spoken-append T (m .framed) (some (c, [])) o x ∙ ap (λ (y : Option (Course × Bytes)). spoken T (m .framed) y x) e ∙ k
 
     go : (ff : Bool) (is : List ℕ) → length is ≤ 5 → placesOf T (proposalsAt T is) ≡ some is → AllFit (m .framed) (proposalsAt T is)
-        → spoken T (m .framed) (some (c, [])) o ≡ at (ourNewTurn ff) (m .sending) → Inv E (settled s a (speaking E o ff is m) .session) (after a m c)
-    go true [] few own fit e = then (ourNewTurn true) (withCr (fixedText ourFQ)) leaving e (fq-spoken T (m .framed) (m .sending)) tt
-    go false [] few own fit e = then (ourNewTurn false) (withCr (fixedText ourFF)) (newTurn true) e (ff-spoken T (m .framed) (m .sending)) (no-line, omega arith)
+        → spoken T (m .framed) (some (c, [])) o ≡ at (ourNewTurn ff) (accountOf m) → After E (settled s a (speaking E o ff is m)) (after a m c)
+    go true [] few own fit e =
+        says E s a leaving m _ c (then (ourNewTurn true) (withCr (fixedText ourFQ)) (courseOf leaving m, []) e (fq-spoken T (m .framed) (accountOf m))) tt
+    go false [] few own fit e =
+        says E s a (newTurn true) m _ c
+        (then (ourNewTurn false) (withCr (fixedText ourFF)) (courseOf (newTurn true) m, []) e (ff-spoken T (m .framed) (accountOf m))) (no-line, omega arith)
     go ff (i ∷ is) few own fit e =
-        then (ourNewTurn ff) (turnText (proposalsAt T (i ∷ is))) (aLine (awaitsAnswer (i ∷ is))) e
-        (turn-spoken T (m .framed) ff _ (proposalsAt T is) (m .sending) fit (rw (length-map is) few)
-        ∙ ap (λ (js : Option (List ℕ)). at (ourProposed js) (m .sending)) own)
+        says E s a (aLine (awaitsAnswer (i ∷ is))) (proposing (i ∷ is) m) _ c
+        (then (ourNewTurn ff) (turnText (proposalsAt T (i ∷ is))) (courseOf (aLine (awaitsAnswer (i ∷ is))) (proposing (i ∷ is) m), []) e
+        (turn-spoken T (m .framed) ff _ (proposalsAt T is) (accountOf m) fit (rw (length-map is) few)
+        ∙ ap (λ (js : Option (List ℕ)). afterLine (ourProposed js) (accountOf m)) own))
         (no-line, tt)
 
 answer : (E : Shelf) → Sound E → (ps : List Proposal) (m : Memory) (s : Session) → 1 ≤ length ps → length ps ≤ 5
-    → Inv E (settled s true (answered E ps m) .session) (after true m (record { next = weSay (ourAnswer ps); sent = m .sending }))
-answer E S ps m s k l = go (accepted ss ps) (rw (accepted-alike ss ps) (fs-spoken (E .table) (m .framed) ps ss (m .sending) (S .full (m .inbox) ps) k l))
+    → After E (settled s true (answered E ps m)) (after true m (record { next = weSay (ourAnswer ps); account = accountOf m }))
+answer E S ps m s k l = go (accepted ss ps) (rw (accepted-alike ss ps) (fs-spoken (E .table) (m .framed) ps ss (accountOf m) (S .full (m .inbox) ps) k l))
   where
     ss : List Sign
     ss = answersTo E (m .inbox) ps
 
     c : Course
-    c = record { next = weSay (ourAnswer ps); sent = m .sending }
+    c = record { next = weSay (ourAnswer ps); account = accountOf m }
 
-    go : (qs : List Proposal) → spoken (E .table) (m .framed) (some (c, [])) (withCr (fsLine ss)) ≡ at (theirsOwed qs) (m .sending)
-        → Inv E (settled s true (answering E ss qs m) .session) (after true m c)
+    go : (qs : List Proposal) → spoken (E .table) (m .framed) (some (c, [])) (withCr (fsLine ss)) ≡ at (theirsOwed qs) (accountOf m)
+        → After E (settled s true (answering E ss qs m)) (after true m c)
     go [] e = our-turn E S (withCr (fsLine ss)) false m s true c e
     go (q ∷ qs) e = says E s true (awaitsTransfer q qs (scanFrom (q .form))) m (withCr (fsLine ss)) c e (from (roomFor E m) (q .form))
 
 -- ---------------------------------------------------------------- the partner's lines and transfers
+
+-- an FS line that isn't valid gets 5 or 7
+pub numbered : (v : Level) (n : ℕ) (ln : Bytes) → readFs v n ln ≡ none → isRefusal (fsNumber v n ln) ≡ true
+numbered v n ln e = rw e (go (isSome (Fields.after (text "FS") ln)))
+  where
+    go : (c : Bool) → isRefusal (cond c badAnswer lineNotAllowed) ≡ true
+    go true = refl
+    go false = refl
 
 -- a session with no bytes waiting, and its twin; u is the partner's unit so far
 abbrev holding : Phase → Bytes → Bool → Bytes → Memory → Session
@@ -116,24 +132,24 @@ plain-alike file = refl
 module _ (E : Shelf) (S : Sound E) (part : Bytes) (a : Bool) (m : Memory) where
   -- a whole line's outcome for the session, and its effect on the log
   AfterLine : Awaited → Outcome → Effect → Type 0
-  AfterLine p o e = Inv E (settled (idle (aLine p) part a m) true o .session) (effected e)
+  AfterLine p o e = After E (settled (idle (aLine p) part a m) true o) (effected e)
 
-  wrong-line : (p : Awaited) (n : ℕ) (e : Effect) → isOurs (e .course .next) ≡ false → e .book ≡ bookOf m → AfterLine p (refuses n) e
+  wrong-line : (p : Awaited) (n : ℕ) (e : Effect) → isRefusal n ≡ true → isOurs (e .course .next) ≡ false → e .book ≡ bookOf m → AfterLine p (refuses n) e
   unfolding AfterLine
-  wrong-line p n e t h = refusal E (idle (aLine p) part a m) n (effected e) t h
+  wrong-line p n e r t h = refusal E (idle (aLine p) part a m) n (effected e) r t h
 
   -- with nothing to say
-  quiet : (p : Awaited) (q : Phase) (k : Memory) → Pending E k q [] [] → AfterLine p (goesOn q k []) (effect (bookOf k) (k .sending) (nextOf q))
+  quiet : (p : Awaited) (q : Phase) (k : Memory) → Pending E k q [] [] → AfterLine p (goesOn q k []) (effect (bookOf k) (accountOf k) (nextOf q))
   unfolding AfterLine
   quiet p q k h = says E (idle (aLine p) part a m) true q k [] (courseOf q k) (spoken-nil (E .table) (k .framed) (some (courseOf q k, []))) h
 
-  sid-line : (c : Bool) (r : Option (List ℕ)) → AfterLine (awaitsSid c) (sidJudged c m r) (theirSidRead c (bookOf m) (m .sending) r)
-  sid-line c none = wrong-line _ _ _ refl refl
+  sid-line : (c : Bool) (r : Option (List ℕ)) → AfterLine (awaitsSid c) (sidJudged c m r) (theirSidRead c (bookOf m) (accountOf m) r)
+  sid-line c none = wrong-line _ _ _ refl refl refl
   sid-line c (some fs) =
       subst
       (λ (v : Level).
       AfterLine (awaitsSid c) (sidJudged c m (some fs))
-      (cond (hasFeature 5 fs) (effect (metAt v) (m .sending) (theySay (Log.afterTheirSid c))) (effect (bookOf m) (m .sending) Next.over)))
+      (cond (hasFeature 5 fs) (effect (metAt v) (accountOf m) (theySay (Log.afterTheirSid c))) (effect (bookOf m) (accountOf m) Next.over)))
       (sym (level-alike fs)) (go c (hasFeature 5 fs))
     where
       k : Memory
@@ -144,114 +160,125 @@ module _ (E : Shelf) (S : Sound E) (part : Bytes) (a : Bool) (m : Memory) where
 
       go : (c d : Bool)
           → AfterLine (awaitsSid c) (cond d (goesOn (afterSid c) k []) (refuses noForwarding))
-          (cond d (effect (bookOf k) (m .sending) (theySay (Log.afterTheirSid c))) (effect (bookOf m) (m .sending) Next.over))
+          (cond d (effect (bookOf k) (accountOf m) (theySay (Log.afterTheirSid c))) (effect (bookOf m) (accountOf m) Next.over))
       go true true = quiet _ (aLine awaitsPrompt) k (no-line, tt)
       go false true = quiet _ (newTurn false) k (no-line, omega arith)
-      go c false = wrong-line _ _ _ refl refl
+      go c false = wrong-line _ _ _ refl refl refl
 
   text-line : (c : Bool)
-      → AfterLine awaitsPrompt (textJudged E c m) (cond c (effect (bookOf m) (m .sending) (weSay ourSidLine)) (effect (bookOf m) (m .sending) (theySay theirText)))
+      → AfterLine awaitsPrompt (textJudged E c m) (cond c (effect (bookOf m) (accountOf m) (weSay ourSidLine)) (effect (bookOf m) (accountOf m) (theySay theirText)))
   unfolding AfterLine
   text-line true =
-      our-turn E S (withCr (fixedText ourSid)) false m (idle (aLine awaitsPrompt) part a m) true (record { next = weSay ourSidLine; sent = m .sending })
-      (sid-spoken (E .table) (m .framed) (m .sending))
+      our-turn E S (withCr (fixedText ourSid)) false m (idle (aLine awaitsPrompt) part a m) true (record { next = weSay ourSidLine; account = accountOf m })
+      (sid-spoken (E .table) (m .framed) (accountOf m))
   text-line false = quiet awaitsPrompt (aLine awaitsPrompt) m (no-line, tt)
 
   -- FF, and a whole block
-  after-ff : (p : Awaited) → AfterLine p (speakNow E [] true (turnMarks m)) (effect (Log.withStates (bookOf m) (forwardedSent (m .sending) (m .states))) [] (ourNewTurn true))
+  after-ff : (p : Awaited) → AfterLine p (speakNow E [] true (turnMarks m)) (effect (Log.withStates (bookOf m) (forwardedSent (m .sending) (m .states))) (withForwarded (accountOf m)) (ourNewTurn true))
   unfolding AfterLine
   after-ff p =
       rw (← marked-alike (m .sending) (m .states))
-      (our-turn E S [] true (turnMarks m) (idle (aLine p) part a m) true (record { next = ourNewTurn true; sent = [] })
-      (spoken-nil (E .table) (m .framed) (at (ourNewTurn true) [])))
+      (our-turn E S [] true (turnMarks m) (idle (aLine p) part a m) true (record { next = ourNewTurn true; account = withForwarded (accountOf m) })
+      (spoken-nil (E .table) (m .framed) (at (ourNewTurn true) (withForwarded (accountOf m)))))
 
   after-block : (p : Awaited) (q : Proposal) (qs : List Proposal) → length (q ∷ qs) ≤ 5
-      → AfterLine p (answered E (q ∷ qs) (turnMarks m)) (effect (Log.withStates (bookOf m) (forwardedSent (m .sending) (m .states))) [] (weSay (ourAnswer (q ∷ qs))))
+      → AfterLine p (answered E (q ∷ qs) (turnMarks m)) (effect (Log.withStates (bookOf m) (forwardedSent (m .sending) (m .states))) (withForwarded (accountOf m)) (weSay (ourAnswer (q ∷ qs))))
   unfolding AfterLine
   after-block p q qs h = rw (← marked-alike (m .sending) (m .states)) (answer E S (q ∷ qs) (turnMarks m) (idle (aLine p) part a m) (omega arith) h)
 
   -- the lines of the partner's turn so far say ps, and are raw as received; the next is l
   turn-line : (ff : Bool) (ps : List Proposal) (raw : Bytes) (l : TurnLine) → length ps ≤ 5
-      → AfterLine (awaitsTurn ff ps raw) (turnJudged E l ff ps raw part m) (theirTurnLine ff (map proposes ps) raw (bookOf m) (m .sending) part (checked raw l))
+      → AfterLine (awaitsTurn ff ps raw) (turnJudged E l ff ps raw part m) (theirTurnLine ff (map proposes ps) raw (bookOf m) (accountOf m) part (checked raw l))
   turn-line ff ps raw l h = rw (said-after ff ps (checked raw l ∷ []) h) (go ff ps l h)
     where
       says-now : Bool → List Proposal → TurnLine → Effect
-      says-now ff ps l = theirSaid ff (map proposes ps ++ (l ∷ [])) (rawWith raw part l) (bookOf m) (m .sending) (inOrder ff (saidOn ps (l ∷ [])))
+      says-now ff ps l = theirSaid ff (map proposes ps ++ (l ∷ [])) (rawWith raw part l) (bookOf m) (accountOf m) (inOrder ff (saidOn ps (l ∷ [])))
 
       five : (ff : Bool) (ps : List Proposal) (q : Proposal) (c : Bool) → ltb (length ps) 5 ≡ c
           → AfterLine (awaitsTurn ff ps raw) (cond c (goesOn (aLine (awaitsTurn ff (ps ++ (q ∷ [])) (raw ++ withCr part))) m []) (refuses proposalCount))
-          (theirSaid ff (map proposes ps ++ (proposes q ∷ [])) (raw ++ withCr part) (bookOf m) (m .sending) (inOrder ff (cond c Log.unfinished Log.wrong)))
+          (theirSaid ff (map proposes ps ++ (proposes q ∷ [])) (raw ++ withCr part) (bookOf m) (accountOf m) (inOrder ff (cond c Log.unfinished Log.wrong)))
       five ff ps q true e =
           rw (map-snoc ps q)
           (quiet _ (aLine (awaitsTurn ff (ps ++ (q ∷ [])) (raw ++ withCr part))) m (no-line, simp length-append (omega (arith, ltb-true (length ps) 5 e))))
-      five ff ps q false e = wrong-line _ _ _ refl refl
+      five ff ps q false e = wrong-line _ _ _ refl refl refl
 
       -- the checksum is right or wrong
       summed-end : (ff : Bool) (p : Proposal) (ps : List Proposal) → length (p ∷ ps) ≤ 5 → (c : Bool)
           → AfterLine (awaitsTurn ff (p ∷ ps) raw) (cond c (answered E (p ∷ ps) (turnMarks m)) (refuses wrongBlockSum)) (says-now ff (p ∷ ps) (summedEnd c))
       summed-end ff p ps h true = after-block _ p ps h
-      summed-end ff p ps h false = wrong-line _ _ _ refl refl
+      summed-end ff p ps h false = wrong-line _ _ _ refl refl refl
 
-      summed-alone : (ff c : Bool) (n : ℕ) → AfterLine (awaitsTurn ff [] raw) (refuses n) (says-now ff [] (summedEnd c))
-      summed-alone ff true n = wrong-line _ _ _ refl refl
-      summed-alone ff false n = wrong-line _ _ _ refl refl
+      summed-alone : (ff c : Bool) (n : ℕ) → isRefusal n ≡ true → AfterLine (awaitsTurn ff [] raw) (refuses n) (says-now ff [] (summedEnd c))
+      summed-alone ff true n r = wrong-line _ _ _ r refl refl
+      summed-alone ff false n r = wrong-line _ _ _ r refl refl
 
       go : (ff : Bool) (ps : List Proposal) (l : TurnLine) → length ps ≤ 5
           → AfterLine (awaitsTurn ff ps raw) (turnJudged E l ff ps raw part m) (says-now ff ps (checked raw l))
-      go true [] saysFF h = wrong-line _ _ _ refl refl
+      go true [] saysFF h = wrong-line _ _ _ refl refl refl
       go false [] saysFF h = after-ff _
-      go ff (p ∷ ps) saysFF h = wrong-line _ _ _ refl refl
+      go ff (p ∷ ps) saysFF h = wrong-line _ _ _ refl refl refl
       go true [] saysFQ h = quiet _ Phase.over m tt
-      go false [] saysFQ h = wrong-line _ _ _ refl refl
-      go ff (p ∷ ps) saysFQ h = wrong-line _ _ _ refl refl
-      go ff [] endsBlock h = wrong-line _ _ _ refl refl
+      go false [] saysFQ h = wrong-line _ _ _ refl refl refl
+      go ff (p ∷ ps) saysFQ h = wrong-line _ _ _ refl refl refl
+      go ff [] endsBlock h = wrong-line _ _ _ refl refl refl
       go ff (p ∷ ps) endsBlock h = after-block _ p ps h
-      go ff [] notAllowed h = wrong-line _ _ _ refl refl
-      go ff (p ∷ ps) notAllowed h = wrong-line _ _ _ refl refl
+      go ff [] notAllowed h = wrong-line _ _ _ refl refl refl
+      go ff (p ∷ ps) notAllowed h = wrong-line _ _ _ refl refl refl
       go ff ps (proposes q) h = five ff ps q (ltb (length ps) 5) refl
-      go ff [] (endsSummed n) h = summed-alone ff (sumRight raw n) _
+      go ff [] (endsSummed n) h = summed-alone ff (sumRight raw n) _ refl
       go ff (p ∷ ps) (endsSummed n) h = summed-end ff p ps h (sumRight raw n)
 
-  answer-line : (is : List ℕ) (n : ℕ) (r : Option (List Sign)) → AfterLine (awaitsAnswer is) (answerJudged E is m n r) (theirAnswered is (bookOf m) (m .sending) r)
+  answer-line : (is : List ℕ) (n : ℕ) (r : Option (List Sign)) → (r ≡ none → isRefusal n ≡ true) → AfterLine (awaitsAnswer is) (answerJudged E is m n r) (theirAnswered is (bookOf m) (accountOf m) r)
   unfolding AfterLine
-  answer-line is n none = wrong-line (awaitsAnswer is) n _ refl refl
-  answer-line is n (some ss) =
-      rw (← declined-alike is ss (m .states)) (rw (← accepted-alike ss is)
+  answer-line is n none h = wrong-line (awaitsAnswer is) n _ (h refl) refl refl
+  answer-line is n (some ss) h =
+      rw (← declined-alike is ss (m .states)) (rw (← accepted-alike ss is, ← declined-ones-alike ss is, ← deferred-ones-alike ss is)
       (says E (idle (aLine (awaitsAnswer is)) part a m) true (newTurn false) (answerMarks is ss m) (transfersText (E .table) (accepted ss is))
-      (record { next = Log.oursOwed (accepted ss is); sent = m .sending })
-      (transfers-spoken (E .table) (m .framed) (accepted ss is) (m .sending))
+      (record { next = Log.oursOwed (accepted ss is); account = told })
+      (transfers-spoken (E .table) (m .framed) (accepted ss is) told)
       (no-line, omega arith)))
+    where
+      told : Account
+      told =
+          record {
+            sent = m .sending;
+            proposed = m .counts .proposed;
+            forwarded = m .counts .forwarded;
+            declined = m .counts .declined + length (declinedOnes ss is);
+            deferred = m .counts .deferred + length (deferredOnes ss is);
+          }
 
   -- the line that is awaited
-  read-line : (p : Awaited) → Few p → AfterLine p (awaitedJudged E p m part) (theirRead (lineOf p) (bookOf m) (m .sending) part)
+  read-line : (p : Awaited) → Few p → AfterLine p (awaitedJudged E p m part) (theirRead (lineOf p) (bookOf m) (accountOf m) part)
   read-line (awaitsSid c) f = sid-line c (readSid (trim part))
   read-line awaitsPrompt f = text-line (isPrompt (trim part))
   read-line (awaitsTurn ff ps raw) f = turn-line ff ps raw (readTurnLine (m .framed) (trim part)) f
-  read-line (awaitsAnswer is) f = answer-line is (fsNumber (m .terms .level) (length is) (trim part)) (readFs (m .terms .level) (length is) (trim part))
+  read-line (awaitsAnswer is) f =
+      answer-line is (fsNumber (m .terms .level) (length is) (trim part)) (readFs (m .terms .level) (length is) (trim part)) (numbered (m .terms .level) (length is) (trim part))
 
   -- a comment, or the line
-  heard : (p : Awaited) → Few p → AfterLine p (lineJudged E p m part) (theirLine (lineOf p) (bookOf m) (m .sending) part)
+  heard : (p : Awaited) → Few p → AfterLine p (lineJudged E p m part) (theirLine (lineOf p) (bookOf m) (accountOf m) part)
   heard p f = go (isComment (trim part))
     where
       go : (c : Bool)
           → AfterLine p (cond c (goesOn (aLine p) m []) (awaitedJudged E p m part))
-          (cond c (effect (bookOf m) (m .sending) (theySay (lineOf p))) (theirRead (lineOf p) (bookOf m) (m .sending) part))
+          (cond c (effect (bookOf m) (accountOf m) (theySay (lineOf p))) (theirRead (lineOf p) (bookOf m) (accountOf m) part))
       go true = quiet p (aLine p) m (no-line, f)
       go false = read-line p f
 
   -- a byte of a line: it ends, it goes on, or it is too long
   line-byte : (p : Awaited) (b : ℕ) → length part ≤ 256 → Few p
-      → Inv E (lineStep E p (idle (aLine p) part a m) b .session)
-      (cond (eqb b CR) (effected (judgedLine (lineOf p) (bookOf m) (m .sending) part)) (twin (aLine p) false m (part ++ (b ∷ []))))
+      → After E (lineStep E p (idle (aLine p) part a m) b)
+      (cond (eqb b CR) (effected (judgedLine (lineOf p) (bookOf m) (accountOf m) part)) (twin (aLine p) false m (part ++ (b ∷ []))))
   unfolding AfterLine
   line-byte p b z f = go (eqb b CR) (ltb (length part) 256) refl
     where
       go : (c d : Bool) → ltb (length part) 256 ≡ d
-          → Inv E (lineMoved E p (idle (aLine p) part a m) b (cond c ends (cond d grows overruns)) .session)
-          (cond c (effected (judgedLine (lineOf p) (bookOf m) (m .sending) part)) (twin (aLine p) false m (part ++ (b ∷ []))))
+          → After E (lineMoved E p (idle (aLine p) part a m) b (cond c ends (cond d grows overruns)))
+          (cond c (effected (judgedLine (lineOf p) (bookOf m) (accountOf m) part)) (twin (aLine p) false m (part ++ (b ∷ []))))
       go true d e = rw (le-leb (length part) 256 z) (heard p f)
       go false true e =
-          live
+          went refl
           (record {
             unit = part ++ (b ∷ []);
             course = spoken-nil (E .table) (m .framed) (some (courseOf (aLine p) m, part ++ (b ∷ [])));
@@ -259,21 +286,21 @@ module _ (E : Shelf) (S : Sound E) (part : Bytes) (a : Bool) (m : Memory) where
             afterCr = refl;
             pending = ((refl, simp length-append (omega (arith, ltb-true (length part) 256 e))), f);
           })
-      go false false e = refusal E (idle (aLine p) part a m) lineTooLong (twin (aLine p) false m (part ++ (b ∷ []))) refl refl
+      go false false e = refusal E (idle (aLine p) part a m) lineTooLong (twin (aLine p) false m (part ++ (b ∷ []))) refl refl refl
 
   -- a byte of a transfer
   next-transfer : (p : Phase) (c : Bool) (ps : List Proposal) (k : Memory)
-      → Inv E (settled (idle p part a m) c (nextTransfer E ps k) .session) (after c k (record { next = theirsOwed ps; sent = k .sending }))
+      → After E (settled (idle p part a m) c (nextTransfer E ps k)) (after c k (record { next = theirsOwed ps; account = accountOf k }))
   next-transfer p c [] k =
-      our-turn E S [] false k (idle p part a m) c (record { next = ourNewTurn false; sent = k .sending })
-      (spoken-nil (E .table) (k .framed) (at (ourNewTurn false) (k .sending)))
+      our-turn E S [] false k (idle p part a m) c (record { next = ourNewTurn false; account = accountOf k })
+      (spoken-nil (E .table) (k .framed) (at (ourNewTurn false) (accountOf k)))
   next-transfer p c (q ∷ qs) k =
-      says E (idle p part a m) c (awaitsTransfer q qs (scanFrom (q .form))) k [] (record { next = theirTransfer q qs; sent = k .sending })
-      (spoken-nil (E .table) (k .framed) (at (theirTransfer q qs) (k .sending)))
+      says E (idle p part a m) c (awaitsTransfer q qs (scanFrom (q .form))) k [] (record { next = theirTransfer q qs; account = accountOf k })
+      (spoken-nil (E .table) (k .framed) (at (theirTransfer q qs) (accountOf k)))
       (from (roomFor E k) (q .form))
 
   transfer-byte : (p : Proposal) (ps : List Proposal) (sc : Scan) (u : Bytes) (b : ℕ) → Reach (roomFor E m) (p .form) (goes sc) u
-      → Inv E (transferMoved E p ps (idle (awaitsTransfer p ps sc) part a m) (scanByte (roomFor E m) sc b) .session) (tookFree (E .table) (twin (awaitsTransfer p ps sc) a m u) b)
+      → After E (transferMoved E p ps (idle (awaitsTransfer p ps sc) part a m) (scanByte (roomFor E m) sc b)) (tookFree (E .table) (twin (awaitsTransfer p ps sc) a m u) b)
   transfer-byte p ps sc u b h =
       go (scanByte (roomFor E m) sc b) (read-as (roomFor E m) (p .form) u sc (omega arith) h b) (reach-step (roomFor E m) (p .form) (goes sc) u b h)
     where
@@ -281,10 +308,10 @@ module _ (E : Shelf) (S : Sound E) (part : Bytes) (a : Bool) (m : Memory) where
       here = awaitsTransfer p ps sc
 
       go : (r : Scanned) → readTransfer (p .form) (u ++ (b ∷ [])) ≡ contentOf r → Reach (roomFor E m) (p .form) r (u ++ (b ∷ []))
-          → Inv E (transferMoved E p ps (idle here part a m) r .session) (tookFree (E .table) (twin (awaitsTransfer p ps sc) a m u) b)
+          → After E (transferMoved E p ps (idle here part a m) r) (tookFree (E .table) (twin (awaitsTransfer p ps sc) a m u) b)
       go (goes sc′) e k =
           rw e
-          (live
+          (went refl
           (record {
             unit = u ++ (b ∷ []);
             course = spoken-nil (E .table) (m .framed) (some (courseOf (awaitsTransfer p ps sc′) m, u ++ (b ∷ [])));
@@ -297,16 +324,16 @@ module _ (E : Shelf) (S : Sound E) (part : Bytes) (a : Bool) (m : Memory) where
           (rw (plain-alike (p .form))
           (rw (← message-alike p (record { heading = t; body = x }))
           (next-transfer (awaitsTransfer p ps sc) (Log.isPlain (p .form)) ps (keptIn m (messageOf p (record { heading = t; body = x }))))))
-      go malformed e k = rw e (refusal E (idle here part a m) badTransfer (twin here false m (u ++ (b ∷ []))) refl refl)
-      go wrongSum e k = rw e (refusal E (idle here part a m) badChecksum (twin here false m (u ++ (b ∷ []))) refl refl)
-      go noRoom e k = rw e (refusal E (idle here part a m) storeFull (twin here false m (u ++ (b ∷ []))) refl refl)
+      go malformed e k = rw e (refusal E (idle here part a m) badTransfer (twin here false m (u ++ (b ∷ []))) refl refl refl)
+      go wrongSum e k = rw e (refusal E (idle here part a m) badChecksum (twin here false m (u ++ (b ∷ []))) refl refl refl)
+      go noRoom e k = rw e (refusal E (idle here part a m) storeFull (twin here false m (u ++ (b ∷ []))) refl refl refl)
 
-  phase-byte : (p : Phase) (u : Bytes) (b : ℕ) → Pending E m p part u
-      → Inv E (phaseStep E p (idle p part a m) b .session) (tookFree (E .table) (twin p a m u) b)
-  phase-byte (aLine p) u b h = rw (h .0 .0) (line-byte p b (h .0 .1) (h .1))
-  phase-byte (awaitsTransfer p ps sc) u b h = transfer-byte p ps sc u b h
-  phase-byte leaving u b h = refusal E (idle leaving part a m) sessionEnded (twin leaving false m (u ++ (b ∷ []))) refl refl
-  phase-byte Phase.over u b h = refusal E (idle Phase.over part a m) sessionEnded (twin Phase.over false m (u ++ (b ∷ []))) refl refl
+  phase-byte : (p : Phase) (u : Bytes) (b : ℕ) → endedIn p [] ≡ false → Pending E m p part u
+      → After E (phaseStep E p (idle p part a m) b) (tookFree (E .table) (twin p a m u) b)
+  phase-byte (aLine p) u b n h = rw (h .0 .0) (line-byte p b (h .0 .1) (h .1))
+  phase-byte (awaitsTransfer p ps sc) u b n h = transfer-byte p ps sc u b h
+  phase-byte leaving u b n h = absurd (no-both true refl n)
+  phase-byte Phase.over u b n h = absurd (no-both true refl n)
 
 -- ---------------------------------------------------------------- any byte
 
@@ -318,30 +345,30 @@ is-twin E p part a m f h =
     ∙ ap (λ (c : Bool). record { log = record { afterCr = c; course = courseOf p m; book = bookOf m }; raw = h .unit }) (h .afterCr)
 
 free-byte : (E : Shelf) → Sound E → (p : Phase) (part : Bytes) (a : Bool) (o : Bytes) (m : Memory) (f : Fed) (b : ℕ)
-    → Live E (holding p part a o m) f
-    → Inv E (freeStep E o (holding p part a o m) b .session) (tookFree (E .table) f b)
-free-byte E S p part a [] m f b h =
-    subst (λ (g : Fed). Inv E (phaseStep E p (idle p part a m) b .session) (tookFree (E .table) g b)) (sym (is-twin E p part a m f h))
-    (phase-byte E S part a m p (h .unit) b (h .pending))
-free-byte E S p part a (x ∷ o) m f b h =
+    → endedIn p o ≡ false → Live E (holding p part a o m) f
+    → After E (freeStep E o (holding p part a o m) b) (tookFree (E .table) f b)
+free-byte E S p part a [] m f b n h =
+    subst (λ (g : Fed). After E (phaseStep E p (idle p part a m) b) (tookFree (E .table) g b)) (sym (is-twin E p part a m f h))
+    (phase-byte E S part a m p (h .unit) b n (h .pending))
+free-byte E S p part a (x ∷ o) m f b n h =
     rw (spoken-ours (E .table) (f .log .book .framed) (f .log .course, f .raw) (courseOf p m, h .unit) x o (h .course))
-    (refusal E (holding p part a (x ∷ o) m) bytesWait (outOfOrder f) refl (h .book))
+    (refusal E (holding p part a (x ∷ o) m) bytesWait (outOfOrder f) refl refl (h .book))
 
 drop-lf : (E : Shelf) (s : Session) (f : Fed) → Live E s f → Live E (withAfterCr false s) (record { log = Log.withAfterCr (f .log) false; raw = f .raw })
 drop-lf E s f h = record { unit = h .unit; course = h .course; book = h .book; afterCr = refl; pending = h .pending }
 
-live-byte : (E : Shelf) → Sound E → (s : Session) (f : Fed) (b : ℕ) → Live E s f → Inv E (step E s b .session) (fedByte (E .table) f (took b))
-live-byte E S s f b h = go (s .afterCr && eqb b LF) (f .log .afterCr && eqb b LF) (ap (λ (c : Bool). c && eqb b LF) (h .afterCr))
+pub live-byte : (E : Shelf) → Sound E → (s : Session) (f : Fed) (b : ℕ) → ended s ≡ false → Live E s f → After E (step E s b) (fedByte (E .table) f (took b))
+live-byte E S s f b n h = go (s .afterCr && eqb b LF) (f .log .afterCr && eqb b LF) (ap (λ (c : Bool). c && eqb b LF) (h .afterCr))
   where
     go : (c d : Bool) → d ≡ c
-        → Inv E (cond c (Session.moved (withAfterCr false s)) (freeStep E (s .out) s b) .session)
+        → After E (cond c (Session.moved (withAfterCr false s)) (freeStep E (s .out) s b))
         (cond d (record { log = Log.withAfterCr (f .log) false; raw = f .raw }) (tookFree (E .table) f b))
-    go true true e = live (drop-lf E s f h)
-    go false false e = free-byte E S (s .phase) (s .part) (s .afterCr) (s .out) (s .memory) f b h
+    go true true e = went refl (drop-lf E s f h)
+    go false false e = free-byte E S (s .phase) (s .part) (s .afterCr) (s .out) (s .memory) f b n h
     go true false e = absurd (let z : _≡_ {A = ℕ} 0 1 = cc in omega arith)
     go false true e = absurd (let z : _≡_ {A = ℕ} 0 1 = cc in omega arith)
 
 -- THE STEP
 pub step-inv : (E : Shelf) → Sound E → (s : Session) (f : Fed) (b : ℕ) → ended s ≡ false → Inv E s f → Inv E (step E s b .session) (fedByte (E .table) f (took b))
-step-inv E S s f b e (live h) = live-byte E S s f b h
+step-inv E S s f b e (live h) = after-inv (live-byte E S s f b e h)
 step-inv E S s f b e (gone h) = absurd (let k : true ≡ false = sym (ap (λ (p : Phase). endedIn p (s .out)) (h .done)) ∙ e in let z : _≡_ {A = ℕ} 0 1 = cc in omega arith)

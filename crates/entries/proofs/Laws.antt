@@ -1,15 +1,19 @@
 -- Entries one by one; the BIDs of entries are a field of them.
 use mathlib.Core.Path.{_≡_, refl, sym, ap, _∙_}
+use mathlib.Core.Bool.{Bool, true, false, cond}
 use mathlib.Core.List.{List, [], _∷_}
-use Prim.Native.Nat.{ℕ, zero, suc, _+_, _-_, _<_, _≤_}
+use Prim.Native.Nat.{ℕ, zero, suc, _+_, _-_, _*_, _<_, _≤_}
 use native.Mathlib.Omega.{arith}
 use native.Mathlib.Nat.{sub-zero}
 use native.Mathlib.Numerals.{add-one}
-use lib.ListN.{length, getD}
+use lib.Dec.{leb}
+use lib.ListN.{length, getD, take, drop}
+use lib.Seq.{getD-drop}
 use Rattle.grammar.specs.Bytes.{Bytes}
 use Rattle.session.specs.Choices.{recordBids, messageBids, bodyBytes}
 use Rattle.places.specs.Places.{bidAt, bidMax, recordBid}
-use Rattle.layout.specs.Layout.{fieldIn, entryAt, recordOf, messageOf, recordSize, entrySize}
+use Rattle.layout.specs.Layout.{byteAt, le4At, fieldIn, entryAt, recordOf, messageOf, recordSize, entrySize}
+use Rattle.layout.proofs.Laws.{le4-small}
 use Rattle.entries.specs.Decoded.{entriesFrom, entries}
 
 module _ {A : Type 0} (f : Bytes → A) (size : ℕ) (s : Bytes) where
@@ -61,3 +65,21 @@ message-bids s i (suc n) = ap (λ (l : List Bytes). fieldIn bidMax bidAt (entryA
 pub no-bodies : (s : Bytes) (i n : ℕ) → bodyBytes (entriesFrom (λ (c : Bytes). messageOf c []) entrySize s i n) ≡ 0
 no-bodies s i zero = refl
 no-bodies s i (suc n) = omega (arith, no-bodies s (suc i) n)
+
+-- bytes of an entry are bytes of the memory, so that a size has 32 bits
+take-small : (n : ℕ) (l : Bytes) → ((i : ℕ) → byteAt l i < 256) → (i : ℕ) → byteAt (take n l) i < 256
+take-small zero l h i = omega arith
+take-small (suc n) [] h i = omega arith
+take-small (suc n) (x ∷ l) h zero = h zero
+take-small (suc n) (x ∷ l) h (suc i) = take-small n l (λ k. h (suc k)) i
+
+pub entry-small : (size : ℕ) (s : Bytes) (j : ℕ) → ((i : ℕ) → byteAt s i < 256) → (i : ℕ) → byteAt (entryAt size s j) i < 256
+entry-small size s j h i = go (leb (j * size) (length s)) (leb size (length s - j * size))
+  where
+    go : (a b : Bool) → byteAt (cond a (cond b (take size (drop (j * size) s)) []) []) i < 256
+    go true true = take-small size (drop (j * size) s) (λ k. rw (getD-drop (j * size) s k 0) (h (j * size + k))) i
+    go true false = omega arith
+    go false b = omega arith
+
+pub size-small : (s : Bytes) (j at : ℕ) → ((i : ℕ) → byteAt s i < 256) → le4At (entryAt recordSize s j) at < 4294967296
+size-small s j at h = le4-small (entryAt recordSize s j) (entry-small recordSize s j h) at

@@ -36,7 +36,7 @@ use Rattle.form_closed.proofs.Waiting.{waits-none}
 module _ (F : Fixed) (nt ni ns : ℕ) (c : Cs) (b : ℕ) (G : Good F nt ni ns c) (O : b < 256) where
   refused : (n : ℕ) → Good F nt ni ns (cs (refusedOf n (c .session)) (c .table) (c .inbox) (c .store))
   refused n =
-      refused-good F nt ni ns n (c .session) (c .table) (c .inbox) (c .store) (G .now) (G .say) (G .keep) (G .reader) (G .heading) (G .line) (G .box) (G .lent)
+      refused-good F nt ni ns n (c .session) (c .table) (c .inbox) (c .store) (G .now) (G .say) (G .keep) (G .reader) (G .heading) (G .line) (G .tally) (G .box) (G .lent)
 
   -- after a byte of a transfer: s the session, st the store
   module _ (E : waits (c .session .say) ≡ false) (P : c .session .now .phase ≡ 5) where
@@ -97,7 +97,7 @@ module _ (F : Fixed) (nt ni ns : ℕ) (c : Cs) (b : ℕ) (G : Good F nt ni ns c)
             (stored (c .session .keep .used) (t .put) (c .session .reading .reader) b (c .store)))
         ended n =
             refused-good F nt ni ns n (reading (c .session) (t .reader) (headingPut (t .put) (c .session .reading .reader) b (c .session .reading .heading))) (c .table) (c .inbox)
-            (stored (c .session .keep .used) (t .put) (c .session .reading .reader) b (c .store)) (G .now) (G .say) (G .keep) (h .0) H L B M
+            (stored (c .session .keep .used) (t .put) (c .session .reading .reader) b (c .store)) (G .now) (G .say) (G .keep) (h .0) H L (G .tally) B M
 
         go : (o : Outcome)
             → Good F nt ni ns (transferMoved o (reading (c .session) (t .reader) (headingPut (t .put) (c .session .reading .reader) b (c .session .reading .heading)))
@@ -110,6 +110,7 @@ module _ (F : Fixed) (nt ni ns : ℕ) (c : Cs) (b : ℕ) (G : Good F nt ni ns c)
               reader = h .0;
               heading = H;
               line = L;
+              tally = G .tally;
               box = B;
               awaited = record { quiet = λ a k. Z; under = λ e. U′; closed = λ l. absurd (omega arith) };
               waiting = λ e. absurd (no-both (waits (c .session .say)) e E);
@@ -117,7 +118,7 @@ module _ (F : Fixed) (nt ni ns : ℕ) (c : Cs) (b : ℕ) (G : Good F nt ni ns c)
             }
         go Whole =
             keep-ok F nt ni ns (reading (c .session) (t .reader) (headingPut (t .put) (c .session .reading .reader) b (c .session .reading .heading))) (c .table) (c .inbox)
-            (stored (c .session .keep .used) (t .put) (c .session .reading .reader) b (c .store)) (G .now) (G .say) (G .keep) (h .0) H L B U′ Z (waits-none (c .session .say) E .1) M
+            (stored (c .session .keep .used) (t .put) (c .session .reading .reader) b (c .store)) (G .now) (G .say) (G .keep) (h .0) H L (G .tally) B U′ Z (waits-none (c .session .say) E .1) M
         go Malformed = ended badTransfer
         go WrongSum = ended badChecksum
         go NoRoom = ended storeFull
@@ -141,7 +142,7 @@ module _ (F : Fixed) (nt ni ns : ℕ) (c : Cs) (b : ℕ) (G : Good F nt ni ns c)
       go true e q =
           settle-ok F nt ni ns (c .session)
           (judgeOf (trim (take (c .session .line .len) (c .session .line .bytes))) (lineSum (take (c .session .line .len) (c .session .line .bytes))) (c .session .now) (c .session .say) (c .session .keep) (c .session .reading .reader) (c .table) known (c .inbox) (length (c .store)))
-          true (c .inbox) (c .store) (G .heading) (G .line) (c .table) (G .lent)
+          true (c .inbox) (c .store) (G .heading) (G .line) (G .tally) (c .table) (G .lent)
           (judge-ok (c .table) known (c .inbox) (c .store) (c .session .now) (c .session .say) (c .session .keep) (c .session .reading .reader)
           (G .now) (G .say) (G .keep) (G .reader) (G .box) (waits-none (c .session .say) E .0) (waits-none (c .session .say) E .1) (trim (take (c .session .line .len) (c .session .line .bytes))) (lineSum (take (c .session .line .len) (c .session .line .bytes))) (G .awaited .quiet) N)
           (λ x. refused _)
@@ -157,6 +158,7 @@ module _ (F : Fixed) (nt ni ns : ℕ) (c : Cs) (b : ℕ) (G : Good F nt ni ns c)
               size = length-set (c .session .line .bytes) (c .session .line .len) b ∙ G .line .size;
               octets = octets-set (c .session .line .bytes) (c .session .line .len) b O (G .line .octets);
             };
+            tally = G .tally;
             box = G .box;
             awaited = G .awaited;
             waiting = λ e. absurd (no-both (waits (c .session .say)) e E);
@@ -174,6 +176,7 @@ module _ (F : Fixed) (nt ni ns : ℕ) (c : Cs) (b : ℕ) (G : Good F nt ni ns c)
         reader = G .reader;
         heading = G .heading;
         line = record { len = G .line .len; size = G .line .size; octets = G .line .octets };
+        tally = G .tally;
         box = G .box;
         awaited = G .awaited;
         waiting = G .waiting;

@@ -29,7 +29,11 @@ use Rattle.give.specs.Giving.{Given, reply, handedOf, handing, giveOf}
 use Rattle.open.specs.Opening.{knownOk, entriesOk, sizesOk, tableFault, Opened, opened, openOf}
 use Rattle.receive_defined.specs.Receiving.{Cs, cs, receiveFrom, Received, unchanged, saved, receiveOf}
 use Rattle.form_closed.specs.Fixed.{Fixed}
-use Rattle.form_closed.specs.Facts.{Octets, Good, Last, Awaited}
+use Rattle.form_closed.specs.Facts.{Octets, Good, Last, Awaited, TallyOk}
+use Rattle.form_closed.proofs.Tallied.{open-counted}
+use Rattle.session_memory.specs.declared.Tally.{Tally}
+use Rattle.sheet.specs.Sheet.{noSheet}
+use Rattle.tally.specs.Tally.{counted}
 use Rattle.form_closed.proofs.Laws.{octets-append, octets-put, octets-le8, octets-zeros, octets-nil}
 use Rattle.form_closed.proofs.Waiting.{waiting-some}
 use Rattle.form_closed.proofs.Judged.{none-ok, still-awaited}
@@ -97,6 +101,7 @@ module _ (F : Fixed) (nt ni ns : ℕ) (c : Cs) (g : Good F nt ni ns c) (n : ℕ)
             keep = c .session .keep;
             reading = c .session .reading;
             line = c .session .line;
+            tally = c .session .tally;
           }
 
       go : (a : Bool) → ltb (c .session .say .pos + n) (length waiting) ≡ a → Good F nt ni ns (cs (cond a more (silentOf (c .session))) (c .table) (c .inbox) (c .store))
@@ -109,6 +114,7 @@ module _ (F : Fixed) (nt ni ns : ℕ) (c : Cs) (g : Good F nt ni ns c) (n : ℕ)
             reader = g .reader;
             heading = g .heading;
             line = g .line;
+            tally = g .tally;
             box = g .box;
             awaited = awaited (c .session .say .first) (c .session .say .then) (c .session .say .pos + n) (g .awaited .closed);
             waiting = λ w. l;
@@ -122,6 +128,7 @@ module _ (F : Fixed) (nt ni ns : ℕ) (c : Cs) (g : Good F nt ni ns c) (n : ℕ)
             reader = g .reader;
             heading = g .heading;
             line = g .line;
+            tally = g .tally;
             box = g .box;
             awaited = awaited 0 0 0 (λ l. (refl, refl));
             waiting = λ w. absurd (no-both false w refl);
@@ -179,10 +186,10 @@ unfolding saveSizes
 octets-written sm z o = octets-put sm (at 0) (sizesOut z) o (sizes-octets z)
 
 -- a session right after open
-fresh-good : (F : Fixed) (caller : Bool) (partner : ℕ) → partner < partners → (table inbox store : Bytes) → Octets table → Octets inbox → Octets store → length store < 18446744073709551616
-    → placeCount inbox ≤ 64 → Good F (length table) (length inbox) (length store) (cs (freshOf caller partner) table inbox store)
+fresh-good : (F : Fixed) (caller : Bool) (partner : ℕ) → partner < partners → (t : Tally) → TallyOk t → (table inbox store : Bytes) → Octets table → Octets inbox → Octets store → length store < 18446744073709551616
+    → placeCount inbox ≤ 64 → Good F (length table) (length inbox) (length store) (cs (freshOf caller partner t) table inbox store)
 unfolding freshOf usedBy
-fresh-good F caller partner column table inbox store ot oi os fits few =
+fresh-good F caller partner column t tallied table inbox store ot oi os fits few =
     record {
       now = record { phase = phase caller; current = omega arith; proposals = omega arith; ours = none-ok; sum = omega arith; block = length-replicate {A = ℕ} 360 0; octets = octets-zeros 360 };
       say = record { first = first caller; then = omega arith; pos = omega arith; signs = none-ok };
@@ -190,9 +197,10 @@ fresh-good F caller partner column table inbox store ot oi os fits few =
       reader = record { place = omega arith; len = omega arith; head = omega arith; off = omega arith; left = omega arith; sum = omega arith; body = omega arith };
       heading = record { size = length-replicate {A = ℕ} 80 0; octets = octets-zeros 80 };
       line = record { len = omega arith; size = length-replicate {A = ℕ} 256 0; octets = octets-zeros 256 };
+      tally = tallied;
       box = record { limit = few; placed = omega arith; used = refl; within = omega arith };
       awaited = record { quiet = λ a b. refl; under = λ e. absurd (five caller e); closed = λ l. absurd (live caller l) };
-      waiting = λ e. waiting-some (freshOf caller partner) table (F .titles) (F .names) (F .bodies) none-ok (λ l. absurd (omega arith)) e;
+      waiting = λ e. waiting-some (freshOf caller partner t) table (F .titles) (F .names) (F .bodies) none-ok (λ l. absurd (omega arith)) e;
       lent = record { table = refl; inbox = refl; store = refl; fits = fits; tableOctets = ot; inboxOctets = oi; storeOctets = os };
     }
   where
@@ -213,9 +221,9 @@ fresh-good F caller partner column table inbox store ot oi os fits few =
     five false e = omega arith
 
 -- so it can be saved, whatever is lent
-pub fresh-shaped : (F : Fixed) (caller : Bool) (partner : ℕ) → partner < partners → Shaped (freshOf caller partner)
-fresh-shaped F caller partner column =
-    shaped F 0 0 0 (cs (freshOf caller partner) [] [] []) (fresh-good F caller partner column [] [] [] octets-nil octets-nil octets-nil (omega arith) (omega arith))
+pub fresh-shaped : (F : Fixed) (caller : Bool) (partner : ℕ) → partner < partners → (t : Tally) → TallyOk t → Shaped (freshOf caller partner t)
+fresh-shaped F caller partner column t o =
+    shaped F 0 0 0 (cs (freshOf caller partner t) [] [] []) (fresh-good F caller partner column t o [] [] [] octets-nil octets-nil octets-nil (omega arith) (omega arith))
 
 module _ (F : Fixed) (role partner : ℕ) (sm table inbox store : Bytes) where
   abbrev asked : Opened
@@ -226,17 +234,17 @@ module _ (F : Fixed) (role partner : ℕ) (sm table inbox store : Bytes) where
 
   -- an open that answers 0 found a partner with a column and the sizes in order, and saved a fresh session
   open-in : asked .reply .answer ≡ 0
-      → (ltb partner partners ≡ true) × (sizesOk sm table (F .known) inbox ≡ true) × (asked .sm ≡ saveOf (saveSizes sm lent) (freshOf (eqb role 1) partner))
+      → (ltb partner partners ≡ true) × (sizesOk sm table (F .known) inbox ≡ true) × (asked .sm ≡ saveOf (saveSizes sm lent) (freshOf (eqb role 1) partner (counted partner table noSheet)))
   unfolding openOf
   open-in e = go (ltb partner partners) (leb role 1) (sizesOk sm table (F .known) inbox) (knownOk (F .known)) (eqb (tableFault table (F .titles) (F .names) (F .bodies)) 255) refl refl e
     where
       out : Bool → Bool → Bool → Bool → Bool → Opened
       out o a b c d =
-          cond o (cond a (cond b (cond c (cond d (opened (reply 0 0 0) (saveOf (saveSizes sm lent) (freshOf (eqb role 1) partner))) (opened (reply badMemory (tableFault table (F .titles) (F .names) (F .bodies)) 0) sm))
+          cond o (cond a (cond b (cond c (cond d (opened (reply 0 0 0) (saveOf (saveSizes sm lent) (freshOf (eqb role 1) partner (counted partner table noSheet)))) (opened (reply badMemory (tableFault table (F .titles) (F .names) (F .bodies)) 0) sm))
           (opened (reply badMemory 255 0) sm)) (opened (reply badMemory 255 0) sm)) (opened (reply badMemory 255 0) sm)) (opened (reply badMemory 255 0) sm)
 
       go : (o a b c d : Bool) → ltb partner partners ≡ o → sizesOk sm table (F .known) inbox ≡ b → out o a b c d .reply .answer ≡ 0
-          → (ltb partner partners ≡ true) × (sizesOk sm table (F .known) inbox ≡ true) × (out o a b c d .sm ≡ saveOf (saveSizes sm lent) (freshOf (eqb role 1) partner))
+          → (ltb partner partners ≡ true) × (sizesOk sm table (F .known) inbox ≡ true) × (out o a b c d .sm ≡ saveOf (saveSizes sm lent) (freshOf (eqb role 1) partner (counted partner table noSheet)))
       go true true true true true p q e = (p, q, refl)
       go true true true true false p q e = absurd (omega arith)
       go true true true false d p q e = absurd (omega arith)
@@ -259,8 +267,8 @@ module _ (F : Fixed) (role partner : ℕ) (sm table inbox store : Bytes) where
       let p = open-in e in
       let q = sizes-in (p .1) in
       let n = q .0 in
-      let g = fresh-good F (eqb role 1) partner (ltb-true partner partners (p .0)) table inbox store ot oi os (h .store) (q .1) in
+      let g = fresh-good F (eqb role 1) partner (ltb-true partner partners (p .0)) (counted partner table noSheet) (open-counted partner table) table inbox store ot oi os (h .store) (q .1) in
       let z : sameSizes (loadSizes (saveSizes sm lent)) lent ≡ true = rw (load-sizes sm lent (omega arith) h) (same-itself lent) in
       subst (λ (l : Bytes). InForm F l table inbox store) (sym (p .2))
-      (saved-form F (saveSizes sm lent) (length table) (length inbox) (length store) (cs (freshOf (eqb role 1) partner) table inbox store) g
+      (saved-form F (saveSizes sm lent) (length table) (length inbox) (length store) (cs (freshOf (eqb role 1) partner (counted partner table noSheet)) table inbox store) g
       (octets-written sm lent o) (sizes-length sm lent ∙ n) (mark-written sm lent (omega arith)) z)

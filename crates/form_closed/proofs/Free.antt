@@ -27,6 +27,9 @@ use Rattle.form_closed.specs.Fixed.{Fixed}
 use Rattle.form_closed.specs.Facts.{Octets}
 use Rattle.form_closed.specs.InForm.{InForm}
 use Rattle.form_closed.specs.Free.{FreeStays}
+use Rattle.sheet.specs.Sheet.{noSheet}
+use Rattle.tally.specs.Tally.{counted}
+use Rattle.form_closed.proofs.Tallied.{open-counted}
 use Rattle.form_closed.proofs.Test.{shaped}
 use Rattle.form_closed.proofs.Bytes.{receive-ok}
 use Rattle.form_closed.proofs.Saved.{parted, good}
@@ -124,7 +127,7 @@ module _ (F : Fixed) (role partner : ℕ) (sm table inbox store : Bytes) where
 
   answer : Bool → Bool → Bool → Bool → Bool → Opened
   answer o a b c d =
-      cond o (cond a (cond b (cond c (cond d (opened (reply 0 0 0) (saveOf (saveSizes sm lent) (freshOf (eqb role 1) partner))) (bad (tableFault table (F .titles) (F .names) (F .bodies)))) (bad 255)) (bad 255)) (bad 255)) (bad 255)
+      cond o (cond a (cond b (cond c (cond d (opened (reply 0 0 0) (saveOf (saveSizes sm lent) (freshOf (eqb role 1) partner (counted partner table noSheet)))) (bad (tableFault table (F .titles) (F .names) (F .bodies)))) (bad 255)) (bad 255)) (bad 255)) (bad 255)
 
   long : sizesOk sm table (F .known) inbox ≡ true → length sm ≡ sessionLen
   unfolding sizesOk
@@ -138,7 +141,7 @@ module _ (F : Fixed) (role partner : ℕ) (sm table inbox store : Bytes) where
       go : (o : Bool) → ltb partner partners ≡ o → (a b : Bool) → sizesOk sm table (F .known) inbox ≡ b → (c d : Bool) → FreeStays sm (answer o a b c d .sm)
       go true k true true e true true =
           let n = long e in
-          then-free (sizes-free sm lent n) (saved-free (saveSizes sm lent) (freshOf (eqb role 1) partner) (sizes-length sm lent ∙ n) (fresh-shaped F (eqb role 1) partner (ltb-true partner partners k)))
+          then-free (sizes-free sm lent n) (saved-free (saveSizes sm lent) (freshOf (eqb role 1) partner (counted partner table noSheet)) (sizes-length sm lent ∙ n) (fresh-shaped F (eqb role 1) partner (ltb-true partner partners k) (counted partner table noSheet) (open-counted partner table)))
       go true k true true e true false = same-free sm
       go true k true true e false d = same-free sm
       go true k true false e c d = same-free sm

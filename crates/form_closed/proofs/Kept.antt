@@ -23,7 +23,7 @@ use Rattle.line_effect.specs.Judged.{Judged}
 use Rattle.form_test.specs.Form.{usedBy, pluses}
 use Rattle.receive_defined.specs.Receiving.{cs, settleOf, keptKeep, keptInbox, isPlainAt, keepOf}
 use Rattle.form_closed.specs.Fixed.{Fixed}
-use Rattle.form_closed.specs.Facts.{Octets, AwaitOk, SayOk, KeepOk, ReaderOk, HeadingOk, LineOk, Box, Under, Lent, Good}
+use Rattle.form_closed.specs.Facts.{Octets, AwaitOk, SayOk, KeepOk, ReaderOk, HeadingOk, LineOk, Box, Under, Lent, Good, TallyOk}
 use Rattle.form_closed.proofs.Laws.{octets-append, octets-take, octets-part, octets-put, octets-le2, octets-le4, octets-field, held-length, next-found, plus-here, used-more}
 use Rattle.form_closed.proofs.Judged.{JudgedOk, to-transfer, reader-ok, reader-body}
 use Rattle.form_closed.proofs.Settled.{settle-ok}
@@ -31,7 +31,7 @@ use Rattle.form_closed.proofs.Settled.{settle-ok}
 -- s: the session at the last byte of a transfer; st: the store then
 module _ (F : Fixed) (nt ni ns : ℕ) (s : Session) (table inbox st : Bytes)
     (W : AwaitOk (s .now)) (Y : SayOk (s .say)) (K : KeepOk (s .keep)) (R : ReaderOk (s .reading .reader)) (H : HeadingOk (s .reading .heading)) (L : LineOk (s .line))
-    (B : Box (s .keep) inbox st) (U : Under (s .now) (s .say) (s .keep) (s .reading .reader) inbox st) (Z : s .keep .sending .count ≡ 0) (T : s .say .then ≡ 0)
+    (C : TallyOk (s .tally)) (B : Box (s .keep) inbox st) (U : Under (s .now) (s .say) (s .keep) (s .reading .reader) inbox st) (Z : s .keep .sending .count ≡ 0) (T : s .say .then ≡ 0)
     (M : Lent nt ni ns table inbox st) where
   -- the proposal that it answers, as it lies in the block
   proposed-length : length (entryAt proposalSize (s .now .block) (s .now .current)) ≡ proposalLen
@@ -158,9 +158,9 @@ module _ (F : Fixed) (nt ni ns : ℕ) (s : Session) (table inbox st : Bytes)
   whole-ok : (a : Bool) → eqb next 5 ≡ a → (p : Bool)
       → Good F nt ni ns (cs (settleOf s (outcome a) p table .session) (settleOf s (outcome a) p table .table) (keptInbox s inbox) st)
   whole-ok true e p =
-      settle-ok F nt ni ns s (outcome true) p (keptInbox s inbox) st H L table kept-lent (λ x. next-ok true e) (λ x. absurd (no-both true refl x))
+      settle-ok F nt ni ns s (outcome true) p (keptInbox s inbox) st H L C table kept-lent (λ x. next-ok true e) (λ x. absurd (no-both true refl x))
   whole-ok false e p =
-      settle-ok F nt ni ns s (outcome false) p (keptInbox s inbox) st H L table kept-lent (λ x. next-ok false e) (λ x. absurd (no-both true refl x))
+      settle-ok F nt ni ns s (outcome false) p (keptInbox s inbox) st H L C table kept-lent (λ x. next-ok false e) (λ x. absurd (no-both true refl x))
 
   pub keep-ok : Good F nt ni ns (cs (keepOf s table .session) (keepOf s table .table) (keptInbox s inbox) st)
   unfolding keepOf

@@ -9,6 +9,7 @@ pub mod Proposals
 pub mod Choices
 pub mod Judged
 pub mod Lines
+pub mod Tallied
 pub mod Settled
 pub mod Reader
 pub mod Kept

@@ -20,14 +20,15 @@ use Rattle.our_turn.specs.Turn.{spoken, speakOf}
 use Rattle.line_effect.specs.Judged.{Judged}
 use Rattle.our_turn.specs.Turn.{Spoken}
 use Rattle.pending.specs.Pending.{errorPiece}
-use Rattle.receive_defined.specs.Receiving.{cs, refusedOf, settledOf, spokenOf, Settled, settled, markedBy, settleOf}
+use Rattle.receive_defined.specs.Receiving.{cs, refusedOf, settledOf, spokenOf, Settled, settled, markedBy, settleOf, countedOf}
+use Rattle.form_closed.proofs.Tallied.{tallied-ok, with-tally}
 use Rattle.form_test.specs.Form.{isLast}
 use Rattle.marking.specs.States.{markAll}
 use Rattle.form_closed.specs.Fixed.{Fixed}
 use Rattle.form_closed.proofs.Laws.{mark-octets}
 use Rattle.marking.proofs.States.{length-mark}
 use Rattle.form_closed.proofs.Waiting.{waiting-some}
-use Rattle.form_closed.specs.Facts.{AwaitOk, SayOk, KeepOk, ReaderOk, HeadingOk, LineOk, Box, Awaited, Lent, Good}
+use Rattle.form_closed.specs.Facts.{AwaitOk, SayOk, KeepOk, ReaderOk, HeadingOk, LineOk, Box, Awaited, Lent, Good, TallyOk}
 use Rattle.form_closed.proofs.Choices.{choose-ok}
 use Rattle.form_closed.proofs.Judged.{JudgedOk, JGood, in-phase, to-turn, to-answer, says-then, free, calm, still-awaited}
 
@@ -83,10 +84,10 @@ error-last n = go (isSilent n) (eqb n 9)
 
 -- a refusal with number n: the session is over, and nothing waits but the line that says why
 pub refused-good : (F : Fixed) (nt ni ns : ℕ) (n : ℕ) (s : Session) (table inbox store : Bytes) → AwaitOk (s .now) → SayOk (s .say) → KeepOk (s .keep)
-    → ReaderOk (s .reading .reader) → HeadingOk (s .reading .heading) → LineOk (s .line) → Box (s .keep) inbox store → Lent nt ni ns table inbox store
+    → ReaderOk (s .reading .reader) → HeadingOk (s .reading .heading) → LineOk (s .line) → TallyOk (s .tally) → Box (s .keep) inbox store → Lent nt ni ns table inbox store
     → Good F nt ni ns (cs (refusedOf n s) table inbox store)
 unfolding refusedOf
-refused-good F nt ni ns n s table inbox store W Y K R H L B M =
+refused-good F nt ni ns n s table inbox store W Y K R H L T B M =
     record {
       now = in-phase 7 (s .now) (omega arith) W;
       say = record { first = error-last n .0; then = omega arith; pos = omega arith; signs = Y .signs };
@@ -94,13 +95,14 @@ refused-good F nt ni ns n s table inbox store W Y K R H L B M =
       reader = R;
       heading = H;
       line = record { len = omega arith; size = L .size; octets = L .octets };
+      tally = T;
       box = B;
       awaited = free (inPhase 7 (s .now)) (record { first = errorPiece n; then = 0; pos = 0; signs = s .say .signs }) (s .keep) (s .reading .reader) inbox store (λ a b. omega arith) (λ e. omega arith) (λ l. (refl, error-last n .1));
       waiting = λ e. waiting-some (refusedOf n s) table (F .titles) (F .names) (F .bodies) (K .sending) (λ l. absurd (omega arith)) e;
       lent = M;
     }
 
-module _ (F : Fixed) (nt ni ns : ℕ) (s : Session) (j : Judged) (afterCr : Bool) (inbox store : Bytes) (H : HeadingOk (s .reading .heading)) (L : LineOk (s .line)) where
+module _ (F : Fixed) (nt ni ns : ℕ) (s : Session) (j : Judged) (afterCr : Bool) (inbox store : Bytes) (H : HeadingOk (s .reading .heading)) (L : LineOk (s .line)) (T : TallyOk (s .tally)) where
   settled-good : (w : Await) (y : Say) (table : Bytes) → Lent nt ni ns table inbox store → JudgedOk inbox store j → AwaitOk w → SayOk y
       → (3 < y .then → 0 < j .keep .sending .count) → Awaited w y (j .keep) (j .reader) inbox store
       → Good F nt ni ns (cs (settledOf s j afterCr w y) table inbox store)
@@ -112,6 +114,7 @@ module _ (F : Fixed) (nt ni ns : ℕ) (s : Session) (j : Judged) (afterCr : Bool
         reader = J .reader;
         heading = H;
         line = record { len = omega arith; size = L .size; octets = L .octets };
+        tally = T;
         box = J .box;
         awaited = still-awaited w y (j .keep) (j .reader) inbox store (y .first) (y .then) 0 (A .closed) A;
         waiting = λ e. waiting-some (settledOf s j afterCr w y) table (F .titles) (F .names) (F .bodies) (J .keep .sending) t e;
@@ -150,11 +153,13 @@ module _ (F : Fixed) (nt ni ns : ℕ) (s : Session) (j : Judged) (afterCr : Bool
   settle-ok table M J X = go (eqb (j .answer) 0) refl
     where
       out : Bool → Settled
-      out a = cond a (settled 0 (spokenOf s j afterCr (markedBy j table)) (markedBy j table))
+      out a = cond a (settled 0 (countedOf (s .tally) j (markedBy j table) (spokenOf s j afterCr (markedBy j table))) (markedBy j table))
           (settled (j .answer) (refusedOf (j .answer) s) table)
 
       go : (a : Bool) → eqb (j .answer) 0 ≡ a → Good F nt ni ns (cs (out a .session) (out a .table) inbox store)
       go true e =
           let h = J e in
-          spoken-good (markedBy j table) (marked-lent (j .keep .terms .partner) (held (j .marks .places)) (j .marks .state) table (h .state) M) h
+          let t : Bytes = markedBy j table in
+          with-tally F nt ni ns (spokenOf s j afterCr t) t inbox store (tallied-ok (s .tally) j (spokenOf s j afterCr t .now) t T)
+          (spoken-good t (marked-lent (j .keep .terms .partner) (held (j .marks .places)) (j .marks .state) table (h .state) M) h)
       go false e = X e

@@ -10,10 +10,10 @@ use borrow.Author.Tests.{eq-eqb, eqb-true, eqb-false, ltb-true, ltb-false, lt-lt
 use Rattle.grammar.specs.Bytes.{Bytes}
 use Rattle.grammar.specs.Transfers.{partOf}
 use Rattle.grammar.proofs.Basics.{and2, both, or-second}
-use Rattle.places.specs.Places.{arraysAt, blockAt, blockLen, blockSumAt, currentAt, deferredAt, deferredLen, firstAt, headingAt, headingLen, lengthAt, levelAt, lineAt, lineLen, offsetAt, oursAt, partners, phaseAt, placeAt, sendingAt, signsAt, sumAt, thenAt}
+use Rattle.places.specs.Places.{arraysAt, blockAt, blockLen, blockSumAt, currentAt, deferredAt, deferredLen, firstAt, headingAt, headingLen, lengthAt, levelAt, lineAt, lineLen, offsetAt, oursAt, partners, phaseAt, placeAt, sendingAt, signsAt, sumAt, thenAt, tallyWaitingAt, tallyProposedAt, tallyForwardedAt, tallyDeclinedAt, tallyDeferredAt, tallyUnsettledAt}
 use Rattle.layout.specs.Layout.{byteAt, le2, le4, le8}
 use Rattle.layout.proofs.Laws.{octets}
-use Rattle.session_memory.specs.State.{at, flag, held, fiveAt, arrayAt, fiveOut, loadAwait, loadSay, loadKeep, loadReading, loadLine, loadOf, smallOut, numbersOut, tailOut, arraysOut, numberPart}
+use Rattle.session_memory.specs.State.{at, flag, held, fiveAt, arrayAt, fiveOut, loadAwait, loadSay, loadKeep, loadReading, loadLine, loadOf, smallOut, numbersOut, tailOut, arraysOut, numberPart, loadTally}
 use Rattle.session_memory.specs.declared.Five.{Five}
 use Rattle.session_memory.specs.Session.{Session}
 use Rattle.session_memory.proofs.Laws.{Shaped, load-shaped}
@@ -145,7 +145,7 @@ five-in sm a o h e = record { few = h; size = e; octets = array-octets 5 sm (a +
 pub form-in : (F : Fixed) (sm table inbox store : Bytes) → Octets sm → Octets table → Octets inbox → Octets store → length store < 18446744073709551616
     → stateOk (loadOf sm) table (F .titles) (F .names) (F .bodies) inbox store ≡ true
     → Good F (length table) (length inbox) (length store) (cs (loadOf sm) table inbox store)
-unfolding loadOf loadAwait loadSay loadKeep loadReading loadLine stateOk countsOk waitingOk
+unfolding loadOf loadAwait loadSay loadKeep loadReading loadLine stateOk countsOk waitingOk loadTally
 form-in F sm table inbox store o ot oi os fits e =
     let s : Session = loadOf sm in
     let h = load-shaped sm (o .each) in
@@ -187,6 +187,11 @@ form-in F sm table inbox store o ot oi os fits e =
       };
       heading = record { size = h .reading .heading; octets = array-octets headingLen sm (arraysAt + headingAt) o };
       line = record { len = leb-true (s .line .len) 256 (n₁ .0); size = h .line .bytes; octets = array-octets lineLen sm (arraysAt + lineAt) o };
+      tally = record {
+        waiting = b tallyWaitingAt;
+        sizes = h .tally .sizes;
+        sheet = record { proposed = b tallyProposedAt; forwarded = b tallyForwardedAt; declined = b tallyDeclinedAt; deferred = b tallyDeferredAt; unsettled = b tallyUnsettledAt };
+      };
       box = box-in s inbox store (e₂ .0);
       awaited = awaited-in s inbox store (e₃ .0);
       waiting = λ w. ltb-true (s .say .pos) (length (waitingOf s table (F .titles) (F .names) (F .bodies))) (or-second (not (waits (s .say))) _ (ap not w) (e₃ .1));
@@ -237,6 +242,7 @@ module _ (F : Fixed) (nt ni ns : ℕ) (c : Cs) (g : Good F nt ni ns c) where
         keep = record { used = omega (arith, g .box .within, g .lent .store, g .lent .fits); sending = g .keep .sending .size; deferred = g .keep .flags };
         reading = record { left = g .reader .left; body = g .reader .body; heading = g .heading .size };
         line = record { len = omega (arith, g .line .len); bytes = g .line .size };
+        tally = record { sizes = g .tally .sizes };
       }
 
   kept-octet : c .session .keep .kept < 256
@@ -272,7 +278,11 @@ module _ (F : Fixed) (nt ni ns : ℕ) (c : Cs) (g : Good F nt ni ns c) where
 
   tail-octets : Octets (tailOut (c .session))
   unfolding tailOut
-  tail-octets = octets-cons (g .now .sum) (octets-cons (g .keep .terms .level) (octets-cons (omega (arith, g .keep .terms .partner)) octets-nil))
+  tail-octets =
+      let h = g .tally .sheet in
+      octets-cons (g .now .sum) (octets-cons (g .keep .terms .level) (octets-cons (omega (arith, g .keep .terms .partner)) (octets-cons (g .tally .waiting)
+      (octets-append (le4 (c .session .tally .sizes)) _ (octets-le4 (c .session .tally .sizes))
+      (octets-cons (h .proposed) (octets-cons (h .forwarded) (octets-cons (h .declined) (octets-cons (h .deferred) (octets-cons (h .unsettled) octets-nil)))))))))
 
   pub part-octets : Octets (numberPart (c .session))
   part-octets =

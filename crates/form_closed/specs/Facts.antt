@@ -10,6 +10,8 @@ use Rattle.session_memory.specs.State.{held}
 use Rattle.session_memory.specs.Session.{Await}
 use Rattle.session_memory.specs.declared.Say.{Say}
 use Rattle.session_memory.specs.declared.Terms.{Terms}
+use Rattle.session_memory.specs.declared.Tally.{Tally}
+use Rattle.sheet.specs.declared.Sheet.{Sheet}
 use Rattle.session_memory.specs.Session.{Keep}
 use Rattle.session_memory.specs.Session.{Line}
 use Rattle.entries.specs.Decoded.{placeCount}
@@ -87,6 +89,19 @@ pub record LineOk (l : Line) : Type 0 where
   pub size : length (l .bytes) ≡ lineLen
   pub octets : Octets (l .bytes)
 
+-- Any bytes are tallies: none is tested.
+pub record SheetOk (h : Sheet) : Type 0 where
+  pub proposed : h .proposed < byteValues
+  pub forwarded : h .forwarded < byteValues
+  pub declined : h .declined < byteValues
+  pub deferred : h .deferred < byteValues
+  pub unsettled : h .unsettled < byteValues
+
+pub record TallyOk (t : Tally) : Type 0 where
+  pub waiting : t .waiting < byteValues
+  pub sizes : t .sizes < fourByteValues
+  pub sheet : SheetOk (t .sheet)
+
 -- The messages kept have their places, and the store's use is their bodies'.
 pub record Box (k : Keep) (inbox store : Bytes) : Type 0 where
   pub limit : placeCount inbox ≤ placeLimit
@@ -130,6 +145,7 @@ pub record Good (F : Fixed) (nt ni ns : ℕ) (c : Cs) : Type 0 where
   pub reader : ReaderOk (c .session .reading .reader)
   pub heading : HeadingOk (c .session .reading .heading)
   pub line : LineOk (c .session .line)
+  pub tally : TallyOk (c .session .tally)
   pub box : Box (c .session .keep) (c .inbox) (c .store)
   pub awaited : Awaited (c .session .now) (c .session .say) (c .session .keep) (c .session .reading .reader) (c .inbox) (c .store)
   pub waiting : waits (c .session .say) ≡ true → c .session .say .pos < length (waitingOf (c .session) (c .table) (F .titles) (F .names) (F .bodies))

@@ -148,14 +148,20 @@ module _ (w : Await) (y : Say) (k : Keep) (rd : Reader) where
 
 -- the signs of a right FS line
 module _ (ss : Bytes) (w : Await) (y : Say) (k : Keep) (rd : Reader) where
-  abbrev taking : Five → Five → Bytes → Await → Say → Judged
-  taking declined sending flags v z = judged 0 0 (record { state = 2; places = declined }) v z (sends sending flags k) rd
+  abbrev taking : Five → ℕ → Five → Bytes → Await → Say → Judged
+  taking declined deferred sending flags v z = judged 0 0 (record { state = 2; places = declined; deferred = deferred }) v z (sends sending flags k) rd
 
-  pub taken : (d s u : Five) (flags : Bytes) (v : Await) (z : Say) → d ≡ fiveOf (picked (writeSign decline) (held (w .ours)) ss) → s ≡ fiveOf (picked (writeSign accept) (held (w .ours)) ss)
-      → u ≡ fiveOf (picked (writeSign defer) (held (w .ours)) ss) → flags ≡ flagged (held u) (k .deferred) → v ≡ toTurn false w → z ≡ transfersAfter s y
-      → taking d s flags v z ≡ answerTaken ss w y k rd
+  -- those declined, deferred and accepted
+  abbrev signed : Sign → List ℕ
+  signed s = picked (writeSign s) (held (w .ours)) ss
+
+  pub taken : (d s u : Five) (flags : Bytes) (v : Await) (z : Say) → d ≡ fiveOf (signed decline) → s ≡ fiveOf (signed accept)
+      → u ≡ fiveOf (signed defer) → flags ≡ flagged (held u) (k .deferred) → v ≡ toTurn false w → z ≡ transfersAfter s y
+      → taking d (u .count) s flags v z ≡ answerTaken ss w y k rd
   taken d s u flags v z a b c e f g =
-      ap (λ (x : Five). taking x s flags v z) a ∙ ap (λ (x : Bytes). taking (fiveOf (picked (writeSign decline) (held (w .ours)) ss)) s x v z) (e ∙ ap (λ (l : List ℕ). flagged l (k .deferred)) (five-held u (picked (writeSign defer) (held (w .ours)) ss) c))
-      ∙ ap (λ (x : Await). taking (fiveOf (picked (writeSign decline) (held (w .ours)) ss)) s (flagged (picked (writeSign defer) (held (w .ours)) ss) (k .deferred)) x z) f
-      ∙ ap (λ (x : Say). taking (fiveOf (picked (writeSign decline) (held (w .ours)) ss)) s (flagged (picked (writeSign defer) (held (w .ours)) ss) (k .deferred)) (toTurn false w) x) g
-      ∙ ap (λ (x : Five). taking (fiveOf (picked (writeSign decline) (held (w .ours)) ss)) x (flagged (picked (writeSign defer) (held (w .ours)) ss) (k .deferred)) (toTurn false w) (transfersAfter x y)) b
+      let n : ℕ = length (signed defer) in
+      let x : Bytes = flagged (signed defer) (k .deferred) in
+      ap (λ (p : Five). taking p (u .count) s flags v z) a ∙ ap (λ (p : Five). taking (fiveOf (signed decline)) (p .count) s flags v z) c
+      ∙ ap (λ (p : Bytes). taking (fiveOf (signed decline)) n s p v z) (e ∙ ap (λ (l : List ℕ). flagged l (k .deferred)) (five-held u (signed defer) c))
+      ∙ ap (λ (p : Await). taking (fiveOf (signed decline)) n s x p z) f ∙ ap (λ (p : Say). taking (fiveOf (signed decline)) n s x (toTurn false w) p) g
+      ∙ ap (λ (p : Five). taking (fiveOf (signed decline)) n p x (toTurn false w) (transfersAfter p y)) b

@@ -134,6 +134,7 @@ fn answer_taken(signs: [u8; 5], s: Numbers, deferred: &mut [u8]) -> Verdict
         marks: Marks {
             state: phase::STATE_DECLINED,
             places: declined,
+            deferred: waits.count,
         },
         next: t,
     }

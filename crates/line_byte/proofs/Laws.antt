@@ -59,11 +59,11 @@ line-set s m n b h =
     rw (set-after 0 64 m (144 + n) b (omega arith), set-after 64 80 m (144 + n) b (omega arith), set-in 144 256 m n b h, set-before 400 360 m (144 + n) b (omega arith))
 
 pub longer-whole : (s : Numbers) (m : Bytes) (b : ℕ) → s .line .len < 256
-    → wholeOf (record { now = s .now; say = s .say; keep = s .keep; reader = s .reader; line = record { «after_cr» = false; len = s .line .len + 1 } }) (set m (144 + s .line .len) b)
+    → wholeOf (record { now = s .now; say = s .say; keep = s .keep; reader = s .reader; line = record { «after_cr» = false; len = s .line .len + 1 }; tally = s .tally }) (set m (144 + s .line .len) b)
     ≡ longer (wholeOf s m) b
 unfolding wholeOf
 longer-whole s m b h =
-    line-set (record { now = s .now; say = s .say; keep = s .keep; reader = s .reader; line = record { «after_cr» = false; len = s .line .len + 1 } }) m (s .line .len) b h
+    line-set (record { now = s .now; say = s .say; keep = s .keep; reader = s .reader; line = record { «after_cr» = false; len = s .line .len + 1 }; tally = s .tally }) m (s .line .len) b h
 
 -- ---------------------------------------------------------------- the line up to its length
 

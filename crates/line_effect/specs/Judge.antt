@@ -34,7 +34,7 @@ use Rattle.line_effect.specs.Judged.{Judged}
 -- ---------------------------------------------------------------- changes of the state
 
 abbrev pub noMarks : Marks
-noMarks = record { state = stateWaiting; places = noFive }
+noMarks = record { state = stateWaiting; places = noFive; deferred = 0 }
 
 abbrev pub judged : ℕ → ℕ → Marks → Await → Say → Keep → Reader → Judged
 judged answer speaks m w y k r = record { answer = answer; speaks = speaks; marks = m; now = w; say = y; keep = k; reader = r }
@@ -95,7 +95,7 @@ textLine ln w y k r = cond (isPrompt ln) (judged 0 ourTurn noMarks w (saysFirst 
 
 -- At the end of a turn what was being sent is forwarded.
 abbrev pub turnMarks : Keep → Marks
-turnMarks k = record { state = stateForwarded; places = k .sending }
+turnMarks k = record { state = stateForwarded; places = k .sending; deferred = 0 }
 
 abbrev pub settledKeep : Keep → Keep
 settledKeep k = sends noFive (k .deferred) k
@@ -183,7 +183,8 @@ transfersAfter f y = cond (ltb 0 (f .count)) (saysThen pieceTransfers y) y
 
 abbrev pub answerTaken : Bytes → Await → Say → Keep → Reader → Judged
 answerTaken ss w y k r =
-    judged 0 notOurTurn (record { state = stateDeclined; places = fiveOf (picked (writeSign decline) (held (w .ours)) ss) })
+    judged 0 notOurTurn
+    (record { state = stateDeclined; places = fiveOf (picked (writeSign decline) (held (w .ours)) ss); deferred = length (picked (writeSign defer) (held (w .ours)) ss) })
     (toTurn false w)
     (transfersAfter (fiveOf (picked (writeSign accept) (held (w .ours)) ss)) y)
     (sends (fiveOf (picked (writeSign accept) (held (w .ours)) ss)) (flagged (picked (writeSign defer) (held (w .ours)) ss) (k .deferred)) k)

@@ -9,10 +9,11 @@ ghost use Rattle.numbers.specs.Whole.{awaitOf, keepOf};
 ghost use Rattle.line_effect.specs.Judge.{noMarks, refusal, wentOn, turnMarks, settledKeep};
 ghost use Rattle.line_effect.specs.Verdict.{judgedOf};
 
-// The records at these places get this state.
+// The records at these places get this state; deferred: how many others an FS line defers.
 pub struct Marks {
     pub state: u8,
     pub places: Five,
+    pub deferred: u8,
 }
 
 // What a line comes to: 01's number, or 0 with the numbers after it, the marks to set, and whether it is then our turn (phase::OUR_TURN and
@@ -31,6 +32,7 @@ pub fn unmarked() -> Marks
     Marks {
         state: phase::STATE_WAITING,
         places: none(),
+        deferred: 0,
     }
 }
 
@@ -66,6 +68,7 @@ pub fn marks_of(keep: KeepNumbers) -> Marks
     Marks {
         state: phase::STATE_FORWARDED,
         places: s,
+        deferred: 0,
     }
 }
 

@@ -10,7 +10,8 @@ use lib.ListN.{length, getD}
 use Rattle.grammar.specs.Ascii.{text}
 use Rattle.grammar.specs.Fields.{file}
 use Rattle.grammar.specs.Answers.{accept, decline, defer}
-use Rattle.log.specs.Effects.{oneOf, madeFrom, forwardedSent, acceptedBy, declinedBy, keptAs}
+use Rattle.log.specs.Effects.{oneOf, madeFrom, forwardedSent, acceptedBy, declinedBy, Account, noAccount, withProposed, withSent, withAnswers, withForwarded, keptAs}
+use Rattle.log.specs.Log.{theirAnswer, over, theySay, ourTransfer, theirNewTurn, unsettled}
 
 pub made-length : (i v : ℕ) (is st : List ℕ) → length (madeFrom i v is st) ≡ length st
 made-length i v is [] = refl
@@ -44,3 +45,23 @@ pub at-edges :
     × (keptAs (record { form = file; type = 66; from = text "A"; at = text "B"; to = text "C"; bid = text "D"; size = 9 }) (record { heading = text "H"; body = text "X" })
     ≡ record { form = file; type = 66; from = text "A"; at = text "B"; to = text "C"; bid = text "D"; heading = text "H"; body = text "X" })
 at-edges = (refl, refl, refl, refl)
+
+-- The tally sheet of 02, Q-3, before and after each event, all numbers different: proposed, forwarded, declined, deferred.
+abbrev account : List ℕ → ℕ → ℕ → ℕ → ℕ → Account
+account sent p f d e = record { sent = sent; proposed = p; forwarded = f; declined = d; deferred = e }
+
+pub counted :
+    (withProposed 3 (account (4 ∷ []) 40 30 20 10) ≡ account (4 ∷ []) 43 30 20 10)
+    × (withSent 9 (account (4 ∷ []) 40 30 20 10) ≡ account (4 ∷ 9 ∷ []) 40 30 20 10)
+    × (withAnswers (decline ∷ accept ∷ defer ∷ decline ∷ accept ∷ []) (3 ∷ 1 ∷ 0 ∷ 2 ∷ 5 ∷ []) (account [] 40 30 20 10) ≡ account [] 40 30 22 11)
+    × (withForwarded (account (4 ∷ 9 ∷ []) 40 30 20 10) ≡ account [] 40 32 20 10)
+    × (noAccount ≡ account [] 0 0 0 0)
+counted = (refl, refl, refl, refl, refl)
+
+-- "those proposed whose FS hasn't come, or which were accepted and aren't forwarded yet"
+pub not-settled :
+    (unsettled (record { next = theySay (theirAnswer (3 ∷ 1 ∷ [])); account = account [] 2 0 0 0 }) ≡ 2)
+    × (unsettled (record { next = ourTransfer 3 (1 ∷ []); account = account (7 ∷ []) 3 0 0 0 }) ≡ 3)
+    × (unsettled (record { next = theirNewTurn false; account = account (7 ∷ 3 ∷ []) 9 4 2 1 }) ≡ 2)
+    × (unsettled (record { next = over; account = account [] 9 4 3 2 }) ≡ 0)
+not-settled = (refl, refl, refl, refl)

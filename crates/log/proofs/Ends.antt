@@ -17,14 +17,15 @@ use Rattle.grammar.specs.Answers.{consO}
 use Rattle.grammar.specs.Transfers.{readTransfer}
 use Rattle.grammar.proofs.Basics.{Lacks, snoc-cons, and-false}
 use Rattle.mail.specs.Mail.{Record, recordAt, transferOf, placeOf}
+use Rattle.log.specs.Effects.{Account}
 use Rattle.log.specs.Log.{weSay, Event, took, gave, over, ourTurn, Course, Book, Log, isOurs, turn, said, placeFound, placesOf, ourSaid, theirTransfer, ourTransfer, whole, withAfterCr}
 use Rattle.log.specs.Fed.{unitByte, outOfOrder, fedByte, fedAll}
 use Rattle.log.proofs.Said.{summed-wrong}
 use Rattle.log.proofs.Units.{within, ended-stays, line-fed, owing}
 
--- the log k has the same records sent, states, mode and messages kept as l
+-- the log k has the same account, states, mode and messages kept as l
 pub record Stays (k l : Log) : Type 0 where
-  pub sent : k .course .sent ≡ l .course .sent
+  pub account : k .course .account ≡ l .course .account
   pub book : k .book ≡ l .book
 
 -- the unit that has begun with u can never be whole
@@ -40,7 +41,7 @@ hopeless-at : (T : List Record) (es : List Event) (l : Log) (a : Bool) (u : Byte
 hopeless-at T es l a u h more e = at e
   where
     stops : Stays (fedAll T (outOfOrder (within l a u)) es .log) l
-    stops = let k = ended-stays T es l a [] in record { sent = ap (λ (o : Course). o .sent) (k .0); book = k .1 }
+    stops = let k = ended-stays T es l a [] in record { account = ap (λ (o : Course). o .account) (k .0); book = k .1 }
 
     -- a byte of the unit
     one : (b : ℕ) (c : Bool) → Stays (fedAll T (unitByte T (withAfterCr l a) u b c) es .log) l
@@ -64,22 +65,22 @@ hopeless-at T es l a u h more e = at e
 
 -- A UNIT THAT CAN NEVER BE WHOLE ENDS THE LOG
 pub hopeless-ends : (T : List Record) (es : List Event) (l : Log) (a : Bool) (u : Bytes) → Hopeless T l u → Stays (fedAll T (within l a u) es .log) l
-hopeless-ends T [] l a u h = record { sent = refl; book = refl }
+hopeless-ends T [] l a u h = record { account = refl; book = refl }
 hopeless-ends T (e ∷ es) l a u h = hopeless-at T es l a u h (λ c v k. hopeless-ends T es l c v k) e
 
 -- the partner's: no valid transfer begins with its bytes so far
-pub their-transfer-ends : (T : List Record) (p : Proposal) (ps : List Proposal) (sent : List ℕ) (k : Book) (a : Bool) (u : Bytes)
+pub their-transfer-ends : (T : List Record) (p : Proposal) (ps : List Proposal) (account : Account) (k : Book) (a : Bool) (u : Bytes)
     → ((r : Bytes) → readTransfer (p .form) (u ++ r) ≡ none) → (es : List Event)
-    → Stays (fedAll T (within (owing a (theirTransfer p ps) sent k) a u) es .log) (owing a (theirTransfer p ps) sent k)
-their-transfer-ends T p ps sent k a u h es =
-    hopeless-ends T es (owing a (theirTransfer p ps) sent k) a u (λ r b. ap isSome (ap (readTransfer (p .form)) (append-assoc u r (b ∷ [])) ∙ h (r ++ (b ∷ []))))
+    → Stays (fedAll T (within (owing a (theirTransfer p ps) account k) a u) es .log) (owing a (theirTransfer p ps) account k)
+their-transfer-ends T p ps account k a u h es =
+    hopeless-ends T es (owing a (theirTransfer p ps) account k) a u (λ r b. ap isSome (ap (readTransfer (p .form)) (append-assoc u r (b ∷ [])) ∙ h (r ++ (b ∷ []))))
 
 -- ours: its bytes so far do not begin what we write for its record
-pub our-transfer-ends : (T : List Record) (i : ℕ) (is sent : List ℕ) (k : Book) (a : Bool) (u : Bytes)
+pub our-transfer-ends : (T : List Record) (i : ℕ) (is : List ℕ) (account : Account) (k : Book) (a : Bool) (u : Bytes)
     → ((r : Bytes) → same (u ++ r) (transferOf (recordAt T i)) ≡ false) → (es : List Event)
-    → Stays (fedAll T (within (owing a (ourTransfer i is) sent k) a u) es .log) (owing a (ourTransfer i is) sent k)
-our-transfer-ends T i is sent k a u h es =
-    hopeless-ends T es (owing a (ourTransfer i is) sent k) a u
+    → Stays (fedAll T (within (owing a (ourTransfer i is) account k) a u) es .log) (owing a (ourTransfer i is) account k)
+our-transfer-ends T i is account k a u h es =
+    hopeless-ends T es (owing a (ourTransfer i is) account k) a u
     (λ r b. ap (λ (v : Bytes). same v (transferOf (recordAt T i))) (append-assoc u r (b ∷ [])) ∙ h (r ++ (b ∷ [])))
 
 -- ---------------------------------------------------------------- a proposal of ours that is of no record
@@ -105,19 +106,19 @@ none-of-them T (q ∷ ps) p qs h = rw (none-of-them T ps p qs h) (go (placeFound
     go (some i) = refl
 
 -- OUR TURN WITH A BID OF NO RECORD ENDS THE LOG, at the CR of its last line ln; ls are the lines before it
-pub no-record-ends : (T : List Record) (ff : Bool) (ls : List TurnLine) (ln : Bytes) (a : Bool) (sent : List ℕ) (k : Book) (ps : List Proposal) (p : Proposal) (qs : List Proposal)
+pub no-record-ends : (T : List Record) (ff : Bool) (ls : List TurnLine) (ln : Bytes) (a : Bool) (account : Account) (k : Book) (ps : List Proposal) (p : Proposal) (qs : List Proposal)
     → Lacks CR ln → said ff (ls ++ (readTurnLine (k .framed) ln ∷ [])) ≡ turn (ps ++ p ∷ qs) → NoRecord (p .bid) T
-    → fedAll T (record { log = owing a (weSay (ourTurn ff ls)) sent k; raw = [] }) (map gave (withCr ln)) ≡ record { log = owing a over sent k; raw = [] }
-no-record-ends T ff ls ln a sent k ps p qs c e h =
-    line-fed T (owing a (weSay (ourTurn ff ls)) sent k) ln (and-false a false refl) refl c ∙ rw e (rw (ends ps))
+    → fedAll T (record { log = owing a (weSay (ourTurn ff ls)) account k; raw = [] }) (map gave (withCr ln)) ≡ record { log = owing a over account k; raw = [] }
+no-record-ends T ff ls ln a account k ps p qs c e h =
+    line-fed T (owing a (weSay (ourTurn ff ls)) account k) ln (and-false a false refl) refl c ∙ rw e (rw (ends ps))
   where
     ends : (ps : List Proposal) → ourSaid T ff (ls ++ (readTurnLine (k .framed) ln ∷ [])) (turn (ps ++ p ∷ qs)) ≡ over
     ends [] = rw (none-of-them T [] p qs h)
     ends (q ∷ ps) = rw (none-of-them T (q ∷ ps) p qs h)
 
 -- OUR TURN THAT ENDS WITH A CHECKSUM ENDS THE LOG: "We go on writing the bare form." (02, Q-5)
-pub our-sum-ends : (T : List Record) (ff : Bool) (ls : List TurnLine) (ln : Bytes) (a : Bool) (sent : List ℕ) (k : Book) (h : ℕ)
+pub our-sum-ends : (T : List Record) (ff : Bool) (ls : List TurnLine) (ln : Bytes) (a : Bool) (account : Account) (k : Book) (h : ℕ)
     → Lacks CR ln → readTurnLine (k .framed) ln ≡ endsSummed h
-    → fedAll T (record { log = owing a (weSay (ourTurn ff ls)) sent k; raw = [] }) (map gave (withCr ln)) ≡ record { log = owing a over sent k; raw = [] }
-our-sum-ends T ff ls ln a sent k h c e =
-    line-fed T (owing a (weSay (ourTurn ff ls)) sent k) ln (and-false a false refl) refl c ∙ rw e (rw (summed-wrong ff ls h))
+    → fedAll T (record { log = owing a (weSay (ourTurn ff ls)) account k; raw = [] }) (map gave (withCr ln)) ≡ record { log = owing a over account k; raw = [] }
+our-sum-ends T ff ls ln a account k h c e =
+    line-fed T (owing a (weSay (ourTurn ff ls)) account k) ln (and-false a false refl) refl c ∙ rw e (rw (summed-wrong ff ls h))

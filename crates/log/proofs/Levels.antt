@@ -14,6 +14,7 @@ use Rattle.grammar.specs.Sid.{levelInForce, levelOf, letterB, readSid}
 use Rattle.grammar.specs.Turns.{Proposal}
 use Rattle.grammar.specs.Answers.{Level, level0, level1, digitCount, readFs, signAt}
 use Rattle.mail.specs.Mail.{Record}
+use Rattle.log.specs.Effects.{noAccount}
 use Rattle.log.specs.Log.{ourAnswer, theirSid, theirAnswer, over, levelBetween, ourLine, theirLine, logOpened}
 
 -- THE SAME LEVEL
@@ -27,7 +28,7 @@ level-alike fs = go (levelOf letterB fs) (leb (levelOf letterB fs) 1) refl
 
 -- The level in the book after this SID of the partner's, who was called.
 abbrev levelAfter : Bytes → Level
-levelAfter ln = theirLine (theirSid true) (logOpened true [] .book) [] ln .book .level
+levelAfter ln = theirLine (theirSid true) (logOpened true [] .book) noAccount ln .book .level
 
 pub levels-found : map levelAfter (text "[A-F]" ∷ text "[A-BF$]" ∷ text "[A-B0F]" ∷ text "[A-B1F]  " ∷ text "[A-1-fb1h$]" ∷ text "[A-B9F]" ∷ text "[A-A1F1]" ∷ text "[A-B1]" ∷ [])
     ≡ 0 ∷ 0 ∷ 0 ∷ 1 ∷ 1 ∷ 1 ∷ 0 ∷ 0 ∷ []
@@ -41,7 +42,7 @@ ours-at-0 T md p = refl
 
 -- The states after the partner's FS line on one record, at a level.
 abbrev afterAt : Level → Bytes → List ℕ
-afterAt v ln = theirLine (theirAnswer (0 ∷ [])) (record { framed = true; level = v; states = 0 ∷ []; kept = [] }) [] ln .book .states
+afterAt v ln = theirLine (theirAnswer (0 ∷ [])) (record { framed = true; level = v; states = 0 ∷ []; kept = [] }) noAccount ln .book .states
 
 -- "`N` as `-`": at level 1 it makes the record 2, at level 0 it is forbidden and changes nothing
 pub their-n : (afterAt level0 (text "FS N") ≡ 0 ∷ []) × (afterAt level1 (text "FS N") ≡ 2 ∷ []) × (afterAt level0 (text "FS -") ≡ 2 ∷ [])

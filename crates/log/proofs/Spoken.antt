@@ -16,8 +16,8 @@ use Rattle.grammar.specs.Transfers.{writeTransfer}
 use Rattle.grammar.proofs.Basics.{Lacks, snoc-cons}
 use Rattle.grammar.proofs.OurLines.{proposal-read, fs-back, ff-read, fq-read, end-read, good-line}
 use Rattle.mail.specs.Mail.{Record, recordAt, headingFor, transferOf, proposalLines, turnText, transfersText}
-use Rattle.log.specs.Effects.{acceptedBy}
-use Rattle.log.specs.Log.{theirNewTurn, ourNewTurn, gave, Ours, ourGreeting, ourFirstPrompt, ourSidLine, ourTurn, ourAnswer, theirSid, Next, over, weSay, theySay, ourTransfer, Course, isOurs, placesOf, ourProposed, oursOwed, theirsOwed, ourLine, ourUnit, whole, said, applied, withAfterCr}
+use Rattle.log.specs.Effects.{acceptedBy, Account, withSent}
+use Rattle.log.specs.Log.{theirNewTurn, ourNewTurn, gave, Ours, ourGreeting, ourFirstPrompt, ourSidLine, ourTurn, ourAnswer, theirSid, Next, over, weSay, theySay, ourTransfer, Course, isOurs, placesOf, ourProposed, oursOwed, theirsOwed, ourLine, afterOurs, ourUnit, whole, said, applied, withAfterCr}
 use Rattle.log.specs.Fed.{Fed, fedAll, outOfOrder}
 use Rattle.log.proofs.Said.{said-after}
 
@@ -28,7 +28,7 @@ abbrev pub spokenByte : List Record → Bool → Option (Course × Bytes) → �
 spokenByte T md none b = none
 spokenByte T md (some p) b =
     cond (isOurs (p .0 .next))
-    (cond (whole T (p .0 .next) (p .1) b) (some (ourUnit T md (p .0 .next) (p .0 .sent) (p .1), [])) (some (p .0, p .1 ++ (b ∷ []))))
+    (cond (whole T (p .0 .next) (p .1) b) (some (ourUnit T md (p .0 .next) (p .0 .account) (p .1), [])) (some (p .0, p .1 ++ (b ∷ []))))
     none
 
 unfoldable pub spoken : List Record → Bool → Option (Course × Bytes) → Bytes → Option (Course × Bytes)
@@ -62,7 +62,7 @@ pub spoken-ours : (T : List Record) (md : Bool) (p q : Course × Bytes) (b : ℕ
 spoken-ours T md p q b bs e = go (isOurs (p .0 .next)) (sym (spoken-cons T md (some p) b bs) ∙ e)
   where
     go : (c : Bool)
-        → spoken T md (cond c (cond (whole T (p .0 .next) (p .1) b) (some (ourUnit T md (p .0 .next) (p .0 .sent) (p .1), [])) (some (p .0, p .1 ++ (b ∷ [])))) none) bs ≡ some q
+        → spoken T md (cond c (cond (whole T (p .0 .next) (p .1) b) (some (ourUnit T md (p .0 .next) (p .0 .account) (p .1), [])) (some (p .0, p .1 ++ (b ∷ [])))) none) bs ≡ some q
         → c ≡ true
     go true k = refl
     go false k = let z = sym (spoken-none T md bs) ∙ k in cc
@@ -70,45 +70,49 @@ spoken-ours T md p q b bs e = go (isOurs (p .0 .next)) (sym (spoken-cons T md (s
 -- ---------------------------------------------------------------- whole lines
 
 -- between units
-abbrev pub at : Next → List ℕ → Option (Course × Bytes)
-at n sent = some (record { next = n; sent = sent }, [])
+abbrev pub at : Next → Account → Option (Course × Bytes)
+at n account = some (record { next = n; account = account }, [])
 
-abbrev part : Next → List ℕ → Bytes → Option (Course × Bytes)
-part n sent u = some (record { next = n; sent = sent }, u)
+abbrev part : Next → Account → Bytes → Option (Course × Bytes)
+part n account u = some (record { next = n; account = account }, u)
+
+-- right after a line of ours
+abbrev pub after : Next → Account → Option (Course × Bytes)
+after n account = at n (afterOurs n account)
 
 -- where a line of ours is next
-line-spoken : (T : List Record) (md : Bool) (n : Ours) (sent : List ℕ) (ln u : Bytes) → Lacks CR ln
-    → spoken T md (part (weSay n) sent u) (withCr ln) ≡ at (ourLine T md n (u ++ ln)) sent
-line-spoken T md n sent [] u h =
-    spoken-cons T md (part (weSay n) sent u) CR [] ∙ spoken-nil T md (at (ourLine T md n u) sent) ∙ rw (append-nil u)
-line-spoken T md n sent (x ∷ ln) u h =
-    spoken-cons T md (part (weSay n) sent u) x (withCr ln)
-    ∙ rw (h .0) (line-spoken T md n sent ln (u ++ (x ∷ [])) (h .1) ∙ rw (snoc-cons u ln x))
+line-spoken : (T : List Record) (md : Bool) (n : Ours) (account : Account) (ln u : Bytes) → Lacks CR ln
+    → spoken T md (part (weSay n) account u) (withCr ln) ≡ after (ourLine T md n (u ++ ln)) account
+line-spoken T md n account [] u h =
+    spoken-cons T md (part (weSay n) account u) CR [] ∙ spoken-nil T md (after (ourLine T md n u) account) ∙ rw (append-nil u)
+line-spoken T md n account (x ∷ ln) u h =
+    spoken-cons T md (part (weSay n) account u) x (withCr ln)
+    ∙ rw (h .0) (line-spoken T md n account ln (u ++ (x ∷ [])) (h .1) ∙ rw (snoc-cons u ln x))
 
 -- FF and FQ of ours
-pub ff-spoken : (T : List Record) (md : Bool) (sent : List ℕ) → spoken T md (at (ourNewTurn false) sent) (withCr (fixedText ourFF)) ≡ at (theirNewTurn true) sent
+pub ff-spoken : (T : List Record) (md : Bool) (account : Account) → spoken T md (at (ourNewTurn false) account) (withCr (fixedText ourFF)) ≡ at (theirNewTurn true) account
 unfolding said
-ff-spoken T md sent =
-    line-spoken T md (ourTurn false []) sent (fixedText ourFF) [] (good-line (fixedLine ourFF) tt .whole)
+ff-spoken T md account =
+    line-spoken T md (ourTurn false []) account (fixedText ourFF) [] (good-line (fixedLine ourFF) tt .whole)
     ∙ rw (ff-read md)
 
-pub fq-spoken : (T : List Record) (md : Bool) (sent : List ℕ) → spoken T md (at (ourNewTurn true) sent) (withCr (fixedText ourFQ)) ≡ at over sent
+pub fq-spoken : (T : List Record) (md : Bool) (account : Account) → spoken T md (at (ourNewTurn true) account) (withCr (fixedText ourFQ)) ≡ at over account
 unfolding said
-fq-spoken T md sent =
-    line-spoken T md (ourTurn true []) sent (fixedText ourFQ) [] (good-line (fixedLine ourFQ) tt .whole)
+fq-spoken T md account =
+    line-spoken T md (ourTurn true []) account (fixedText ourFQ) [] (good-line (fixedLine ourFQ) tt .whole)
     ∙ rw (fq-read md)
 
 -- our SID, alone and with the prompt
-pub sid-spoken : (T : List Record) (md : Bool) (sent : List ℕ) → spoken T md (at (weSay ourSidLine) sent) (withCr (fixedText ourSid)) ≡ at (ourNewTurn false) sent
-sid-spoken T md sent = line-spoken T md ourSidLine sent (fixedText ourSid) [] (good-line (fixedLine ourSid) tt .whole)
+pub sid-spoken : (T : List Record) (md : Bool) (account : Account) → spoken T md (at (weSay ourSidLine) account) (withCr (fixedText ourSid)) ≡ at (ourNewTurn false) account
+sid-spoken T md account = line-spoken T md ourSidLine account (fixedText ourSid) [] (good-line (fixedLine ourSid) tt .whole)
 
-pub greeting-spoken : (T : List Record) (md : Bool) (sent : List ℕ)
-    → spoken T md (at (weSay ourGreeting) sent) (withCr (fixedText ourSid) ++ withCr (fixedText ourPrompt)) ≡ at (theySay (theirSid false)) sent
-greeting-spoken T md sent =
-    spoken-append T md (at (weSay ourGreeting) sent) (withCr (fixedText ourSid)) (withCr (fixedText ourPrompt))
+pub greeting-spoken : (T : List Record) (md : Bool) (account : Account)
+    → spoken T md (at (weSay ourGreeting) account) (withCr (fixedText ourSid) ++ withCr (fixedText ourPrompt)) ≡ at (theySay (theirSid false)) account
+greeting-spoken T md account =
+    spoken-append T md (at (weSay ourGreeting) account) (withCr (fixedText ourSid)) (withCr (fixedText ourPrompt))
     ∙ ap (λ (o : Option (Course × Bytes)). spoken T md o (withCr (fixedText ourPrompt)))
-    (line-spoken T md ourGreeting sent (fixedText ourSid) [] (good-line (fixedLine ourSid) tt .whole))
-    ∙ line-spoken T md ourFirstPrompt sent (fixedText ourPrompt) [] (good-line (fixedLine ourPrompt) tt .whole)
+    (line-spoken T md ourGreeting account (fixedText ourSid) [] (good-line (fixedLine ourSid) tt .whole))
+    ∙ line-spoken T md ourFirstPrompt account (fixedText ourPrompt) [] (good-line (fixedLine ourPrompt) tt .whole)
 
 -- ---------------------------------------------------------------- a turn
 
@@ -124,45 +128,50 @@ pub map-snoc : (qs : List Proposal) (p : Proposal) → map proposes qs ++ (propo
 map-snoc [] p = refl
 map-snoc (q ∷ qs) p = rw (map-snoc qs p)
 
-proposal-spoken : (T : List Record) (md ff : Bool) (qs : List Proposal) (p : Proposal) (sent : List ℕ) → Fit md p → length qs < 5
-    → spoken T md (at (weSay (ourTurn ff (map proposes qs))) sent) (withCr (proposalLine p)) ≡ at (weSay (ourTurn ff (map proposes (qs ++ (p ∷ []))))) sent
-proposal-spoken T md ff qs p sent f h =
-    line-spoken T md (ourTurn ff (map proposes qs)) sent (proposalLine p) [] (good-line (ourProposal p) (f .0) .whole)
+proposal-spoken : (T : List Record) (md ff : Bool) (qs : List Proposal) (p : Proposal) (account : Account) → Fit md p → length qs < 5
+    → spoken T md (at (weSay (ourTurn ff (map proposes qs))) account) (withCr (proposalLine p)) ≡ at (weSay (ourTurn ff (map proposes (qs ++ (p ∷ []))))) account
+proposal-spoken T md ff qs p account f h =
+    line-spoken T md (ourTurn ff (map proposes qs)) account (proposalLine p) [] (good-line (ourProposal p) (f .0) .whole)
     ∙ rw (proposal-read md p (f .0) (f .1))
     (rw (said-after ff qs (proposes p ∷ []) (omega arith)) (rw (lt-ltb (length qs) 5 h) (rw (map-snoc qs p))))
 
-end-spoken : (T : List Record) (md ff : Bool) (q : Proposal) (qs : List Proposal) (sent : List ℕ) → length (q ∷ qs) ≤ 5
-    → spoken T md (at (weSay (ourTurn ff (map proposes (q ∷ qs)))) sent) (withCr (fixedText ourEnd)) ≡ at (ourProposed (placesOf T (q ∷ qs))) sent
-end-spoken T md ff q qs sent h =
-    line-spoken T md (ourTurn ff (map proposes (q ∷ qs))) sent (fixedText ourEnd) [] (good-line (fixedLine ourEnd) tt .whole)
+end-spoken : (T : List Record) (md ff : Bool) (q : Proposal) (qs : List Proposal) (account : Account) → length (q ∷ qs) ≤ 5
+    → spoken T md (at (weSay (ourTurn ff (map proposes (q ∷ qs)))) account) (withCr (fixedText ourEnd)) ≡ after (ourProposed (placesOf T (q ∷ qs))) account
+end-spoken T md ff q qs account h =
+    line-spoken T md (ourTurn ff (map proposes (q ∷ qs))) account (fixedText ourEnd) [] (good-line (fixedLine ourEnd) tt .whole)
     ∙ rw (end-read md) (rw (said-after ff (q ∷ qs) (endsBlock ∷ []) h))
 
 -- the rest of a turn of ours, after q and qs
-rest-spoken : (T : List Record) (md ff : Bool) (ps : List Proposal) (q : Proposal) (qs : List Proposal) (sent : List ℕ) → AllFit md ps → length (q ∷ qs) + length ps ≤ 5
-    → spoken T md (at (weSay (ourTurn ff (map proposes (q ∷ qs)))) sent) (proposalLines ps ++ withCr (fixedText ourEnd)) ≡ at (ourProposed (placesOf T ((q ∷ qs) ++ ps))) sent
-rest-spoken T md ff [] q qs sent f h = end-spoken T md ff q qs sent (omega arith) ∙ rw (append-nil qs)
-rest-spoken T md ff (p ∷ ps) q qs sent f h =
+rest-spoken : (T : List Record) (md ff : Bool) (ps : List Proposal) (q : Proposal) (qs : List Proposal) (account : Account) → AllFit md ps → length (q ∷ qs) + length ps ≤ 5
+    → spoken T md (at (weSay (ourTurn ff (map proposes (q ∷ qs)))) account) (proposalLines ps ++ withCr (fixedText ourEnd)) ≡ after (ourProposed (placesOf T ((q ∷ qs) ++ ps))) account
+rest-spoken T md ff [] q qs account f h = end-spoken T md ff q qs account (omega arith) ∙ rw (append-nil qs)
+rest-spoken T md ff (p ∷ ps) q qs account f h =
     rw (append-assoc (withCr (proposalLine p)) (proposalLines ps) (withCr (fixedText ourEnd)))
-    (rw (spoken-append T md (at (weSay (ourTurn ff (map proposes (q ∷ qs)))) sent) (withCr (proposalLine p)) (proposalLines ps ++ withCr (fixedText ourEnd)))
-    (rw (proposal-spoken T md ff (q ∷ qs) p sent (f .0) (omega arith))
-    (rest-spoken T md ff ps q (qs ++ (p ∷ [])) sent (f .1) (simp length-append (omega arith)) ∙ rw (append-assoc qs (p ∷ []) ps))))
+    (rw (spoken-append T md (at (weSay (ourTurn ff (map proposes (q ∷ qs)))) account) (withCr (proposalLine p)) (proposalLines ps ++ withCr (fixedText ourEnd)))
+    (rw (proposal-spoken T md ff (q ∷ qs) p account (f .0) (omega arith))
+    (rest-spoken T md ff ps q (qs ++ (p ∷ [])) account (f .1) (simp length-append (omega arith)) ∙ rw (append-assoc qs (p ∷ []) ps))))
 
 -- a whole turn of ours
-pub turn-spoken : (T : List Record) (md ff : Bool) (p : Proposal) (ps : List Proposal) (sent : List ℕ) → AllFit md (p ∷ ps) → length (p ∷ ps) ≤ 5
-    → spoken T md (at (ourNewTurn ff) sent) (turnText (p ∷ ps)) ≡ at (ourProposed (placesOf T (p ∷ ps))) sent
+pub turn-spoken : (T : List Record) (md ff : Bool) (p : Proposal) (ps : List Proposal) (account : Account) → AllFit md (p ∷ ps) → length (p ∷ ps) ≤ 5
+    → spoken T md (at (ourNewTurn ff) account) (turnText (p ∷ ps)) ≡ after (ourProposed (placesOf T (p ∷ ps))) account
 unfolding turnText
-turn-spoken T md ff p ps sent f h =
+turn-spoken T md ff p ps account f h =
     rw (append-assoc (withCr (proposalLine p)) (proposalLines ps) (withCr (fixedText ourEnd)))
-    (rw (spoken-append T md (at (ourNewTurn ff) sent) (withCr (proposalLine p)) (proposalLines ps ++ withCr (fixedText ourEnd)))
-    (rw (proposal-spoken T md ff [] p sent (f .0) (omega arith)) (rest-spoken T md ff ps p [] sent (f .1) (omega arith))))
+    (rw (spoken-append T md (at (ourNewTurn ff) account) (withCr (proposalLine p)) (proposalLines ps ++ withCr (fixedText ourEnd)))
+    (rw (proposal-spoken T md ff [] p account (f .0) (omega arith)) (rest-spoken T md ff ps p [] account (f .1) (omega arith))))
 
 -- ---------------------------------------------------------------- an answer
 
-pub fs-spoken : (T : List Record) (md : Bool) (ps : List Proposal) (ss : List Sign) (sent : List ℕ) → length ss ≡ length ps → 1 ≤ length ps → length ps ≤ 5
-    → spoken T md (at (weSay (ourAnswer ps)) sent) (withCr (fsLine ss)) ≡ at (theirsOwed (acceptedBy ss ps)) sent
-fs-spoken T md ps ss sent h k l =
-    line-spoken T md (ourAnswer ps) sent (fsLine ss) [] (good-line (OurLine.ourAnswer ss) (omega arith, omega arith) .whole)
-    ∙ rw (ap (λ (n : ℕ). readFs level0 n (fsLine ss)) (sym h) ∙ fs-back level0 ss)
+pub fs-spoken : (T : List Record) (md : Bool) (ps : List Proposal) (ss : List Sign) (account : Account) → length ss ≡ length ps → 1 ≤ length ps → length ps ≤ 5
+    → spoken T md (at (weSay (ourAnswer ps)) account) (withCr (fsLine ss)) ≡ at (theirsOwed (acceptedBy ss ps)) account
+fs-spoken T md ps ss account h k l =
+    line-spoken T md (ourAnswer ps) account (fsLine ss) [] (good-line (OurLine.ourAnswer ss) (omega arith, omega arith) .whole)
+    ∙ rw (ap (λ (n : ℕ). readFs level0 n (fsLine ss)) (sym h) ∙ fs-back level0 ss) (owed (acceptedBy ss ps))
+  where
+    -- it proposes nothing
+    owed : (qs : List Proposal) → after (theirsOwed qs) account ≡ at (theirsOwed qs) account
+    owed [] = refl
+    owed (q ∷ qs) = refl
 
 -- ---------------------------------------------------------------- transfers
 
@@ -173,14 +182,14 @@ same-prefix [] (x ∷ r) b = rw (eq-eqb b b refl)
 same-prefix (y ∷ u) r b = rw (eq-eqb y y refl) (same-prefix u r b)
 
 -- one of ours from where it stands: u is said, x and r are to come
-transfer-on : (T : List Record) (md : Bool) (i : ℕ) (is sent : List ℕ) (r : Bytes) (x : ℕ) (u : Bytes) → transferOf (recordAt T i) ≡ u ++ x ∷ r
-    → spoken T md (part (ourTransfer i is) sent u) (x ∷ r) ≡ at (oursOwed is) (sent ++ (i ∷ []))
-transfer-on T md i is sent [] x u h =
-    spoken-cons T md (part (ourTransfer i is) sent u) x []
-    ∙ rw h (rw (same-prefix u [] x) (spoken-nil T md (at (oursOwed is) (sent ++ (i ∷ [])))))
-transfer-on T md i is sent (y ∷ r) x u h =
-    spoken-cons T md (part (ourTransfer i is) sent u) x (y ∷ r)
-    ∙ rw h (rw (same-prefix u (y ∷ r) x) (transfer-on T md i is sent r y (u ++ (x ∷ [])) (h ∙ sym (snoc-cons u (y ∷ r) x))))
+transfer-on : (T : List Record) (md : Bool) (i : ℕ) (is : List ℕ) (account : Account) (r : Bytes) (x : ℕ) (u : Bytes) → transferOf (recordAt T i) ≡ u ++ x ∷ r
+    → spoken T md (part (ourTransfer i is) account u) (x ∷ r) ≡ at (oursOwed is) (withSent i account)
+transfer-on T md i is account [] x u h =
+    spoken-cons T md (part (ourTransfer i is) account u) x []
+    ∙ rw h (rw (same-prefix u [] x) (spoken-nil T md (at (oursOwed is) (withSent i account))))
+transfer-on T md i is account (y ∷ r) x u h =
+    spoken-cons T md (part (ourTransfer i is) account u) x (y ∷ r)
+    ∙ rw h (rw (same-prefix u (y ∷ r) x) (transfer-on T md i is account r y (u ++ (x ∷ [])) (h ∙ sym (snoc-cons u (y ∷ r) x))))
 
 some-byte : (t y : Bytes) (x : ℕ) → t ++ x ∷ y ≡ [] → ⊥
 some-byte [] y x h = let z : _≡_ {A = ℕ} 0 1 = cc in omega arith
@@ -192,22 +201,33 @@ transfer-some plain h x e = some-byte h _ CR e
 transfer-some message h x e = let z : _≡_ {A = ℕ} 0 1 = cc in omega arith
 transfer-some file h x e = let z : _≡_ {A = ℕ} 0 1 = cc in omega arith
 
-pub transfer-spoken : (T : List Record) (md : Bool) (i : ℕ) (is sent : List ℕ)
-    → spoken T md (at (ourTransfer i is) sent) (transferOf (recordAt T i)) ≡ at (oursOwed is) (sent ++ (i ∷ []))
-transfer-spoken T md i is sent = go (transferOf (recordAt T i)) refl
+pub transfer-spoken : (T : List Record) (md : Bool) (i : ℕ) (is : List ℕ) (account : Account)
+    → spoken T md (at (ourTransfer i is) account) (transferOf (recordAt T i)) ≡ at (oursOwed is) (withSent i account)
+transfer-spoken T md i is account = go (transferOf (recordAt T i)) refl
   where
-    go : (w : Bytes) → transferOf (recordAt T i) ≡ w → spoken T md (at (ourTransfer i is) sent) w ≡ at (oursOwed is) (sent ++ (i ∷ []))
+    go : (w : Bytes) → transferOf (recordAt T i) ≡ w → spoken T md (at (ourTransfer i is) account) w ≡ at (oursOwed is) (withSent i account)
     go [] h = absurd (transfer-some (recordAt T i .form) (headingFor (recordAt T i .form) (recordAt T i)) (recordAt T i .body) h)
-    go (x ∷ w) h = transfer-on T md i is sent w x [] h
+    go (x ∷ w) h = transfer-on T md i is account w x [] h
+
+-- the records at these places are sent
+abbrev pub withAllSent : List ℕ → Account → Account
+withAllSent is account =
+    record {
+      sent = account .sent ++ is;
+      proposed = account .proposed;
+      forwarded = account .forwarded;
+      declined = account .declined;
+      deferred = account .deferred;
+    }
 
 -- all that we owe
-pub transfers-spoken : (T : List Record) (md : Bool) (is sent : List ℕ)
-    → spoken T md (at (oursOwed is) sent) (transfersText T is) ≡ at (theirNewTurn false) (sent ++ is)
+pub transfers-spoken : (T : List Record) (md : Bool) (is : List ℕ) (account : Account)
+    → spoken T md (at (oursOwed is) account) (transfersText T is) ≡ at (theirNewTurn false) (withAllSent is account)
 unfolding transfersText
-transfers-spoken T md [] sent = spoken-nil T md (at (theirNewTurn false) sent) ∙ rw (append-nil sent)
-transfers-spoken T md (i ∷ is) sent =
-    rw (spoken-append T md (at (ourTransfer i is) sent) (transferOf (recordAt T i)) (transfersText T is))
-    (rw (transfer-spoken T md i is sent) (transfers-spoken T md is (sent ++ (i ∷ [])) ∙ rw (append-assoc sent (i ∷ []) is)))
+transfers-spoken T md [] account = spoken-nil T md (at (theirNewTurn false) account) ∙ rw (append-nil (account .sent))
+transfers-spoken T md (i ∷ is) account =
+    rw (spoken-append T md (at (ourTransfer i is) account) (transferOf (recordAt T i)) (transfersText T is))
+    (rw (transfer-spoken T md i is account) (transfers-spoken T md is (withSent i account) ∙ rw (append-assoc (account .sent) (i ∷ []) is)))
 
 -- ---------------------------------------------------------------- the fed log, given such bytes
 
@@ -228,7 +248,7 @@ gave-spoken T (b ∷ xs) f p e =
 
     go : (c : Bool) → isOurs n ≡ c → (w : Bool)
         → ((g : Fed) → spoken T (g .log .book .framed) (some (g .log .course, g .raw)) xs ≡ some p → fedAll T g (map gave xs) ≡ withSpoken g p)
-        → spoken T (f .log .book .framed) (cond c (cond w (some (ourUnit T (f .log .book .framed) n (f .log .course .sent) u, [])) (some (f .log .course, u ++ (b ∷ [])))) none) xs ≡ some p
+        → spoken T (f .log .book .framed) (cond c (cond w (some (ourUnit T (f .log .book .framed) n (f .log .course .account) u, [])) (some (f .log .course, u ++ (b ∷ [])))) none) xs ≡ some p
         → fedAll T (cond c (cond w (record { log = applied T (f .log) u b; raw = [] }) (record { log = withAfterCr (f .log) (f .log .afterCr); raw = u ++ (b ∷ []) })) (outOfOrder f)) (map gave xs) ≡ withSpoken f p
     go true o true ih k = rw o (ih _ k)
     go true o false ih k = ih _ k

@@ -1,23 +1,26 @@
 -- A WHOLE TURN OF THE PARTNER'S has exactly its effect, at its last CR (`their-turn-fed`), and none before (`their-turn-part-fed`). Comments may
 -- stand before its last line, and an LF after the CR of each line before the last; neither is summed. Both are said of the log fed byte by byte,
 -- which has the same course and book as the log over whole units after every trace (`logs-agree`); so the first holds of that too
--- (`their-turn-logged`). A turn with a wrong checksum changes nothing and ends the log (`wrong-sum-fed`, `wrong-sum-ends`). Idea: no beginning of a
+-- (`their-turn-logged`). A whole turn of ours and the partner's FS line follow (`our-turn-fed`, `our-turn-counts`, `their-answer-fed`). A turn with a wrong checksum changes nothing and ends the log (`wrong-sum-fed`, `wrong-sum-ends`). Idea: no beginning of a
 -- whole turn is whole or wrong (`said-before`), so each line but the last leaves the log as it was, with one line of the turn more.
 use mathlib.Core.Path.{_≡_, refl, sym, ap, _∙_, subst}
 use mathlib.Core.Bool.{Bool, true, false, cond, not, _&&_}
+use mathlib.Core.Option.{Option, none, some}
 use mathlib.Core.List.{List, [], _∷_, _++_, map, append-assoc, append-nil, map-append}
-use Prim.Native.Nat.{ℕ, _+_, _%_, _≤_}
+use Prim.Native.Nat.{ℕ, suc, _+_, _%_, _≤_}
+use native.Mathlib.Omega.{arith}
 use lib.Dec.{eqb}
 use lib.ListN.{length}
 use borrow.Author.Tests.{le-leb, ne-eqb}
 use Rattle.grammar.specs.Bytes.{Bytes, byteValues, CR, LF}
 use Rattle.grammar.specs.Lines.{trim, isComment, lineLimit}
 use Rattle.grammar.specs.Turns.{Proposal, TurnLine, saysFF, saysFQ, endsBlock, notAllowed, proposes, endsSummed, readTurnLine, withCr}
+use Rattle.grammar.specs.Answers.{Sign, consO, readFs}
 use Rattle.grammar.specs.Transfers.{byteSum, sumRight}
 use Rattle.grammar.proofs.Basics.{Lacks}
 use Rattle.mail.specs.Mail.{Record, turnText}
-use Rattle.log.specs.Effects.{forwardedSent}
-use Rattle.log.specs.Log.{theirNewTurn, ourNewTurn, effect, theySay, Event, took, gave, theirTurn, Book, unfinished, turn, said, placesOf, ourProposed, Effect, withStates, afterTheirTurn, summedEnd, checked, rawWith, theirTurnLine, theirLine, over, log}
+use Rattle.log.specs.Effects.{forwardedSent, acceptedBy, declinedBy, Account, withProposed, withAnswers, withForwarded}
+use Rattle.log.specs.Log.{theirNewTurn, ourNewTurn, effect, theySay, Event, took, gave, theirTurn, theirAnswer, Book, unfinished, turn, said, placeFound, placesOf, ourProposed, oursOwed, afterOurs, Effect, withStates, afterTheirTurn, summedEnd, checked, rawWith, theirTurnLine, theirLine, over, log}
 use Rattle.log.specs.Fed.{Fed, fedByte, fedAll}
 use Rattle.log.proofs.Said.{goesWell, said-before, said-part, not-allowed-wrong}
 use Rattle.log.proofs.Spoken.{AllFit, turn-spoken, gave-spoken}
@@ -108,17 +111,17 @@ raw-is raw ln (endsSummed h) = go (sumRight raw h)
 
 -- ---------------------------------------------------------------- line by line
 
-module _ (T : List Record) (ff : Bool) (sent : List ℕ) (k : Book) where
+module _ (T : List Record) (ff : Bool) (account : Account) (k : Book) where
   -- where the partner's turn is next, u of a line has come, and the lines before it said ls, the proposal lines raw among them
   abbrev pub amid : Bool → List TurnLine → Bytes → Bytes → Fed
-  amid a ls raw u = record { log = owing a (theySay (theirTurn ff ls raw)) sent k; raw = u }
+  amid a ls raw u = record { log = owing a (theySay (theirTurn ff ls raw)) account k; raw = u }
 
-  -- records sent, mode, states and messages kept are as before the turn
+  -- account, mode, states and messages kept are as before the turn
   abbrev Same : Fed → Type 0
-  Same f = Stays (f .log) (owing false (theirNewTurn ff) sent k)
+  Same f = Stays (f .log) (owing false (theirNewTurn ff) account k)
 
   same : (a : Bool) (ls : List TurnLine) (raw u : Bytes) → Same (amid a ls raw u)
-  same a ls raw u = record { sent = refl; book = refl }
+  same a ls raw u = record { account = refl; book = refl }
 
   -- before each of these events, and after the last
   abbrev Untouched : Fed → List Event → Type 0
@@ -166,9 +169,9 @@ module _ (T : List Record) (ff : Bool) (sent : List ℕ) (k : Book) where
 
   -- a whole line, whether or not an LF would be dropped before it
   line-judged : (a : Bool) (ls : List TurnLine) (raw ln : Bytes) → Proper ln
-      → fedAll T (amid a ls raw []) (map took (withCr ln)) ≡ effected (theirLine (theirTurn ff ls raw) k sent ln)
+      → fedAll T (amid a ls raw []) (map took (withCr ln)) ≡ effected (theirLine (theirTurn ff ls raw) k account ln)
   line-judged a ls raw ln h =
-      no-lf a ln (h .noLf) ∙ line-fed T (owing false (theySay (theirTurn ff ls raw)) sent k) ln refl refl (h .whole)
+      no-lf a ln (h .noLf) ∙ line-fed T (owing false (theySay (theirTurn ff ls raw)) account k) ln refl refl (h .whole)
       ∙ rw (le-leb (length ln) lineLimit (h .short))
     where
       no-lf : (a : Bool) (ln : Bytes) → lfFirst ln ≡ false → fedAll T (amid a ls raw []) (map took (withCr ln)) ≡ fedAll T (amid false ls raw []) (map took (withCr ln))
@@ -206,7 +209,7 @@ module _ (T : List Record) (ff : Bool) (sent : List ℕ) (k : Book) where
           read = readTurnLine (k .framed) (trim (c .text))
 
           go : (b : Bool) → (b ≡ false → said ff (ls ++ (checked raw read ∷ [])) ≡ unfinished)
-              → effected (cond b (effect k sent (theySay (theirTurn ff ls raw))) (theirTurnLine ff ls raw k sent (c .text) (checked raw read)))
+              → effected (cond b (effect k account (theySay (theirTurn ff ls raw))) (theirTurnLine ff ls raw k account (c .text) (checked raw read)))
               ≡ amid true (ls ++ cond b [] (checked raw read ∷ [])) (raw ++ cond b [] (ifProposal read (c .text))) []
           go true i = rw (append-nil ls) (rw (append-nil raw))
           go false i = rw (i refl) (rw (raw-is raw (c .text) read))
@@ -255,82 +258,82 @@ module _ (T : List Record) (ff : Bool) (sent : List ℕ) (k : Book) where
 -- ---------------------------------------------------------------- THE LAWS
 
 -- ln: the last line, no comment; cs: the lines before it. a: the log would drop an LF now; none comes.
-module _ (T : List Record) (a ff : Bool) (sent : List ℕ) (k : Book) (cs : List Came) (ln : Bytes) (proper : AllProper cs) (proper-last : Proper ln)
+module _ (T : List Record) (a ff : Bool) (account : Account) (k : Book) (cs : List Came) (ln : Bytes) (proper : AllProper cs) (proper-last : Proper ln)
     (no-comment : isComment (trim ln) ≡ false) (not-whole : said ff (linesSay (k .framed) [] cs) ≡ unfinished) where
   -- up to the last line
-  before-last : Leads T ff sent k (amid T ff sent k a [] [] []) (map took (bytesCame cs))
-      (amid T ff sent k (lfAwaited a cs) (linesSay (k .framed) [] cs) (proposalsCame (k .framed) cs) [])
-  before-last = lines-lead T ff sent k cs a [] [] proper not-whole
+  before-last : Leads T ff account k (amid T ff account k a [] [] []) (map took (bytesCame cs))
+      (amid T ff account k (lfAwaited a cs) (linesSay (k .framed) [] cs) (proposalsCame (k .framed) cs) [])
+  before-last = lines-lead T ff account k cs a [] [] proper not-whole
 
   -- and with it
-  with-last : fedAll T (amid T ff sent k a [] [] []) (map took (bytesCame cs ++ withCr ln))
-      ≡ effected T ff sent k (theirTurnLine ff (linesSay (k .framed) [] cs) (proposalsCame (k .framed) cs) k sent ln (lastSays (k .framed) cs ln))
+  with-last : fedAll T (amid T ff account k a [] [] []) (map took (bytesCame cs ++ withCr ln))
+      ≡ effected T ff account k (theirTurnLine ff (linesSay (k .framed) [] cs) (proposalsCame (k .framed) cs) k account ln (lastSays (k .framed) cs ln))
   with-last =
-      ap (fedAll T (amid T ff sent k a [] [] [])) (map-append took (bytesCame cs) (withCr ln))
-      ∙ fed-append T (map took (bytesCame cs)) (map took (withCr ln)) (amid T ff sent k a [] [] [])
+      ap (fedAll T (amid T ff account k a [] [] [])) (map-append took (bytesCame cs) (withCr ln))
+      ∙ fed-append T (map took (bytesCame cs)) (map took (withCr ln)) (amid T ff account k a [] [] [])
       ∙ ap (λ (f : Fed). fedAll T f (map took (withCr ln))) (before-last .fed)
-      ∙ line-judged T ff sent k (lfAwaited a cs) (linesSay (k .framed) [] cs) (proposalsCame (k .framed) cs) ln proper-last
+      ∙ line-judged T ff account k (lfAwaited a cs) (linesSay (k .framed) [] cs) (proposalsCame (k .framed) cs) ln proper-last
       ∙ rw no-comment
 
-  -- A WRONG CHECKSUM: "A turn with a wrong checksum is no valid turn." (02, Q-5). At its last CR the log is over; records sent, states and messages
+  -- A WRONG CHECKSUM: "A turn with a wrong checksum is no valid turn." (02, Q-5). At its last CR the log is over; account, states and messages
   -- kept are as before the turn
   pub wrong-sum-fed : (h : ℕ) → readTurnLine (k .framed) (trim ln) ≡ endsSummed h → ((byteSum (proposalsCame (k .framed) cs) + h) % byteValues ≡ 0 → ⊥)
-      → fedAll T (record { log = owing a (theirNewTurn ff) sent k; raw = [] }) (map took (bytesCame cs ++ withCr ln))
-      ≡ record { log = owing true over sent k; raw = [] }
+      → fedAll T (record { log = owing a (theirNewTurn ff) account k; raw = [] }) (map took (bytesCame cs ++ withCr ln))
+      ≡ record { log = owing true over account k; raw = [] }
   wrong-sum-fed h e n = with-last ∙ rw e (rw (ne-eqb _ _ n) (rw (not-allowed-wrong ff (linesSay (k .framed) [] cs))))
 
   -- and they stay so, whatever bytes fs come after them: of the log over whole units, after a trace es that left the partner's turn next
   pub wrong-sum-ends : (h : ℕ) → readTurnLine (k .framed) (trim ln) ≡ endsSummed h → ((byteSum (proposalsCame (k .framed) cs) + h) % byteValues ≡ 0 → ⊥)
-      → (caller : Bool) (states : List ℕ) (es fs : List Event) → fedAll T (fedOpened caller states) es ≡ record { log = owing a (theirNewTurn ff) sent k; raw = [] }
-      → Agrees (log T caller states (es ++ (map took (bytesCame cs ++ withCr ln) ++ fs))) (owing true over sent k)
+      → (caller : Bool) (states : List ℕ) (es fs : List Event) → fedAll T (fedOpened caller states) es ≡ record { log = owing a (theirNewTurn ff) account k; raw = [] }
+      → Agrees (log T caller states (es ++ (map took (bytesCame cs ++ withCr ln) ++ fs))) (owing true over account k)
   wrong-sum-ends h e n caller states es fs o =
       let l = logs-agree T caller states (es ++ (map took (bytesCame cs ++ withCr ln) ++ fs)) in
-      let o = subst (λ (f : Fed). Agrees (f .log) (owing true over sent k)) (sym so) (ended-stays T fs (owing true over sent k) true []) in
+      let o = subst (λ (f : Fed). Agrees (f .log) (owing true over account k)) (sym so) (ended-stays T fs (owing true over account k) true []) in
       (l .0 ∙ o .0, l .1 ∙ o .1)
     where
-      so : fedAll T (fedOpened caller states) (es ++ (map took (bytesCame cs ++ withCr ln) ++ fs)) ≡ fedAll T (record { log = owing true over sent k; raw = [] }) fs
+      so : fedAll T (fedOpened caller states) (es ++ (map took (bytesCame cs ++ withCr ln) ++ fs)) ≡ fedAll T (record { log = owing true over account k; raw = [] }) fs
       so =
           fed-append T es (map took (bytesCame cs ++ withCr ln) ++ fs) (fedOpened caller states)
           ∙ ap (λ (f : Fed). fedAll T f (map took (bytesCame cs ++ withCr ln) ++ fs)) o
-          ∙ fed-append T (map took (bytesCame cs ++ withCr ln)) fs (record { log = owing a (theirNewTurn ff) sent k; raw = [] })
+          ∙ fed-append T (map took (bytesCame cs ++ withCr ln)) fs (record { log = owing a (theirNewTurn ff) account k; raw = [] })
           ∙ ap (λ (f : Fed). fedAll T f fs) (wrong-sum-fed h e n)
 
 -- the lines together say a whole turn with the proposals ps, none for FF
-module _ (T : List Record) (a ff : Bool) (sent : List ℕ) (k : Book) (cs : List Came) (ln : Bytes) (ps : List Proposal) (proper : AllProper cs) (proper-last : Proper ln)
+module _ (T : List Record) (a ff : Bool) (account : Account) (k : Book) (cs : List Came) (ln : Bytes) (ps : List Proposal) (proper : AllProper cs) (proper-last : Proper ln)
     (no-comment : isComment (trim ln) ≡ false) (whole-turn : said ff (linesSay (k .framed) [] cs ++ (lastSays (k .framed) cs ln ∷ [])) ≡ turn ps) where
   not-yet : said ff (linesSay (k .framed) [] cs) ≡ unfinished
   not-yet = said-before ff (linesSay (k .framed) [] cs) (lastSays (k .framed) cs ln) [] (ap goesWell whole-turn)
 
   -- AT ITS LAST CR: "its proposals replace the last .. The partner's makes every sent record 1."
   pub their-turn-fed :
-      fedAll T (record { log = owing a (theirNewTurn ff) sent k; raw = [] }) (map took (bytesCame cs ++ withCr ln))
-      ≡ record { log = owing true (afterTheirTurn ps) [] (withStates k (forwardedSent sent (k .states))); raw = [] }
-  their-turn-fed = with-last T a ff sent k cs ln proper proper-last no-comment not-yet ∙ rw whole-turn
+      fedAll T (record { log = owing a (theirNewTurn ff) account k; raw = [] }) (map took (bytesCame cs ++ withCr ln))
+      ≡ record { log = owing true (afterTheirTurn ps) (withForwarded account) (withStates k (forwardedSent (account .sent) (k .states))); raw = [] }
+  their-turn-fed = with-last T a ff account k cs ln proper proper-last no-comment not-yet ∙ rw whole-turn
 
-  -- BEFORE IT: after any beginning u of the turn's bytes but its last CR, the records sent, the states and the messages kept are as before the turn
+  -- BEFORE IT: after any beginning u of the turn's bytes but its last CR, the account, the states and the messages kept are as before the turn
   pub their-turn-part-fed : (u r : Bytes) → bytesCame cs ++ ln ≡ u ++ r
-      → Stays (fedAll T (record { log = owing a (theirNewTurn ff) sent k; raw = [] }) (map took u) .log) (owing a (theirNewTurn ff) sent k)
-  their-turn-part-fed u r e = record { sent = so .sent; book = so .book }
+      → Stays (fedAll T (record { log = owing a (theirNewTurn ff) account k; raw = [] }) (map took u) .log) (owing a (theirNewTurn ff) account k)
+  their-turn-part-fed u r e = record { account = so .account; book = so .book }
     where
       begun : Fed
-      begun = amid T ff sent k a [] [] []
+      begun = amid T ff account k a [] [] []
 
-      before : Leads T ff sent k begun (map took (bytesCame cs))
-          (amid T ff sent k (lfAwaited a cs) (linesSay (k .framed) [] cs) (proposalsCame (k .framed) cs) [])
-      before = before-last T a ff sent k cs ln proper proper-last no-comment not-yet
+      before : Leads T ff account k begun (map took (bytesCame cs))
+          (amid T ff account k (lfAwaited a cs) (linesSay (k .framed) [] cs) (proposalsCame (k .framed) cs) [])
+      before = before-last T a ff account k cs ln proper proper-last no-comment not-yet
 
-      so : Stays (fedAll T begun (map took u) .log) (owing false (theirNewTurn ff) sent k)
+      so : Stays (fedAll T begun (map took u) .log) (owing false (theirNewTurn ff) account k)
       so =
-          untouched-part T ff sent k (map took u) (map took r) begun
-          (subst (Untouched T ff sent k begun) (sym (map-append took (bytesCame cs) ln) ∙ ap (map took) e ∙ map-append took u r)
-          (untouched-append T ff sent k (map took (bytesCame cs)) (map took ln) begun (before .untouched)
-          (subst (λ (f : Fed). Untouched T ff sent k f (map took ln)) (sym (before .fed))
-          (part-untouched T ff sent k ln (lfAwaited a cs) (linesSay (k .framed) [] cs) (proposalsCame (k .framed) cs) [] (proper-last .whole)))))
+          untouched-part T ff account k (map took u) (map took r) begun
+          (subst (Untouched T ff account k begun) (sym (map-append took (bytesCame cs) ln) ∙ ap (map took) e ∙ map-append took u r)
+          (untouched-append T ff account k (map took (bytesCame cs)) (map took ln) begun (before .untouched)
+          (subst (λ (f : Fed). Untouched T ff account k f (map took ln)) (sym (before .fed))
+          (part-untouched T ff account k ln (lfAwaited a cs) (linesSay (k .framed) [] cs) (proposalsCame (k .framed) cs) [] (proper-last .whole)))))
 
   -- So of the log over whole units, after a trace es that left the partner's turn next
   pub their-turn-logged : (caller : Bool) (states : List ℕ) (es : List Event)
-      → fedAll T (fedOpened caller states) es ≡ record { log = owing a (theirNewTurn ff) sent k; raw = [] }
-      → Agrees (log T caller states (es ++ map took (bytesCame cs ++ withCr ln))) (owing true (afterTheirTurn ps) [] (withStates k (forwardedSent sent (k .states))))
+      → fedAll T (fedOpened caller states) es ≡ record { log = owing a (theirNewTurn ff) account k; raw = [] }
+      → Agrees (log T caller states (es ++ map took (bytesCame cs ++ withCr ln))) (owing true (afterTheirTurn ps) (withForwarded account) (withStates k (forwardedSent (account .sent) (k .states))))
   their-turn-logged caller states es e =
       subst (λ (f : Fed). Agrees (log T caller states (es ++ map took (bytesCame cs ++ withCr ln))) (f .log))
       (fed-append T es (map took (bytesCame cs ++ withCr ln)) (fedOpened caller states)
@@ -339,10 +342,39 @@ module _ (T : List Record) (a ff : Bool) (sent : List ℕ) (k : Book) (cs : List
       (logs-agree T caller states (es ++ map took (bytesCame cs ++ withCr ln)))
 
 -- A WHOLE TURN OF OURS, as we write it: "ours are the records with those BIDs"; where one has no record the log has ended
-pub our-turn-fed : (T : List Record) (a ff : Bool) (p : Proposal) (ps : List Proposal) (sent : List ℕ) (k : Book) → AllFit (k .framed) (p ∷ ps) → length (p ∷ ps) ≤ 5
-    → fedAll T (record { log = owing a (ourNewTurn ff) sent k; raw = [] }) (map gave (turnText (p ∷ ps)))
-    ≡ record { log = owing a (ourProposed (placesOf T (p ∷ ps))) sent k; raw = [] }
-our-turn-fed T a ff p ps sent k f h =
-    gave-spoken T (turnText (p ∷ ps)) (record { log = owing a (ourNewTurn ff) sent k; raw = [] })
-    (record { next = ourProposed (placesOf T (p ∷ ps)); sent = sent }, [])
-    (turn-spoken T (k .framed) ff p ps sent f h)
+pub our-turn-fed : (T : List Record) (a ff : Bool) (p : Proposal) (ps : List Proposal) (account : Account) (k : Book) → AllFit (k .framed) (p ∷ ps) → length (p ∷ ps) ≤ 5
+    → fedAll T (record { log = owing a (ourNewTurn ff) account k; raw = [] }) (map gave (turnText (p ∷ ps)))
+    ≡ record { log = owing a (ourProposed (placesOf T (p ∷ ps))) (afterOurs (ourProposed (placesOf T (p ∷ ps))) account) k; raw = [] }
+our-turn-fed T a ff p ps account k f h =
+    gave-spoken T (turnText (p ∷ ps)) (record { log = owing a (ourNewTurn ff) account k; raw = [] })
+    (record { next = ourProposed (placesOf T (p ∷ ps)); account = afterOurs (ourProposed (placesOf T (p ∷ ps))) account }, [])
+    (turn-spoken T (k .framed) ff p ps account f h)
+
+-- and they count as proposed with it (02, Q-3)
+pub our-turn-counts : (T : List Record) (a ff : Bool) (p : Proposal) (ps : List Proposal) (account : Account) (k : Book) (is : List ℕ) → AllFit (k .framed) (p ∷ ps)
+    → length (p ∷ ps) ≤ 5 → placesOf T (p ∷ ps) ≡ some is
+    → fedAll T (record { log = owing a (ourNewTurn ff) account k; raw = [] }) (map gave (turnText (p ∷ ps)))
+    ≡ record { log = owing a (theySay (theirAnswer is)) (withProposed (length (p ∷ ps)) account) k; raw = [] }
+our-turn-counts T a ff p ps account k is f h e =
+    our-turn-fed T a ff p ps account k f h
+    ∙ ap (λ (o : Option (List ℕ)). record { log = owing a (ourProposed o) (afterOurs (ourProposed o) account) k; raw = [] }) e
+    ∙ ap (λ (n : ℕ). record { log = owing a (theySay (theirAnswer is)) (withProposed n account) k; raw = [] }) (as-many (p ∷ ps) is e)
+  where
+    as-many : (ps : List Proposal) (is : List ℕ) → placesOf T ps ≡ some is → length is ≡ length ps
+    as-many [] [] e = refl
+    as-many [] (i ∷ is) e = absurd (let z : _≡_ {A = ℕ} 0 1 = cc in omega arith)
+    as-many (p ∷ ps) is e = go (placeFound T (p .bid)) (placesOf T ps) (λ js. as-many ps js) e
+      where
+        go : (o : Option ℕ) (os : Option (List ℕ)) → ((js : List ℕ) → os ≡ some js → length js ≡ length ps) → consO o os ≡ some is → length is ≡ suc (length ps)
+        go none none ih e = absurd (let z : _≡_ {A = ℕ} 0 1 = cc in omega arith)
+        go none (some js) ih e = absurd (let z : _≡_ {A = ℕ} 0 1 = cc in omega arith)
+        go (some i) none ih e = absurd (let z : _≡_ {A = ℕ} 0 1 = cc in omega arith)
+        go (some i) (some js) ih e = let z : i ∷ js ≡ is = cc in ap length (sym z) ∙ ap suc (ih js refl)
+
+-- THE PARTNER'S VALID FS LINE ln: "The partner's makes declined records 2.", we owe the accepted transfers, and declined and deferred ones count as that
+pub their-answer-fed : (T : List Record) (is : List ℕ) (account : Account) (k : Book) (ln : Bytes) (ss : List Sign) → Proper ln → isComment (trim ln) ≡ false
+    → readFs (k .level) (length is) (trim ln) ≡ some ss
+    → fedAll T (record { log = owing false (theySay (theirAnswer is)) account k; raw = [] }) (map took (withCr ln))
+    ≡ record { log = owing true (oursOwed (acceptedBy ss is)) (withAnswers ss is account) (withStates k (declinedBy ss is (k .states))); raw = [] }
+their-answer-fed T is account k ln ss h c e =
+    line-fed T (owing false (theySay (theirAnswer is)) account k) ln refl refl (h .whole) ∙ rw (le-leb (length ln) lineLimit (h .short)) (rw c (rw e))

@@ -15,7 +15,7 @@ use Rattle.grammar.specs.Transfers.{Content, Parsed, parse, valid, readTransfer
 use Rattle.grammar.proofs.Basics.{Lacks, snoc-cons, and-false}
 use Rattle.grammar.proofs.Refusal.{no-longer}
 use Rattle.mail.specs.Mail.{Record, Message, recordAt, transferOf}
-use Rattle.log.specs.Effects.{keptAs}
+use Rattle.log.specs.Effects.{Account, withSent, keptAs}
 use Rattle.log.specs.Log.{Event, took, gave, Next, over, weSay, theySay, theirTransfer, ourTransfer, Book, Log, isOurs, oursOwed, theirsOwed, isPlain, whole, applied, stopped, Cut, notWhole, outOfTurn, unit, cutUnit, withAfterCr, afterCut, logUnits, logOpened, log, withKept}
 use Rattle.log.specs.Fed.{Fed, unitByte, outOfOrder, fedByte, fedAll}
 use Rattle.log.proofs.Spoken.{same-prefix, transfer-spoken, gave-spoken}
@@ -243,37 +243,37 @@ our-yet T i is (x ∷ v) u b r e = (rw e (same-prefix u (v ++ b ∷ r) x ∙ nul
 
 -- ---------------------------------------------------------------- a whole transfer
 
-abbrev pub owing : Bool → Next → List ℕ → Book → Log
-owing a n sent k = record { afterCr = a; course = record { next = n; sent = sent }; book = k }
+abbrev pub owing : Bool → Next → Account → Book → Log
+owing a n account k = record { afterCr = a; course = record { next = n; account = account }; book = k }
 
 abbrev pub keeping : Book → Message → Book
 keeping k x = withKept k (k .kept ++ (x ∷ []))
 
 -- the partner's: kept, at its last byte
-pub their-transfer-fed : (T : List Record) (p : Proposal) (ps : List Proposal) (sent : List ℕ) (k : Book) (u : Bytes) (b : ℕ) (c : Content)
+pub their-transfer-fed : (T : List Record) (p : Proposal) (ps : List Proposal) (account : Account) (k : Book) (u : Bytes) (b : ℕ) (c : Content)
     → readTransfer (p .form) (u ++ (b ∷ [])) ≡ some c
-    → fedAll T (record { log = owing false (theirTransfer p ps) sent k; raw = [] }) (map took (u ++ (b ∷ [])))
-    ≡ record { log = owing (isPlain (p .form)) (theirsOwed ps) sent (keeping k (keptAs p c)); raw = [] }
-their-transfer-fed T p ps sent k u b c e =
-    unit-fed T (owing false (theirTransfer p ps) sent k) u b refl (their-yet T p ps u [] b [] c e) (rw e) ∙ rw e
+    → fedAll T (record { log = owing false (theirTransfer p ps) account k; raw = [] }) (map took (u ++ (b ∷ [])))
+    ≡ record { log = owing (isPlain (p .form)) (theirsOwed ps) account (keeping k (keptAs p c)); raw = [] }
+their-transfer-fed T p ps account k u b c e =
+    unit-fed T (owing false (theirTransfer p ps) account k) u b refl (their-yet T p ps u [] b [] c e) (rw e) ∙ rw e
 
 -- before that, nothing
-pub their-part-fed : (T : List Record) (p : Proposal) (ps : List Proposal) (sent : List ℕ) (k : Book) (u : Bytes) (b : ℕ) (r : Bytes) (c : Content)
+pub their-part-fed : (T : List Record) (p : Proposal) (ps : List Proposal) (account : Account) (k : Book) (u : Bytes) (b : ℕ) (r : Bytes) (c : Content)
     → readTransfer (p .form) (u ++ b ∷ r) ≡ some c
-    → fedAll T (record { log = owing false (theirTransfer p ps) sent k; raw = [] }) (map took u)
-    ≡ record { log = owing false (theirTransfer p ps) sent k; raw = u }
-their-part-fed T p ps sent k u b r c e = grows T (owing false (theirTransfer p ps) sent k) u [] refl (their-yet T p ps u [] b r c e)
+    → fedAll T (record { log = owing false (theirTransfer p ps) account k; raw = [] }) (map took u)
+    ≡ record { log = owing false (theirTransfer p ps) account k; raw = u }
+their-part-fed T p ps account k u b r c e = grows T (owing false (theirTransfer p ps) account k) u [] refl (their-yet T p ps u [] b r c e)
 
 -- ours: its record is sent, at its last byte
-pub our-transfer-fed : (T : List Record) (a : Bool) (i : ℕ) (is sent : List ℕ) (k : Book)
-    → fedAll T (record { log = owing a (ourTransfer i is) sent k; raw = [] }) (map gave (transferOf (recordAt T i)))
-    ≡ record { log = owing a (oursOwed is) (sent ++ (i ∷ [])) k; raw = [] }
-our-transfer-fed T a i is sent k =
-    gave-spoken T (transferOf (recordAt T i)) (record { log = owing a (ourTransfer i is) sent k; raw = [] })
-    (record { next = oursOwed is; sent = sent ++ (i ∷ []) }, [])
-    (transfer-spoken T (k .framed) i is sent)
+pub our-transfer-fed : (T : List Record) (a : Bool) (i : ℕ) (is : List ℕ) (account : Account) (k : Book)
+    → fedAll T (record { log = owing a (ourTransfer i is) account k; raw = [] }) (map gave (transferOf (recordAt T i)))
+    ≡ record { log = owing a (oursOwed is) (withSent i account) k; raw = [] }
+our-transfer-fed T a i is account k =
+    gave-spoken T (transferOf (recordAt T i)) (record { log = owing a (ourTransfer i is) account k; raw = [] })
+    (record { next = oursOwed is; account = withSent i account }, [])
+    (transfer-spoken T (k .framed) i is account)
 
 -- before that, nothing
-pub our-part-fed : (T : List Record) (a : Bool) (i : ℕ) (is sent : List ℕ) (k : Book) (u : Bytes) (b : ℕ) (r : Bytes) → transferOf (recordAt T i) ≡ u ++ b ∷ r
-    → fedAll T (record { log = owing a (ourTransfer i is) sent k; raw = [] }) (map gave u) ≡ record { log = owing a (ourTransfer i is) sent k; raw = u }
-our-part-fed T a i is sent k u b r e = grows T (owing a (ourTransfer i is) sent k) u [] (and-false a false refl) (our-yet T i is u [] b r e)
+pub our-part-fed : (T : List Record) (a : Bool) (i : ℕ) (is : List ℕ) (account : Account) (k : Book) (u : Bytes) (b : ℕ) (r : Bytes) → transferOf (recordAt T i) ≡ u ++ b ∷ r
+    → fedAll T (record { log = owing a (ourTransfer i is) account k; raw = [] }) (map gave u) ≡ record { log = owing a (ourTransfer i is) account k; raw = u }
+our-part-fed T a i is account k u b r e = grows T (owing a (ourTransfer i is) account k) u [] (and-false a false refl) (our-yet T i is u [] b r e)

@@ -7,7 +7,7 @@
 use mathlib.Core.Bool.{Bool, true, false, cond, _&&_}
 use mathlib.Core.Option.{Option, none, some}
 use mathlib.Core.List.{List, [], _∷_, _++_}
-use Prim.Native.Nat.{ℕ, zero, suc}
+use Prim.Native.Nat.{ℕ, zero, suc, _+_}
 use lib.Dec.{eqb, ltb, leb}
 use lib.ListN.{length}
 use Rattle.grammar.specs.Bytes.{Bytes, CR, LF, same, isSome}
@@ -18,7 +18,7 @@ use Rattle.grammar.specs.Turns.{Proposal, TurnLine, saysFF, saysFQ, endsBlock, 
 use Rattle.grammar.specs.Answers.{Sign, consO, readFs, Level, level0}
 use Rattle.grammar.specs.Transfers.{Content, readTransfer, sumRight}
 use Rattle.mail.specs.Mail.{Record, Message, recordAt, transferOf, placeOf}
-use Rattle.log.specs.Effects.{forwardedSent, acceptedBy, declinedBy, keptAs}
+use Rattle.log.specs.Effects.{forwardedSent, acceptedBy, declinedBy, Account, noAccount, withProposed, withSent, withAnswers, withForwarded, keptAs}
 
 -- ---------------------------------------------------------------- what the log is fed and what it keeps
 
@@ -54,10 +54,10 @@ ourNewTurn ff = weSay (ourTurn ff [])
 abbrev pub theirNewTurn : Bool → Next
 theirNewTurn ff = theySay (theirTurn ff [] [])
 
--- What units of either side change: which unit is next, and the records sent.
+-- What units of either side change: which unit is next, and what has become of the records that we proposed.
 pub record Course : Type 0 where
   pub next : Next
-  pub sent : List ℕ
+  pub account : Account
 
 -- What only the partner's units change: the mode, the level, "each record's state", "messages kept".
 pub record Book : Type 0 where
@@ -165,13 +165,24 @@ ourLine T md ourSidLine ln = cond (same ln (fixedText ourSid)) (ourNewTurn false
 ourLine T md (ourTurn ff ls) ln = ourSaid T ff (ls ++ (readTurnLine md ln ∷ [])) (said ff (ls ++ (readTurnLine md ln ∷ [])))
 ourLine T md (ourAnswer ps) ln = ourAnswered ps (readFs level0 (length ps) ln)
 
+-- "Proposed counts" with our turn (02, Q-3): a line of ours proposes what the partner's FS line is due on after it.
+abbrev pub afterOurs : Next → Account → Account
+afterOurs (theySay (theirAnswer is)) account = withProposed (length is) account
+afterOurs (theySay theirText) account = account
+afterOurs (theySay (theirSid c)) account = account
+afterOurs (theySay (theirTurn ff ls raw)) account = account
+afterOurs over account = account
+afterOurs (weSay n) account = account
+afterOurs (theirTransfer p ps) account = account
+afterOurs (ourTransfer i is) account = account
+
 -- "Our owed transfer, as we write it, given whole: its record is sent."
-abbrev pub ourUnit : List Record → Bool → Next → List ℕ → Bytes → Course
-ourUnit T md (weSay n) sent u = record { next = ourLine T md n u; sent = sent }
-ourUnit T md (ourTransfer i is) sent u = record { next = oursOwed is; sent = sent ++ (i ∷ []) }
-ourUnit T md over sent u = record { next = over; sent = sent }
-ourUnit T md (theySay n) sent u = record { next = over; sent = sent }
-ourUnit T md (theirTransfer p ps) sent u = record { next = over; sent = sent }
+abbrev pub ourUnit : List Record → Bool → Next → Account → Bytes → Course
+ourUnit T md (weSay n) account u = record { next = ourLine T md n u; account = afterOurs (ourLine T md n u) account }
+ourUnit T md (ourTransfer i is) account u = record { next = oursOwed is; account = withSent i account }
+ourUnit T md over account u = record { next = over; account = account }
+ourUnit T md (theySay n) account u = record { next = over; account = account }
+ourUnit T md (theirTransfer p ps) account u = record { next = over; account = account }
 
 -- ---------------------------------------------------------------- the effect of a whole unit of the partner's
 
@@ -180,9 +191,9 @@ pub record Effect : Type 0 where
   pub book : Book
   pub course : Course
 
--- With this book, records sent and unit next.
-abbrev pub effect : Book → List ℕ → Next → Effect
-effect k sent n = record { book = k; course = record { next = n; sent = sent } }
+-- With this book, account and unit next.
+abbrev pub effect : Book → Account → Next → Effect
+effect k account n = record { book = k; course = record { next = n; account = account } }
 
 -- The level that a SID has at B, 0 where there is none.
 abbrev pub levelSaid : Option (List ℕ) → Level
@@ -211,13 +222,12 @@ abbrev pub afterTheirTurn : List Proposal → Next
 afterTheirTurn [] = ourNewTurn true
 afterTheirTurn (p ∷ ps) = weSay (ourAnswer (p ∷ ps))
 
--- "Turn, at its last CR: its proposals replace the last .. The partner's makes every sent record 1." The records sent are then forgotten; 01
--- does not say so, and it comes to the same: a state set to 1 stays 1, as we propose only waiting records.
-abbrev pub theirSaid : Bool → List TurnLine → Bytes → Book → List ℕ → Said → Effect
-theirSaid ff ls raw k sent unfinished = effect k sent (theySay (theirTurn ff ls raw))
-theirSaid ff ls raw k sent farewell = effect k sent over
-theirSaid ff ls raw k sent wrong = effect k sent over
-theirSaid ff ls raw k sent (turn ps) = effect (withStates k (forwardedSent sent (k .states))) [] (afterTheirTurn ps)
+-- "Turn, at its last CR: its proposals replace the last .. The partner's makes every sent record 1."
+abbrev pub theirSaid : Bool → List TurnLine → Bytes → Book → Account → Said → Effect
+theirSaid ff ls raw k account unfinished = effect k account (theySay (theirTurn ff ls raw))
+theirSaid ff ls raw k account farewell = effect k account over
+theirSaid ff ls raw k account wrong = effect k account over
+theirSaid ff ls raw k account (turn ps) = effect (withStates k (forwardedSent (account .sent) (k .states))) (withForwarded account) (afterTheirTurn ps)
 
 -- What F> with a checksum says that is right (true) or wrong.
 abbrev pub summedEnd : Bool → TurnLine
@@ -244,17 +254,17 @@ rawWith raw ln notAllowed = raw
 rawWith raw ln (endsSummed h) = raw
 
 -- A line ln of the partner's turn that says t.
-abbrev pub theirTurnLine : Bool → List TurnLine → Bytes → Book → List ℕ → Bytes → TurnLine → Effect
-theirTurnLine ff ls raw k sent ln t = theirSaid ff (ls ++ (t ∷ [])) (rawWith raw ln t) k sent (said ff (ls ++ (t ∷ [])))
+abbrev pub theirTurnLine : Bool → List TurnLine → Bytes → Book → Account → Bytes → TurnLine → Effect
+theirTurnLine ff ls raw k account ln t = theirSaid ff (ls ++ (t ∷ [])) (rawWith raw ln t) k account (said ff (ls ++ (t ∷ [])))
 
 -- The level at which the partner's FS line is read; "We write only `+`, `-` and `=`", so ours is read at level 0.
 abbrev pub levelInForce : Book → Level
 levelInForce k = k .level
 
 -- "The partner's makes declined records 2."
-abbrev pub theirAnswered : List ℕ → Book → List ℕ → Option (List Sign) → Effect
-theirAnswered is k sent none = effect k sent over
-theirAnswered is k sent (some ss) = effect (withStates k (declinedBy ss is (k .states))) sent (oursOwed (acceptedBy ss is))
+abbrev pub theirAnswered : List ℕ → Book → Account → Option (List Sign) → Effect
+theirAnswered is k account none = effect k account over
+theirAnswered is k account (some ss) = effect (withStates k (declinedBy ss is (k .states))) (withAnswers ss is account) (oursOwed (acceptedBy ss is))
 
 -- "Caller: we await the SID, skip text lines until the prompt"; called, "then its first turn"
 abbrev pub afterTheirSid : Bool → Theirs
@@ -262,30 +272,30 @@ afterTheirSid true = theirText
 afterTheirSid false = theirTurn false [] []
 
 -- "Partner has B: framed mode, at any level. Otherwise plain mode."; a SID without F (letter 5) is refused with 4
-abbrev pub theirSidRead : Bool → Book → List ℕ → Option (List ℕ) → Effect
-theirSidRead c k sent none = effect k sent over
-theirSidRead c k sent (some fs) =
-    cond (hasFeature letterF fs) (effect (withSid k fs) sent (theySay (afterTheirSid c))) (effect k sent over)
+abbrev pub theirSidRead : Bool → Book → Account → Option (List ℕ) → Effect
+theirSidRead c k account none = effect k account over
+theirSidRead c k account (some fs) =
+    cond (hasFeature letterF fs) (effect (withSid k fs) account (theySay (afterTheirSid c))) (effect k account over)
 
 -- A line of the partner's that is no comment, as it came, without its CR: "Spaces at the end are removed before a line is judged."
-abbrev pub theirRead : Theirs → Book → List ℕ → Bytes → Effect
-theirRead theirText k sent ln = cond (isPrompt (trim ln)) (effect k sent (weSay ourSidLine)) (effect k sent (theySay theirText))
-theirRead (theirSid c) k sent ln = theirSidRead c k sent (readSid (trim ln))
-theirRead (theirTurn ff ls raw) k sent ln = theirTurnLine ff ls raw k sent ln (checked raw (readTurnLine (k .framed) (trim ln)))
-theirRead (theirAnswer is) k sent ln = theirAnswered is k sent (readFs (levelInForce k) (length is) (trim ln))
+abbrev pub theirRead : Theirs → Book → Account → Bytes → Effect
+theirRead theirText k account ln = cond (isPrompt (trim ln)) (effect k account (weSay ourSidLine)) (effect k account (theySay theirText))
+theirRead (theirSid c) k account ln = theirSidRead c k account (readSid (trim ln))
+theirRead (theirTurn ff ls raw) k account ln = theirTurnLine ff ls raw k account ln (checked raw (readTurnLine (k .framed) (trim ln)))
+theirRead (theirAnswer is) k account ln = theirAnswered is k account (readFs (levelInForce k) (length is) (trim ln))
 
 -- "A line that begins with `;` is ignored wherever a line is awaited"
-abbrev pub theirLine : Theirs → Book → List ℕ → Bytes → Effect
-theirLine n k sent ln = cond (isComment (trim ln)) (effect k sent (theySay n)) (theirRead n k sent ln)
+abbrev pub theirLine : Theirs → Book → Account → Bytes → Effect
+theirLine n k account ln = cond (isComment (trim ln)) (effect k account (theySay n)) (theirRead n k account ln)
 
 -- a line of over 256 bytes is not valid
-abbrev pub judgedLine : Theirs → Book → List ℕ → Bytes → Effect
-judgedLine n k sent ln = cond (leb (length ln) lineLimit) (theirLine n k sent ln) (effect k sent over)
+abbrev pub judgedLine : Theirs → Book → Account → Bytes → Effect
+judgedLine n k account ln = cond (leb (length ln) lineLimit) (theirLine n k account ln) (effect k account over)
 
 -- "Partner's owed transfer, at its last byte: kept, with its proposal's form and fields as read, and its own heading and body."
-abbrev pub theirTransferred : Proposal → List Proposal → Book → List ℕ → Option Content → Effect
-theirTransferred p ps k sent none = effect k sent over
-theirTransferred p ps k sent (some c) = effect (withKept k (k .kept ++ (keptAs p c ∷ []))) sent (theirsOwed ps)
+abbrev pub theirTransferred : Proposal → List Proposal → Book → Account → Option Content → Effect
+theirTransferred p ps k account none = effect k account over
+theirTransferred p ps k account (some c) = effect (withKept k (k .kept ++ (keptAs p c ∷ []))) account (theirsOwed ps)
 
 -- ---------------------------------------------------------------- units
 
@@ -314,27 +324,27 @@ endsWithCr (theySay n) = true
 endsWithCr (ourTransfer i is) = true
 
 -- The partner's whole unit u b of what is next: a transfer, "else lines".
-abbrev pub theirUnit : Next → Book → List ℕ → Bytes → ℕ → Effect
-theirUnit (theirTransfer p ps) k sent u b = theirTransferred p ps k sent (readTransfer (p .form) (u ++ (b ∷ [])))
-theirUnit (theySay n) k sent u b = judgedLine n k sent u
-theirUnit over k sent u b = effect k sent over
-theirUnit (weSay n) k sent u b = effect k sent over
-theirUnit (ourTransfer i is) k sent u b = effect k sent over
+abbrev pub theirUnit : Next → Book → Account → Bytes → ℕ → Effect
+theirUnit (theirTransfer p ps) k account u b = theirTransferred p ps k account (readTransfer (p .form) (u ++ (b ∷ [])))
+theirUnit (theySay n) k account u b = judgedLine n k account u
+theirUnit over k account u b = effect k account over
+theirUnit (weSay n) k account u b = effect k account over
+theirUnit (ourTransfer i is) k account u b = effect k account over
 
 -- The log after the whole unit u b of what is next; a line is u, without its CR b.
 abbrev pub applied : List Record → Log → Bytes → ℕ → Log
 applied T l u b =
     cond (isOurs (l .course .next))
-    (record { afterCr = l .afterCr; course = ourUnit T (l .book .framed) (l .course .next) (l .course .sent) u; book = l .book })
+    (record { afterCr = l .afterCr; course = ourUnit T (l .book .framed) (l .course .next) (l .course .account) u; book = l .book })
     (record {
       afterCr = endsWithCr (l .course .next);
-      course = theirUnit (l .course .next) (l .book) (l .course .sent) u b .course;
-      book = theirUnit (l .course .next) (l .book) (l .course .sent) u b .book;
+      course = theirUnit (l .course .next) (l .book) (l .course .account) u b .course;
+      book = theirUnit (l .course .next) (l .book) (l .course .account) u b .book;
     })
 
 -- "What the rules forbid isn't valid: it changes nothing and ends the log."
 abbrev pub stopped : Log → Log
-stopped l = record { afterCr = l .afterCr; course = record { next = over; sent = l .course .sent }; book = l .book }
+stopped l = record { afterCr = l .afterCr; course = record { next = over; account = l .course .account }; book = l .book }
 
 -- ---------------------------------------------------------------- the log
 
@@ -377,10 +387,27 @@ abbrev pub logOpened : Bool → List ℕ → Log
 logOpened caller states =
     record {
       afterCr = false;
-      course = record { next = cond caller (theySay (theirSid true)) (weSay ourGreeting); sent = [] };
+      course = record { next = cond caller (theySay (theirSid true)) (weSay ourGreeting); account = noAccount };
       book = record { framed = false; level = level0; states = states; kept = [] };
     }
 
 -- THE LOG of a trace, from open on.
 unfoldable pub log : List Record → Bool → List ℕ → List Event → Log
 log T caller states es = logUnits (length es) T (logOpened caller states) es
+
+-- ---------------------------------------------------------------- the tally sheet (02, Q-3)
+
+-- "those proposed whose FS hasn't come, or which were accepted" and are not sent yet
+abbrev pub unsent : Next → ℕ
+unsent (theySay (theirAnswer is)) = length is
+unsent (ourTransfer i is) = suc (length is)
+unsent (theySay theirText) = 0
+unsent (theySay (theirSid c)) = 0
+unsent (theySay (theirTurn ff ls raw)) = 0
+unsent over = 0
+unsent (weSay n) = 0
+unsent (theirTransfer p ps) = 0
+
+-- "not settled are those proposed whose FS hasn't come, or which were accepted and aren't forwarded yet": the sent ones too
+abbrev pub unsettled : Course → ℕ
+unsettled c = unsent (c .next) + length (c .account .sent)

@@ -2,3 +2,4 @@
 -- share nothing else but the grammar: what becomes of them (accepted, marked, declined, messageOf) is said here for the session; the log has
 -- its own words for it.
 pub mod Mail
+pub mod Tally

@@ -61,10 +61,10 @@ module _ (i : ℕ) where
   pub record Becomes (ds : List Deed) (e : Book) (c : Course) (k : Book) : Type 0 where
     pub last : (at k ≡ 0 → ⊥) → at e ≡ at k
     pub declines : i < length (k .states) → wasDeclined i ds ≡ true → at e ≡ 2
-    pub turns : i < length (k .states) → oneOf i (c .sent) ≡ true → thenTurned ds ≡ true → at e ≡ 1
+    pub turns : i < length (k .states) → oneOf i (c .account .sent) ≡ true → thenTurned ds ≡ true → at e ≡ 1
     pub sends : i < length (k .states) → sentThenTurned i ds ≡ true → at e ≡ 1
     pub forwards : i < length (k .states) → wasForwarded i ds ≡ true → at e ≡ 1
-    pub rests : wasDeclined i ds ≡ false → wasForwarded i ds ≡ false → (oneOf i (c .sent) ≡ true → thenTurned ds ≡ false)
+    pub rests : wasDeclined i ds ≡ false → wasForwarded i ds ≡ false → (oneOf i (c .account .sent) ≡ true → thenTurned ds ≡ false)
         → (oneOf i (owes (c .next)) ≡ true → sentThenTurned i ds ≡ false) → at e ≡ at k
 
   never : {A : Type 0} → false ≡ true → A
@@ -86,7 +86,7 @@ module _ (i : ℕ) where
     last-before h = let f = keeps i h in ih .last (λ z. h (sym f ∙ z)) ∙ f
 
     -- a deed that sets no state and sends nothing
-    unmoved : k′ .states ≡ k .states → c′ .sent ≡ c .sent → owes (c′ .next) ≡ [] → Becomes ds e c k
+    unmoved : k′ .states ≡ k .states → c′ .account .sent ≡ c .account .sent → owes (c′ .next) ≡ [] → Becomes ds e c k
     unmoved p q r =
         let l : i < length (k .states) → i < length (k′ .states) = λ h. subst (λ (x : List ℕ). i < length x) (sym p) h in
         record {
@@ -109,41 +109,41 @@ module _ (i : ℕ) where
         let b = unmoved (q .0) (q .1) (q .2) in
         record { last = b .last; declines = b .declines; turns = b .turns; sends = b .sends; forwards = b .forwards; rests = b .rests }
     by-deed (turned ps) q =
-        let len : i < length (k .states) → i < length (k′ .states) = λ h. subst (λ (x : ℕ). i < x) (sym (ap length (q .0) ∙ made-length 0 1 (c .sent) (k .states))) h in
+        let len : i < length (k .states) → i < length (k′ .states) = λ h. subst (λ (x : ℕ). i < x) (sym (ap length (q .0) ∙ made-length 0 1 (c .account .sent) (k .states))) h in
         record {
           last = last-before;
           declines = λ h w. ih .declines (len h) w;
           turns = λ h w v.
-              let f : at k′ ≡ 1 = ap (λ (st : List ℕ). getD st i 0) (q .0) ∙ made-here 1 (c .sent) (k .states) i w h in
+              let f : at k′ ≡ 1 = ap (λ (st : List ℕ). getD st i 0) (q .0) ∙ made-here 1 (c .account .sent) (k .states) i w h in
               ih .last (λ z. omega arith) ∙ f;
           sends = λ h w. ih .sends (len h) w;
           forwards = λ h w. ih .forwards (len h) w;
           rests = λ w v x y.
-              let f : oneOf i (c .sent) ≡ false = not-so (oneOf i (c .sent)) (λ z. no-both true refl (x z)) in
+              let f : oneOf i (c .account .sent) ≡ false = not-so (oneOf i (c .account .sent)) (λ z. no-both true refl (x z)) in
               ih .rests w v (λ z. never (sym (ap (oneOf i) (q .1)) ∙ z)) (λ z. never (sym (ap (oneOf i) (q .2)) ∙ z))
-              ∙ ap (λ (st : List ℕ). getD st i 0) (q .0) ∙ made-other 1 (c .sent) (k .states) i f;
+              ∙ ap (λ (st : List ℕ). getD st i 0) (q .0) ∙ made-other 1 (c .account .sent) (k .states) i f;
         }
     by-deed (sent j) q =
         let len : i < length (k .states) → i < length (k′ .states) = λ h. subst (λ (x : List ℕ). i < length x) (sym (q .0)) h in
-        let now : oneOf i (c′ .sent) ≡ oneOf i (c .sent) || oneOf i (j ∷ []) = ap (oneOf i) (q .1) ∙ one-append i (c .sent) (j ∷ []) in
+        let now : oneOf i (c′ .account .sent) ≡ oneOf i (c .account .sent) || oneOf i (j ∷ []) = ap (oneOf i) (q .1) ∙ one-append i (c .account .sent) (j ∷ []) in
         record {
           last = last-before;
           declines = λ h w. ih .declines (len h) w;
-          turns = λ h w v. ih .turns (len h) (now ∙ or-left (oneOf i (c .sent)) (oneOf i (j ∷ [])) w) v;
+          turns = λ h w v. ih .turns (len h) (now ∙ or-left (oneOf i (c .account .sent)) (oneOf i (j ∷ [])) w) v;
           sends = λ h w. then-sent (eqb i j) refl (thenTurned ds) refl (len h) now w;
           forwards = λ h w. ih .forwards (len h) w;
           rests = λ w v x y.
-              ih .rests w v (λ z. sent-turned (oneOf i (c .sent)) (eqb i j) refl refl x y (sym now ∙ z) (q .2)) (λ z. or2 (eqb i j && thenTurned ds) (sentThenTurned i ds) (y (ap (oneOf i) (q .2) ∙ or-right (eqb i j) (oneOf i (owes (c′ .next))) z)) .1)
+              ih .rests w v (λ z. sent-turned (oneOf i (c .account .sent)) (eqb i j) refl refl x y (sym now ∙ z) (q .2)) (λ z. or2 (eqb i j && thenTurned ds) (sentThenTurned i ds) (y (ap (oneOf i) (q .2) ∙ or-right (eqb i j) (oneOf i (owes (c′ .next))) z)) .1)
               ∙ ap (λ (st : List ℕ). getD st i 0) (q .0);
         }
       where
-        then-sent : (a : Bool) → eqb i j ≡ a → (b : Bool) → thenTurned ds ≡ b → i < length (k′ .states) → oneOf i (c′ .sent) ≡ oneOf i (c .sent) || oneOf i (j ∷ [])
+        then-sent : (a : Bool) → eqb i j ≡ a → (b : Bool) → thenTurned ds ≡ b → i < length (k′ .states) → oneOf i (c′ .account .sent) ≡ oneOf i (c .account .sent) || oneOf i (j ∷ [])
             → (a && b) || sentThenTurned i ds ≡ true → at e ≡ 1
-        then-sent true p true r h now w = ih .turns h (now ∙ or-right (oneOf i (c .sent)) (oneOf i (j ∷ [])) (or-left (eqb i j) false p)) r
+        then-sent true p true r h now w = ih .turns h (now ∙ or-right (oneOf i (c .account .sent)) (oneOf i (j ∷ [])) (or-left (eqb i j) false p)) r
         then-sent true p false r h now w = ih .sends h w
         then-sent false p b r h now w = ih .sends h w
 
-        sent-turned : (a b : Bool) → oneOf i (c .sent) ≡ a → eqb i j ≡ b → (oneOf i (c .sent) ≡ true → thenTurned ds ≡ false)
+        sent-turned : (a b : Bool) → oneOf i (c .account .sent) ≡ a → eqb i j ≡ b → (oneOf i (c .account .sent) ≡ true → thenTurned ds ≡ false)
             → (oneOf i (owes (c .next)) ≡ true → (eqb i j && thenTurned ds) || sentThenTurned i ds ≡ false)
             → a || (b || false) ≡ true → owes (c .next) ≡ j ∷ owes (c′ .next) → thenTurned ds ≡ false
         sent-turned true b p r x y z o = x p
@@ -182,7 +182,7 @@ module _ (i : ℕ) where
   becomes d ds e c k c′ k′ q keeps ih = by-deed ds e c k c′ k′ keeps ih d q
 
   -- THE LAW of a record: what the deeds say becomes of it, where no state but 0 ever changes and no transfer is under way at first
-  pub fate-law : (T : List Record) (n : ℕ) (es : List Event) (l : Log) → KeepsUnits n T l es → l .course .sent ≡ [] → owes (l .course .next) ≡ []
+  pub fate-law : (T : List Record) (n : ℕ) (es : List Event) (l : Log) → KeepsUnits n T l es → l .course .account .sent ≡ [] → owes (l .course .next) ≡ []
       → i < length (l .book .states) → Fate i (deedsFrom n T l es) (at (l .book)) (at (logUnits n T l es .book))
   fate-law T n es l k s o h =
       record {

@@ -15,8 +15,8 @@ use Rattle.grammar.specs.Answers.{Sign, accept, decline, defer, readFs, level0}
 use Rattle.grammar.specs.Transfers.{Content, readTransfer}
 use Rattle.grammar.proofs.Basics.{no-both, by-cond, by-test}
 use Rattle.mail.specs.Mail.{Record}
-use Rattle.log.specs.Effects.{forwardedSent, acceptedBy, declinedBy}
-use Rattle.log.specs.Log.{ourNewTurn, Event, took, gave, Ours, ourGreeting, ourFirstPrompt, ourSidLine, ourTurn, ourAnswer, Theirs, theirText, theirSid, theirTurn, theirAnswer, Next, over, weSay, theySay, theirTransfer, ourTransfer, Course, Book, Log, isOurs, Said, unfinished, farewell, wrong, turn, said, checked, rawWith, placesOf, ourProposed, ourSaid, ourAnswered, oursOwed, theirsOwed, ourLine, Effect, effect, theirSaid, theirAnswered, theirSidRead, theirRead, theirTransferred, afterTheirTurn, whole, applied, Cut, notWhole, outOfTurn, unit, cutUnit, withAfterCr, logOpened, levelInForce}
+use Rattle.log.specs.Effects.{forwardedSent, acceptedBy, declinedBy, Account}
+use Rattle.log.specs.Log.{ourNewTurn, Event, took, gave, Ours, ourGreeting, ourFirstPrompt, ourSidLine, ourTurn, ourAnswer, Theirs, theirText, theirSid, theirTurn, theirAnswer, Next, over, weSay, theySay, theirTransfer, ourTransfer, Course, Book, Log, isOurs, Said, unfinished, farewell, wrong, turn, said, checked, rawWith, placesOf, ourProposed, ourSaid, ourAnswered, oursOwed, theirsOwed, ourLine, Effect, effect, afterOurs, theirSaid, theirAnswered, theirSidRead, theirRead, theirTransferred, afterTheirTurn, whole, applied, Cut, notWhole, outOfTurn, unit, cutUnit, withAfterCr, logOpened, levelInForce}
 use Rattle.main_theorem.specs.Deeds.{Deed, answered, sent, turned, weAnswered, nothing, brought, turnDeed, answerDeed, ourAnswerDeed, transferDeed, theirDeed, ourDeed, deedOf, deedsCut, deedsFrom, deeds, messagesBrought, transfersBrought, gotPlus, acceptedFrom, BroughtFor, AsAccepted}
 
 -- the records whose transfers we owe
@@ -29,12 +29,12 @@ owes (theirTransfer p ps) = []
 
 -- what course and book have become after a unit with this deed: states, records sent, records owed, messages kept
 abbrev pub Does : Deed → Course → Book → Course → Book → Type 0
-Does (answered is ss) c k d l = (l .states ≡ declinedBy ss is (k .states)) × (d .sent ≡ c .sent) × (owes (d .next) ≡ acceptedBy ss is) × (l .kept ≡ k .kept)
-Does (sent i) c k d l = (l .states ≡ k .states) × (d .sent ≡ c .sent ++ (i ∷ [])) × (owes (c .next) ≡ i ∷ owes (d .next)) × (l .kept ≡ k .kept)
-Does (turned ps) c k d l = (l .states ≡ forwardedSent (c .sent) (k .states)) × (d .sent ≡ []) × (owes (d .next) ≡ []) × (l .kept ≡ k .kept)
-Does (weAnswered ss) c k d l = (l .states ≡ k .states) × (d .sent ≡ c .sent) × (owes (d .next) ≡ []) × (l .kept ≡ k .kept)
-Does nothing c k d l = (l .states ≡ k .states) × (d .sent ≡ c .sent) × (owes (d .next) ≡ []) × (l .kept ≡ k .kept)
-Does (brought w x) c k d l = (l .states ≡ k .states) × (d .sent ≡ c .sent) × (owes (d .next) ≡ []) × (l .kept ≡ k .kept ++ (x ∷ []))
+Does (answered is ss) c k d l = (l .states ≡ declinedBy ss is (k .states)) × (d .account .sent ≡ c .account .sent) × (owes (d .next) ≡ acceptedBy ss is) × (l .kept ≡ k .kept)
+Does (sent i) c k d l = (l .states ≡ k .states) × (d .account .sent ≡ c .account .sent ++ (i ∷ [])) × (owes (c .next) ≡ i ∷ owes (d .next)) × (l .kept ≡ k .kept)
+Does (turned ps) c k d l = (l .states ≡ forwardedSent (c .account .sent) (k .states)) × (d .account .sent ≡ []) × (owes (d .next) ≡ []) × (l .kept ≡ k .kept)
+Does (weAnswered ss) c k d l = (l .states ≡ k .states) × (d .account .sent ≡ c .account .sent) × (owes (d .next) ≡ []) × (l .kept ≡ k .kept)
+Does nothing c k d l = (l .states ≡ k .states) × (d .account .sent ≡ c .account .sent) × (owes (d .next) ≡ []) × (l .kept ≡ k .kept)
+Does (brought w x) c k d l = (l .states ≡ k .states) × (d .account .sent ≡ c .account .sent) × (owes (d .next) ≡ []) × (l .kept ≡ k .kept ++ (x ∷ []))
 
 owed-ours : (is : List ℕ) → owes (oursOwed is) ≡ is
 owed-ours [] = refl
@@ -48,21 +48,21 @@ owed-answer : (ps : List Proposal) → owes (afterTheirTurn ps) ≡ []
 owed-answer [] = refl
 owed-answer (p ∷ ps) = refl
 
-module _ (T : List Record) (a : Bool) (st : List ℕ) (k : Book) where
+module _ (T : List Record) (a : Bool) (st : Account) (k : Book) where
   -- the log before the unit
   abbrev before : Next → Log
-  before n = record { afterCr = a; course = record { next = n; sent = st }; book = k }
+  before n = record { afterCr = a; course = record { next = n; account = st }; book = k }
 
   -- this unit comes to this course and book
   abbrev Comes : Deed → Next → Course → Book → Type 0
-  Comes d n c l = Does d (record { next = n; sent = st }) k c l
+  Comes d n c l = Does d (record { next = n; account = st }) k c l
 
   -- to this effect
   abbrev ComesTo : Deed → Next → Effect → Type 0
   ComesTo d n e = Comes d n (e .course) (e .book)
 
   -- no state is set and no record sent
-  quiet : (n m : Next) → owes m ≡ [] → Comes nothing n (record { next = m; sent = st }) k
+  quiet : (n m : Next) → owes m ≡ [] → Comes nothing n (record { next = m; account = st }) k
   quiet n m e = (refl, refl, e, refl)
 
   said-does : (ff : Bool) (ls : List TurnLine) (raw : Bytes) (n : Next) (z : Said) → ComesTo (turnDeed z) n (theirSaid ff ls raw k st z)
@@ -105,6 +105,10 @@ module _ (T : List Record) (a : Bool) (st : List ℕ) (k : Book) where
   line-does n u true false = read-does n u
   line-does n u false y = quiet (theySay n) over refl
 
+  -- after a line of ours
+  abbrev said-by : Next → Course
+  said-by m = record { next = m; account = afterOurs m st }
+
   our-proposed : (z : Option (List ℕ)) → owes (ourProposed z) ≡ []
   our-proposed none = refl
   our-proposed (some is) = refl
@@ -116,20 +120,34 @@ module _ (T : List Record) (a : Bool) (st : List ℕ) (k : Book) where
   our-said ff ls (turn []) = refl
   our-said ff ls (turn (p ∷ ps)) = our-proposed (placesOf T (p ∷ ps))
 
-  our-answered : (ps : List Proposal) (n : Next) (z : Option (List Sign)) → Comes (ourAnswerDeed z) n (record { next = ourAnswered ps z; sent = st }) k
+  -- a line of ours sends no record, whatever it proposes
+  ours-sent : (n : Next) → afterOurs n st .sent ≡ st .sent
+  ours-sent (theySay (theirAnswer is)) = refl
+  ours-sent (theySay theirText) = refl
+  ours-sent (theySay (theirSid c)) = refl
+  ours-sent (theySay (theirTurn ff ls raw)) = refl
+  ours-sent over = refl
+  ours-sent (weSay n) = refl
+  ours-sent (theirTransfer p ps) = refl
+  ours-sent (ourTransfer i is) = refl
+
+  our-answered : (ps : List Proposal) (n : Next) (z : Option (List Sign)) → Comes (ourAnswerDeed z) n (said-by (ourAnswered ps z)) k
   our-answered ps n none = quiet n over refl
-  our-answered ps n (some ss) = (refl, refl, owed-theirs (acceptedBy ss ps), refl)
+  our-answered ps n (some ss) = (refl, ours-sent (theirsOwed (acceptedBy ss ps)), owed-theirs (acceptedBy ss ps), refl)
+
+  quiet-ours : (n m : Next) → owes m ≡ [] → Comes nothing n (said-by m) k
+  quiet-ours n m e = (refl, ours-sent m, e, refl)
 
   owes-nothing : (b : Bool) (n m : Next) → owes n ≡ [] → owes m ≡ [] → owes (cond b n m) ≡ []
   owes-nothing b n m e f = by-cond (λ (x : Next). owes x ≡ []) b e f
 
-  ours-does : (n : Ours) (u : Bytes) → Comes (ourDeed n u) (weSay n) (record { next = ourLine T (k .framed) n u; sent = st }) k
-  ours-does ourGreeting u = quiet (weSay ourGreeting) (ourLine T (k .framed) ourGreeting u) (owes-nothing (same u (fixedText ourSid)) (weSay ourFirstPrompt) over refl refl)
-  ours-does ourFirstPrompt u = quiet (weSay ourFirstPrompt) (ourLine T (k .framed) ourFirstPrompt u) (owes-nothing (same u (fixedText ourPrompt)) (theySay (theirSid false)) over refl refl)
-  ours-does ourSidLine u = quiet (weSay ourSidLine) (ourLine T (k .framed) ourSidLine u) (owes-nothing (same u (fixedText ourSid)) (ourNewTurn false) over refl refl)
+  ours-does : (n : Ours) (u : Bytes) → Comes (ourDeed n u) (weSay n) (said-by (ourLine T (k .framed) n u)) k
+  ours-does ourGreeting u = quiet-ours (weSay ourGreeting) (ourLine T (k .framed) ourGreeting u) (owes-nothing (same u (fixedText ourSid)) (weSay ourFirstPrompt) over refl refl)
+  ours-does ourFirstPrompt u = quiet-ours (weSay ourFirstPrompt) (ourLine T (k .framed) ourFirstPrompt u) (owes-nothing (same u (fixedText ourPrompt)) (theySay (theirSid false)) over refl refl)
+  ours-does ourSidLine u = quiet-ours (weSay ourSidLine) (ourLine T (k .framed) ourSidLine u) (owes-nothing (same u (fixedText ourSid)) (ourNewTurn false) over refl refl)
   ours-does (ourTurn ff ls) u =
       let ls′ = ls ++ (readTurnLine (k .framed) u ∷ []) in
-      quiet (weSay (ourTurn ff ls)) (ourSaid T ff ls′ (said ff ls′)) (our-said ff ls′ (said ff ls′))
+      quiet-ours (weSay (ourTurn ff ls)) (ourSaid T ff ls′ (said ff ls′)) (our-said ff ls′ (said ff ls′))
   ours-does (ourAnswer ps) u = our-answered ps (weSay (ourAnswer ps)) (readFs level0 (length ps) u)
 
   does : (n : Next) (u : Bytes) (b : ℕ) → Comes (deedOf n k u b) n (applied T (before n) u b .course) (applied T (before n) u b .book)
@@ -142,7 +160,7 @@ module _ (T : List Record) (a : Bool) (st : List ℕ) (k : Book) where
 -- THE EFFECT OF A UNIT is that of its deed
 pub unit-does : (T : List Record) (l : Log) (a : Bool) (u : Bytes) (b : ℕ)
     → Does (deedOf (l .course .next) (l .book) u b) (l .course) (l .book) (applied T (withAfterCr l a) u b .course) (applied T (withAfterCr l a) u b .book)
-unit-does T l a u b = does T a (l .course .sent) (l .book) (l .course .next) u b
+unit-does T l a u b = does T a (l .course .account) (l .book) (l .course .next) u b
 
 -- ---------------------------------------------------------------- a unit cut off is whole
 
@@ -207,7 +225,7 @@ owed-stand : (ps : List Proposal) → stand (theirsOwed ps) ≡ bringing ps
 owed-stand [] = refl
 owed-stand (p ∷ ps) = refl
 
-module _ (T : List Record) (a : Bool) (st : List ℕ) (k : Book) (ds : List Deed) where
+module _ (T : List Record) (a : Bool) (st : Account) (k : Book) (ds : List Deed) where
   -- with n next nothing is owed
   abbrev Free : Next → Type 0
   Free n = Brings (stand n) ds → Brings (bringing []) ds
@@ -305,7 +323,7 @@ module _ (T : List Record) (a : Bool) (st : List ℕ) (k : Book) (ds : List Deed
 
   -- any whole unit
   unit-brings : (n : Next) (u : Bytes) (b : ℕ) → whole T n u b ≡ true
-      → Brings (stand (applied T (record { afterCr = a; course = record { next = n; sent = st }; book = k }) u b .course .next)) ds → Brings (stand n) (deedOf n k u b ∷ ds)
+      → Brings (stand (applied T (record { afterCr = a; course = record { next = n; account = st }; book = k }) u b .course .next)) ds → Brings (stand n) (deedOf n k u b ∷ ds)
   unit-brings over u b w h = absurd (no-both false w refl)
   unit-brings (weSay n) u b w h = ours-brings n u h
   unit-brings (theySay n) u b w h = line-brings n u (leb (length u) lineLimit) (isComment (trim u)) h
@@ -323,7 +341,7 @@ units-bring T (suc n) es l = go (cutUnit T (l .course .next) (l .afterCr) [] es)
     go outOfTurn w ih = no-deeds (stand (l .course .next))
     go (unit u b a rest) w ih =
         let m = applied T (withAfterCr l a) u b in
-        unit-brings T a (l .course .sent) (l .book) (deedsFrom n T m rest) (l .course .next) u b w (ih rest m)
+        unit-brings T a (l .course .account) (l .book) (deedsFrom n T m rest) (l .course .next) u b w (ih rest m)
 
 -- WHAT WE ACCEPTED IS BROUGHT, in order, before anything else comes
 pub accepted-law : (T : List Record) (caller : Bool) (states : List ℕ) (es : List Event) → AsAccepted [] [] (deeds T caller states es)

@@ -66,7 +66,7 @@ module _ (M : OpenCall) (e : openedBy M .reply .answer ≡ 0) (cs : CallsOn M) w
   pub states-held : statesOf (M .partner) (finally M cs .table) ≡ (on-lists-run.run E (on-lists.opened caller states) (map callOf cs)) .0 .memory .states
   states-held = ap (λ (p : ℕ). statesOf p (finally M cs .table)) (sym partner-stays) ∙ ran .held .represents .holds .states
 
-  in-order : GoodAs F (finally M cs) (csOf (finally M cs))
+  pub in-order : GoodAs F (finally M cs) (csOf (finally M cs))
   in-order = held-good F E (freshCs M) (sizesOf F m) (finally M cs) ((on-lists-run.run E (on-lists.opened caller states) (map callOf cs)) .0) (ran .held)
 
   on-lists-demand : on-lists-run.Demand3 E caller states (map callOf cs)

@@ -48,11 +48,11 @@ gave-book T f b = go (isOurs (f .log .course .next)) refl
     ours e =
         ap
         (λ (d : Bool). cond {A = Log} d
-        (record { afterCr = f .log .afterCr; course = ourUnit T (f .log .book .framed) (f .log .course .next) (f .log .course .sent) (f .raw); book = f .log .book })
+        (record { afterCr = f .log .afterCr; course = ourUnit T (f .log .book .framed) (f .log .course .next) (f .log .course .account) (f .raw); book = f .log .book })
         (record {
           afterCr = endsWithCr (f .log .course .next);
-          course = theirUnit (f .log .course .next) (f .log .book) (f .log .course .sent) (f .raw) b .course;
-          book = theirUnit (f .log .course .next) (f .log .book) (f .log .course .sent) (f .raw) b .book;
+          course = theirUnit (f .log .course .next) (f .log .book) (f .log .course .account) (f .raw) b .course;
+          book = theirUnit (f .log .course .next) (f .log .book) (f .log .course .account) (f .raw) b .book;
         }) .book)
         e
 

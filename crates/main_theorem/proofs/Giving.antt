@@ -66,7 +66,7 @@ give-still s room e = ap (λ (o : Bytes). on-lists.withOut o s) e
 -- the state with other numbers of what waits
 abbrev saying : Session → ℕ → ℕ → ℕ → Session
 saying x first then pos =
-    record { now = x .now; say = record { first = first; then = then; pos = pos; signs = x .say .signs }; keep = x .keep; reading = x .reading; line = x .line }
+    record { now = x .now; say = record { first = first; then = then; pos = pos; signs = x .say .signs }; keep = x .keep; reading = x .reading; line = x .line; tally = x .tally }
 
 abbrev csSaying : Cs → ℕ → ℕ → ℕ → Cs
 csSaying c first then pos = cs (saying (c .session) first then pos) (c .table) (c .inbox) (c .store)
@@ -83,7 +83,7 @@ module _ (F : Fixed) (E : Shelf) (c : Cs) (first then pos : ℕ) where
 
   resaid : (s : on-lists.Session) (o : Bytes) → Represents F E c s → Says F (csSaying c first then pos) o → Represents F E (csSaying c first then pos) (withOut s o)
   resaid s o h y =
-      record { entries = h .entries; holds = h .holds; says = y; awaits = awaits-still (s .phase) (h .awaits); part = h .part; afterCr = h .afterCr }
+      record { entries = h .entries; holds = h .holds; says = y; awaits = awaits-still (s .phase) (h .awaits); part = h .part; afterCr = h .afterCr; tally = h .tally }
 
 -- ---------------------------------------------------------------- the state after a give
 

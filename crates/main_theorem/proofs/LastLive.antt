@@ -20,7 +20,8 @@ use Rattle.demand2.specs.Reached as reached
 use Rattle.demand2.proofs.Reached.{reached-portion}
 use Rattle.demand2.proofs.Portions.{live-receive, ended-receive, receive-byte}
 use Rattle.demand3.specs.Demand as on-lists-run
-use Rattle.main_theorem.specs.Store.{lastByte, lastLive}
+use Rattle.session.specs.Calls.{lastByte}
+use Rattle.main_theorem.specs.Store.{lastLive}
 
 -- ---------------------------------------------------------------- the messages kept
 

@@ -23,7 +23,8 @@ use Rattle.represents.specs.Link.{Moving}
 use Rattle.main_theorem.specs.Demand2.{callOf}
 use Rattle.main_theorem.specs.Calls as lent-calls
 use Rattle.main_theorem.specs.Calls.{Lent, lentSession, Other, Call, receives, gives, receivesOther, givesOther, received, given, leftBy, withSession, aside}
-use Rattle.main_theorem.specs.Store.{lastByte, lastLive}
+use Rattle.session.specs.Calls.{lastByte}
+use Rattle.main_theorem.specs.Store.{lastLive}
 use Rattle.represents.proofs.Byte.{over-law, byte-law, same-stops, spared-then}
 use Rattle.form_closed.proofs.Closed.{receive-one, give-one}
 use Rattle.main_theorem.proofs.Giving.{give-law}

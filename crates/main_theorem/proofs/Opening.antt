@@ -31,12 +31,21 @@ use Rattle.represents.proofs.Byte.{spared-same}
 use Rattle.main_theorem.proofs.Held.{Held}
 use Rattle.main_theorem.proofs.Accepted.{table-good}
 use Rattle.form_closed.proofs.Closed.{open-closed, fresh-shaped}
+use Rattle.form_closed.proofs.Tallied.{open-counted}
+use Rattle.sheet.specs.Sheet.{noSheet}
+use Rattle.session_memory.specs.declared.Tally.{Tally}
+use Rattle.tally.specs.Tally.{sizesRange, waitingIn, sizesIn, counted}
+use Rattle.represents.proofs.Tallied.{sizes-law}
 use Rattle.form_closed.specs.InForm.{InForm}
 use Rattle.form_closed.specs.Columns.{partnerOf, OneColumn}
 use Rattle.form_closed.proofs.Columns.{column-same}
 use Rattle.form_closed.specs.Facts.{Octets}
 
 -- ---------------------------------------------------------------- what open has looked at
+
+-- what it counts
+abbrev pub countedIn : OpenCall → Tally
+countedIn M = counted (M .partner) (M .table .bytes) noSheet
 
 pub record Accepted (M : OpenCall) : Type 0 where
   pub partner : M .partner < partners
@@ -45,7 +54,7 @@ pub record Accepted (M : OpenCall) : Type 0 where
   pub known : length (M .known .bytes) ≤ 13312
   pub inbox : (length (M .inbox .bytes) ≡ placeCount (M .inbox .bytes) * entryLen) × (placeCount (M .inbox .bytes) ≤ 64)
   pub fault : tableFault (M .table .bytes) (M .titles .bytes) (M .names .bytes) (M .bodies .bytes) ≡ 255
-  pub left : openedBy M .sm ≡ saveOf (saveSizes (M .session .bytes) (sizesOf (fixedIn M) (lentIn M))) (freshOf (eqb (M .role) 1) (M .partner))
+  pub left : openedBy M .sm ≡ saveOf (saveSizes (M .session .bytes) (sizesOf (fixedIn M) (lentIn M))) (freshOf (eqb (M .role) 1) (M .partner) (countedIn M))
 
 entries-are : (n size most : ℕ) → entriesOk n size most ≡ true → (n % size ≡ 0) × (n / size ≤ most)
 entries-are n size most e = let p = and2 (eqb (n % size) 0) (leb (n / size) most) e in (eqb-true (n % size) 0 (p .0), leb-true (n / size) most (p .1))
@@ -58,7 +67,7 @@ module _ (M : OpenCall) where
   m = lentIn M
 
   abbrev fresh : Bytes
-  fresh = saveOf (saveSizes (m .sm) (sizesOf F m)) (freshOf (eqb (M .role) 1) (M .partner))
+  fresh = saveOf (saveSizes (m .sm) (sizesOf F m)) (freshOf (eqb (M .role) 1) (M .partner) (countedIn M))
 
   abbrev fault : ℕ
   fault = tableFault (m .table) (F .titles) (F .names) (F .bodies)
@@ -105,7 +114,7 @@ module _ (M : OpenCall) where
 
 -- the state that open leaves, with the lent bytes
 abbrev pub freshCs : OpenCall → Cs
-freshCs M = cs (freshOf (isCaller M) (M .partner)) (M .table .bytes) (M .inbox .bytes) (M .store .bytes)
+freshCs M = cs (freshOf (isCaller M) (M .partner) (countedIn M)) (M .table .bytes) (M .inbox .bytes) (M .store .bytes)
 
 -- it names the partner that open was told
 pub fresh-partner : (M : OpenCall) → partnerOf (freshCs M .session) ≡ M .partner
@@ -118,18 +127,18 @@ shelfOf F m =
     record { table = recordsOf (F .titles) (F .names) (F .bodies) (m .table); known = knownBids (F .known); places = placeCount (m .inbox); bytes = length (m .store) }
 
 module _ (M : OpenCall) (a : Accepted M) where
-  greeting-says : (caller : Bool) → Says (F M) (cs (freshOf caller (M .partner)) (M .table .bytes) (M .inbox .bytes) (M .store .bytes)) (on-lists.greeting caller)
+  greeting-says : (caller : Bool) → Says (F M) (cs (freshOf caller (M .partner) (countedIn M)) (M .table .bytes) (M .inbox .bytes) (M .store .bytes)) (on-lists.greeting caller)
   unfolding freshOf waits waitingOf firstText thenText
   greeting-says true = refl
   greeting-says false = refl
 
-  sid-awaited : (caller : Bool) → Awaits (cs (freshOf caller (M .partner)) (M .table .bytes) (M .inbox .bytes) (M .store .bytes)) (on-lists.aLine (on-lists.awaitsSid caller))
+  sid-awaited : (caller : Bool) → Awaits (cs (freshOf caller (M .partner) (countedIn M)) (M .table .bytes) (M .inbox .bytes) (M .store .bytes)) (on-lists.aLine (on-lists.awaitsSid caller))
   unfolding freshOf
   sid-awaited true = (refl, tt)
   sid-awaited false = (refl, tt)
 
-  fresh-represents : (caller : Bool) → Represents (F M) (shelfOf (F M) (m M)) (cs (freshOf caller (M .partner)) (M .table .bytes) (M .inbox .bytes) (M .store .bytes)) (on-lists.opened caller (statesIn M))
-  unfolding freshOf messagesOf usedBy
+  fresh-represents : (caller : Bool) → Represents (F M) (shelfOf (F M) (m M)) (cs (freshOf caller (M .partner) (countedIn M)) (M .table .bytes) (M .inbox .bytes) (M .store .bytes)) (on-lists.opened caller (statesIn M))
+  unfolding freshOf messagesOf usedBy waitingIn sizesIn
   fresh-represents caller =
       record {
         entries = λ i h. absurd (omega arith);
@@ -146,6 +155,11 @@ module _ (M : OpenCall) (a : Accepted M) where
         awaits = sid-awaited caller;
         part = refl;
         afterCr = refl;
+        tally = record {
+          waiting = refl;
+          sizes = ap (λ (n : ℕ). n % sizesRange) (sizes-law ((F M) .titles) ((F M) .names) ((F M) .bodies) (m M .table) (statesIn M));
+          sheet = record { proposed = refl; forwarded = refl; declined = refl; deferred = refl; balance = refl };
+        };
       }
 
 -- ---------------------------------------------------------------- the call
@@ -181,15 +195,15 @@ open-law M e =
     n : length (saveSizes (m M .sm) (sizesOf (F M) (m M))) ≡ sessionLen
     n = sizes-length (m M .sm) (sizesOf (F M) (m M)) ∙ a .session
 
-    back : loadOf (fresh M) ≡ freshOf caller (M .partner)
-    back = load-save (saveSizes (m M .sm) (sizesOf (F M) (m M))) (freshOf caller (M .partner)) n (fresh-shaped (F M) caller (M .partner) (a .partner))
+    back : loadOf (fresh M) ≡ freshOf caller (M .partner) (countedIn M)
+    back = load-save (saveSizes (m M .sm) (sizesOf (F M) (m M))) (freshOf caller (M .partner) (countedIn M)) n (fresh-shaped (F M) caller (M .partner) (a .partner) (countedIn M) (open-counted (M .partner) (m M .table)))
 
     held : Held (F M) (shelfOf (F M) (m M)) (freshCs M) (sizesOf (F M) (m M)) (withSession (m M) (fresh M)) (on-lists.opened caller (statesIn M))
     held =
         record {
           inForm = subst (λ (x : Bytes). InForm (F M) x (m M .table) (m M .inbox) (m M .store)) (a .left)
               (open-closed (F M) (M .role) (M .partner) (m M .sm) (m M .table) (m M .inbox) (m M .store) (octets (M .session)) (octets (M .table)) (octets (M .inbox)) (octets (M .store)) sized e);
-          sizes = save-sizes-kept (saveSizes (m M .sm) (sizesOf (F M) (m M))) (freshOf caller (M .partner)) (let k = n in omega arith) ∙ load-sizes (m M .sm) (sizesOf (F M) (m M)) (omega (arith, a .session)) sized;
+          sizes = save-sizes-kept (saveSizes (m M .sm) (sizesOf (F M) (m M))) (freshOf caller (M .partner) (countedIn M)) (let k = n in omega arith) ∙ load-sizes (m M .sm) (sizesOf (F M) (m M)) (omega (arith, a .session)) sized;
           represents = subst (λ (x : Session). Represents (F M) (shelfOf (F M) (m M)) (cs x (m M .table) (m M .inbox) (m M .store)) (on-lists.opened caller (statesIn M))) (sym back) (fresh-represents M a caller);
           spared = subst (λ (x : Session). Spared (freshCs M) (cs x (m M .table) (m M .inbox) (m M .store))) (sym back) (spared-same (freshCs M));
           column = subst (λ (x : Session). OneColumn (freshCs M) (cs x (m M .table) (m M .inbox) (m M .store))) (sym back) (column-same (freshCs M));

@@ -9,3 +9,4 @@ pub mod Demand2
 pub mod Replies
 pub mod Columns
 pub mod Store
+pub mod Tally

@@ -8,8 +8,8 @@ use lib.ListN.{length, drop}
 use Rattle.grammar.specs.Bytes.{Bytes}
 use Rattle.grammar.specs.Scan.{bodyOf}
 use Rattle.session.specs.Choices.{Shelf}
-use Rattle.session.specs.Session.{Phase, aLine, awaitsTransfer, leaving, over, Session, step, opened, ended}
-use Rattle.session.specs.Calls.{stops, receive, give}
+use Rattle.session.specs.Session.{Phase, aLine, awaitsTransfer, leaving, over, Session, opened, ended}
+use Rattle.session.specs.Calls.{receive, lastByte, give}
 use Rattle.demand2.specs.Reached.{Reached}
 use Rattle.demand3.specs.Demand as on-lists-run
 use Rattle.represents.specs.Laid.{bodiesBytes}
@@ -17,11 +17,6 @@ use Rattle.represents.specs.Represents.{messagesOf}
 use Rattle.main_theorem.specs.Demand2.{callOf, shelfIn}
 use Rattle.main_theorem.specs.Calls.{OpenCall, messageCount, isCaller, statesIn, openedBy}
 use Rattle.main_theorem.specs.Demand3.{CallsOn, finally}
-
--- The session just before the byte that ended it, of the bytes of one receive; where none ended it, the session after them.
-abbrev pub lastByte : Shelf → Session → Bytes → Session
-lastByte E s [] = s
-lastByte E s (b ∷ bs) = cond (stops (step E s b)) s (lastByte E (step E s b .session) bs)
 
 -- The session just before the byte, or the give, that ended it; where it goes on, the session after the calls.
 abbrev pub lastLive : Shelf → Session → List on-lists-run.Call → Session

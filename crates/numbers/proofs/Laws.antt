@@ -12,10 +12,11 @@ use Rattle.buffer.specs.Put.{putBytes, Puts}
 use Rattle.places.specs.Places.{numbersStart, numbersEnd, numbersLen, arraysAt, freeLen, deferredLen, headingLen, lineLen, blockLen, deferredAt, headingAt, lineAt, blockAt, arraysLen, arraysEnd, sessionLen}
 use Rattle.layout.specs.Layout.{byteAt, le2, le4, le8}
 use Rattle.layout.proofs.Places.{put-fits}
-use Rattle.session_memory.specs.State.{at, flag, fiveOut, arrayAt, fiveAt, loadOf, loadAwait, loadSay, loadKeep, loadReading, loadLine, smallOut, numbersOut, tailOut, arraysOut, numberPart, saveOf}
+use Rattle.session_memory.specs.State.{at, flag, fiveOut, arrayAt, fiveAt, loadOf, loadAwait, loadSay, loadKeep, loadReading, loadLine, smallOut, numbersOut, tailOut, sheetOut, loadTally, arraysOut, numberPart, saveOf}
 use Rattle.session_memory.specs.declared.Five.{Five}
 use Rattle.session_memory.specs.declared.Say.{Say}
 use Rattle.session_memory.specs.declared.Terms.{Terms}
+use Rattle.session_memory.specs.declared.Tally.{Tally}
 use Rattle.transfer_step.specs.declared.Reader.{Reader}
 use Rattle.session_memory.proofs.Laws.{array-in, saved, same-five, same-await, same-say, same-keep, same-reading, same-line, same-session}
 use Rattle.region.specs.Region.{region, lent}
@@ -68,9 +69,9 @@ same-reader e₁ e₂ e₃ e₄ e₅ e₆ e₇ = rw (e₁, e₂, e₃, e₄, e�
 pub same-numbers-line : {x y : Bool} {a b : ℕ} → x ≡ y → a ≡ b → _≡_ {A = LineNumbers} (record { «after_cr» = x; len = a }) (record { «after_cr» = y; len = b })
 same-numbers-line e₁ e₂ = rw (e₁, e₂)
 
-pub same-numbers : {a b : AwaitNumbers} {c d : Say} {e f : KeepNumbers} {g h : Reader} {i j : LineNumbers} → a ≡ b → c ≡ d → e ≡ f → g ≡ h → i ≡ j
-    → _≡_ {A = Numbers} (record { now = a; say = c; keep = e; reader = g; line = i }) (record { now = b; say = d; keep = f; reader = h; line = j })
-same-numbers e₁ e₂ e₃ e₄ e₅ = rw (e₁, e₂, e₃, e₄, e₅)
+pub same-numbers : {a b : AwaitNumbers} {c d : Say} {e f : KeepNumbers} {g h : Reader} {i j : LineNumbers} {k l : Tally} → a ≡ b → c ≡ d → e ≡ f → g ≡ h → i ≡ j → k ≡ l
+    → _≡_ {A = Numbers} (record { now = a; say = c; keep = e; reader = g; line = i; tally = k }) (record { now = b; say = d; keep = f; reader = h; line = j; tally = l })
+same-numbers e₁ e₂ e₃ e₄ e₅ e₆ = rw (e₁, e₂, e₃, e₄, e₅, e₆)
 
 -- an array of the whole memory is a region of the arrays' part
 region-in : (a n b k : ℕ) (m : Bytes) → b + k ≤ n → a + n ≤ length m → region b k (region a n m) ≡ take k (drop (a + b) m)
@@ -169,6 +170,15 @@ large-are h {l} {f} {b} {p} {u} e₁ e₂ e₃ e₄ e₅ =
     ∙ ap (λ (i : Bytes). largeFrom (le2 (h .line .len)) (le2 (h .reader .left)) i p u) e₃
     ∙ ap (λ (i : Bytes). largeFrom (le2 (h .line .len)) (le2 (h .reader .left)) (le4 (h .reader .body)) i u) e₄
     ∙ ap (λ (i : Bytes). largeFrom (le2 (h .line .len)) (le2 (h .reader .left)) (le4 (h .reader .body)) (le8 (h .say .pos)) i) e₅
+
+abbrev tailFrom : Numbers → Bytes → Bytes
+tailFrom h z =
+    h .now .sum ∷ h .keep .terms .level ∷ h .keep .terms .partner ∷ h .tally .waiting ∷ getD z 0 0 ∷ getD z 1 0 ∷ getD z 2 0 ∷ getD z 3 0
+    ∷ sheetOut (h .tally .sheet)
+
+pub tail-are : (h : Numbers) {z : Bytes} → z ≡ le4 (h .tally .sizes) → tailFrom h z ≡ tailBytes h
+unfolding tailOut
+tail-are h e = ap (tailFrom h) e
 
 -- the parts, put one behind the other
 pub parts-saved : (sm : Bytes) (h : Numbers) {x y z : Bytes} {r t u : Cursor} {e f g : Bytes} → x ≡ smallBytes h → y ≡ largeBytes h → z ≡ tailBytes h

@@ -6,7 +6,7 @@ use Rattle.grammar.specs.Bytes.{Bytes}
 use Rattle.places.specs.Places.{phaseAt, ffAt, framedAt, afterCrAt, firstAt, thenAt, keptAt, currentAt, proposalsAt, oursAt, sendingAt, signsAt, placeAt, lengthAt, headAt, offsetAt, sumAt, lineLengthAt, leftAt, bodyAt, posAt, usedAt, blockSumAt, deferredAt, deferredLen, headingAt, headingLen, lineAt, lineLen, blockAt, blockLen}
 use Rattle.layout.specs.Layout.{byteAt, le2At, le4At, le8At}
 use Rattle.transfer_step.specs.declared.Reader.{Reader}
-use Rattle.session_memory.specs.State.{fiveAt, termsAt, smallOut, numbersOut, tailOut, numberPart}
+use Rattle.session_memory.specs.State.{fiveAt, termsAt, loadTally, smallOut, numbersOut, tailOut, numberPart}
 use Rattle.session_memory.specs.Session.{Await}
 use Rattle.session_memory.specs.declared.Say.{Say}
 use Rattle.session_memory.specs.Session.{Keep}
@@ -45,6 +45,7 @@ sessionOf h deferred heading line block =
       keep = keepOf (h .keep) deferred;
       reading = record { reader = h .reader; heading = heading };
       line = record { «after_cr» = h .line .«after_cr»; len = h .line .len; bytes = line };
+      tally = h .tally;
     }
 
 -- THE WHOLE SESSION: its numbers, and the arrays where they stand
@@ -78,7 +79,7 @@ unfoldable pub lineNumbers : Bytes → LineNumbers
 lineNumbers sm = record { «after_cr» = eqb (byteAt sm afterCrAt) 1; len = le2At sm lineLengthAt }
 
 unfoldable pub numbersAt : Bytes → Numbers
-numbersAt sm = record { now = awaitNumbers sm; say = sayNumbers sm; keep = keepNumbers sm; reader = readerNumbers sm; line = lineNumbers sm }
+numbersAt sm = record { now = awaitNumbers sm; say = sayNumbers sm; keep = keepNumbers sm; reader = readerNumbers sm; line = lineNumbers sm; tally = loadTally sm }
 
 -- ---------------------------------------------------------------- written
 

@@ -5,7 +5,9 @@ use number_write::bytes4;
 use number_write::bytes8;
 use session_memory::Five;
 use session_memory::Say;
+use session_memory::Tally;
 use session_memory::Terms;
+use sheet::Sheet;
 use transfer_step::Reader;
 ghost use mathlib.Core.Path.{_≡_};
 ghost use Prim.Native.Nat.{_+_, _<_, _≤_};
@@ -13,7 +15,7 @@ ghost use lib.ListN.{length};
 ghost use Rattle.buffer.specs.Put.{putBytes};
 ghost use Rattle.places.specs.Places.{numbersStart, sessionLen};
 ghost use Rattle.layout.specs.Layout.{byteAt, le2At, le4At, le8At};
-ghost use Rattle.session_memory.specs.State.{at, flag, fiveAt, termsAt};
+ghost use Rattle.session_memory.specs.State.{at, flag, fiveAt, termsAt, sheetAt, loadTally};
 ghost use Rattle.numbers.specs.Whole.{awaitNumbers, sayNumbers, keepNumbers, readerNumbers, lineNumbers, numbersAt, smallBytes, largeBytes, tailBytes, numberBytes};
 
 pub struct AwaitNumbers {
@@ -44,6 +46,7 @@ pub struct Numbers {
     pub keep: KeepNumbers,
     pub reader: Reader,
     pub line: LineNumbers,
+    pub tally: Tally,
 }
 
 // The byte at a place within.
@@ -185,6 +188,32 @@ fn load_line(sm: &[u8]) -> LineNumbers
     }
 }
 
+// The tally sheet.
+fn load_sheet(sm: &[u8]) -> Sheet
+    requires { ⌜ length (now sm) ≡ sessionLen ⌝ }
+    ensures { λ r. ⌜ r ≡ sheetAt (now (sm .entry)) ⌝ }
+{
+    Sheet {
+        proposed: byte(sm, places::TALLY_PROPOSED),
+        forwarded: byte(sm, places::TALLY_FORWARDED),
+        declined: byte(sm, places::TALLY_DECLINED),
+        deferred: byte(sm, places::TALLY_DEFERRED),
+        unsettled: byte(sm, places::TALLY_UNSETTLED),
+    }
+}
+
+// What is counted.
+fn load_tally(sm: &[u8]) -> Tally
+    requires { ⌜ length (now sm) ≡ sessionLen ⌝ }
+    ensures { λ r. ⌜ r ≡ loadTally (now (sm .entry)) ⌝ }
+{
+    Tally {
+        waiting: byte(sm, places::TALLY_WAITING),
+        sizes: four(sm, places::TALLY_SIZES),
+        sheet: load_sheet(sm),
+    }
+}
+
 // The numbers in session memory.
 pub fn load(sm: &[u8]) -> Numbers
     requires { ⌜ length (now sm) ≡ sessionLen ⌝ }
@@ -196,6 +225,7 @@ pub fn load(sm: &[u8]) -> Numbers
         keep: load_keep(sm),
         reader: load_reader(sm),
         line: load_line(sm),
+        tally: load_tally(sm),
     }
 }
 
@@ -289,10 +319,26 @@ fn large_bytes(h: Numbers) -> [u8; 24]
 }
 
 // The tail, in the order of its places.
-fn tail_bytes(h: Numbers) -> [u8; 3]
+fn tail_bytes(h: Numbers) -> [u8; 13]
     ensures { λ r. ⌜ r ≡ tailBytes h ⌝ }
 {
-    [h.now.sum, h.keep.terms.level, h.keep.terms.partner]
+    let t = h.tally;
+    let s = bytes4(t.sizes as usize);
+    [
+        h.now.sum,
+        h.keep.terms.level,
+        h.keep.terms.partner,
+        t.waiting,
+        s[0],
+        s[1],
+        s[2],
+        s[3],
+        t.sheet.proposed,
+        t.sheet.forwarded,
+        t.sheet.declined,
+        t.sheet.deferred,
+        t.sheet.unsettled,
+    ]
 }
 
 // The numbers into session memory.

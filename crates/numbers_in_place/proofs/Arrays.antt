@@ -6,14 +6,14 @@ use native.Mathlib.Omega.{arith}
 use lib.Dec.{eqb}
 use lib.ListN.{length, set, take, drop, replicate, take-append-drop}
 use Rattle.grammar.specs.Bytes.{Bytes}
-use Rattle.places.specs.Places.{sessionLen, arraysAt, arraysLen, lineAt, headingAt, ffAt, framedAt, afterCrAt, firstAt, thenAt, keptAt, currentAt, proposalsAt, oursAt, sendingAt, signsAt, placeAt, lengthAt, headAt, offsetAt, sumAt, lineLengthAt, leftAt, bodyAt, posAt, usedAt, blockSumAt, levelAt, partnerAt}
+use Rattle.places.specs.Places.{sessionLen, arraysAt, arraysLen, lineAt, headingAt, ffAt, framedAt, afterCrAt, firstAt, thenAt, keptAt, currentAt, proposalsAt, oursAt, sendingAt, signsAt, placeAt, lengthAt, headAt, offsetAt, sumAt, lineLengthAt, leftAt, bodyAt, posAt, usedAt, blockSumAt, levelAt, partnerAt, tallyWaitingAt, tallySizesAt, tallyProposedAt, tallyForwardedAt, tallyDeclinedAt, tallyDeferredAt, tallyUnsettledAt}
 use Rattle.places.specs.Places as places
 use Rattle.layout.specs.Layout.{byteAt, le2At, le4At}
 use Rattle.layout.proofs.Places.{byte-kept, le8-kept, part-kept}
 use Rattle.buffer.specs.Put.{putBytes}
-use Rattle.session_memory.specs.State.{at, fiveAt, loadOf, saveOf}
+use Rattle.session_memory.specs.State.{at, fiveAt, loadTally, loadOf, saveOf}
 use Rattle.session_memory.specs.declared.Five.{Five}
-use Rattle.session_memory.proofs.Laws.{same-five, same-say, same-terms}
+use Rattle.session_memory.proofs.Laws.{same-five, same-say, same-terms, same-sheet, same-tally}
 use Rattle.region.specs.Region.{region, lent}
 use Rattle.region.proofs.Laws.{region-length, set-in, set-before, set-after, lent-here, lent-before, lent-after}
 use Rattle.numbers.specs.declared.Numbers.{Numbers}
@@ -58,13 +58,14 @@ lent-same a n m = ap (λ (x : Bytes). take a m ++ x) (take-append-drop n (drop a
 
 -- the numbers stand before the arrays
 pub numbers-lent : (sm w : Bytes) → length sm ≡ sessionLen → numbersAt (lent arraysAt arraysLen sm w) ≡ numbersAt sm
-unfolding lent numbersAt awaitNumbers sayNumbers keepNumbers readerNumbers lineNumbers
+unfolding lent numbersAt awaitNumbers sayNumbers keepNumbers readerNumbers lineNumbers loadTally
 numbers-lent sm w n =
     same-numbers (same-numbers-await (byte places.phaseAt (omega arith)) (ap (λ (x : ℕ). eqb x 1) (byte ffAt (omega arith))) (byte currentAt (omega arith)) (byte proposalsAt (omega arith)) (five oursAt (omega arith)) (byte blockSumAt (omega arith)))
     (same-say (byte firstAt (omega arith)) (byte thenAt (omega arith)) (le8-kept arraysAt sm r k posAt (omega arith)) (five signsAt (omega arith)))
     (same-numbers-keep (ap (λ (x : ℕ). eqb x 1) (byte framedAt (omega arith))) (same-terms (byte levelAt (omega arith)) (byte partnerAt (omega arith))) (byte keptAt (omega arith)) (le8-kept arraysAt sm r k usedAt (omega arith)) (five sendingAt (omega arith)))
     (same-reader (byte placeAt (omega arith)) (byte lengthAt (omega arith)) (byte headAt (omega arith)) (byte offsetAt (omega arith)) (two leftAt (omega arith)) (byte sumAt (omega arith)) (four bodyAt (omega arith)))
     (same-numbers-line (ap (λ (x : ℕ). eqb x 1) (byte afterCrAt (omega arith))) (two lineLengthAt (omega arith)))
+    (same-tally (byte tallyWaitingAt (omega arith)) (four tallySizesAt (omega arith)) (same-sheet (byte tallyProposedAt (omega arith)) (byte tallyForwardedAt (omega arith)) (byte tallyDeclinedAt (omega arith)) (byte tallyDeferredAt (omega arith)) (byte tallyUnsettledAt (omega arith))))
   where
     r : Bytes
     r = w ++ drop arraysLen (drop arraysAt sm)

@@ -8,10 +8,10 @@ use lib.ListN.{length, getD, set, take, drop}
 use lib.Seq.{sets, length-sets, getD-take, getD-drop}
 use Rattle.grammar.specs.Bytes.{Bytes}
 use Rattle.buffer.specs.Put.{putBytes}
-use Rattle.places.specs.Places.{sessionLen, ffAt, framedAt, afterCrAt, firstAt, thenAt, keptAt, oursAt, sendingAt, signsAt, placeAt, lengthAt, headAt, offsetAt, sumAt, lineLengthAt, leftAt, bodyAt, posAt, usedAt, tailAt, tailLen, numbersEnd}
+use Rattle.places.specs.Places.{sessionLen, ffAt, framedAt, afterCrAt, firstAt, thenAt, keptAt, oursAt, sendingAt, signsAt, placeAt, lengthAt, headAt, offsetAt, sumAt, lineLengthAt, leftAt, bodyAt, posAt, usedAt, tailAt, tallySizesAt, tallyProposedAt, tailLen, numbersEnd}
 use Rattle.places.specs.Places as places
 use Rattle.layout.specs.Layout.{byteAt, le2At, le4At, le8At, le2, le4, le8}
-use Rattle.session_memory.specs.State.{at, flag, fiveAt, fiveOut, arrayAt, smallOut, numbersOut, tailOut}
+use Rattle.session_memory.specs.State.{at, flag, fiveAt, fiveOut, arrayAt, smallOut, numbersOut, tailOut, loadTally}
 use Rattle.session_memory.proofs.Laws.{array-in}
 use Rattle.transfer_step.specs.declared.Reader.{Reader}
 use Rattle.numbers.specs.declared.Numbers.{Numbers}
@@ -47,8 +47,8 @@ module _ (sm : Bytes) (n : length sm ≡ sessionLen) (small : (i : ℕ) → byte
 
   -- THE TAIL as it was read is written as it stands; the only law here that a later number changes
   tail-back : tailBytes (numbersAt sm) ≡ bytesFrom sm tailAt tailLen
-  unfolding tailOut numbersAt awaitNumbers keepNumbers
-  tail-back = refl
+  unfolding tailOut numbersAt awaitNumbers keepNumbers loadTally
+  tail-back = ap (λ (x : Bytes). bytesFrom sm tailAt 4 ++ (x ++ bytesFrom sm tallyProposedAt 5)) (le4-back sm small tallySizesAt)
 
   -- up to five numbers, and the tail
   stay : (a r l f b p u : Bytes) → pieces a (fiveOut (fiveAt sm oursAt)) (fiveOut (fiveAt sm sendingAt)) (fiveOut (fiveAt sm signsAt)) r l f b p u (tailBytes (numbersAt sm))

@@ -17,6 +17,9 @@ use Rattle.phase.specs.Phase.{stateDeclined}
 use Rattle.layout.specs.Layout.{byteAt, fieldIn, entryAt, recordSize, knownSize}
 use Rattle.session_memory.specs.State.{sessionSize, saveOf, saveSizes, freshOf}
 use Rattle.session_memory.specs.declared.Sizes.{Sizes}
+use Rattle.session_memory.specs.declared.Tally.{Tally}
+use Rattle.sheet.specs.Sheet.{noSheet}
+use Rattle.tally.specs.Tally.{counted}
 use Rattle.session_memory.proofs.Laws.{sizes-length}
 use Rattle.entries.specs.Decoded.{entries}
 use Rattle.form_test.specs.Form.{lentSizes}
@@ -160,12 +163,12 @@ module _ (role partner : ℕ) (sm table titles names bodies known inbox store : 
             (ap (λ (x : Reply). opened x sm) (e ∙ ap (λ (p : ℕ). reply badMemory p 0) q))
 
         pub open-good : place ≡ 255 → (m : Bytes) → m ≡ saveSizes sm (lentSizes table titles names bodies known inbox store)
-            → (n : Bytes) → n ≡ saveOf m (freshOf (eqb role 1) partner) → opened (reply 0 0 0) n ≡ answer
+            → (t : Tally) → t ≡ counted partner table noSheet → (n : Bytes) → n ≡ saveOf m (freshOf (eqb role 1) partner t) → opened (reply 0 0 0) n ≡ answer
         unfolding openOf
-        open-good d m v n z =
+        open-good d m v t w n z =
             rw (lt-ltb partner partners b, le-leb role 1 h, told f g, told k l, eq-eqb (tableFault table titles names bodies) 255 (sym q ∙ d))
             (ap (λ (x : Bytes). opened (reply 0 0 0) x)
-            (z ∙ ap (λ (x : Bytes). saveOf x (freshOf (eqb role 1) partner)) v))
+            (z ∙ ap (λ (x : Bytes). saveOf x (freshOf (eqb role 1) partner t)) v ∙ ap (λ (x : Tally). saveOf (saveSizes sm (lentSizes table titles names bodies known inbox store)) (freshOf (eqb role 1) partner x)) w))
 
 -- the size that was tested, after the sizes are saved
 pub size-told : (sm table known inbox : Bytes) {b : Bool} → b ≡ sizesOk sm table known inbox → not b ≡ false → (z : Sizes) {m : Bytes} → m ≡ saveSizes sm z

@@ -15,6 +15,8 @@ use Rattle.places.specs.Places.{atMax, bidMax, callMax, partners, recordAt, rec
 use Rattle.layout.specs.Layout.{byteAt, le2At, le4At, fieldIn, entryAt, recordSize, knownSize, entrySize}
 use Rattle.session_memory.specs.State.{sessionSize, saveOf, saveSizes, freshOf}
 use Rattle.entries.specs.Decoded.{entries, recordCount, knownCount}
+use Rattle.sheet.specs.Sheet.{noSheet}
+use Rattle.tally.specs.Tally.{counted}
 use Rattle.form_test.specs.Form.{lentSizes}
 use Rattle.give.specs.Giving.{reply}
 use Rattle.give.specs.declared.Reply.{Reply}
@@ -112,7 +114,7 @@ openOf role partner sm table titles names bodies known inbox store =
     (cond (sizesOk sm table known inbox)
     (cond (knownOk known)
     (cond (eqb (tableFault table titles names bodies) 255)
-    (opened (reply 0 0 0) (saveOf (saveSizes sm (lentSizes table titles names bodies known inbox store)) (freshOf (eqb role 1) partner)))
+    (opened (reply 0 0 0) (saveOf (saveSizes sm (lentSizes table titles names bodies known inbox store)) (freshOf (eqb role 1) partner (counted partner table noSheet))))
     (opened (reply badMemory (tableFault table titles names bodies) 0) sm))
     (opened (reply badMemory 255 0) sm))
     (opened (reply badMemory 255 0) sm))

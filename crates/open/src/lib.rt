@@ -7,6 +7,7 @@ use number_read::number2;
 use number_read::number4;
 use part::part;
 use session_memory::Sizes;
+use sheet::Sheet;
 ghost use mathlib.Core.Path.{_≡_};
 ghost use mathlib.Core.Bool.{_&&_, not};
 ghost use Prim.Native.Nat.{_<_};
@@ -21,6 +22,7 @@ ghost use Rattle.entries.specs.Decoded.{recordCount, knownCount};
 ghost use Rattle.give.specs.Giving.{reply};
 ghost use Rattle.places.specs.Places.{atMax, bidMax, recordForm, recordTitle, recordTitleLength, recordName, recordNameLength, recordBody, recordBodyLength};
 ghost use Rattle.record_text.specs.Texts.{fileForm};
+ghost use Rattle.sheet.specs.Sheet.{noSheet};
 ghost use Rattle.open.specs.Opening.{lengthOk, statesOk, numbersOk, fieldsOk, within, headingOk, textsOk, recordOk, placeOk, tableFault, knownOk, entriesOk, sizesOk, openOf, Opened};
 
 // Roles: called, caller.
@@ -346,6 +348,19 @@ fn bad(place: u8) -> Reply
     }
 }
 
+// "all 0 when open accepts"
+fn no_sheet() -> Sheet
+    ensures { λ r. ⌜ r ≡ noSheet ⌝ }
+{
+    Sheet {
+        proposed: 0,
+        forwarded: 0,
+        declined: 0,
+        deferred: 0,
+        unsettled: 0,
+    }
+}
+
 // Opens a session in session memory: role 0 called, 1 caller; partner 0 to 7.
 pub fn open(
     role: u8,
@@ -377,6 +392,7 @@ pub fn open(
     if place != NO_PLACE {
         return bad(place);
     }
+    let waiting = tally::counted(partner, table, no_sheet());
     let z = Sizes {
         table: table.len(),
         titles: titles.len(),
@@ -387,7 +403,7 @@ pub fn open(
         store: store.len(),
     };
     open_memory::save_sizes(sm, z);
-    open_memory::save_fresh(sm, role == CALLER, partner);
+    open_memory::save_fresh(sm, role == CALLER, partner, waiting);
     Reply {
         answer: 0,
         place: 0,

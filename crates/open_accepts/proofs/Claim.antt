@@ -2,9 +2,9 @@
 -- follows. And nothing else is an open: two outcomes of which the claim holds are one. Assumes nothing.
 use mathlib.Core.Path.{_≡_, refl, sym, ap, _∙_, subst}
 use mathlib.Core.Bool.{Bool, true, false, cond, _&&_}
-use mathlib.Core.List.{_++_}
+use mathlib.Core.List.{[], _∷_, _++_}
 use mathlib.Core.Logic.{_⊎_, inl, inr, _≢_}
-use Prim.Native.Nat.{ℕ, zero, suc, _+_, _-_, _≤_, _<_}
+use Prim.Native.Nat.{ℕ, zero, suc, _+_, _-_, _/_, _%_, _≤_, _<_}
 use native.Mathlib.Omega.{arith}
 use lib.Dec.{eqb, ltb, leb}
 use lib.ListN.{length, take, drop, replicate}
@@ -12,18 +12,24 @@ use lib.Seq.{drop-drop}
 use borrow.Author.Tests.{eqb-true, eqb-false, eq-eqb, ne-eqb, leb-true, leb-false}
 use Rattle.grammar.specs.Bytes.{Bytes}
 use Rattle.grammar.specs.Refusals.{badMemory, noPlace}
-use Rattle.places.specs.Places.{numbersStart, numbersEnd, freeLen, arraysLen, arraysEnd, partners, sessionLen}
-use Rattle.session_memory.specs.State.{saveOf, saveSizes, sizesOut, freshOf, numberPart, smallOut, numbersOut, tailOut, arraysOut}
+use Rattle.places.specs.Places.{numbersStart, tallyProposedAt, numbersEnd, freeLen, arraysLen, arraysEnd, partners, sessionLen}
+use Rattle.session_memory.specs.State.{saveOf, saveSizes, sizesOut, freshTally, freshOf, numberPart, smallOut, numbersOut, tailOut, arraysOut}
 use Rattle.session_memory.specs.declared.Sizes.{Sizes}
 use Rattle.session_memory.proofs.Laws.{saved, sizes-saved, sizes-length}
-use Rattle.entries.specs.Decoded.{recordCount}
+use Rattle.mail.specs.Tally.{waits, waitingBytes}
+use Rattle.layout.specs.Layout.{le4}
+use Rattle.sheet.specs.Sheet.{noSheet}
+use Rattle.session_memory.specs.declared.Tally.{Tally}
+use Rattle.marking.specs.States.{statesOf}
+use Rattle.tally.specs.Tally.{waitingIn, sizesIn, counted}
+use Rattle.entries.specs.Decoded.{recordCount, recordsOf}
 use Rattle.form_test.specs.Form.{lentSizes}
 use Rattle.give.specs.Giving.{reply}
 use Rattle.give.specs.declared.Reply.{Reply}
 use Rattle.open.specs.Opening.{placeOk, faultFrom, tableFault, knownOk, sizesOk, Opened, opened, openOf}
 use Rattle.open_accepts.specs.Lending.{Lending, openOn}
 use Rattle.open_accepts.specs.Good.{IsRole, Sound, Acceptable, FirstBad}
-use Rattle.open_accepts.specs.Claim.{numbersAtFirst, sizesKept, sessionAtFirst, Refusal, Opens, OpenClaim}
+use Rattle.open_accepts.specs.Claim.{numbersAtFirst, tallyAtFirst, sizesKept, sessionAtFirst, Refusal, Opens, OpenClaim}
 use Rattle.open_accepts.proofs.Words.{denied}
 use Rattle.open_accepts.proofs.Records.{records-count, place-decides}
 use Rattle.open_accepts.proofs.Before.{sound-decides}
@@ -72,14 +78,29 @@ module _ (L : Lending) where
 
 -- ---------------------------------------------------------------- what an accepted open leaves
 
-numbers-are : (r p : ℕ) → IsRole r → numberPart (freshOf (eqb r 1) p) ≡ numbersAtFirst r p
+numbers-out : (r p w z : ℕ) → IsRole r → numberPart (freshOf (eqb r 1) p (freshTally w z)) ≡ numbersAtFirst r p ++ (w ∷ (le4 z ++ replicate (numbersEnd - tallyProposedAt) 0))
 unfolding freshOf smallOut numbersOut tailOut
-numbers-are r p (inl e) = subst (λ (x : ℕ). numberPart (freshOf (eqb x 1) p) ≡ numbersAtFirst x p) (sym e) refl
-numbers-are r p (inr e) = subst (λ (x : ℕ). numberPart (freshOf (eqb x 1) p) ≡ numbersAtFirst x p) (sym e) refl
+numbers-out r p w z (inl e) =
+    subst (λ (x : ℕ). numberPart (freshOf (eqb x 1) p (freshTally w z)) ≡ numbersAtFirst x p ++ (w ∷ (le4 z ++ replicate (numbersEnd - tallyProposedAt) 0))) (sym e) refl
+numbers-out r p w z (inr e) =
+    subst (λ (x : ℕ). numberPart (freshOf (eqb x 1) p (freshTally w z)) ≡ numbersAtFirst x p ++ (w ∷ (le4 z ++ replicate (numbersEnd - tallyProposedAt) 0))) (sym e) refl
 
-arrays-are : (caller : Bool) (p : ℕ) → arraysOut (freshOf caller p) ≡ replicate arraysLen 0
+-- four bytes hold a number modulo 2^32
+le4-low : (n : ℕ) → le4 (n % 4294967296) ≡ le4 n
+le4-low n = list4 (omega arith) (omega arith) (omega arith) (omega arith)
+  where
+    list4 : {a b c d e f g h : ℕ} → a ≡ b → c ≡ d → e ≡ f → g ≡ h → _≡_ {A = Bytes} (a ∷ c ∷ e ∷ g ∷ []) (b ∷ d ∷ f ∷ h ∷ [])
+    list4 e₁ e₂ e₃ e₄ = rw (e₁, e₂, e₃, e₄)
+
+numbers-are : (r p : ℕ) (table : Bytes) → IsRole r → numberPart (freshOf (eqb r 1) p (counted p table noSheet)) ≡ numbersAtFirst r p ++ tallyAtFirst p table
+unfolding waitingIn sizesIn
+numbers-are r p table h =
+    numbers-out r p (waitingIn p table) (sizesIn p table) h
+    ∙ ap (λ (x : Bytes). numbersAtFirst r p ++ (waits (statesOf p table) ∷ (x ++ replicate (numbersEnd - tallyProposedAt) 0))) (le4-low (waitingBytes (recordsOf [] [] [] table) (statesOf p table)))
+
+arrays-are : (caller : Bool) (p : ℕ) (t : Tally) → arraysOut (freshOf caller p t) ≡ replicate arraysLen 0
 unfolding freshOf arraysOut
-arrays-are caller p = refl
+arrays-are caller p t = refl
 
 module _ (L : Lending) where
   abbrev sizes : Sizes
@@ -92,16 +113,17 @@ module _ (L : Lending) where
   unfolding sizesOut
   marked-is h = sizes-saved (L .session) sizes h
 
-  left-is : IsRole (L .role) → length (L .session) ≡ sessionLen → saveOf (saveSizes (L .session) sizes) (freshOf (eqb (L .role) 1) (L .partner)) ≡ sessionAtFirst L
+  left-is : IsRole (L .role) → length (L .session) ≡ sessionLen → saveOf (saveSizes (L .session) sizes) (freshOf (eqb (L .role) 1) (L .partner) (counted (L .partner) (L .table) noSheet)) ≡ sessionAtFirst L
   left-is r n =
-      let s = freshOf (eqb (L .role) 1) (L .partner) in
+      let s = freshOf (eqb (L .role) 1) (L .partner) (counted (L .partner) (L .table) noSheet) in
+      let f : Bytes = numbersAtFirst (L .role) (L .partner) ++ tallyAtFirst (L .partner) (L .table) in
       let m = saveSizes (L .session) sizes in
-      saved m s (sizes-length (L .session) sizes ∙ n) (ap length (arrays-are (eqb (L .role) 1) (L .partner)))
+      saved m s (sizes-length (L .session) sizes ∙ n) (ap length (arrays-are (eqb (L .role) 1) (L .partner) (counted (L .partner) (L .table) noSheet)))
       ∙ ap (λ (x : Bytes). take numbersStart x ++ (numberPart s ++ (take freeLen (drop numbersEnd x) ++ (arraysOut s ++ drop arraysEnd x)))) (marked-is (omega arith))
-      ∙ ap (λ (x : Bytes). sizesKept L ++ (x ++ (take freeLen (drop numbersEnd marked) ++ (arraysOut s ++ drop arraysEnd marked)))) (numbers-are (L .role) (L .partner) r)
-      ∙ ap (λ (x : Bytes). sizesKept L ++ (numbersAtFirst (L .role) (L .partner) ++ (take freeLen x ++ (arraysOut s ++ drop arraysEnd marked)))) (drop-drop (numbersEnd - numbersStart) numbersStart (L .session))
-      ∙ ap (λ (x : Bytes). sizesKept L ++ (numbersAtFirst (L .role) (L .partner) ++ (take freeLen (drop numbersEnd (L .session)) ++ (x ++ drop arraysEnd marked)))) (arrays-are (eqb (L .role) 1) (L .partner))
-      ∙ ap (λ (x : Bytes). sizesKept L ++ (numbersAtFirst (L .role) (L .partner) ++ (take freeLen (drop numbersEnd (L .session)) ++ (replicate arraysLen 0 ++ x)))) (drop-drop (arraysEnd - numbersStart) numbersStart (L .session))
+      ∙ ap (λ (x : Bytes). sizesKept L ++ (x ++ (take freeLen (drop numbersEnd marked) ++ (arraysOut s ++ drop arraysEnd marked)))) (numbers-are (L .role) (L .partner) (L .table) r)
+      ∙ ap (λ (x : Bytes). sizesKept L ++ (f ++ (take freeLen x ++ (arraysOut s ++ drop arraysEnd marked)))) (drop-drop (numbersEnd - numbersStart) numbersStart (L .session))
+      ∙ ap (λ (x : Bytes). sizesKept L ++ (f ++ (take freeLen (drop numbersEnd (L .session)) ++ (x ++ drop arraysEnd marked)))) (arrays-are (eqb (L .role) 1) (L .partner) (counted (L .partner) (L .table) noSheet))
+      ∙ ap (λ (x : Bytes). sizesKept L ++ (f ++ (take freeLen (drop numbersEnd (L .session)) ++ (replicate arraysLen 0 ++ x)))) (drop-drop (arraysEnd - numbersStart) numbersStart (L .session))
 
 -- ---------------------------------------------------------------- the three situations
 
@@ -115,7 +137,7 @@ module _ (L : Lending) where
   fault = tableFault (L .table) (L .titles) (L .names) (L .bodies)
 
   abbrev fresh : Bytes
-  fresh = saveOf (saveSizes (L .session) (sizes L)) (freshOf (eqb (L .role) 1) (L .partner))
+  fresh = saveOf (saveSizes (L .session) (sizes L)) (freshOf (eqb (L .role) 1) (L .partner) (counted (L .partner) (L .table) noSheet))
 
   abbrev bad : ℕ → Opened
   bad place = opened (reply badMemory place 0) (L .session)

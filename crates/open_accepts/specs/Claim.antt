@@ -2,7 +2,7 @@
 -- definition in the contract of `fringemole_open`, and of none of its tests.
 use mathlib.Core.Path.{_≡_}
 use mathlib.Core.Bool.{cond}
-use mathlib.Core.List.{_++_}
+use mathlib.Core.List.{[], _∷_, _++_}
 use mathlib.Core.Logic.{_⊎_, _↔_, _≢_}
 use Prim.Native.Nat.{ℕ, _-_}
 use lib.Dec.{eqb}
@@ -11,8 +11,11 @@ use Rattle.grammar.specs.Bytes.{Bytes}
 use Rattle.grammar.specs.Ascii.{text}
 use Rattle.grammar.specs.Refusals.{badMemory, noPlace}
 use Rattle.phase.specs.Phase.{phaseCallerSid, pieceSidAndPrompt}
-use Rattle.places.specs.Places.{numbersStart, phaseAt, firstAt, partnerAt, numbersLen, numbersEnd, freeLen, arraysLen, arraysEnd}
-use Rattle.layout.specs.Layout.{le8}
+use Rattle.places.specs.Places.{numbersStart, phaseAt, firstAt, partnerAt, tallyWaitingAt, tallyProposedAt, numbersEnd, freeLen, arraysLen, arraysEnd}
+use Rattle.mail.specs.Tally.{waits, waitingBytes}
+use Rattle.layout.specs.Layout.{le4, le8}
+use Rattle.entries.specs.Decoded.{recordsOf}
+use Rattle.marking.specs.States.{statesOf}
 use Rattle.give.specs.Giving.{reply}
 use Rattle.give.specs.declared.Reply.{Reply}
 use Rattle.open.specs.Opening.{Opened}
@@ -27,19 +30,24 @@ sizesKept L =
     text "FM01" ++ (le8 (length (L .table)) ++ (le8 (length (L .titles)) ++ (le8 (length (L .names)) ++ (le8 (length (L .bodies))
     ++ (le8 (length (L .known)) ++ (le8 (length (L .inbox)) ++ le8 (length (L .store))))))))
 
--- The numbers of a session that begins, all 0 but the partner and one more. Called: "we send it, CR, `>`, CR, and await the caller's SID"; caller: "we await the SID".
+-- The numbers of a session that begins up to the partner, all 0 but that and one more. Called: "we send it, CR, `>`, CR, and await the caller's SID"; caller: "we await the SID".
 abbrev pub numbersAtFirst : ℕ → ℕ → Bytes
 numbersAtFirst role partner =
     set (cond (eqb role called)
-    (set (replicate numbersLen 0) (firstAt - numbersStart) pieceSidAndPrompt)
-    (set (replicate numbersLen 0) (phaseAt - numbersStart) phaseCallerSid))
+    (set (replicate (tallyWaitingAt - numbersStart) 0) (firstAt - numbersStart) pieceSidAndPrompt)
+    (set (replicate (tallyWaitingAt - numbersStart) 0) (phaseAt - numbersStart) phaseCallerSid))
     (partnerAt - numbersStart) partner
+
+-- "how many records wait and the sum of their announced sizes", for the partner, in one byte and in four; the tally sheet, "all 0 when open accepts" (02, Q-3)
+abbrev pub tallyAtFirst : ℕ → Bytes → Bytes
+tallyAtFirst partner table =
+    waits (statesOf partner table) ∷ (le4 (waitingBytes (recordsOf [] [] [] table) (statesOf partner table)) ++ replicate (numbersEnd - tallyProposedAt) 0)
 
 -- Session memory, from its first byte to its last: docs/MEMORY.md has the places. Free bytes stay as they are.
 abbrev pub sessionAtFirst : Lending → Bytes
 sessionAtFirst L =
     sizesKept L
-    ++ (numbersAtFirst (L .role) (L .partner)
+    ++ ((numbersAtFirst (L .role) (L .partner) ++ tallyAtFirst (L .partner) (L .table))
     ++ (take freeLen (drop numbersEnd (L .session)) ++ (replicate arraysLen 0 ++ drop arraysEnd (L .session))))
 
 -- ---------------------------------------------------------------- the claim

@@ -16,19 +16,20 @@ use Rattle.transfer_step.specs.Step.{startOf}
 use Rattle.transfer_step.specs.declared.Reader.{Reader}
 use Rattle.session_memory.specs.State.{at, noFive, termsWith, saveOf, freshOf}
 use Rattle.session_memory.specs.declared.Five.{Five}
+use Rattle.session_memory.specs.declared.Tally.{Tally}
 use Rattle.session_memory.specs.Session.{Session}
 use Rattle.numbers.specs.declared.Numbers.{Numbers}
 use Rattle.numbers.specs.Whole.{wholeOf, numberBytes}
 use Rattle.numbers.proofs.Laws.{save-whole}
 use Rattle.open_memory.specs.Fresh.{freshNumbers}
 
-pub fresh-caller : {r : Numbers} {p : ℕ} → r ≡ freshNumbers p 1 0 → {c : Bool} → c ≡ true → wholeOf r (replicate arraysLen 0) ≡ freshOf c p
+pub fresh-caller : {r : Numbers} {p : ℕ} {t : Tally} → r ≡ freshNumbers p t 1 0 → {c : Bool} → c ≡ true → wholeOf r (replicate arraysLen 0) ≡ freshOf c p t
 unfolding wholeOf freshOf region
-fresh-caller {p = p} e t = ap (λ (h : Numbers). wholeOf h (replicate arraysLen 0)) e ∙ ap (λ (x : Bool). freshOf x p) (sym t)
+fresh-caller {p = p} {t = t} e k = ap (λ (h : Numbers). wholeOf h (replicate arraysLen 0)) e ∙ ap (λ (x : Bool). freshOf x p t) (sym k)
 
-pub fresh-called : {r : Numbers} {p : ℕ} → r ≡ freshNumbers p 0 1 → {c : Bool} → c ≡ false → wholeOf r (replicate arraysLen 0) ≡ freshOf c p
+pub fresh-called : {r : Numbers} {p : ℕ} {t : Tally} → r ≡ freshNumbers p t 0 1 → {c : Bool} → c ≡ false → wholeOf r (replicate arraysLen 0) ≡ freshOf c p t
 unfolding wholeOf freshOf region
-fresh-called {p = p} e t = ap (λ (h : Numbers). wholeOf h (replicate arraysLen 0)) e ∙ ap (λ (x : Bool). freshOf x p) (sym t)
+fresh-called {p = p} {t = t} e k = ap (λ (h : Numbers). wholeOf h (replicate arraysLen 0)) e ∙ ap (λ (x : Bool). freshOf x p t) (sym k)
 
 -- zeros in the place of the arrays, then the numbers
 pub fresh-saved : (sm : Bytes) → length sm ≡ sessionLen → (h : Numbers) {s : Session} {m x : Bytes} → m ≡ putBytes sm (at arraysAt) (replicate arraysLen 0)
@@ -43,7 +44,7 @@ fresh-saved sm n h e f g =
     g ∙ ap (λ (y : Bytes). putBytes y (at places.numbersStart) (numberBytes h)) (e ∙ k) ∙ save-whole sm h z n l ∙ ap (saveOf sm) f
 
 -- the parts of the numbers
-pub numbers-are : (partner awaited first : ℕ) {f : Five} {r : Reader} → f ≡ noFive → r ≡ startOf 0
+pub numbers-are : (partner : ℕ) (t : Tally) (awaited first : ℕ) {f : Five} {r : Reader} → f ≡ noFive → r ≡ startOf 0
     → _≡_ {A = Numbers}
     (record {
       now = record { phase = awaited; ff = false; current = 0; proposals = 0; ours = f; sum = 0 };
@@ -51,6 +52,7 @@ pub numbers-are : (partner awaited first : ℕ) {f : Five} {r : Reader} → f �
       keep = record { framed = false; terms = termsWith partner; kept = 0; used = 0; sending = f };
       reader = r;
       line = record { «after_cr» = false; len = 0 };
+      tally = t;
     })
-    (freshNumbers partner awaited first)
-numbers-are partner awaited first e f = simp (e, f)
+    (freshNumbers partner t awaited first)
+numbers-are partner t awaited first e f = simp (e, f)

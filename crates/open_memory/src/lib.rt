@@ -8,6 +8,7 @@ use numbers::Numbers;
 use session_memory::Five;
 use session_memory::Say;
 use session_memory::Sizes;
+use session_memory::Tally;
 use session_memory::Terms;
 ghost use mathlib.Core.Path.{_≡_};
 ghost use mathlib.Core.List.{_++_};
@@ -66,8 +67,8 @@ fn no_five() -> Five
 }
 
 // The numbers of a session with this partner that awaits this and says this first.
-fn numbers_of(partner: u8, awaited: u8, first: u8) -> Numbers
-    ensures { λ r. ⌜ r ≡ freshNumbers partner awaited first ⌝ }
+fn numbers_of(partner: u8, tally: Tally, awaited: u8, first: u8) -> Numbers
+    ensures { λ r. ⌜ r ≡ freshNumbers partner tally awaited first ⌝ }
 {
     let none = no_five();
     Numbers {
@@ -100,23 +101,29 @@ fn numbers_of(partner: u8, awaited: u8, first: u8) -> Numbers
             after_cr: false,
             len: 0,
         },
+        tally: tally,
     }
 }
 
 // The numbers right after an accepted open: the caller awaits the SID and says nothing, the called station says SID and prompt.
-fn fresh(caller: bool, partner: u8) -> Numbers
-    ensures { λ r. ⌜ wholeOf r (replicate arraysLen 0) ≡ freshOf caller partner ⌝ }
+fn fresh(caller: bool, partner: u8, tally: Tally) -> Numbers
+    ensures { λ r. ⌜ wholeOf r (replicate arraysLen 0) ≡ freshOf caller partner tally ⌝ }
 {
     if caller {
-        return numbers_of(partner, phase::CALLER_SID, phase::PIECE_NONE);
+        return numbers_of(partner, tally, phase::CALLER_SID, phase::PIECE_NONE);
     }
-    numbers_of(partner, phase::CALLED_SID, phase::PIECE_SID_AND_PROMPT)
+    numbers_of(
+        partner,
+        tally,
+        phase::CALLED_SID,
+        phase::PIECE_SID_AND_PROMPT,
+    )
 }
 
 // A fresh session into session memory.
-pub fn save_fresh(sm: &mut [u8], caller: bool, partner: u8)
+pub fn save_fresh(sm: &mut [u8], caller: bool, partner: u8, tally: Tally)
     requires { ⌜ length (now sm) ≡ sessionLen ⌝ }
-    ensures { λ _. ⌜ now (sm .exit) ≡ saveOf (now (sm .entry)) (freshOf caller partner) ⌝ }
+    ensures { λ _. ⌜ now (sm .exit) ≡ saveOf (now (sm .entry)) (freshOf caller partner tally) ⌝ }
 {
     let none = [0u8; places::ARRAYS_LENGTH];
     let _c = buffer::put(
@@ -127,5 +134,5 @@ pub fn save_fresh(sm: &mut [u8], caller: bool, partner: u8)
         },
         &none,
     );
-    numbers::save(sm, fresh(caller, partner));
+    numbers::save(sm, fresh(caller, partner, tally));
 }

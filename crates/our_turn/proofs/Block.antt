@@ -86,24 +86,6 @@ module _ (p : ℕ) (table : Bytes) (framed : Bool) (flags : List ℕ) (n : ℕ) 
   pub block-end : (i k b : ℕ) → n ≤ i → blockFrom i k b ≡ []
   block-end i k b h = rw (entries-end (recordOf [] [] []) recordSize table i n h)
 
--- bytes of an entry are bytes of the memory, so that a size has 32 bits
-take-small : (n : ℕ) (l : Bytes) → ((i : ℕ) → byteAt l i < 256) → (i : ℕ) → byteAt (take n l) i < 256
-take-small zero l h i = omega arith
-take-small (suc n) [] h i = omega arith
-take-small (suc n) (x ∷ l) h zero = h zero
-take-small (suc n) (x ∷ l) h (suc i) = take-small n l (λ k. h (suc k)) i
-
-entry-small : (size : ℕ) (s : Bytes) (j : ℕ) → ((i : ℕ) → byteAt s i < 256) → (i : ℕ) → byteAt (entryAt size s j) i < 256
-entry-small size s j h i = go (leb (j * size) (length s)) (leb size (length s - j * size))
-  where
-    go : (a b : Bool) → byteAt (cond a (cond b (take size (drop (j * size) s)) []) []) i < 256
-    go true true = take-small size (drop (j * size) s) (λ k. rw (getD-drop (j * size) s k 0) (h (j * size + k))) i
-    go true false = omega arith
-    go false b = omega arith
-
-pub size-small : (s : Bytes) (j at : ℕ) → ((i : ℕ) → byteAt s i < 256) → le4At (entryAt recordSize s j) at < 4294967296
-size-small s j at h = le4-small (entryAt recordSize s j) (entry-small recordSize s j h) at
-
 -- ---------------------------------------------------------------- the loop
 
 -- records are being chosen: those held, then what is chosen from record i on, are the whole; total has room for one size more

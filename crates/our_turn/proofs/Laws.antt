@@ -10,7 +10,7 @@ use Rattle.numbers.specs.Whole.{awaitOf}
 use Rattle.our_turn.specs.Turn.{chooseOf, Spoken, spoken, speaking, speakOf, Speaks}
 
 module _ (s : Numbers) (deferred table : Bytes) (ff : Bool) {places : Five} (f : places ≡ chooseOf (s .keep .terms .partner) table (s .keep .framed) deferred) where
-  pub speak-by : {w : AwaitNumbers} {y : Say} {r : Numbers} → r ≡ record { now = w; say = y; keep = s .keep; reader = s .reader; line = s .line }
+  pub speak-by : {w : AwaitNumbers} {y : Say} {r : Numbers} → r ≡ record { now = w; say = y; keep = s .keep; reader = s .reader; line = s .line; tally = s .tally }
       → ((block : Bytes) → spoken (awaitOf w block) y ≡ speaking places ff (awaitOf (s .now) block) (s .say)) → Speaks s deferred table ff r
   unfolding speakOf
   speak-by e h =
@@ -19,4 +19,5 @@ module _ (s : Numbers) (deferred table : Bytes) (ff : Bool) {places : Five} (f :
         keep = ap (λ (n : Numbers). n .keep) e;
         reader = ap (λ (n : Numbers). n .reader) e;
         line = ap (λ (n : Numbers). n .line) e;
+        tally = ap (λ (n : Numbers). n .tally) e;
       }

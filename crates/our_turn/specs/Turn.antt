@@ -46,3 +46,4 @@ pub record Speaks (s : Numbers) (deferred table : Bytes) (ff : Bool) (r : Number
   pub keep : r .keep ≡ s .keep
   pub reader : r .reader ≡ s .reader
   pub line : r .line ≡ s .line
+  pub tally : r .tally ≡ s .tally

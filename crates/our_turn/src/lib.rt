@@ -77,7 +77,7 @@ pub fn choose(partner: u8, table: &[u8], framed: bool, deferred: &[u8]) -> Five
 
 // The numbers with this awaited and this said.
 fn with_turn(s: Numbers, awaited: AwaitNumbers, say: Say) -> Numbers
-    ensures { λ r. ⌜ r ≡ record { now = awaited; say = say; keep = s .keep; reader = s .reader; line = s .line } ⌝ }
+    ensures { λ r. ⌜ r ≡ record { now = awaited; say = say; keep = s .keep; reader = s .reader; line = s .line; tally = s .tally } ⌝ }
 {
     let mut t = s;
     t.now = awaited;

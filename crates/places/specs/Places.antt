@@ -226,8 +226,30 @@ levelAt = blockSumAt + 1
 abbrev pub partnerAt : ℕ
 partnerAt = levelAt + 1
 
+-- what the front panel shows (02, Q-3): the records that wait and the sum of their announced sizes, then the tally sheet
+abbrev pub tallyWaitingAt : ℕ
+tallyWaitingAt = partnerAt + 1
+
+abbrev pub tallySizesAt : ℕ
+tallySizesAt = tallyWaitingAt + 1
+
+abbrev pub tallyProposedAt : ℕ
+tallyProposedAt = tallySizesAt + 4
+
+abbrev pub tallyForwardedAt : ℕ
+tallyForwardedAt = tallyProposedAt + 1
+
+abbrev pub tallyDeclinedAt : ℕ
+tallyDeclinedAt = tallyForwardedAt + 1
+
+abbrev pub tallyDeferredAt : ℕ
+tallyDeferredAt = tallyDeclinedAt + 1
+
+abbrev pub tallyUnsettledAt : ℕ
+tallyUnsettledAt = tallyDeferredAt + 1
+
 abbrev pub numbersEnd : ℕ
-numbersEnd = partnerAt + 1
+numbersEnd = tallyUnsettledAt + 1
 
 abbrev pub tailLen : ℕ
 tailLen = numbersEnd - tailAt

@@ -148,7 +148,22 @@ pub const LEVEL: usize = BLOCK_SUM + 1;
 
 pub const PARTNER: usize = LEVEL + 1;
 
-pub const NUMBERS_END: usize = PARTNER + 1;
+// What the front panel shows (02, Q-3): the records that wait and the sum of their announced sizes, then the tally sheet.
+pub const TALLY_WAITING: usize = PARTNER + 1;
+
+pub const TALLY_SIZES: usize = TALLY_WAITING + 1;
+
+pub const TALLY_PROPOSED: usize = TALLY_SIZES + 4;
+
+pub const TALLY_FORWARDED: usize = TALLY_PROPOSED + 1;
+
+pub const TALLY_DECLINED: usize = TALLY_FORWARDED + 1;
+
+pub const TALLY_DEFERRED: usize = TALLY_DECLINED + 1;
+
+pub const TALLY_UNSETTLED: usize = TALLY_DEFERRED + 1;
+
+pub const NUMBERS_END: usize = TALLY_UNSETTLED + 1;
 
 pub const NUMBERS_LENGTH: usize = NUMBERS_END - NUMBERS;
 

@@ -22,7 +22,7 @@ use Rattle.line_effect.specs.Judged.{Judged}
 use Rattle.line_effect.specs.Judge.{lineSum, judgeOf}
 use Rattle.line_effect.specs.Verdict.{judgedIn, betweenIn, Judges}
 use Rattle.line_effect.proofs.Kept.{Kept, judge-kept}
-use Rattle.receive_defined.specs.Receiving.{settled, refusedOf, spokenOf, markedBy, settleOf, lineMoved}
+use Rattle.receive_defined.specs.Receiving.{settled, refusedOf, spokenOf, markedBy, countedOf, settleOf, lineMoved}
 
 -- heading and line within what no line changes
 heading-in : (m : Bytes) → headingIn m ≡ take 80 (betweenIn m)
@@ -47,8 +47,8 @@ settle-frame s m e j afterCr table a b c = go (eqb (j .answer) 0) refl
     marked = markedBy j table
 
     go : (t : Bool) → eqb (j .answer) 0 ≡ t
-        → cond t (settled 0 (spokenOf (wholeOf s e) j afterCr marked) marked) (settled (j .answer) (refusedOf (j .answer) (wholeOf s e)) table)
-        ≡ cond t (settled 0 (spokenOf (wholeOf s m) j afterCr marked) marked) (settled (j .answer) (refusedOf (j .answer) (wholeOf s m)) table)
+        → cond t (settled 0 (countedOf (s .tally) j marked (spokenOf (wholeOf s e) j afterCr marked)) marked) (settled (j .answer) (refusedOf (j .answer) (wholeOf s e)) table)
+        ≡ cond t (settled 0 (countedOf (s .tally) j marked (spokenOf (wholeOf s m) j afterCr marked)) marked) (settled (j .answer) (refusedOf (j .answer) (wholeOf s m)) table)
     go true q = rw (a, b)
     go false q = let p = c (eqb-false (j .answer) 0 q) in rw (a, b, p .0, p .1)
 

@@ -1,3 +1,4 @@
 -- What receive does to lent memory.
+pub mod Tallied
 pub mod Receiving
 pub mod Portion

@@ -18,12 +18,14 @@ use Rattle.transfer_step.specs.declared.Outcome.the-variants.{More, Whole, Malf
 use Rattle.transfer_step.specs.Step.{outcomeNumber, stepOf}
 use Rattle.transfer_read.specs.Feed.{headingPut, storePut, roomOf}
 use Rattle.session_memory.specs.State.{at, held, loadOf, saveOf}
-use Rattle.session_memory.specs.Setters.{withFirst, withThen, withPos, withKept, withReader, withBytes, withAfterCr, withNow, withSay, withKeep, withReading, withLine}
+use Rattle.session_memory.specs.Setters.{withFirst, withThen, withPos, withKept, withReader, withBytes, withAfterCr, withNow, withSay, withKeep, withReading, withLine, withTally}
 use Rattle.session_memory.specs.Session.{Await}
 use Rattle.session_memory.specs.declared.Say.{Say}
 use Rattle.session_memory.specs.Session.{Keep}
 use Rattle.session_memory.specs.Session.{Session}
 use Rattle.marking.specs.States.{markAll}
+use Rattle.session_memory.specs.declared.Tally.{Tally}
+use Rattle.receive_defined.specs.Tallied.{talliedOf}
 use Rattle.line_effect.specs.Judge.{noMarks, judged, inPhase, toTransfer, nextAccepted, readerFor, lineSum, judgeOf}
 use Rattle.our_turn.specs.Turn.{speakOf}
 use Rattle.line_effect.specs.Judged.{Judged}
@@ -82,11 +84,15 @@ settled n s table = record { answer = n; session = s; table = table }
 abbrev pub markedBy : Judged → Bytes → Bytes
 markedBy j table = markAll (j .keep .terms .partner) (held (j .marks .places)) (j .marks .state) table
 
--- Marks first, then our turn.
+-- s after our turn, if it is, with what that and the marks count.
+abbrev pub countedOf : Tally → Judged → Bytes → Session → Session
+countedOf t j table s = withTally (talliedOf t j (s .now) table) s
+
+-- Marks first, then our turn; both are counted.
 unfoldable pub settleOf : Session → Judged → Bool → Bytes → Settled
 settleOf s j afterCr table =
     cond (eqb (j .answer) 0)
-    (settled 0 (spokenOf s j afterCr (markedBy j table)) (markedBy j table))
+    (settled 0 (countedOf (s .tally) j (markedBy j table) (spokenOf s j afterCr (markedBy j table))) (markedBy j table))
     (settled (j .answer) (refusedOf (j .answer) s) table)
 
 -- ---------------------------------------------------------------- a byte of a line

@@ -32,8 +32,11 @@ use Rattle.waiting.specs.Waiting.{firstText, thenText, sendingText}
 use Rattle.receive_defined.specs.Receiving.{cs}
 use Rattle.marking.specs.States.{markAll}
 use Rattle.form_closed.specs.Fixed.{Fixed}
-use Rattle.represents.specs.Represents.{Represents, Holds}
-use Rattle.represents.proofs.Table.{picked-accepted, zerosAfter}
+use Rattle.represents.specs.Represents.{Standing, Holds}
+use Rattle.mail.specs.Tally.{declinedOnes, deferredOnes, moreDeclined, moreDeferred}
+use Rattle.sheet.specs.Sheet.{byteRange}
+use Rattle.represents.proofs.Tallied.{counting-quiet}
+use Rattle.represents.proofs.Table.{picked-accepted, picked-declined, picked-deferred, picked-few, zerosAfter}
 use Rattle.represents.proofs.Says.{first-nothing, then-nothing, sending-text}
 use Rattle.represents.proofs.Parts.{Ready, no-entries}
 use Rattle.represents.proofs.Settle.{holds-answer, left, settled-is}
@@ -50,11 +53,11 @@ read-signs v n ln few = ap (λ (c : Bool). zeroed (signBytes (cond c none (readF
 module _ (F : Fixed) (E : Shelf) (s : Session) (a : Bool) (i st : Bytes)
     (w : Await) (y : Say) (k : Keep) (r : Reader) (t : Bytes) (m : Memory) (ready : Ready F E (s .reading .heading) i st w y k t m) where
   abbrev Lead : Judged → Outcome → Type 0
-  Lead j o = Leads F E s a i st (k .kept) (k .used) t j o
+  Lead j o = Leads F E s a i st (k .kept) (k .used) t (k .terms .partner) m j o
 
   -- the transfers of the records at these places wait, if there are any
   sending-law : (is fl : List ℕ) (u : Bytes) (m′ : Memory) → Holds F E (sends (fiveOf is) fl k) u i st m′
-      → Represents F E (cs (left F E s a i st (toTurn false w) (transfersAfter (fiveOf is) y) (sends (fiveOf is) fl k) r) u i st)
+      → Standing F E (cs (left F E s a i st (toTurn false w) (transfersAfter (fiveOf is) y) (sends (fiveOf is) fl k) r) u i st)
       (settle.after F E s a i st (on-lists.newTurn false) m′ (transfersText (E .table) is))
   unfolding transfersText thenText
   sending-law [] fl u m′ h =
@@ -63,7 +66,7 @@ module _ (F : Fixed) (E : Shelf) (s : Session) (a : Bool) (i st : Bytes)
       ∙ then-nothing (y .then) (w .ours) (fiveOf []) u (F .titles) (F .names) (F .bodies) (ready .then))
       (refl, (refl, no-proposals (w .block), refl))
   sending-law (j ∷ is) fl u m′ h =
-      subst (λ (c : Bool). Represents F E (cs (left F E s a i st (toTurn false w) (cond c (saysThen 4 y) y) (sends (fiveOf (j ∷ is)) fl k) r) u i st)
+      subst (λ (c : Bool). Standing F E (cs (left F E s a i st (toTurn false w) (cond c (saysThen 4 y) y) (sends (fiveOf (j ∷ is)) fl k) r) u i st)
       (settle.after F E s a i st (on-lists.newTurn false) m′ (transfersText (E .table) (j ∷ is))))
       (sym (lt-ltb 0 (suc (length is)) (omega arith)))
       (settled-is F E s a i st (toTurn false w) (saysThen 4 y) (sends (fiveOf (j ∷ is)) fl k) r u (on-lists.newTurn false) m′ (transfersText (E .table) (j ∷ is))
@@ -84,15 +87,27 @@ module _ (F : Fixed) (E : Shelf) (s : Session) (a : Bool) (i st : Bytes)
         refl,
         refl,
         refl,
-        subst
-            (λ (js : List ℕ). Represents F E
-            (cs (left F E s a i st (toTurn false w) (transfersAfter (fiveOf (picked 43 is zs)) y) (sends (fiveOf (picked 43 is zs)) (flagged (picked 61 is zs) (k .deferred)) k) r)
-            (markAll (k .terms .partner) (held (fiveOf (picked 45 is zs))) 2 t) i st)
-            (settle.after F E s a i st (on-lists.newTurn false) (on-lists.answerMarks is ss m) (transfersText (E .table) js)))
-            (picked-accepted is ss z)
-            (sending-law (picked 43 is zs) (flagged (picked 61 is zs) (k .deferred)) (markAll (k .terms .partner) (held (fiveOf (picked 45 is zs))) 2 t) (on-lists.answerMarks is ss m)
-            (holds-answer F E k t i st m (ready .holds) is ss z idle)),
+        (
+          subst
+              (λ (js : List ℕ). Standing F E
+              (cs (left F E s a i st (toTurn false w) (transfersAfter (fiveOf (picked 43 is zs)) y) (sends (fiveOf (picked 43 is zs)) (flagged (picked 61 is zs) (k .deferred)) k) r)
+              (markAll (k .terms .partner) (held (fiveOf (picked 45 is zs))) 2 t) i st)
+              (settle.after F E s a i st (on-lists.newTurn false) (on-lists.answerMarks is ss m) (transfersText (E .table) js)))
+              (picked-accepted is ss z)
+              (sending-law (picked 43 is zs) (flagged (picked 61 is zs) (k .deferred)) (markAll (k .terms .partner) (held (fiveOf (picked 45 is zs))) 2 t) (on-lists.answerMarks is ss m)
+              (holds-answer F E k t i st m (ready .holds) is ss z idle)),
+          counting-quiet k m (on-lists.answerMarks is ss m) (answerTaken zs w y k r) (toTurn false w) refl (counted is ss z) (few 45 zs) (few 61 zs) refl,
+        ),
       )
+    where
+      counted : (is : List ℕ) (ss : List Sign) (z : ℕ) → moreDeferred (length (deferredOnes ss is)) (moreDeclined (length (declinedOnes ss is)) (m .counts))
+          ≡ moreDeferred (length (picked 61 is (zerosAfter ss z))) (moreDeclined (length (picked 45 is (zerosAfter ss z))) (m .counts))
+      counted is ss z =
+          ap (λ (l : List ℕ). moreDeferred (length l) (moreDeclined (length (declinedOnes ss is)) (m .counts))) (sym (picked-deferred is ss z))
+          ∙ ap (λ (l : List ℕ). moreDeferred (length (picked 61 is (zerosAfter ss z))) (moreDeclined (length l) (m .counts))) (sym (picked-declined is ss z))
+
+      few : (c : ℕ) (zs : List ℕ) → length (picked c (held (w .ours)) zs) ≤ byteRange
+      few c zs = omega (arith, picked-few c (held (w .ours)) zs, held-length (w .ours) (ready .now .ours), ready .now .ours .few)
 
   -- THE FS LINE, to as many proposals as we made
   pub fs-law : (ln : Bytes) → k .sending .count ≡ 0

@@ -117,6 +117,7 @@ module _ (F : Fixed) (E : Shelf) {nt ni ns : ℕ} (c : Cs) (g : Good F nt ni ns 
           awaits = awaits-line (v .phase) (c .session) (c .table) (c .inbox) (c .store) (lfDropped (c .session) .line) (h .awaits);
           part = h .part;
           afterCr = refl;
+          tally = h .tally;
         };
         spared = record { inbox = kept-same _ _ (c .inbox) (omega arith); store = kept-same _ _ (c .store) (omega arith) };
       }

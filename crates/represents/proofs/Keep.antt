@@ -40,6 +40,7 @@ use Rattle.represents.proofs.Says.{first-nothing, then-nothing}
 use Rattle.form_closed.proofs.Waiting.{waits-none}
 use Rattle.represents.proofs.Settle.{Settles, settled-is, our-turn-law}
 use Rattle.represents.proofs.Leads.{Settling, Goes, goes-speaking, settle-goes}
+use Rattle.represents.proofs.Tallied.{counting-quiet}
 use Rattle.represents.proofs.Line.{await-transfer}
 use Rattle.represents.proofs.Transfer.{behind, behind′, store′, heading′, s′, stepped, behind-back, store-kept, holds′}
 use Rattle.form_closed.specs.Facts.{Good, Under}
@@ -159,16 +160,16 @@ module _ (F : Fixed) (E : Shelf) {nt ni ns : ℕ} (c : Cs) (g : Good F nt ni ns 
   then = (waits-none (c .session .say) quiet) .1
 
   abbrev Next : Judged → Outcome → Type 0
-  Next j o = Goes F E u (isPlainAt u) inbox′ st (u .keep .kept + 1) (u .keep .used + n) (c .table) j o
+  Next j o = Goes F E u (isPlainAt u) inbox′ st (u .keep .kept + 1) (u .keep .used + n) (c .table) (u .keep .terms .partner) (v .memory) j o
 
   next-law : (l : List Proposal) (j : ℕ)
       → Found (drop (suc (u .now .current)) (held (u .say .signs))) (drop (suc (u .now .current)) (proposalsOf (u .now .block) (u .now .proposals))) (suc (u .now .current)) j l
       → Next (nextJudged u j) (on-lists.nextTransfer E l m′)
   next-law [] j found =
       subst (λ (x : ℕ). Next (nextJudged u x) (on-lists.ourTurn E [] false m′)) (sym found)
-      (goes-speaking F E u (isPlainAt u) inbox′ st (u .keep .kept + 1) (u .keep .used + n) (c .table) noMarks (u .now) (u .say) (keptKeep u) (u .reading .reader) refl refl false
+      (goes-speaking F E u (isPlainAt u) inbox′ st (u .keep .kept + 1) (u .keep .used + n) (c .table) (u .keep .terms .partner) (v .memory) noMarks (u .now) (u .say) (keptKeep u) (u .reading .reader) refl refl refl (omega arith) (omega arith) false
       (on-lists.ourTurn E [] false m′)
-      (subst (λ (o : Bytes). Settles F E u (isPlainAt u) inbox′ st (speakOf (u .now) (u .say) (keptKeep u) (c .table) false .now) (speakOf (u .now) (u .say) (keptKeep u) (c .table) false .say)
+      (subst (λ (o : Bytes). Settles F E u (isPlainAt u) inbox′ st (m′ .counts) (speakOf (u .now) (u .say) (keptKeep u) (c .table) false .now) (speakOf (u .now) (u .say) (keptKeep u) (c .table) false .say)
       (keptKeep u) (u .reading .reader) (c .table) (on-lists.ourTurn E o false m′)) (first-nothing (u .say .first) (u .say .signs) first)
       (our-turn-law F E u (isPlainAt u) inbox′ st (u .now) (u .say) (keptKeep u) (u .reading .reader) (c .table) m′ (h .entries) holds″ false)))
   next-law (q ∷ qs) j found =
@@ -180,11 +181,14 @@ module _ (F : Fixed) (E : Shelf) {nt ni ns : ℕ} (c : Cs) (g : Good F nt ni ns 
         refl,
         refl,
         refl,
-        settled-is F E u (isPlainAt u) inbox′ st (toTransfer j (u .now)) (u .say) (keptKeep u) (readerFor (u .now) j) (c .table) (on-lists.awaitsTransfer q qs (scanFrom (q .form))) m′ []
-            (h .entries) holds″
-            (ap (λ (l : Bytes). l ++ thenText (u .say .then) (u .now .ours) (u .keep .sending) (c .table) (F .titles) (F .names) (F .bodies)) (first-nothing (u .say .first) (u .say .signs) first)
-            ∙ then-nothing (u .say .then) (u .now .ours) (u .keep .sending) (c .table) (F .titles) (F .names) (F .bodies) then)
-            (await-transfer F E u (isPlainAt u) inbox′ st (u .now) (u .say) (keptKeep u) (c .table) j q qs (h .entries) (g .say .signs) (k .array) o),
+        (
+          settled-is F E u (isPlainAt u) inbox′ st (toTransfer j (u .now)) (u .say) (keptKeep u) (readerFor (u .now) j) (c .table) (on-lists.awaitsTransfer q qs (scanFrom (q .form))) m′ []
+              (h .entries) holds″
+              (ap (λ (l : Bytes). l ++ thenText (u .say .then) (u .now .ours) (u .keep .sending) (c .table) (F .titles) (F .names) (F .bodies)) (first-nothing (u .say .first) (u .say .signs) first)
+              ∙ then-nothing (u .say .then) (u .now .ours) (u .keep .sending) (c .table) (F .titles) (F .names) (F .bodies) then)
+              (await-transfer F E u (isPlainAt u) inbox′ st (u .now) (u .say) (keptKeep u) (c .table) j q qs (h .entries) (g .say .signs) (k .array) o),
+          counting-quiet (u .keep) (v .memory) m′ (judged 0 0 noMarks (toTransfer j (u .now)) (u .say) (keptKeep u) (readerFor (u .now) j)) (toTransfer j (u .now)) refl refl (omega arith) (omega arith) refl,
+        ),
       )
 
   -- THE MESSAGE KEPT, at its last byte
@@ -193,7 +197,7 @@ module _ (F : Fixed) (E : Shelf) {nt ni ns : ℕ} (c : Cs) (g : Good F nt ni ns 
   unfolding keepOf nextAccepted
   keep-law =
       subst (λ (x : Bool). Settling F E inbox′ st (u .keep .kept + 1) (u .keep .used + n) (c .table) (keepOf u (c .table)) (on-lists.settled v x (on-lists.nextTransfer E ps m′))) plain
-      (settle-goes F E u (isPlainAt u) inbox′ st (u .keep .kept + 1) (u .keep .used + n) (c .table) v (nextJudged u (nextAccepted (u .say .signs) (u .now .current + 1))) (on-lists.nextTransfer E ps m′)
+      (settle-goes F E u (isPlainAt u) inbox′ st (u .keep .kept + 1) (u .keep .used + n) (c .table) (u .keep .terms .partner) (v .memory) (h .tally) (h .holds .states) v (nextJudged u (nextAccepted (u .say .signs) (u .now .current + 1))) (on-lists.nextTransfer E ps m′)
       (subst (λ (x : ℕ). Next (nextJudged u (plusFrom x (drop x (held (u .say .signs))))) (on-lists.nextTransfer E ps m′)) (sym (add-one (u .now .current)))
       (next-law ps (plusFrom (suc (u .now .current)) (drop (suc (u .now .current)) (held (u .say .signs))))
       (subst (λ (l : List Proposal). Found (drop (suc (u .now .current)) (held (u .say .signs))) (drop (suc (u .now .current)) (proposalsOf (u .now .block) (u .now .proposals))) (suc (u .now .current))

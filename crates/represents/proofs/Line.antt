@@ -4,7 +4,7 @@ use mathlib.Core.Path.{_≡_, refl, sym, ap, _∙_, subst}
 use mathlib.Core.Bool.{Bool, true, false, cond}
 use mathlib.Core.Option.{Option, none, some}
 use mathlib.Core.List.{List, [], _∷_, _++_, map, append-nil}
-use Prim.Native.Nat.{ℕ, zero, suc, _+_, _%_}
+use Prim.Native.Nat.{ℕ, zero, suc, _+_, _%_, _≤_}
 use native.Mathlib.Omega.{arith}
 use lib.Dec.{eqb, ltb}
 use lib.ListN.{length, drop, length-map}
@@ -57,7 +57,11 @@ use Rattle.represents.proofs.Parts.{Ready, no-entries}
 use Rattle.represents.proofs.Settle.{holds-turn, holds-sid, left, settled-is, our-turn-law, Settles}
 use Rattle.represents.proofs.Leads.{marking, Leads, goes-leads, goes-speaking}
 use Rattle.form_closed.specs.Facts.{FiveOk}
-use Rattle.form_closed.proofs.Laws.{five-of, signs-octets}
+use Rattle.form_closed.proofs.Laws.{five-of, signs-octets, held-length}
+use Rattle.mail.specs.Tally.{Counts, moreForwarded}
+use Rattle.sheet.specs.Sheet.{byteRange}
+use Rattle.represents.specs.Tallies.{countsMarked}
+use Rattle.represents.proofs.Tallied.{counting-quiet}
 
 -- THE SUM OF THE PROPOSAL LINES so far, and with one line more
 sum-append : (x y : Bytes) → byteSum (x ++ y) ≡ byteSum x + byteSum y
@@ -87,7 +91,7 @@ module _ (F : Fixed) (E : Shelf) (s : Session) (a : Bool) (i st : Bytes) where
 
   module _ (w : Await) (y : Say) (k : Keep) (r : Reader) (t : Bytes) (m : Memory) (ready : Ready F E (s .reading .heading) i st w y k t m) where
     abbrev Lead : Judged → Outcome → Type 0
-    Lead j o = Leads F E s a i st (k .kept) (k .used) t j o
+    Lead j o = Leads F E s a i st (k .kept) (k .used) t (k .terms .partner) m j o
 
     b : Entries (w .block) (w .proposals)
     b = ready .entries
@@ -107,27 +111,39 @@ module _ (F : Fixed) (E : Shelf) (s : Session) (a : Bool) (i st : Bytes) where
 
     -- nothing is said
     pub went-on : (w′ : Await) (k′ : Keep) (p : Phase) (m′ : Memory) → Entries (w′ .block) (w′ .proposals) → Holds F E k′ t i st m′
-        → k′ .kept ≡ k .kept → k′ .used ≡ k .used → Awaits (cs (left F E s a i st w′ y k′ r) t i st) p → Lead (wentOn w′ y k′ r) (goesOn p m′ [])
-    went-on w′ k′ p m′ b′ h′ same spent await = (
+        → k′ .kept ≡ k .kept → k′ .used ≡ k .used → k′ .terms .partner ≡ k .terms .partner → m′ .counts ≡ m .counts → Awaits (cs (left F E s a i st w′ y k′ r) t i st) p
+        → Lead (wentOn w′ y k′ r) (goesOn p m′ [])
+    went-on w′ k′ p m′ b′ h′ same spent column counts await = (
       refl,
       same,
       spent,
-      settled-is F E s a i st w′ y k′ r t p m′ [] b′ h′
-          (ap (λ (l : Bytes). l ++ thenText (y .then) (w′ .ours) (k′ .sending) t (F .titles) (F .names) (F .bodies)) nothing
-          ∙ then-nothing (y .then) (w′ .ours) (k′ .sending) t (F .titles) (F .names) (F .bodies) (ready .then))
-          await,
+      (
+        settled-is F E s a i st w′ y k′ r t p m′ [] b′ h′
+            (ap (λ (l : Bytes). l ++ thenText (y .then) (w′ .ours) (k′ .sending) t (F .titles) (F .names) (F .bodies)) nothing
+            ∙ then-nothing (y .then) (w′ .ours) (k′ .sending) t (F .titles) (F .names) (F .bodies) (ready .then))
+            await,
+        counting-quiet k m m′ (wentOn w′ y k′ r) w′ refl counts (omega arith) (omega arith) column,
+      ),
     )
 
     -- our turn, after o
     speaks : (ff : Bool) (mk : Marks) (y′ : Say) (k′ : Keep) (m′ : Memory) (o : Bytes) → Holds F E k′ (marking k′ mk t) i st m′
-        → k′ .kept ≡ k .kept → k′ .used ≡ k .used → firstText (y′ .first) (y′ .signs) ≡ o
-        → Lead (judged 0 (cond ff 2 1) mk w y′ k′ r) (on-lists.ourTurn E o ff m′)
-    speaks ff mk y′ k′ m′ o h′ same spent said =
+        → k′ .kept ≡ k .kept → k′ .used ≡ k .used → k′ .terms .partner ≡ k .terms .partner → m′ .counts ≡ countsMarked mk (m .counts) → mk .places .count ≤ byteRange → mk .deferred ≤ byteRange
+        → firstText (y′ .first) (y′ .signs) ≡ o → Lead (judged 0 (cond ff 2 1) mk w y′ k′ r) (on-lists.ourTurn E o ff m′)
+    speaks ff mk y′ k′ m′ o h′ same spent column counts few less said =
         let u = marking k′ mk t in
-        goes-leads F E s a i st (k .kept) (k .used) t (judged 0 (cond ff 2 1) mk w y′ k′ r) (on-lists.ourTurn E o ff m′)
-        (goes-speaking F E s a i st (k .kept) (k .used) t mk w y′ k′ r same spent ff (on-lists.ourTurn E o ff m′)
-        (subst (λ (x : Bytes). Settles F E s a i st (speakOf w y′ k′ u ff .now) (speakOf w y′ k′ u ff .say) k′ r u (on-lists.ourTurn E x ff m′)) said
-        (our-turn-law F E s a i st w y′ k′ r u m′ b h′ ff)))
+        goes-leads F E s a i st (k .kept) (k .used) t (k .terms .partner) m (judged 0 (cond ff 2 1) mk w y′ k′ r) (on-lists.ourTurn E o ff m′)
+        (goes-speaking F E s a i st (k .kept) (k .used) t (k .terms .partner) m mk w y′ k′ r same spent column few less ff (on-lists.ourTurn E o ff m′)
+        (subst (λ (x : Counts). Settles F E s a i st x (speakOf w y′ k′ u ff .now) (speakOf w y′ k′ u ff .say) k′ r u (on-lists.ourTurn E o ff m′)) counts
+        (subst (λ (x : Bytes). Settles F E s a i st (m′ .counts) (speakOf w y′ k′ u ff .now) (speakOf w y′ k′ u ff .say) k′ r u (on-lists.ourTurn E x ff m′)) said
+        (our-turn-law F E s a i st w y′ k′ r u m′ b h′ ff))))
+
+    -- what was being sent is counted as forwarded
+    few : k .sending .count ≤ byteRange
+    few = omega (arith, ready .keep .sending .few)
+
+    turn-counts : on-lists.turnMarks m .counts ≡ countsMarked (judge.turnMarks k) (m .counts)
+    turn-counts = ap (λ (n : ℕ). moreForwarded n (m .counts)) (ap length (sym (h .sending)) ∙ held-length (k .sending) (ready .keep .sending))
 
     -- ---------------------------------------------------------------- SID and text lines
 
@@ -136,10 +152,10 @@ module _ (F : Fixed) (E : Shelf) (s : Session) (a : Bool) (i st : Bytes) where
     sid-law caller e (some fs) = go (hasFeature 5 fs)
       where
         mode : (c : Bool) → Lead (wentOn (cond c (inPhase 2 w) (toTurn false w)) y (judge.inMode (framed fs) (levelInForce fs) k) r) (goesOn (on-lists.afterSid c) (on-lists.withSid fs m) [])
-        mode true = went-on (inPhase 2 w) (judge.inMode (framed fs) (levelInForce fs) k) (on-lists.aLine on-lists.awaitsPrompt) (on-lists.withSid fs m) b (holds-sid F E k t i st m h fs) refl refl (refl, tt)
+        mode true = went-on (inPhase 2 w) (judge.inMode (framed fs) (levelInForce fs) k) (on-lists.aLine on-lists.awaitsPrompt) (on-lists.withSid fs m) b (holds-sid F E k t i st m h fs) refl refl refl refl (refl, tt)
         mode false =
             went-on (toTurn false w) (judge.inMode (framed fs) (levelInForce fs) k) (on-lists.newTurn false) (on-lists.withSid fs m) (no-entries (w .block))
-            (holds-sid F E k t i st m h fs) refl refl (refl, (refl, no-proposals (w .block), refl))
+            (holds-sid F E k t i st m h fs) refl refl refl refl (refl, (refl, no-proposals (w .block), refl))
 
         go : (c : Bool)
             → Lead (cond c (wentOn (judge.afterSid w) y (judge.inMode (framed fs) (levelInForce fs) k) r) (refusal noForwarding w y k r))
@@ -152,8 +168,8 @@ module _ (F : Fixed) (E : Shelf) (s : Session) (a : Bool) (i st : Bytes) where
     pub text-law : w .phase ≡ 2 → (c : Bool)
         → Lead (cond c (judged 0 1 noMarks w (saysFirst 2 y) k r) (wentOn w y k r)) (on-lists.textJudged E c m)
     unfolding firstText
-    text-law e true = speaks false noMarks (saysFirst 2 y) k m (withCr (fixedText ourSid)) h refl refl refl
-    text-law e false = went-on w k (on-lists.aLine on-lists.awaitsPrompt) m b h refl refl (e, tt)
+    text-law e true = speaks false noMarks (saysFirst 2 y) k m (withCr (fixedText ourSid)) h refl refl refl refl (omega arith) (omega arith) refl
+    text-law e false = went-on w k (on-lists.aLine on-lists.awaitsPrompt) m b h refl refl refl refl (e, tt)
 
     -- ---------------------------------------------------------------- FF, FQ and proposals
 
@@ -166,7 +182,7 @@ module _ (F : Fixed) (E : Shelf) (s : Session) (a : Bool) (i st : Bytes) where
             → Lead (cond (eqb n 0) (cond ff (refusal lineNotAllowed w y k r) (judged 0 2 (judge.turnMarks k) w y (judge.settledKeep k) r)) (refusal lineNotAllowed w y k r))
             (on-lists.turnJudged E saysFF ff (proposalsOf (w .block) n) lines raw m)
         go zero true = (refl, refl)
-        go zero false = speaks true (judge.turnMarks k) y (judge.settledKeep k) (on-lists.turnMarks m) [] (holds-turn F E k t i st m h) refl refl nothing
+        go zero false = speaks true (judge.turnMarks k) y (judge.settledKeep k) (on-lists.turnMarks m) [] (holds-turn F E k t i st m h) refl refl refl turn-counts few (omega arith) nothing
         go (suc n) ff = rw (ne-eqb (suc n) 0 (λ e. omega arith)) (refl, refl)
 
     pub fq-law : (lines raw : Bytes) → Lead (fqLine w y k r) (on-lists.turnJudged E saysFQ (w .ff) (proposalsOf (w .block) (w .proposals)) lines raw m)
@@ -176,7 +192,7 @@ module _ (F : Fixed) (E : Shelf) (s : Session) (a : Bool) (i st : Bytes) where
         go : (n : ℕ) (ff : Bool)
             → Lead (cond (eqb n 0) (cond ff (wentOn (inPhase 7 w) y k r) (refusal lineNotAllowed w y k r)) (refusal lineNotAllowed w y k r))
             (on-lists.turnJudged E saysFQ ff (proposalsOf (w .block) n) lines raw m)
-        go zero true = went-on (inPhase 7 w) k on-lists.over m b h refl refl (omega arith)
+        go zero true = went-on (inPhase 7 w) k on-lists.over m b h refl refl refl refl (omega arith)
         go zero false = (refl, refl)
         go (suc n) ff = rw (ne-eqb (suc n) 0 (λ e. omega arith)) (refl, refl)
 
@@ -196,7 +212,7 @@ module _ (F : Fixed) (E : Shelf) (s : Session) (a : Bool) (i st : Bytes) where
         go true f =
             let l = ltb-true (w .proposals) 5 f in
             went-on (withProposal q (lineSum raw) w) k (on-lists.aLine (on-lists.awaitsTurn (w .ff) (proposalsOf (w .block) (w .proposals) ++ (q ∷ [])) (lines ++ withCr raw))) m
-            (entries-more (w .block) (w .proposals) (ready .now .block) l q fits b) h refl refl (e, (refl, proposals-more (w .block) (w .proposals) (ready .now .block) l q fits, sum-on lines raw (w .sum) z))
+            (entries-more (w .block) (w .proposals) (ready .now .block) l q fits b) h refl refl refl refl (e, (refl, proposals-more (w .block) (w .proposals) (ready .now .block) l q fits, sum-on lines raw (w .sum) z))
         go false f = (refl, refl)
 
     -- ---------------------------------------------------------------- F>
@@ -220,7 +236,7 @@ module _ (F : Fixed) (E : Shelf) (s : Session) (a : Bool) (i st : Bytes) where
           → Lead (judge.answered signs j w y k r) (on-lists.answering E ss l (on-lists.turnMarks m))
       answered-law [] j found =
           subst (λ (n : ℕ). Lead (judge.answered signs n w y k r) (on-lists.answering E ss [] (on-lists.turnMarks m))) (sym found)
-          (speaks false (judge.turnMarks k) said (judge.settledKeep k) (on-lists.turnMarks m) (withCr (fsLine ss)) (holds-turn F E k t i st m h) refl refl fs-said)
+          (speaks false (judge.turnMarks k) said (judge.settledKeep k) (on-lists.turnMarks m) (withCr (fsLine ss)) (holds-turn F E k t i st m h) refl refl refl turn-counts few (omega arith) fs-said)
       answered-law (p ∷ qs) j found =
           let o = owing signs (w .block) (w .proposals) signs-ok (length-map ss writeSign ∙ one) 0 j p qs found in
           let out : Outcome = goesOn (on-lists.awaitsTransfer p qs (scanFrom (p .form))) (on-lists.turnMarks m) (withCr (fsLine ss)) in
@@ -230,11 +246,14 @@ module _ (F : Fixed) (E : Shelf) (s : Session) (a : Bool) (i st : Bytes) where
             refl,
             refl,
             refl,
-            settled-is F E s a i st (toTransfer j w) said (judge.settledKeep k) (readerFor w j) forwarded (on-lists.awaitsTransfer p qs (scanFrom (p .form))) (on-lists.turnMarks m) (withCr (fsLine ss))
-                b (holds-turn F E k t i st m h)
-                (ap (λ (x : Bytes). x ++ thenText (y .then) (w .ours) noFive forwarded (F .titles) (F .names) (F .bodies)) fs-said
-                ∙ ap (λ (x : Bytes). withCr (fsLine ss) ++ x) (nothing-then noFive forwarded) ∙ append-nil (withCr (fsLine ss)))
-                (await-transfer w said (judge.settledKeep k) forwarded j p qs b signs-ok (ready .heading) o),
+            (
+              settled-is F E s a i st (toTransfer j w) said (judge.settledKeep k) (readerFor w j) forwarded (on-lists.awaitsTransfer p qs (scanFrom (p .form))) (on-lists.turnMarks m) (withCr (fsLine ss))
+                  b (holds-turn F E k t i st m h)
+                  (ap (λ (x : Bytes). x ++ thenText (y .then) (w .ours) noFive forwarded (F .titles) (F .names) (F .bodies)) fs-said
+                  ∙ ap (λ (x : Bytes). withCr (fsLine ss) ++ x) (nothing-then noFive forwarded) ∙ append-nil (withCr (fsLine ss)))
+                  (await-transfer w said (judge.settledKeep k) forwarded j p qs b signs-ok (ready .heading) o),
+              counting-quiet k m (on-lists.turnMarks m) (judged 0 0 (judge.turnMarks k) (toTransfer j w) said (judge.settledKeep k) (readerFor w j)) (toTransfer j w) refl turn-counts few (omega arith) refl,
+            ),
           )
 
     -- our answers on lent memory are those on lists

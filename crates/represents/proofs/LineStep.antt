@@ -46,7 +46,7 @@ line-below (on-lists.awaitsAnswer is) = omega arith
 
 -- the same session with another line
 abbrev pub withLine : Line → Session → Session
-withLine l s = record { now = s .now; say = s .say; keep = s .keep; reading = s .reading; line = l }
+withLine l s = record { now = s .now; say = s .say; keep = s .keep; reading = s .reading; line = l; tally = s .tally }
 
 pub awaits-line : (p : Phase) (s : Session) (t i st : Bytes) (l : Line) → Awaits (cs s t i st) p → Awaits (cs (withLine l s) t i st) p
 awaits-line (on-lists.aLine a) s t i st l h = h
@@ -67,11 +67,11 @@ module _ (F : Fixed) (E : Shelf) {nt ni ns : ℕ} (c : Cs) (g : Good F nt ni ns 
   m = v .memory
 
   abbrev Lead : Judged → Outcome → Type 0
-  Lead j o = Leads F E s true (c .inbox) (c .store) (s .keep .kept) (s .keep .used) (c .table) j o
+  Lead j o = Leads F E s true (c .inbox) (c .store) (s .keep .kept) (s .keep .used) (c .table) (s .keep .terms .partner) m j o
 
   ready : Ready F E (s .reading .heading) (c .inbox) (c .store) (s .now) (s .say) (s .keep) (c .table) m
   ready =
-      record { now = g .now; heading = g .heading .size; entries = h .entries; holds = h .holds; first = (waits-none (s .say) quiet) .0; then = (waits-none (s .say) quiet) .1 }
+      record { now = g .now; heading = g .heading .size; entries = h .entries; keep = g .keep; holds = h .holds; first = (waits-none (s .say) quiet) .0; then = (waits-none (s .say) quiet) .1 }
 
   -- ---------------------------------------------------------------- the line judged
 
@@ -114,7 +114,7 @@ module _ (F : Fixed) (E : Shelf) {nt ni ns : ℕ} (c : Cs) (g : Good F nt ni ns 
             (cond x (goesOn (on-lists.aLine a) m []) (on-lists.awaitedJudged E a m raw))
         go true =
             went-on F E s true (c .inbox) (c .store) (s .now) (s .say) (s .keep) (s .reading .reader) (c .table) m ready (s .now) (s .keep) (on-lists.aLine a) m
-            (h .entries) (h .holds) refl refl w
+            (h .entries) (h .holds) refl refl refl refl w
         go false = subst (λ (q : ℕ). Lead (judgedIn q) (on-lists.awaitedJudged E a m raw)) (sym (w .0)) (read-law a w)
 
   -- ---------------------------------------------------------------- a byte
@@ -148,7 +148,7 @@ module _ (F : Fixed) (E : Shelf) {nt ni ns : ℕ} (c : Cs) (g : Good F nt ni ns 
       subst
       (λ (w : Bytes). Moves (lineMoved ends s b (c .table) (F .known) (c .inbox) (length (c .store))) (on-lists.settled v true (on-lists.lineJudged E a m w)))
       (h .part)
-      (settle-law F E s true (c .inbox) (c .store) (s .keep .kept) (s .keep .used) (c .table) v refl refl (λ n. refuse-law F E c v n h)
+      (settle-law F E s true (c .inbox) (c .store) (s .keep .kept) (s .keep .used) (c .table) (s .keep .terms .partner) m (h .tally) (h .holds .states) v refl refl (λ n. refuse-law F E c v n h)
       (judgeOf (trim (take (s .line .len) (s .line .bytes))) (lineSum (take (s .line .len) (s .line .bytes))) (s .now) (s .say) (s .keep) (s .reading .reader) (c .table) (F .known) (c .inbox) (length (c .store)))
       (on-lists.lineJudged E a m (take (s .line .len) (s .line .bytes)))
       (judge-law (take (s .line .len) (s .line .bytes)) a (subst (Awaits c) x (h .awaits))))
@@ -163,6 +163,7 @@ module _ (F : Fixed) (E : Shelf) {nt ni ns : ℕ} (c : Cs) (g : Good F nt ni ns 
           part = ap (λ (n : ℕ). take n (set (s .line .bytes) (s .line .len) b)) (add-one (s .line .len))
               ∙ take-suc-set (s .line .bytes) (s .line .len) b (omega (arith, room, g .line .size)) ∙ ap (λ (l : Bytes). l ++ (b ∷ [])) (h .part);
           afterCr = refl;
+          tally = h .tally;
         };
         count = refl;
         spent = refl;

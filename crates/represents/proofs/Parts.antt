@@ -17,7 +17,7 @@ use Rattle.pending.specs.Pending.{errorPiece}
 use Rattle.receive_defined.specs.Receiving.{Cs, cs, refusedOf}
 use Rattle.form_closed.specs.Fixed.{Fixed}
 use Rattle.represents.specs.Represents.{Represents, Entries, Holds}
-use Rattle.form_closed.specs.Facts.{AwaitOk}
+use Rattle.form_closed.specs.Facts.{AwaitOk, KeepOk}
 use Rattle.represents.proofs.Says.{error-piece}
 
 -- no proposal yet
@@ -29,6 +29,7 @@ pub record Ready (F : Fixed) (E : Shelf) (hd i st : Bytes) (w : Await) (y : Say)
   pub now : AwaitOk w
   pub heading : length hd ≡ 80
   pub entries : Entries (w .block) (w .proposals)
+  pub keep : KeepOk k
   pub holds : Holds F E k t i st m
   pub first : y .first ≡ 0
   pub then : y .then ≡ 0
@@ -47,4 +48,5 @@ refuse-law F E c s n h =
       awaits = omega arith;
       part = refl;
       afterCr = refl;
+      tally = h .tally;
     }

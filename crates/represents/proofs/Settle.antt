@@ -10,6 +10,7 @@ use Rattle.grammar.specs.Bytes.{Bytes}
 use Rattle.grammar.specs.Sid.{framed, levelInForce}
 use Rattle.grammar.specs.Answers.{Sign}
 use Rattle.mail.specs.Mail.{Record, proposalOf, recordAt, turnText, accepted, marked, declined}
+use Rattle.mail.specs.Tally.{Counts, moreProposed}
 use Rattle.session.specs.Choices.{Shelf, chosen}
 use Rattle.session.specs.Session as on-lists
 use Rattle.session.specs.Session.{Memory, Phase, Outcome, refuses, goesOn}
@@ -33,11 +34,14 @@ use Rattle.waiting.specs.Waiting.{waitingOf, firstText, thenText, blockText}
 use Rattle.receive_defined.specs.Receiving.{cs, unsaid}
 use Rattle.marking.specs.States.{markAll}
 use Rattle.form_closed.specs.Fixed.{Fixed}
-use Rattle.represents.specs.Represents.{Awaits, Represents, Entries, Shelved, Holds}
+use Rattle.represents.specs.Represents.{Awaits, Standing, Entries, Shelved, Holds}
 use Rattle.marking.proofs.States.{records-mark, whole-mark, states-marked}
 use Rattle.represents.proofs.Table.{states-declined, picked-accepted, flags-deferred, zerosAfter}
 use Rattle.represents.proofs.Choices.{choose-law}
 use Rattle.represents.proofs.Says.{block-text}
+use Rattle.phase.specs.Phase.{ourTurn}
+use Rattle.receive_defined.specs.Tallied.{proposesOf}
+use Rattle.represents.proofs.Tallied.{none-more}
 use Rattle.represents.proofs.Parts.{no-entries}
 
 -- ---------------------------------------------------------------- the session's memory after marks
@@ -68,6 +72,11 @@ module _ (F : Fixed) (E : Shelf) (k : Keep) (t i st : Bytes) (m : Memory) (h : H
         flags = h .flags;
       }
 
+  -- whatever is counted
+  pub holds-counts : (x : Counts) → Holds F E k t i st (on-lists.withCounts x m)
+  holds-counts x =
+      record { shelved = h .shelved; boxed = h .boxed; framed = h .framed; terms = h .terms; states = h .states; sending = h .sending; flags = h .flags }
+
   -- what the partner's SID settles
   pub holds-sid : (fs : List ℕ) → Holds F E (judge.inMode (framed fs) (levelInForce fs) k) t i st (on-lists.withSid fs m)
   holds-sid fs = record { shelved = h .shelved; boxed = h .boxed; framed = refl; terms = record { level = refl; partner = h .terms .partner }; states = h .states; sending = h .sending; flags = h .flags }
@@ -97,7 +106,7 @@ module _ (F : Fixed) (E : Shelf) (s : Session) (a : Bool) (i st : Bytes) where
   -- the session with these parts, its line empty and nothing given yet
   abbrev pub left : Await → Say → Keep → Reader → Session
   left w y k r =
-      record { now = w; say = unsaid y; keep = k; reading = record { reader = r; heading = s .reading .heading }; line = record { «after_cr» = a; len = 0; bytes = s .line .bytes } }
+      record { now = w; say = unsaid y; keep = k; reading = record { reader = r; heading = s .reading .heading }; line = record { «after_cr» = a; len = 0; bytes = s .line .bytes }; tally = s .tally }
 
   abbrev pub after : Phase → Memory → Bytes → on-lists.Session
   after p m o = on-lists.between p a o m
@@ -107,34 +116,38 @@ module _ (F : Fixed) (E : Shelf) (s : Session) (a : Bool) (i st : Bytes) where
 
   pub settled-is : (w : Await) (y : Say) (k : Keep) (r : Reader) (t : Bytes) (p : Phase) (m : Memory) (o : Bytes)
       → Entries (w .block) (w .proposals) → Holds F E k t i st m → textOf w y k t ≡ o → Awaits (cs (left w y k r) t i st) p
-      → Represents F E (cs (left w y k r) t i st) (after p m o)
+      → Standing F E (cs (left w y k r) t i st) (after p m o)
   unfolding waitingOf
   settled-is w y k r t p m o b h text await = record { entries = b; holds = h; says = text; awaits = await; part = refl; afterCr = refl }
 
-  -- what is left stands for the outcome, which is no refusal
-  abbrev pub Settles : Await → Say → Keep → Reader → Bytes → Outcome → Type 0
-  Settles w y k r t (refuses n) = ⊥
-  Settles w y k r t (goesOn p m o) = Represents F E (cs (left w y k r) t i st) (after p m o)
+  -- what is left stands for the outcome, which is no refusal; x: the counts before our turn
+  abbrev pub Settles : Counts → Await → Say → Keep → Reader → Bytes → Outcome → Type 0
+  Settles x w y k r t (refuses n) = ⊥
+  Settles x w y k r t (goesOn p m o) = Standing F E (cs (left w y k r) t i st) (after p m o) × (m .counts ≡ moreProposed (proposesOf ourTurn w) x)
 
   -- ---------------------------------------------------------------- our turn
 
   module _ (w : Await) (y : Say) (k : Keep) (r : Reader) (t : Bytes) (m : Memory)
       (b : Entries (w .block) (w .proposals)) (h : Holds F E k t i st m) where
     abbrev SpeaksAs : Spoken → Outcome → Type 0
-    SpeaksAs v o = Settles (v .now) (v .say) k r t o
+    SpeaksAs v o = Settles (m .counts) (v .now) (v .say) k r t o
 
     speak-law : (ff : Bool) (is : List ℕ) → SpeaksAs (speaking (fiveOf is) ff w y) (on-lists.speaking E (firstText (y .first) (y .signs)) ff is m)
     unfolding thenText proposalsOf
-    speak-law true [] = settled-is (inPhase 6 w) (saysThen 2 y) k r t on-lists.leaving m _ b h refl refl
-    speak-law false [] = settled-is (toTurn true w) (saysThen 1 y) k r t (on-lists.newTurn true) m _ (no-entries (w .block)) h refl (refl, (refl, refl, refl))
+    speak-law true [] = (settled-is (inPhase 6 w) (saysThen 2 y) k r t on-lists.leaving m _ b h refl refl, none-more (m .counts))
+    speak-law false [] =
+        (settled-is (toTurn true w) (saysThen 1 y) k r t (on-lists.newTurn true) m _ (no-entries (w .block)) h refl (refl, (refl, refl, refl)), none-more (m .counts))
     speak-law ff (j ∷ is) =
         subst
         (λ (c : Bool). SpeaksAs (cond c (cond ff (spoken (inPhase 6 w) (saysThen 2 y)) (spoken (toTurn true w) (saysThen 1 y))) (spoken (toAnswer (fiveOf (j ∷ is)) w) (saysThen 3 y)))
         (on-lists.speaking E (firstText (y .first) (y .signs)) ff (j ∷ is) m))
-        (sym (ne-eqb (suc (length is)) 0 (λ e. omega arith)))
-        (settled-is (toAnswer (fiveOf (j ∷ is)) w) (saysThen 3 y) k r t (on-lists.aLine (on-lists.awaitsAnswer (j ∷ is))) m _ b h
-        (ap (λ (x : Bytes). firstText (y .first) (y .signs) ++ x) (ap (blockText t) (held-five (j ∷ is)) ∙ ours))
-        (refl, held-five (j ∷ is)))
+        (sym (ne-eqb (suc (length is)) 0 (λ e. omega arith))) (
+          settled-is (toAnswer (fiveOf (j ∷ is)) w) (saysThen 3 y) k r t (on-lists.aLine (on-lists.awaitsAnswer (j ∷ is))) (on-lists.withCounts (moreProposed (length (j ∷ is)) (m .counts)) m) _ b
+              (holds-counts F E k t i st m h (moreProposed (length (j ∷ is)) (m .counts)))
+              (ap (λ (x : Bytes). firstText (y .first) (y .signs) ++ x) (ap (blockText t) (held-five (j ∷ is)) ∙ ours))
+              (refl, held-five (j ∷ is)),
+          refl,
+        )
       where
         ours : blockText t (j ∷ is) ≡ turnText (map (λ (n : ℕ). proposalOf (recordAt (E .table) n)) (j ∷ is))
         ours =

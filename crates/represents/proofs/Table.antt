@@ -13,6 +13,7 @@ use Rattle.grammar.specs.Bytes.{Bytes}
 use Rattle.grammar.specs.Answers.{Sign, accept, decline, defer, writeSign}
 use Rattle.grammar.specs.Transfers.{partOf}
 use Rattle.mail.specs.Mail.{recordAt, noRecord, marked, declined, accepted}
+use Rattle.mail.specs.Tally.{declinedOnes, deferredOnes}
 use Rattle.places.specs.Places.{recordLen, partners}
 use Rattle.layout.specs.Layout.{byteAt, entryAt, recordSize, recordOf}
 use Rattle.layout.proofs.Places.{part-in}
@@ -42,6 +43,32 @@ picked-accepted (i ∷ is) [] k = picked-none 43 (i ∷ is) k refl
 picked-accepted (i ∷ is) (accept ∷ ss) k = ap (λ (l : List ℕ). i ∷ l) (picked-accepted is ss k)
 picked-accepted (i ∷ is) (decline ∷ ss) k = picked-accepted is ss k
 picked-accepted (i ∷ is) (defer ∷ ss) k = picked-accepted is ss k
+
+pub picked-declined : (is : List ℕ) (ss : List Sign) (k : ℕ) → picked 45 is (zerosAfter ss k) ≡ declinedOnes ss is
+picked-declined [] [] k = refl
+picked-declined [] (s ∷ ss) k = refl
+picked-declined (i ∷ is) [] k = picked-none 45 (i ∷ is) k refl
+picked-declined (i ∷ is) (accept ∷ ss) k = picked-declined is ss k
+picked-declined (i ∷ is) (decline ∷ ss) k = ap (λ (l : List ℕ). i ∷ l) (picked-declined is ss k)
+picked-declined (i ∷ is) (defer ∷ ss) k = picked-declined is ss k
+
+pub picked-deferred : (is : List ℕ) (ss : List Sign) (k : ℕ) → picked 61 is (zerosAfter ss k) ≡ deferredOnes ss is
+picked-deferred [] [] k = refl
+picked-deferred [] (s ∷ ss) k = refl
+picked-deferred (i ∷ is) [] k = picked-none 61 (i ∷ is) k refl
+picked-deferred (i ∷ is) (accept ∷ ss) k = picked-deferred is ss k
+picked-deferred (i ∷ is) (decline ∷ ss) k = picked-deferred is ss k
+picked-deferred (i ∷ is) (defer ∷ ss) k = ap (λ (l : List ℕ). i ∷ l) (picked-deferred is ss k)
+
+-- no more than there are
+pub picked-few : (c : ℕ) (is ss : List ℕ) → length (picked c is ss) ≤ length is
+picked-few c [] ss = omega arith
+picked-few c (i ∷ is) [] = omega arith
+picked-few c (i ∷ is) (s ∷ ss) = go (eqb s c) (picked-few c is ss)
+  where
+    go : (b : Bool) → length (picked c is ss) ≤ length is → length (cond b (i ∷ picked c is ss) (picked c is ss)) ≤ suc (length is)
+    go true h = omega arith
+    go false h = omega arith
 
 pub states-declined : (p : ℕ) → p < partners → (is : List ℕ) (ss : List Sign) (k : ℕ) (t : Bytes) → Whole t
     → statesOf p (markAll p (picked 45 is (zerosAfter ss k)) 2 t) ≡ declined is ss (statesOf p t)

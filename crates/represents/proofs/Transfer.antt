@@ -133,6 +133,7 @@ module _ (F : Fixed) (E : Shelf) {nt ni ns : ℕ} (c : Cs) (g : Good F nt ni ns 
         );
         part = h .part;
         afterCr = refl;
+        tally = h .tally;
       }
 
   pub refused-here : (n : ℕ) → Represents F E (cs (refusedOf n s′) (c .table) (c .inbox) store′) (on-lists.refused v n .session)
@@ -145,4 +146,5 @@ module _ (F : Fixed) (E : Shelf) {nt ni ns : ℕ} (c : Cs) (g : Good F nt ni ns 
         awaits = omega arith;
         part = refl;
         afterCr = refl;
+        tally = h .tally;
       }

@@ -27,6 +27,7 @@ use Rattle.marking.specs.States.{statesOf}
 use Rattle.waiting.specs.Waiting.{waitingOf}
 use Rattle.receive_defined.specs.Receiving.{Cs}
 use Rattle.represents.specs.Laid.{proposalBytes, messageBytes, bodiesBytes}
+use Rattle.represents.specs.Tallies.{Tallies}
 use Rattle.form_closed.specs.Fixed.{Fixed}
 use Rattle.grammar.specs.Fields.{bodyLimit}
 use Rattle.phase.specs.Phase.{phaseCalledSid, phaseCallerSid, phasePrompt, phaseTurn, phaseFs, phaseTransfer, phaseLeaving, phaseOver}
@@ -140,6 +141,15 @@ Awaits c on-lists.over = phaseOver ≤ c .session .now .phase
 
 -- ---------------------------------------------------------------- the relation
 
+-- All but what is counted.
+pub record Standing (F : Fixed) (E : Shelf) (c : Cs) (s : on-lists.Session) : Type 0 where
+  pub entries : Entries (c .session .now .block) (c .session .now .proposals)
+  pub holds : Holds F E (c .session .keep) (c .table) (c .inbox) (c .store) (s .memory)
+  pub says : Says F c (s .out)
+  pub awaits : Awaits c (s .phase)
+  pub part : take (c .session .line .len) (c .session .line .bytes) ≡ s .part
+  pub afterCr : c .session .line .«after_cr» ≡ s .afterCr
+
 pub record Represents (F : Fixed) (E : Shelf) (c : Cs) (s : on-lists.Session) : Type 0 where
   pub entries : Entries (c .session .now .block) (c .session .now .proposals)
   pub holds : Holds F E (c .session .keep) (c .table) (c .inbox) (c .store) (s .memory)
@@ -147,3 +157,4 @@ pub record Represents (F : Fixed) (E : Shelf) (c : Cs) (s : on-lists.Session) : 
   pub awaits : Awaits c (s .phase)
   pub part : take (c .session .line .len) (c .session .line .bytes) ≡ s .part
   pub afterCr : c .session .line .«after_cr» ≡ s .afterCr
+  pub tally : Tallies E (c .session .tally) (s .memory)

@@ -17,16 +17,16 @@ use Rattle.grammar.specs.Scan.{Scan, Scanned, goes, got, malformed, wrongSum, n
 use Rattle.grammar.specs.Transfers.{sumRight}
 use Rattle.mail.specs.Mail.{messageOf, transfersText, accepted}
 use Rattle.session.specs.Choices.{Shelf, chosen, answersTo}
-use Rattle.session.specs.Session.{Awaited, awaitsSid, awaitsPrompt, awaitsTurn, awaitsAnswer, Phase, aLine, newTurn, awaitsTransfer, leaving, over, Memory, Session, withSid, withPhase, withPart, withAfterCr, between, Outcome, refuses, goesOn, speaking, ourTurn, turnMarks, answering, answered, turnJudged, answerMarks, answerJudged, afterSid, sidJudged, textJudged, awaitedJudged, lineJudged, Stepped, refused, moved, settled, lineMoved, isPlain, keptIn, nextTransfer, transferMoved, roomFor, phaseStep, freeStep, step, levelInForce}
+use Rattle.session.specs.Session.{Awaited, awaitsSid, awaitsPrompt, awaitsTurn, awaitsAnswer, Phase, aLine, newTurn, awaitsTransfer, leaving, over, Memory, Session, withSid, withPhase, withPart, withAfterCr, between, Outcome, refuses, goesOn, proposing, speaking, ourTurn, turnMarks, answering, answered, turnJudged, answerMarks, answerJudged, afterSid, sidJudged, textJudged, awaitedJudged, lineJudged, Stepped, refused, moved, settled, lineMoved, isPlain, keptIn, nextTransfer, transferMoved, roomFor, phaseStep, freeStep, step, levelInForce}
 
 -- ---------------------------------------------------------------- what we say
 
--- What follows when it is our turn, when we answer the partner's proposals, or when a transfer is whole; m: the memory then.
+-- What follows when it is our turn, when we answer the partner's proposals, or when a transfer is whole; m: the memory then. Our proposals are counted in it.
 pub data Passes (E : Shelf) (m : Memory) : Outcome → Type 0 where
   toEnd : (o : Bytes) → Passes E m (goesOn leaving m o)
   toTurn : (o : Bytes) → Passes E m (goesOn (newTurn true) m o)
   toAnswer : (o : Bytes) (i : ℕ) (is : List ℕ) → chosen (E .table) (m .framed) (m .states) (m .deferred) ≡ i ∷ is
-      → Passes E m (goesOn (aLine (awaitsAnswer (i ∷ is))) m o)
+      → Passes E m (goesOn (aLine (awaitsAnswer (i ∷ is))) (proposing (i ∷ is) m) o)
   toTransfer : (o : Bytes) (p : Proposal) (ps : List Proposal) → Passes E m (goesOn (awaitsTransfer p ps (scanFrom (p .form))) m o)
 
 pub our-turn : (E : Shelf) (o : Bytes) (ff : Bool) (m : Memory) → Passes E m (ourTurn E o ff m)

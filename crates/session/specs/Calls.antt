@@ -35,6 +35,11 @@ receiveOn E s (b ∷ bs) = cond (stops (step E s b)) (stoppedAt (step E s b)) (o
 unfoldable pub receive : Shelf → Session → Bytes → Received
 receive E s bs = cond (ended s) (record { answer = sessionEnded; count = 0; session = s }) (receiveOn E s bs)
 
+-- The session just before the byte that ended it, of the bytes of one receive; where none ended it, the session after them.
+abbrev pub lastByte : Shelf → Session → Bytes → Session
+lastByte E s [] = s
+lastByte E s (b ∷ bs) = cond (stops (step E s b)) s (lastByte E (step E s b .session) bs)
+
 -- What give hands out into a room of so many bytes: "It writes as many waiting bytes as fit".
 abbrev pub handedOut : Session → ℕ → Bytes
 handedOut s room = take room (s .out)

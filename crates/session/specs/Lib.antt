@@ -7,3 +7,4 @@ pub mod Again
 pub mod BlockSums
 pub mod Levels
 pub mod Reasons
+pub mod Tallies

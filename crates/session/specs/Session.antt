@@ -19,6 +19,7 @@ use Rattle.grammar.specs.Answers.{Sign, accept, decline, defer, readFs, fsNumbe
 use Rattle.grammar.specs.Scan.{Scan, Scanned, goes, got, malformed, wrongSum, noRoom, scanFrom, scanByte, scannedNumber}
 use Rattle.grammar.specs.Transfers.{sumRight}
 use Rattle.mail.specs.Mail.{Message, messageOf, proposalOf, recordAt, turnText, transfersText, accepted, marked, declined, recordLimit}
+use Rattle.mail.specs.Tally.{Counts, noCounts, moreProposed, moreForwarded, moreDeclined, moreDeferred, declinedOnes, deferredOnes}
 use Rattle.session.specs.Choices.{Shelf, chosen, answersTo, bodyBytes}
 
 -- ---------------------------------------------------------------- the state
@@ -49,7 +50,7 @@ pub record Terms : Type 0 where
   pub level : Level
 
 -- The mode; what else is settled; each record's state; the places of the records that the partner accepted and whose state is not set yet; the messages kept;
--- a flag for each record that a table may have, 1 where a record was deferred in this session.
+-- a flag for each record that a table may have, 1 where a record was deferred in this session; the tally sheet.
 pub record Memory : Type 0 where
   pub framed : Bool
   pub terms : Terms
@@ -57,6 +58,7 @@ pub record Memory : Type 0 where
   pub sending : List ℕ
   pub inbox : List Message
   pub deferred : List ℕ
+  pub counts : Counts
 
 -- part: the line under way; afterCr: an LF now is dropped; out: the bytes that wait for give
 pub record Session : Type 0 where
@@ -71,22 +73,25 @@ abbrev pub withLevel : Level → Terms → Terms
 withLevel x t = record { level = x }
 
 abbrev pub withFramed : Bool → Memory → Memory
-withFramed x m = record { framed = x; terms = m .terms; states = m .states; sending = m .sending; inbox = m .inbox; deferred = m .deferred }
+withFramed x m = record { framed = x; terms = m .terms; states = m .states; sending = m .sending; inbox = m .inbox; deferred = m .deferred; counts = m .counts }
 
 abbrev pub withTerms : Terms → Memory → Memory
-withTerms x m = record { framed = m .framed; terms = x; states = m .states; sending = m .sending; inbox = m .inbox; deferred = m .deferred }
+withTerms x m = record { framed = m .framed; terms = x; states = m .states; sending = m .sending; inbox = m .inbox; deferred = m .deferred; counts = m .counts }
 
 abbrev pub withStates : List ℕ → Memory → Memory
-withStates x m = record { framed = m .framed; terms = m .terms; states = x; sending = m .sending; inbox = m .inbox; deferred = m .deferred }
+withStates x m = record { framed = m .framed; terms = m .terms; states = x; sending = m .sending; inbox = m .inbox; deferred = m .deferred; counts = m .counts }
 
 abbrev pub withSending : List ℕ → Memory → Memory
-withSending x m = record { framed = m .framed; terms = m .terms; states = m .states; sending = x; inbox = m .inbox; deferred = m .deferred }
+withSending x m = record { framed = m .framed; terms = m .terms; states = m .states; sending = x; inbox = m .inbox; deferred = m .deferred; counts = m .counts }
 
 abbrev pub withInbox : List Message → Memory → Memory
-withInbox x m = record { framed = m .framed; terms = m .terms; states = m .states; sending = m .sending; inbox = x; deferred = m .deferred }
+withInbox x m = record { framed = m .framed; terms = m .terms; states = m .states; sending = m .sending; inbox = x; deferred = m .deferred; counts = m .counts }
 
 abbrev pub withDeferred : List ℕ → Memory → Memory
-withDeferred x m = record { framed = m .framed; terms = m .terms; states = m .states; sending = m .sending; inbox = m .inbox; deferred = x }
+withDeferred x m = record { framed = m .framed; terms = m .terms; states = m .states; sending = m .sending; inbox = m .inbox; deferred = x; counts = m .counts }
+
+abbrev pub withCounts : Counts → Memory → Memory
+withCounts x m = record { framed = m .framed; terms = m .terms; states = m .states; sending = m .sending; inbox = m .inbox; deferred = m .deferred; counts = x }
 
 abbrev pub withPhase : Phase → Session → Session
 withPhase x s = record { phase = x; part = s .part; afterCr = s .afterCr; out = s .out; memory = s .memory }
@@ -114,21 +119,25 @@ pub data Outcome : Type 0 where
 
 -- ---------------------------------------------------------------- our turn
 
+-- "Proposed counts at the received byte that our turn answers" (02, Q-3): the records at these places
+abbrev pub proposing : List ℕ → Memory → Memory
+proposing is m = withCounts (moreProposed (length is) (m .counts)) m
+
 -- "If none remains: FF, or FQ if the partner's turn just now was FF."; o is said before it
 abbrev pub speaking : Shelf → Bytes → Bool → List ℕ → Memory → Outcome
 speaking E o true [] m = goesOn leaving m (o ++ withCr (fixedText ourFQ))
 speaking E o false [] m = goesOn (newTurn true) m (o ++ withCr (fixedText ourFF))
 speaking E o ff (i ∷ is) m =
-    goesOn (aLine (awaitsAnswer (i ∷ is))) m (o ++ turnText (map (λ (k : ℕ). proposalOf (recordAt (E .table) k)) (i ∷ is)))
+    goesOn (aLine (awaitsAnswer (i ∷ is))) (proposing (i ∷ is) m) (o ++ turnText (map (λ (k : ℕ). proposalOf (recordAt (E .table) k)) (i ∷ is)))
 
 abbrev pub ourTurn : Shelf → Bytes → Bool → Memory → Outcome
 ourTurn E o ff m = speaking E o ff (chosen (E .table) (m .framed) (m .states) (m .deferred)) m
 
 -- ---------------------------------------------------------------- the partner's turn
 
--- "State 1 is set at the CR that ends the partner's next whole valid turn."
+-- "State 1 is set at the CR that ends the partner's next whole valid turn.", and that is where they count as forwarded
 abbrev pub turnMarks : Memory → Memory
-turnMarks m = withSending [] (withStates (marked (m .sending) (m .states)) m)
+turnMarks m = withSending [] (withStates (marked (m .sending) (m .states)) (withCounts (moreForwarded (length (m .sending)) (m .counts)) m))
 
 -- "The right to propose passes to whoever sent the FS.": after the transfers that our FS line accepts, if there are any
 abbrev pub answering : Shelf → List Sign → List Proposal → Memory → Outcome
@@ -163,10 +172,15 @@ deferring (i ∷ is) (accept ∷ ss) fl = deferring is ss fl
 deferring (i ∷ is) (decline ∷ ss) fl = deferring is ss fl
 deferring (i ∷ is) (defer ∷ ss) fl = deferring is ss (set fl i 1)
 
+-- "deferred at the FS line" (02, Q-3), and declined too: the records at these places, by the answers to them
+abbrev pub answerCounts : List ℕ → List Sign → Counts → Counts
+answerCounts is ss c = moreDeferred (length (deferredOnes ss is)) (moreDeclined (length (declinedOnes ss is)) c)
+
 -- "`-` sets state 2 at the CR of a valid line. A deferred record stays 0. Accepted records are sent in order."
 abbrev pub answerMarks : List ℕ → List Sign → Memory → Memory
 answerMarks is ss m =
-    withStates (declined is ss (m .states)) (withSending (m .sending ++ accepted ss is) (withDeferred (deferring is ss (m .deferred)) m))
+    withStates (declined is ss (m .states))
+    (withSending (m .sending ++ accepted ss is) (withDeferred (deferring is ss (m .deferred)) (withCounts (answerCounts is ss (m .counts)) m)))
 
 -- The level at which the partner's FS line is read.
 abbrev pub levelInForce : Memory → Level
@@ -299,4 +313,4 @@ greeting false = withCr (fixedText ourSid) ++ withCr (fixedText ourPrompt)
 abbrev pub opened : Bool → List ℕ → Session
 opened caller states =
     between (aLine (awaitsSid caller)) false (greeting caller)
-    (record { framed = false; terms = record { level = level0 }; states = states; sending = []; inbox = []; deferred = replicate recordLimit 0 })
+    (record { framed = false; terms = record { level = level0 }; states = states; sending = []; inbox = []; deferred = replicate recordLimit 0; counts = noCounts })

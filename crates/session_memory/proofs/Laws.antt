@@ -14,7 +14,7 @@ use Rattle.grammar.specs.Transfers.{partOf}
 use Rattle.grammar.proofs.Basics.{octet}
 use Rattle.buffer.specs.Put.{putBytes}
 use Rattle.buffer.proofs.Laws.{put-length}
-use Rattle.places.specs.Places.{markAt, sizeTable, sizeTitles, sizeNames, sizeBodies, sizeKnown, sizeInbox, sizeStore, numbersStart, oursAt, sendingAt, signsAt, lineLengthAt, leftAt, bodyAt, posAt, usedAt, numbersEnd, numbersLen, arraysAt, freeLen, deferredLen, headingLen, lineLen, blockLen, deferredAt, headingAt, lineAt, blockAt, arraysLen, arraysEnd, sessionLen}
+use Rattle.places.specs.Places.{markAt, sizeTable, sizeTitles, sizeNames, sizeBodies, sizeKnown, sizeInbox, sizeStore, numbersStart, oursAt, sendingAt, signsAt, lineLengthAt, leftAt, bodyAt, posAt, usedAt, tallySizesAt, numbersEnd, numbersLen, arraysAt, freeLen, deferredLen, headingLen, lineLen, blockLen, deferredAt, headingAt, lineAt, blockAt, arraysLen, arraysEnd, sessionLen}
 use Rattle.layout.specs.Layout.{byteAt, le8At}
 use Rattle.layout.proofs.Places.{byte-skip, le2-skip, le4-skip, le8-skip, part-skip, part-in, part-front, part-here, part-before, part-after, put-fits, le8-kept}
 use Rattle.layout.proofs.Laws.{le2-here, le4-here, le8-here, le2-small, le4-small, le8-small, octets}
@@ -22,12 +22,14 @@ use Rattle.session_memory.specs.declared.Five.{Five}
 use Rattle.session_memory.specs.Session.{Await}
 use Rattle.session_memory.specs.declared.Say.{Say}
 use Rattle.session_memory.specs.declared.Terms.{Terms}
+use Rattle.session_memory.specs.declared.Tally.{Tally}
+use Rattle.sheet.specs.declared.Sheet.{Sheet}
 use Rattle.session_memory.specs.Session.{Keep}
 use Rattle.session_memory.specs.Session.{Reading}
 use Rattle.session_memory.specs.Session.{Line}
 use Rattle.session_memory.specs.Session.{Session}
 use Rattle.session_memory.specs.declared.Sizes.{Sizes}
-use Rattle.session_memory.specs.State.{at, held, fiveOf, flag, fiveAt, arrayAt, loadAwait, loadSay, loadKeep, loadReading, loadLine, loadOf, loadSizes, smallOut, numbersOut, tailOut, arraysOut, numberPart, saveOf, sizesOut, saveSizes}
+use Rattle.session_memory.specs.State.{at, held, fiveOf, flag, fiveAt, arrayAt, loadAwait, loadSay, loadKeep, loadReading, loadLine, loadTally, loadOf, loadSizes, smallOut, numbersOut, tailOut, arraysOut, numberPart, saveOf, sizesOut, saveSizes}
 
 -- ---------------------------------------------------------------- a state in shape: arrays of their sizes, numbers that fit their bytes
 
@@ -53,12 +55,16 @@ pub record LineShape (l : Line) : Type 0 where
   pub len : l .len < 65536
   pub bytes : length (l .bytes) ≡ lineLen
 
+pub record TallyShape (t : Tally) : Type 0 where
+  pub sizes : t .sizes < 4294967296
+
 pub record Shaped (s : Session) : Type 0 where
   pub now : AwaitShape (s .now)
   pub say : SayShape (s .say)
   pub keep : KeepShape (s .keep)
   pub reading : ReadingShape (s .reading)
   pub line : LineShape (s .line)
+  pub tally : TallyShape (s .tally)
 
 -- ---------------------------------------------------------------- arrays
 
@@ -121,9 +127,16 @@ pub same-line : {x y : Bool} {a b : ℕ} {l m : Bytes} → x ≡ y → a ≡ b �
     → _≡_ {A = Line} (record { «after_cr» = x; len = a; bytes = l }) (record { «after_cr» = y; len = b; bytes = m })
 same-line e₁ e₂ e₃ = rw (e₁, e₂, e₃)
 
-pub same-session : {a b : Await} {c d : Say} {e f : Keep} {g h : Reading} {i j : Line} → a ≡ b → c ≡ d → e ≡ f → g ≡ h → i ≡ j
-    → _≡_ {A = Session} (record { now = a; say = c; keep = e; reading = g; line = i }) (record { now = b; say = d; keep = f; reading = h; line = j })
-same-session e₁ e₂ e₃ e₄ e₅ = rw (e₁, e₂, e₃, e₄, e₅)
+pub same-sheet : {a b c d e f g h i j : ℕ} → a ≡ b → c ≡ d → e ≡ f → g ≡ h → i ≡ j
+    → _≡_ {A = Sheet} (record { proposed = a; forwarded = c; declined = e; deferred = g; unsettled = i }) (record { proposed = b; forwarded = d; declined = f; deferred = h; unsettled = j })
+same-sheet e₁ e₂ e₃ e₄ e₅ = rw (e₁, e₂, e₃, e₄, e₅)
+
+pub same-tally : {a b c d : ℕ} {g h : Sheet} → a ≡ b → c ≡ d → g ≡ h → _≡_ {A = Tally} (record { waiting = a; sizes = c; sheet = g }) (record { waiting = b; sizes = d; sheet = h })
+same-tally e₁ e₂ e₃ = rw (e₁, e₂, e₃)
+
+pub same-session : {a b : Await} {c d : Say} {e f : Keep} {g h : Reading} {i j : Line} {k l : Tally} → a ≡ b → c ≡ d → e ≡ f → g ≡ h → i ≡ j → k ≡ l
+    → _≡_ {A = Session} (record { now = a; say = c; keep = e; reading = g; line = i; tally = k }) (record { now = b; say = d; keep = f; reading = h; line = j; tally = l })
+same-session e₁ e₂ e₃ e₄ e₅ e₆ = rw (e₁, e₂, e₃, e₄, e₅, e₆)
 
 -- ---------------------------------------------------------------- the state
 
@@ -238,9 +251,15 @@ module _ (f g t : Bytes) (n : length f ≡ numbersStart) (k : length g ≡ freeL
       same-line (ap (λ (x : ℕ). eqb x 1) (byte 3) ∙ flag-back (s .line .«after_cr»))
       (le2-skip f rest numbersStart n 32 ∙ le2-here (s .line .len) [] (h .line .len)) bytes-back
 
+  tally-back : loadTally (f ++ rest) ≡ s .tally
+  unfolding loadTally smallOut numbersOut tailOut rest
+  tally-back =
+      same-tally (byte 59) (le4-skip f rest numbersStart n 60 ∙ le4-here (s .tally .sizes) [] (h .tally .sizes))
+      (same-sheet (byte 64) (byte 65) (byte 66) (byte 67) (byte 68))
+
   state-back : loadOf (f ++ (numberPart s ++ (g ++ (arraysOut s ++ t)))) ≡ s
   unfolding loadOf rest
-  state-back = same-session await-back say-back keep-back reading-back line-back
+  state-back = same-session await-back say-back keep-back reading-back line-back tally-back
 
 -- ---------------------------------------------------------------- what a save leaves
 
@@ -354,7 +373,7 @@ module _ (sm : Bytes) (z : Sizes) (n : numbersStart ≤ length sm) where
 
 -- every state that is loaded from bytes is in shape
 pub load-shaped : (sm : Bytes) → every octet sm ≡ true → Shaped (loadOf sm)
-unfolding loadOf loadAwait loadSay loadKeep loadReading loadLine
+unfolding loadOf loadAwait loadSay loadKeep loadReading loadLine loadTally
 load-shaped sm o =
     let b = octets sm o in
     record {
@@ -363,4 +382,5 @@ load-shaped sm o =
       keep = record { used = le8-small sm b usedAt; sending = array-length 5 sm (sendingAt + 1); deferred = array-length deferredLen sm (arraysAt + deferredAt) };
       reading = record { left = le2-small sm b leftAt; body = le4-small sm b bodyAt; heading = array-length headingLen sm (arraysAt + headingAt) };
       line = record { len = le2-small sm b lineLengthAt; bytes = array-length lineLen sm (arraysAt + lineAt) };
+      tally = record { sizes = le4-small sm b tallySizesAt };
     }

@@ -7,6 +7,7 @@ use Rattle.transfer_step.specs.declared.Reader.{Reader}
 use Rattle.session_memory.specs.declared.Five.{Five}
 use Rattle.session_memory.specs.declared.Say.{Say}
 use Rattle.session_memory.specs.declared.Terms.{Terms}
+use Rattle.session_memory.specs.declared.Tally.{Tally}
 
 -- What is awaited. phase: crates/phase; ff: our turn just now was FF; ours: the records that we proposed; proposals: how many of the partner's are in
 -- block; sum: of their lines as received, modulo 256; current: the one whose transfer is under way.
@@ -45,3 +46,4 @@ pub record Session : Type 0 where
   pub keep : Keep
   pub reading : Reading
   pub line : Line
+  pub tally : Tally

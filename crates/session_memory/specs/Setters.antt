@@ -7,6 +7,7 @@ use Rattle.session_memory.specs.declared.Five.{Five}
 use Rattle.session_memory.specs.Session.{Await}
 use Rattle.session_memory.specs.declared.Say.{Say}
 use Rattle.session_memory.specs.declared.Terms.{Terms}
+use Rattle.session_memory.specs.declared.Tally.{Tally}
 use Rattle.session_memory.specs.Session.{Keep}
 use Rattle.session_memory.specs.Session.{Reading}
 use Rattle.session_memory.specs.Session.{Line}
@@ -85,16 +86,20 @@ withAfterCr x l = record { «after_cr» = x; len = l .len; bytes = l .bytes }
 -- ---------------------------------------------------------------- the session
 
 abbrev pub withNow : Await → Session → Session
-withNow x s = record { now = x; say = s .say; keep = s .keep; reading = s .reading; line = s .line }
+withNow x s = record { now = x; say = s .say; keep = s .keep; reading = s .reading; line = s .line; tally = s .tally }
 
 abbrev pub withSay : Say → Session → Session
-withSay x s = record { now = s .now; say = x; keep = s .keep; reading = s .reading; line = s .line }
+withSay x s = record { now = s .now; say = x; keep = s .keep; reading = s .reading; line = s .line; tally = s .tally }
 
 abbrev pub withKeep : Keep → Session → Session
-withKeep x s = record { now = s .now; say = s .say; keep = x; reading = s .reading; line = s .line }
+withKeep x s = record { now = s .now; say = s .say; keep = x; reading = s .reading; line = s .line; tally = s .tally }
 
 abbrev pub withReading : Reading → Session → Session
-withReading x s = record { now = s .now; say = s .say; keep = s .keep; reading = x; line = s .line }
+withReading x s = record { now = s .now; say = s .say; keep = s .keep; reading = x; line = s .line; tally = s .tally }
 
 abbrev pub withLine : Line → Session → Session
-withLine x s = record { now = s .now; say = s .say; keep = s .keep; reading = s .reading; line = x }
+withLine x s = record { now = s .now; say = s .say; keep = s .keep; reading = s .reading; line = x; tally = s .tally }
+
+-- what is counted
+abbrev pub withTally : Tally → Session → Session
+withTally x s = record { now = s .now; say = s .say; keep = s .keep; reading = s .reading; line = s .line; tally = x }

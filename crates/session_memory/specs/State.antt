@@ -10,13 +10,16 @@ use Rattle.grammar.specs.Ascii.{text}
 use Rattle.grammar.specs.Transfers.{partOf}
 use Rattle.buffer.specs.Put.{putBytes}
 use Rattle.buffer.specs.declared.Cursor.{Cursor}
-use Rattle.places.specs.Places.{markAt, sizeTable, sizeTitles, sizeNames, sizeBodies, sizeKnown, sizeInbox, sizeStore, numbersStart, phaseAt, ffAt, framedAt, afterCrAt, firstAt, thenAt, keptAt, currentAt, proposalsAt, oursAt, sendingAt, signsAt, placeAt, lengthAt, headAt, offsetAt, sumAt, lineLengthAt, leftAt, bodyAt, posAt, usedAt, blockSumAt, levelAt, partnerAt, arraysAt, deferredLen, headingLen, lineLen, blockLen, deferredAt, headingAt, lineAt, blockAt, sessionLen}
+use Rattle.places.specs.Places.{markAt, sizeTable, sizeTitles, sizeNames, sizeBodies, sizeKnown, sizeInbox, sizeStore, numbersStart, phaseAt, ffAt, framedAt, afterCrAt, firstAt, thenAt, keptAt, currentAt, proposalsAt, oursAt, sendingAt, signsAt, placeAt, lengthAt, headAt, offsetAt, sumAt, lineLengthAt, leftAt, bodyAt, posAt, usedAt, blockSumAt, levelAt, partnerAt, tallyWaitingAt, tallySizesAt, tallyProposedAt, tallyForwardedAt, tallyDeclinedAt, tallyDeferredAt, tallyUnsettledAt, arraysAt, deferredLen, headingLen, lineLen, blockLen, deferredAt, headingAt, lineAt, blockAt, sessionLen}
 use Rattle.layout.specs.Layout.{byteAt, le2At, le4At, le8At, le2, le4, le8}
 use Rattle.transfer_step.specs.Step.{startOf}
 use Rattle.session_memory.specs.declared.Five.{Five}
 use Rattle.session_memory.specs.Session.{Await}
 use Rattle.session_memory.specs.declared.Say.{Say}
 use Rattle.session_memory.specs.declared.Terms.{Terms}
+use Rattle.session_memory.specs.declared.Tally.{Tally}
+use Rattle.sheet.specs.declared.Sheet.{Sheet}
+use Rattle.sheet.specs.Sheet.{noSheet}
 use Rattle.session_memory.specs.Session.{Keep}
 use Rattle.session_memory.specs.Session.{Reading}
 use Rattle.session_memory.specs.Session.{Line}
@@ -87,8 +90,21 @@ loadReading sm =
 unfoldable pub loadLine : Bytes → Line
 loadLine sm = record { «after_cr» = eqb (byteAt sm afterCrAt) 1; len = le2At sm lineLengthAt; bytes = arrayAt lineLen sm (arraysAt + lineAt) }
 
+abbrev pub sheetAt : Bytes → Sheet
+sheetAt sm =
+    record {
+      proposed = byteAt sm tallyProposedAt;
+      forwarded = byteAt sm tallyForwardedAt;
+      declined = byteAt sm tallyDeclinedAt;
+      deferred = byteAt sm tallyDeferredAt;
+      unsettled = byteAt sm tallyUnsettledAt;
+    }
+
+unfoldable pub loadTally : Bytes → Tally
+loadTally sm = record { waiting = byteAt sm tallyWaitingAt; sizes = le4At sm tallySizesAt; sheet = sheetAt sm }
+
 unfoldable pub loadOf : Bytes → Session
-loadOf sm = record { now = loadAwait sm; say = loadSay sm; keep = loadKeep sm; reading = loadReading sm; line = loadLine sm }
+loadOf sm = record { now = loadAwait sm; say = loadSay sm; keep = loadKeep sm; reading = loadReading sm; line = loadLine sm; tally = loadTally sm }
 
 unfoldable pub loadSizes : Bytes → Sizes
 loadSizes sm =
@@ -121,9 +137,15 @@ numbersOut s =
 abbrev pub termsOut : Terms → Bytes
 termsOut t = t .level ∷ t .partner ∷ []
 
+abbrev pub sheetOut : Sheet → Bytes
+sheetOut h = h .proposed ∷ h .forwarded ∷ h .declined ∷ h .deferred ∷ h .unsettled ∷ []
+
+abbrev pub tallyOut : Tally → Bytes
+tallyOut t = t .waiting ∷ (le4 (t .sizes) ++ sheetOut (t .sheet))
+
 -- The tail: numbers that came later, in the order of their places.
 unfoldable pub tailOut : Session → Bytes
-tailOut s = s .now .sum ∷ termsOut (s .keep .terms)
+tailOut s = s .now .sum ∷ (termsOut (s .keep .terms) ++ tallyOut (s .tally))
 
 unfoldable pub arraysOut : Session → Bytes
 arraysOut s = s .keep .deferred ++ (s .reading .heading ++ (s .line .bytes ++ s .now .block))
@@ -147,13 +169,18 @@ saveSizes sm z = putBytes sm (at markAt) (sizesOut z)
 abbrev pub termsWith : ℕ → Terms
 termsWith partner = record { level = 0; partner = partner }
 
--- The state right after an accepted open.
-unfoldable pub freshOf : Bool → ℕ → Session
-freshOf caller partner =
+-- So many records wait, with this sum of sizes, and nothing is proposed.
+abbrev pub freshTally : ℕ → ℕ → Tally
+freshTally waiting sizes = record { waiting = waiting; sizes = sizes; sheet = noSheet }
+
+-- The state right after an accepted open: who the partner is, and what waits for it.
+unfoldable pub freshOf : Bool → ℕ → Tally → Session
+freshOf caller partner tally =
     record {
       now = record { phase = flag caller; ff = false; current = 0; proposals = 0; ours = noFive; sum = 0; block = replicate blockLen 0 };
       say = record { first = cond caller 0 1; then = 0; pos = 0; signs = noFive };
       keep = record { framed = false; terms = termsWith partner; kept = 0; used = 0; sending = noFive; deferred = replicate deferredLen 0 };
       reading = record { reader = startOf 0; heading = replicate headingLen 0 };
       line = record { «after_cr» = false; len = 0; bytes = replicate lineLen 0 };
+      tally = tally;
     }

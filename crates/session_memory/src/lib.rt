@@ -1,5 +1,7 @@
 // The parts of the session's state that code holds by value and the definitions speak of. The whole state, with its arrays, is a record of
 // specs/Session.antt; its numbers by value are crates/numbers.
+use sheet::Sheet;
+
 // Up to five numbers: places of records, or signs.
 pub struct Five {
     pub count: u8,
@@ -18,6 +20,14 @@ pub struct Say {
 pub struct Terms {
     pub level: u8,
     pub partner: u8,
+}
+
+// What the front panel shows of the partner's column. waiting: how many records wait; sizes: the sum of their announced sizes; sheet: what became
+// of the records that we proposed in this session.
+pub struct Tally {
+    pub waiting: u8,
+    pub sizes: u32,
+    pub sheet: Sheet,
 }
 
 // The sizes of the lent buffers, as open keeps them.

@@ -5,4 +5,4 @@ use Rattle.numbers.specs.declared.Numbers.{Numbers}
 
 abbrev pub afterLine : Numbers → Bool → Numbers
 afterLine h afterCr =
-    record { now = h .now; say = unsaid (h .say); keep = h .keep; reader = h .reader; line = record { «after_cr» = afterCr; len = 0 } }
+    record { now = h .now; say = unsaid (h .say); keep = h .keep; reader = h .reader; line = record { «after_cr» = afterCr; len = 0 }; tally = h .tally }

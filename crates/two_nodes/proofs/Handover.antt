@@ -28,7 +28,7 @@ use Rattle.session.proofs.Choices.{Places, chosen-places, one-sign-each}
 use Rattle.log.proofs.Spoken.{Fit, AllFit}
 use Rattle.demand2.specs.Refusals.{WholeLine}
 use Rattle.demand2.specs.Marks.{isSign, withSign}
-use Rattle.demand2.specs.Events.{messageFrom, withMessage, metBy, endsWithCr, proposed, blockText, transfersSaid, turnSaid, turnAwaits, weSpeak, transfersOr, EndsBlock, bare, Event, sidOfCaller, sidOfCalled, prompt, proposal, ffTurn, fqTurn, blockEnd, fsLineComes}
+use Rattle.demand2.specs.Events.{messageFrom, withMessage, metBy, endsWithCr, proposed, blockText, transfersSaid, turnSaid, turnAwaits, countsProposed, weSpeak, transfersOr, EndsBlock, bare, Event, sidOfCaller, sidOfCalled, prompt, proposal, ffTurn, fqTurn, blockEnd, fsLineComes}
 use Rattle.demand2.specs.Units.{lineBegun}
 use Rattle.demand2.specs.OurTurn.{rising, OurBlock}
 use Rattle.demand2.proofs.Marks.{accepted-is, answer-marks, turn-marks}
@@ -47,6 +47,10 @@ use Rattle.two_nodes.proofs.Answers.{declined-have}
 abbrev pub signsFor : Shelf → Memory → List Record → List ℕ → List Sign
 signsFor E m T is = answersTo E (m .inbox) (proposalsAt T is)
 
+-- and what follows it: the transfers of what we accept, or our turn
+abbrev pub replyFor : Shelf → Memory → List Record → List ℕ → Session
+replyFor E m T is = transfersOr E true (withCr (fsLine (signsFor E m T is))) (withSign accept (proposalsAt T is) (signsFor E m T is)) m
+
 -- E, p, m, o: what the speaker was opened with, its phase and memory, and the bytes that it says; F, q, n: the listener's
 pub data Handover (E F : Shelf) (p : Phase) (m : Memory) (o : Bytes) (q : Phase) (n : Memory) : Type 0 where
   -- the called end greets
@@ -59,7 +63,7 @@ pub data Handover (E F : Shelf) (p : Phase) (m : Memory) (o : Bytes) (q : Phase)
       → m .framed ≡ true → n .framed ≡ true → m .sending ≡ [] → AllHas (F .table) (m .inbox) (n .sending) → (ff ≡ true → proposed F n ≡ []) → Handover E F p m o q n
   -- an FS line, with a turn after it where nothing was accepted
   answers : (i : ℕ) (is : List ℕ) → i ∷ is ≡ proposed F n → q ≡ aLine (awaitsAnswer (i ∷ is))
-      → between p true o m ≡ transfersOr E true (withCr (fsLine (signsFor E m (F .table) (i ∷ is)))) (withSign accept (proposalsAt (F .table) (i ∷ is)) (signsFor E m (F .table) (i ∷ is))) m
+      → p ≡ replyFor E m (F .table) (i ∷ is) .phase → o ≡ replyFor E m (F .table) (i ∷ is) .out
       → m .framed ≡ true → n .framed ≡ true → m .sending ≡ [] → n .sending ≡ [] → Handover E F p m o q n
   -- the accepted transfers
   sends : (j : ℕ) (js : List ℕ) → Places true (E .table) (j ∷ js) → p ≡ newTurn false → o ≡ transfersSaid (E .table) (j ∷ js)
@@ -100,8 +104,8 @@ pub speaks-on : (E F : Shelf) (p : Phase) (m : Memory) (o : Bytes) (q : Phase) (
 speaks-on E F p m o q n (greets e k f sm sn) z = let y : _≡_ {A = ℕ} 0 1 = cc in omega arith
 speaks-on E F p m o q n (signsOn e k f fm sm sn) z = turn-awaits false (proposed E m) (sym e ∙ z)
 speaks-on E F p m o q n (turns ff e k f fm fn sm a x) z = turn-awaits ff (proposed E m) (sym e ∙ z)
-speaks-on E F p m o q n (answers i is own f k fm fn sm sn) z =
-    transfers-or E (withCr (fsLine (signsFor E m (F .table) (i ∷ is)))) (withSign accept (proposalsAt (F .table) (i ∷ is)) (signsFor E m (F .table) (i ∷ is))) m (sym (ap (λ (u : Session). u .phase) k) ∙ z)
+speaks-on E F p m o q n (answers i is own f e k fm fn sm sn) z =
+    transfers-or E (withCr (fsLine (signsFor E m (F .table) (i ∷ is)))) (withSign accept (proposalsAt (F .table) (i ∷ is)) (signsFor E m (F .table) (i ∷ is))) m (sym e ∙ z)
 speaks-on E F p m o q n (sends j js h e k f fm fn sm sn) z = let y : _≡_ {A = ℕ} 0 1 = cc in omega arith
 
 -- ---------------------------------------------------------------- small things
@@ -187,6 +191,10 @@ module _ (E F : Shelf) (SE : Sound E) (SF : Sound F) (s t : List ℕ) (p : Phase
   marks-claims : (n : Memory) → AllHas (F .table) (m .inbox) (n .sending) → P n → P (turnMarks n)
   marks-claims n a c = record { ours = c .ours; theirs = fate-marked (F .table) E (m .inbox) t (n .sending) (n .states) a (c .theirs) }
 
+  -- nor does our turn change a fate
+  counted-claims : (n : Memory) (is : List ℕ) → P n → P (countsProposed is n)
+  counted-claims n is c = record { ours = c .ours; theirs = c .theirs }
+
   -- FF
   ff-heard : (n : Memory) (cr : Bool) → p ≡ newTurn true → proposed E m ≡ [] → m .framed ≡ true → n .framed ≡ true → m .sending ≡ []
       → AllHas (F .table) (m .inbox) (n .sending) → P n → Hears F P R Q (begun (awaitsTurn false [] []) n cr []) (withCr (fixedText ourFF))
@@ -199,7 +207,7 @@ module _ (E F : Shelf) (SE : Sound E) (SF : Sound F) (s t : List ℕ) (p : Phase
       (record {
         fresh = refl;
         loud = turn-loud F true (proposed F (turnMarks n));
-        claims = marks-claims n a c;
+        claims = counted-claims (turnMarks n) (proposed F (turnMarks n)) (marks-claims n a c);
         kind = turns true refl refl e fn fm refl (subst (AllHas (E .table) (n .inbox)) (sym sm) tt) (λ x. z);
       })))
 
@@ -224,16 +232,22 @@ module _ (E F : Shelf) (SE : Sound E) (SF : Sound F) (s t : List ℕ) (p : Phase
         record {
           fresh = refl;
           loud = fs-loud (answersTo F (n .inbox) block) (turnSaid F false (proposed F n));
-          claims = c;
-          kind = answers i is own e (ap (λ (l : List Proposal). transfersOr F true (withCr (fsLine (answersTo F (n .inbox) block))) l n) k) fn fm sn sm;
+          claims = counted-claims n (proposed F n) c;
+          kind = answers i is own e (ap (λ (l : List Proposal). reply l .phase) k) (ap (λ (l : List Proposal). reply l .out) k) fn fm sn sm;
         }
+      where
+        reply : List Proposal → Session
+        reply l = transfersOr F true (withCr (fsLine (answersTo F (n .inbox) block))) l (countsProposed (proposed F n) n)
     fs-handed n fn sn c (q ∷ qs) k =
         record {
           fresh = refl;
           loud = fs-alone (answersTo F (n .inbox) block);
           claims = c;
-          kind = answers i is own e (ap (λ (l : List Proposal). transfersOr F true (withCr (fsLine (answersTo F (n .inbox) block))) l n) k) fn fm sn sm;
+          kind = answers i is own e (ap (λ (l : List Proposal). reply l .phase) k) (ap (λ (l : List Proposal). reply l .out) k) fn fm sn sm;
         }
+      where
+        reply : List Proposal → Session
+        reply l = transfersOr F true (withCr (fsLine (answersTo F (n .inbox) block))) l n
 
     module _ (ff : Bool) (n : Memory) (fn : n .framed ≡ true) (a : AllHas (F .table) (m .inbox) (n .sending)) (c : P n) where
       -- F>
@@ -331,16 +345,16 @@ module _ (E F : Shelf) (SE : Sound E) (SF : Sound F) (s t : List ℕ) (p : Phase
         happens F [] (begun (awaitsAnswer (i ∷ is)) n d (fsLine ss)) CR tt _ (fsLineComes (fsLine ss) (i ∷ is) w refl ss read after (answer-marks (i ∷ is) ss n))
 
     -- nothing was accepted: a turn follows; or our transfers do
-    fs-heard : (js : List ℕ) → withSign accept (i ∷ is) ss ≡ js → (o : Bytes) (cr : Bool) → between p true o m ≡ transfersOr E true fs (proposalsAt (F .table) js) m
-        → Hears F P R Q (begun (awaitsAnswer (i ∷ is)) n cr []) o
-    fs-heard [] k o cr e =
-        subst (Hears F P R Q (begun (awaitsAnswer (i ∷ is)) n cr [])) (sym (ap (λ (u : Session). u .out) e))
+    fs-heard : (js : List ℕ) → withSign accept (i ∷ is) ss ≡ js → (o : Bytes) (cr : Bool) → p ≡ transfersOr E true fs (proposalsAt (F .table) js) m .phase
+        → o ≡ transfersOr E true fs (proposalsAt (F .table) js) m .out → Hears F P R Q (begun (awaitsAnswer (i ∷ is)) n cr []) o
+    fs-heard [] k o cr e d =
+        subst (Hears F P R Q (begun (awaitsAnswer (i ∷ is)) n cr [])) (sym d)
         (hears-line F P R Q (awaitsAnswer (i ∷ is)) n c (fsLine ss) cr (turnSaid E false (proposed E m)) good (fs-head ss)
         (λ d w. on (begun (awaitsAnswer (i ∷ is)) n d (fsLine ss)) (begun (awaitsTurn false [] []) after true []) CR (turnSaid E false (proposed E m))
         (heard-fs d w ∙ ap (λ (l : List ℕ). moved (between (aLine (awaitsTurn false [] [])) true (transfersSaid (F .table) l) after)) k)
-        (turn-heard false after true (ap (λ (u : Session). u .phase) e) fm fn sm (subst (AllHas (F .table) (m .inbox)) (sym (sent ∙ k)) tt) (λ x. absurd (no-both false x refl)) claims)))
-    fs-heard (j ∷ js) k o cr e =
-        subst (Hears F P R Q (begun (awaitsAnswer (i ∷ is)) n cr [])) (append-nil fs ∙ sym (ap (λ (u : Session). u .out) e))
+        (turn-heard false after true e fm fn sm (subst (AllHas (F .table) (m .inbox)) (sym (sent ∙ k)) tt) (λ x. absurd (no-both false x refl)) claims)))
+    fs-heard (j ∷ js) k o cr e d =
+        subst (Hears F P R Q (begun (awaitsAnswer (i ∷ is)) n cr [])) (append-nil fs ∙ sym d)
         (hears-line F P R Q (awaitsAnswer (i ∷ is)) n c (fsLine ss) cr [] good (fs-head ss)
         (λ d w. on (begun (awaitsAnswer (i ∷ is)) n d (fsLine ss)) (between (aLine (awaitsTurn false [] [])) true (transfersSaid (F .table) (j ∷ js)) after) CR []
         (heard-fs d w ∙ ap (λ (l : List ℕ). moved (between (aLine (awaitsTurn false [] [])) true (transfersSaid (F .table) l) after)) k)
@@ -349,7 +363,7 @@ module _ (E F : Shelf) (SE : Sound E) (SF : Sound F) (s t : List ℕ) (p : Phase
           fresh = refl;
           loud = (transfer-head (recordAt (F .table) j .form) _ _ (sub .1)) .1 (transfersSaid (F .table) js);
           claims = claims;
-          kind = sends j js sub refl refl (ap (λ (u : Session). u .phase) e) fn fm (sent ∙ k) sm;
+          kind = sends j js sub refl refl e fn fm (sent ∙ k) sm;
         }))))
       where
         sub : Places true (F .table) (j ∷ js)
@@ -390,7 +404,7 @@ module _ (E F : Shelf) (SE : Sound E) (SF : Sound F) (s t : List ℕ) (p : Phase
       (record {
         fresh = refl;
         loud = turn-loud F false (proposed F (withKept n j));
-        claims = kept-claims n j c;
+        claims = counted-claims (withKept n j) (proposed F (withKept n j)) (kept-claims n j c);
         kind = turns false refl refl e fn fm sn (subst (AllHas (E .table) (withKept n j .inbox)) (sym sm) (all-kept n j done a)) (λ x. absurd (no-both false x refl));
       }))
   transfers-heard (k ∷ ks) j done n cr h e fm fn sm sn a c =
@@ -422,15 +436,17 @@ module _ (E F : Shelf) (SE : Sound E) (SF : Sound F) (s t : List ℕ) (p : Phase
       (hears-line F P R Q awaitsPrompt n′ (same-claims n (fs .0) c) (fixedText ourPrompt) true [] (good-line (fixedLine ourPrompt) tt) refl
       (λ d w. on (begun awaitsPrompt n′ d (fixedText ourPrompt)) (weSpeak F true false (withCr (fixedText ourSid)) n′) CR []
       (happens F [] (begun awaitsPrompt n′ d (fixedText ourPrompt)) CR tt _ (prompt (fixedText ourPrompt) w refl prompt-read))
-      (inl (record { fresh = refl; loud = refl; claims = same-claims n (fs .0) c; kind = signsOn refl refl e (fs .3) sn sm })))))
+      (inl (record { fresh = refl; loud = refl; claims = counted-claims n′ (proposed F n′) (same-claims n (fs .0) c); kind = signsOn refl refl e (fs .3) sn sm })))))
 
   -- EVERY HANDOVER IS HEARD
   pub handover-heard : (o : Bytes) (q : Phase) (n : Memory) (cr : Bool) → Handover E F p m o q n → P n → Hears F P R Q (lineBegun q n cr []) o
   handover-heard o q n cr (greets e k f sm sn) c = rw (k, f) (greeting-heard n cr e sm sn c)
   handover-heard o q n cr (signsOn e k f fm sm sn) c = rw (k, f) (sid-heard n cr e fm sm sn c)
   handover-heard o q n cr (turns ff e k f fm fn sm a z) c = rw (k, f) (turn-heard ff n cr e fm fn sm a z c)
-  handover-heard o q n cr (answers i is own f k fm fn sm sn) c =
+  handover-heard o q n cr (answers i is own f e k fm fn sm sn) c =
+      let a = accepted-at (F .table) (i ∷ is) (signsFor E m (F .table) (i ∷ is)) in
       rw f
       (fs-heard i is n own fm fn sm sn c (withSign accept (i ∷ is) (signsFor E m (F .table) (i ∷ is))) refl o cr
-      (k ∙ ap (λ (l : List Proposal). transfersOr E true (withCr (fsLine (signsFor E m (F .table) (i ∷ is)))) l m) (accepted-at (F .table) (i ∷ is) (signsFor E m (F .table) (i ∷ is)))))
+      (e ∙ ap (λ (l : List Proposal). transfersOr E true (withCr (fsLine (signsFor E m (F .table) (i ∷ is)))) l m .phase) a)
+      (k ∙ ap (λ (l : List Proposal). transfersOr E true (withCr (fsLine (signsFor E m (F .table) (i ∷ is)))) l m .out) a))
   handover-heard o q n cr (sends j js h e k f fm fn sm sn) c = rw (k, f) (transfers-heard js j [] n cr h e fm fn sm sn tt c)

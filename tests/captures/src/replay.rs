@@ -6,8 +6,9 @@ use crate::shelf::Shelf;
 use fuzz::pair::{Pair, Second};
 use fuzz::report::Checked;
 use inputs::random::Random;
-use second::log::Side;
+use second::log::{Sheet, Side};
 use second::memory::State;
+use second::tally::Tally;
 use std::fmt::{self, Display};
 
 /// Whom our node has the mailbox for.
@@ -35,6 +36,8 @@ pub struct Outcome {
     states: [Vec<String>; 3],
     /// BID and body bytes of the messages kept.
     pub kept: Vec<(String, usize)>,
+    /// What the front panel shows.
+    tally: Tally,
 }
 
 /// Plays a capture in portions of so many bytes. What we say is taken where the
@@ -133,6 +136,7 @@ impl Outcome {
             leaves,
             states,
             kept,
+            tally: second.tally,
         }
     }
 }
@@ -164,6 +168,15 @@ impl Display for Outcome {
         }
         for (bid, length) in &self.kept {
             write!(f, "; kept {bid} with {length} bytes")?;
+        }
+        let Sheet { proposed, forwarded, declined, deferred, unsettled } = self.tally.sheet;
+        if proposed > 0 {
+            let Tally { waiting, sizes, .. } = self.tally;
+            write!(f, "; {proposed} proposed: {forwarded} forwarded, {declined} declined, ")?;
+            write!(
+                f,
+                "{deferred} deferred, {unsettled} not settled; {waiting} wait, {sizes} bytes"
+            )?;
         }
         Ok(())
     }

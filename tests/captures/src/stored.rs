@@ -11,7 +11,8 @@ const HEAD: &str = "\
 # stand-in proposed and the BIDs known that it declined. The proved library and the second implementation must both give this.
 # 'as captured' is the mailbox unchanged; below it, the same with the points edited where it leaves 01 (docs/INTEROP.md), one more a
 # line, and last with one letter of a BID changed on the way, which its checksum must find (13). 'said N of M bytes as captured' compares
-# with the stand-in, our SID put for its own. After a refusal stands the line that we then say (Q-1).
+# with the stand-in, our SID put for its own. After a refusal stands the line that we then say (Q-1); where we proposed something, what the
+# front panel shows (Q-3).
 # Written by `cargo run --release --manifest-path tests/captures/Cargo.toml -- --write`; the sentences after 'why:' by hand.
 ";
 

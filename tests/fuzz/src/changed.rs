@@ -10,10 +10,14 @@ use crate::sessions::Driver;
 use crate::tally::Tally;
 use inputs::random::Random;
 use inputs::{byte, damaged, fs_line, line, proposal_fields, short_turn_line, sid, spaced};
-use second::layout::{RECORD_BYTES, SESSION_FREE, SESSION_LEVEL, SESSION_PARTNER};
+use second::layout::{
+    read_tally, RECORD_BYTES, SESSION_FREE, SESSION_LEVEL, SESSION_PARTNER, SESSION_TALLY,
+};
+use second::log::Sheet;
 use second::memory::PARTNERS;
 use second::refusal::{reason_after, ANSWERS};
 use second::session::Reply;
+use second::tally::Tally as Panel;
 use std::fmt::{self, Display};
 
 /// What these runs have seen.
@@ -32,6 +36,11 @@ pub struct Changed {
     pub empty: u64,
     /// Calls of give that handed over bytes of a line that says why.
     pub reasons: u64,
+    /// Calls of receive that changed the tally sheet, and that counted what waits anew, on
+    /// memory that somebody has written.
+    pub counted: [u64; 2],
+    /// Calls of receive whose only byte was refused.
+    pub refused: u64,
 }
 
 impl Changed {
@@ -44,7 +53,11 @@ impl Changed {
             (self.reasons == 0).then(|| "changed memory: a line that says why".to_owned());
         let none = (self.no_partner == 0).then(|| "form test: no such partner".to_owned());
         let moved = (self.moved == 0).then(|| "changed memory: another column".to_owned());
-        items.chain(empty).chain(reasons).chain(none).chain(moved).collect()
+        let counted =
+            self.counted.contains(&0).then(|| "changed memory: numbers that count".to_owned());
+        let refused = (self.refused == 0).then(|| "changed memory: a refused byte".to_owned());
+        let others = [empty, reasons, none, moved, counted, refused];
+        items.chain(others.into_iter().flatten()).collect()
     }
 }
 
@@ -58,12 +71,15 @@ impl Display for Changed {
             moved,
             empty,
             reasons,
+            counted: [sheets, again],
+            refused,
         } = self;
         writeln!(f, "  {sessions} sessions, {calls} calls, {empty} of them receive without bytes")?;
         writeln!(f, "  {reasons} times give handed over bytes of a line that says why")?;
         write!(f, "  answered 1 by item 1: {mark}, 2: {sizes}, 3: {counts}, 4: {messages}, ")?;
         writeln!(f, "5: {awaited}, 6: {waits}, 7: {reason}")?;
-        writeln!(f, "  on a partner that there isn't: {no_partner}; marks in a column that was moved to: {moved}")
+        writeln!(f, "  on a partner that there isn't: {no_partner}; marks in a column that was moved to: {moved}")?;
+        writeln!(f, "  tally sheets changed: {sheets}, what waits counted anew: {again}; single bytes refused: {refused}")
     }
 }
 
@@ -164,7 +180,7 @@ impl Alone<'_> {
     fn session_field(&mut self) -> (usize, Vec<u8>) {
         let small = self.random.pick(&[0, 0, 1, 2, 3, 4, 5, 6, 7, 63, 64, 80, 81, 88, 255]);
         let large = self.random.pick(&[0, 1, 255, 256, 257, 65_535, 65_536, usize::MAX]);
-        match self.random.below(16) {
+        match self.random.below(18) {
             0 => {
                 let at = self.random.pick(&[form::LINE_BYTES, form::BLOCK_LEFT]);
                 (at, large.to_le_bytes()[..2].to_vec())
@@ -182,6 +198,10 @@ impl Alone<'_> {
             11 => (form::AWAITED, self.parting()),
             12 => (SESSION_PARTNER, vec![self.random.pick(&[7, 8, 9, 255])]),
             13 => (SESSION_PARTNER, vec![self.random.below(PARTNERS) as u8]),
+            14 | 15 => {
+                let number = self.random.pick(&[0, 1, 2, 254, 255, small]);
+                (self.random.within(SESSION_TALLY.start, SESSION_TALLY.end - 1), vec![number])
+            }
             _ => (self.random.within(form::AWAITED, form::SUM), vec![small]),
         }
     }
@@ -252,6 +272,7 @@ impl Alone<'_> {
         if matches!(reply.answer, 1 | 12) || bytes.is_empty() {
             self.unchanged(&before)?;
         }
+        self.check_counted(reply, &before)?;
         self.intact = reply.answer != 1;
         // "Receive consumes every byte lent to it, unless it answers 1 or 12 or the
         // session ends on the way".
@@ -282,6 +303,9 @@ impl Alone<'_> {
         }
         if self.intact && self.empty && reply.count > 0 {
             return self.differs("bytes given though none waited");
+        }
+        if tally_of(&self.memory) != tally_of(&before) {
+            return self.differs("give changed the front panel's numbers");
         }
         let written = place.min(room)..place.min(room) + reply.count;
         expected.part_mut()[written.clone()].copy_from_slice(&buffer.part()[written.clone()]);
@@ -371,6 +395,30 @@ impl Alone<'_> {
         Ok(())
     }
 
+    /// The front panel's numbers after a receive, whatever stood there: an event takes from
+    /// one of the sheet what it gives another, modulo 256; where records were marked, what
+    /// waits is counted anew, else it may stand; a refused byte changes none.
+    fn check_counted(&mut self, reply: Reply, before: &Memory) -> Checked {
+        let (now, then) = (tally_of(&self.memory), tally_of(before));
+        if reply.count == 1 && reply.refuses_a_byte() {
+            self.seen.refused += 1;
+            if now != then {
+                return self.differs("a refused byte changed the front panel's numbers");
+            }
+        }
+        if rest_of(&now.sheet) != rest_of(&then.sheet) {
+            return self.differs(&format!("the sheet was {then:?} and is {now:?}"));
+        }
+        let marked = self.memory.part(TABLE) != before.part(TABLE);
+        let stands = !marked && (now.waiting, now.sizes) == (then.waiting, then.sizes);
+        if !stands && (now.waiting, now.sizes) != form::waits(&self.memory) {
+            return self.differs(&format!("what waits was {then:?} and is {now:?}"));
+        }
+        self.seen.counted[0] += u64::from(now.sheet != then.sheet);
+        self.seen.counted[1] += u64::from(!stands);
+        Ok(())
+    }
+
     fn unchanged(&self, before: &Memory) -> Checked {
         match self.memory.change(before) {
             Some(change) => self.differs(&format!("nothing may change, but {change}")),
@@ -381,4 +429,14 @@ impl Alone<'_> {
     fn differs<T>(&self, what: &str) -> Checked<T> {
         Err(self.history.difference(crate::describe::memory(&self.memory), what.into()))
     }
+}
+
+fn tally_of(memory: &Memory) -> Panel {
+    read_tally(memory.part(SESSION))
+}
+
+/// Proposed less the sum of the other four, modulo 256: 0 on memory that nobody has written.
+fn rest_of(sheet: &Sheet) -> usize {
+    let Sheet { proposed, forwarded, declined, deferred, unsettled } = sheet;
+    (4 * 256 + proposed - forwarded - declined - deferred - unsettled) % 256
 }

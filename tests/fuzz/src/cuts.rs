@@ -5,6 +5,7 @@
 use crate::pair::Pair;
 use crate::report::Checked;
 use inputs::random::Random;
+use second::examples::request3::{self, Counted, Step};
 use second::examples::{self, Example, Said, Taken};
 use second::layout::RECORD_BYTES;
 use second::log::{Kept, Side};
@@ -33,7 +34,32 @@ pub fn run(random: &mut Random) -> Checked<Cuts> {
             say_why(random, &example, room, &mut cuts)?;
         }
     }
+    for counted in request3::all() {
+        cuts.sessions += 1;
+        for portion in PORTIONS {
+            count(random, &counted, portion)?;
+        }
+    }
     Ok(cuts)
+}
+
+/// Plays a session in portions of so many bytes: at the end of what each side says the
+/// library's front panel shows what was counted by hand.
+fn count(random: &mut Random, counted: &Counted, portion: usize) -> Checked {
+    let mut pair = Pair::new(random, &counted.buffers());
+    pair.open(counted.role(), random.below(PARTNERS) as u8)?;
+    pair.must(pair.library_tally() == counted.opened, counted.name)?;
+    for Step { said, answer, tally } in &counted.steps {
+        let (Said::Us(bytes) | Said::Partner(bytes)) = said;
+        let mut answered = 0;
+        for part in bytes.chunks(portion) {
+            let reply = go_on(random, &mut pair, said, part)?;
+            pair.must(reply.count == part.len(), counted.name)?;
+            answered = reply.answer;
+        }
+        pair.must(answered == *answer && pair.library_tally() == *tally, counted.name)?;
+    }
+    drop_link(random, &mut pair)
 }
 
 /// Plays a refused session, then takes the line that says why in rooms of so many

@@ -5,7 +5,7 @@ use crate::lent::{Memory, BODIES, INBOX, NAMES, SESSION, STORE, TABLE, TITLES};
 use second::field::{AT_LIMIT, BID_LIMIT, BODY_LIMIT, CALL_LIMIT, HEADING_LIMIT};
 use second::layout::{MESSAGE_BYTES, RECORD_BYTES, SESSION_BYTES, SESSION_KEPT, SESSION_PARTNER};
 use second::line::LINE_LIMIT;
-use second::memory::{Span, MESSAGE_LIMIT, PARTNERS};
+use second::memory::{Span, State, MESSAGE_LIMIT, PARTNERS};
 use second::proposal::{write_fields, BLOCK_LIMIT};
 use second::record::Form;
 use second::refusal;
@@ -33,6 +33,9 @@ pub const BLOCK_SUM: usize = 116;
 pub const DEFERRED: usize = 160;
 pub const BLOCK: usize = 560;
 pub const BLOCK_END: usize = 920;
+
+/// Where a record's announced size stands.
+const SIZE_FIELD: usize = 76;
 
 /// What is awaited; from `OVER` on the session has ended.
 pub const TURN: u8 = 3;
@@ -92,6 +95,15 @@ fn counts_fit(memory: &Memory) -> bool {
 /// Whose column the session reads and writes.
 pub fn partner(memory: &Memory) -> usize {
     memory.part(SESSION)[SESSION_PARTNER].into()
+}
+
+/// How many records wait for the partner that session memory names, and the sum of their
+/// sizes modulo 2^32, on a table that nobody judged.
+pub fn waits(memory: &Memory) -> (usize, usize) {
+    let table = memory.part(TABLE).chunks_exact(RECORD_BYTES);
+    let waits = table.filter(|entry| entry[partner(memory)] == State::Waiting as u8);
+    let sizes: u64 = waits.clone().map(|entry| number(entry, SIZE_FIELD, 4)).sum();
+    (waits.count(), (sizes % (1 << 32)) as usize)
 }
 
 /// "4. the inbox has at most 64 places, the messages kept have theirs, their
@@ -243,7 +255,7 @@ impl<'a> Entry<'a> {
         let at = self.field(17, AT_LIMIT);
         let to = self.field(56, CALL_LIMIT);
         let bid = self.field(63, BID_LIMIT);
-        let size = self.number(76, 4) as u32;
+        let size = self.number(SIZE_FIELD, 4) as u32;
         write_fields(self.form(), self.bytes[9], [from, at, to, bid], size)
     }
 

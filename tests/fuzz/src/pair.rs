@@ -8,13 +8,14 @@ use crate::report::{Call, Checked, History};
 use inputs::random::Random;
 use second::host::Buffers;
 use second::layout::{
-    read_message, write_message, MESSAGE_BYTES, RECORD_BYTES, SESSION_KEPT, SESSION_LEVEL,
-    SESSION_PARTNER,
+    read_message, read_tally, write_message, MESSAGE_BYTES, RECORD_BYTES, SESSION_KEPT,
+    SESSION_LEVEL, SESSION_PARTNER,
 };
 use second::log::{self, Kept, Trace, With};
 use second::memory::{self, Record};
 use second::session::{self, Reply, Session};
 use second::sid::Level;
+use second::tally::{Tally, Told};
 
 /// The second implementation after an accepted open.
 #[derive(Clone, Debug)]
@@ -26,6 +27,9 @@ pub struct Second {
     opened: Vec<Record>,
     opened_bytes: Vec<u8>,
     trace: Trace,
+    /// What the front panel shows, and what that is read from.
+    pub tally: Tally,
+    told: Told,
     /// Messages that stand in the expected bytes already.
     written: usize,
 }
@@ -88,15 +92,19 @@ impl Pair {
             Ok((session, memory)) => {
                 self.relevelled = None;
                 self.before = self.history.count();
-                self.second = Some(Second {
+                let mut second = Second {
                     with: With { we_called: role == 1, partner: session.partner() },
                     opened: memory.table.clone(),
                     opened_bytes: self.expected.part(TABLE).to_vec(),
                     trace: Trace::new(),
+                    tally: Tally::default(),
+                    told: Told::default(),
                     written: 0,
                     session,
                     memory,
-                });
+                };
+                second.tally = second.counted();
+                self.second = Some(second);
                 Reply::ok(0)
             }
         };
@@ -124,7 +132,12 @@ impl Pair {
         let expected = match &mut self.second {
             // DECISIONS 32: "Memory that open never accepted: 1"
             None => Reply::BAD_BUFFERS,
-            Some(second) => second.call(resize, |session, memory| session.receive(memory, bytes)),
+            Some(second) => {
+                let reply = second.call(resize, |session, memory| session.receive(memory, bytes));
+                second.told.received(bytes, reply);
+                second.tally = second.counted();
+                reply
+            }
         };
         self.update();
         // "nothing consumed, nothing changed"; "Receiving no bytes on a live
@@ -171,6 +184,7 @@ impl Pair {
         if let Some(second) = &mut self.second {
             let part = buffer.part().get(place..).unwrap_or_default();
             second.trace.given(&part[..reply.count]);
+            second.told.given(&second.session, &part[..reply.count]);
         }
         Ok(reply)
     }
@@ -223,7 +237,22 @@ impl Pair {
         if level.map_or(false, |level| self.lent.part(SESSION)[SESSION_LEVEL] != level) {
             return self.differs(format!("level in force: expected {level:?}"));
         }
-        Ok(())
+        self.compare_tally()
+    }
+
+    /// "Keep both numbers in session memory, [...] right after an accepted open and [...]
+    /// after every call. Beside them, on the same terms, [...] a tally sheet".
+    fn compare_tally(&self) -> Checked {
+        let expected = match &self.second {
+            Some(second) => second.tally,
+            None => return Ok(()),
+        };
+        let library = self.library_tally();
+        if library != expected {
+            let both = format!("library:  {library:?}\n  expected: {expected:?}");
+            return self.differs(format!("the front panel's numbers\n  {both}"));
+        }
+        self.must(expected.sheet.adds_up(), "proposed is not the sum of the other four")
     }
 
     /// Demand 3, on both sides: "after the list, the table is as open found it but
@@ -253,7 +282,7 @@ impl Pair {
         if memory.table != records || second.kept() != log.kept {
             return self.differs("demand 3: the second implementation isn't the log's".into());
         }
-        Ok(())
+        self.must(second.counted() == second.tally, "what was given has changed a number")
     }
 
     /// The library's messages up to its count, read from its bytes.
@@ -262,6 +291,11 @@ impl Pair {
         let store = self.lent.part(STORE);
         let entries = self.lent.part(INBOX).chunks(MESSAGE_BYTES).take(count);
         entries.map(|entry| kept(&read_message(entry)?, store)).collect()
+    }
+
+    /// What the library's front panel shows.
+    pub fn library_tally(&self) -> Tally {
+        read_tally(self.lent.part(SESSION))
     }
 
     /// What must be so of the library, whatever the second implementation says.
@@ -296,6 +330,12 @@ impl Second {
 
     pub fn trace(&self) -> &Trace {
         &self.trace
+    }
+
+    /// What the front panel shows, read anew from all that crossed the link.
+    fn counted(&self) -> Tally {
+        let Second { with, session, memory, opened, told, .. } = self;
+        told.tally(*with, session, (opened, &memory.table), &memory.stores)
     }
 
     /// The table as open found it.

@@ -7,7 +7,7 @@ use second::field::{same_bid, BID_LIMIT, BODY_END, BODY_LIMIT};
 use second::host::{append, Buffers};
 use second::layout::{self, KNOWN_BYTES, MESSAGE_BYTES, RECORD_BYTES, SESSION_BYTES};
 use second::memory::{Envelope, Record, Span, State};
-use second::memory::{KNOWN_LIMIT, MESSAGE_LIMIT, PARTNERS, RECORD_LIMIT};
+use second::memory::{KNOWN_LIMIT, MESSAGE_LIMIT, PARTNERS, RECORD_LIMIT, SIZE_LIMIT};
 use second::record::{Form, Kind};
 use second::session::{self, Lent};
 
@@ -25,10 +25,13 @@ pub fn buffers(random: &mut Random) -> Buffers {
         ..Buffers::default()
     };
     host.inbox = filled(random, places * MESSAGE_BYTES);
-    let forms = random.pick(&[&[Form::Plain][..], &[Form::Message, Form::File], &ALL]);
-    let long = random.once_in(50);
+    let mail = Mail {
+        forms: random.pick(&[&[Form::Plain][..], &[Form::Message, Form::File], &ALL]),
+        long: random.once_in(50),
+        heavy: random.once_in(20),
+    };
     for number in 0..record_count(random) {
-        let record = record(random, &mut host, forms, number, long);
+        let record = record(random, &mut host, mail, number);
         let mut entry = layout::write_record(&record);
         garble_padding(random, &mut entry);
         host.table.extend(entry);
@@ -122,23 +125,32 @@ fn record_count(random: &mut Random) -> usize {
     }
 }
 
-/// A valid record, its heading and body put into the stores.
-fn record(
-    random: &mut Random,
-    host: &mut Buffers,
-    forms: &[Form],
-    number: usize,
+/// What a table's records are like: of these forms, some with the longest bodies; or all
+/// waiting, and most announced as the largest.
+#[derive(Clone, Copy)]
+struct Mail<'a> {
+    forms: &'a [Form],
     long: bool,
-) -> Record {
-    let form = random.pick(forms);
-    let body = body(random, form == Form::Plain, long);
+    heavy: bool,
+}
+
+/// A valid record, its heading and body put into the stores.
+fn record(random: &mut Random, host: &mut Buffers, mail: Mail<'_>, number: usize) -> Record {
+    let form = random.pick(mail.forms);
+    let body = body(random, form == Form::Plain, mail.long);
     let (title, name) = match form {
         Form::File => (random.once_in(3), true),
         Form::Plain | Form::Message => (true, random.once_in(3)),
     };
-    let size = size(random, body.len());
+    let size = match mail.heavy && !random.once_in(8) {
+        true => SIZE_LIMIT - random.below(3) as u32,
+        false => size(random, body.len()),
+    };
     Record {
-        states: std::array::from_fn(|_| state(random)),
+        states: std::array::from_fn(|_| match mail.heavy {
+            true => State::Waiting,
+            false => state(random),
+        }),
         envelope: Envelope {
             form,
             kind: random.pick(&[Kind::Private, Kind::Bulletin]),

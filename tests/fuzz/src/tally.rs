@@ -6,10 +6,12 @@ use crate::tables;
 use second::field::BODY_LIMIT;
 use second::fs::Sign;
 use second::log::Side;
-use second::memory::{State, MESSAGE_LIMIT, PARTNERS};
+use second::memory::{State, MESSAGE_LIMIT, PARTNERS, RECORD_LIMIT};
+use second::proposal::BLOCK_LIMIT;
 use second::refusal::{reason_after, ANSWERS};
-use second::session::{Inside, Lent, Phase, Reply, Role};
+use second::session::{Inside, Lent, Phase, Reply, Role, Session};
 use second::sid::Mode;
+use second::tally::Tally as Panel;
 use std::fmt::{self, Display};
 
 /// From so many sessions on, whatever [`Tally::never_met`] lists must have come.
@@ -23,6 +25,27 @@ const PLACES: [&str; 4] = ["the table", "the known list", "the inbox", "the bloc
 const RIVALS: [&str; 3] = ["known before record", "first of two records", "partner before record"];
 const COLUMNS: [&str; 2] = ["the partner's column", "another's"];
 const PHASES: [&str; 7] = ["SID", "prompt", "turn", "FS line", "transfers", "our FQ", "nothing"];
+const SHOWN: [&str; 9] = [
+    "64 waiting",
+    "sizes over 65,535",
+    "sizes over 16,777,215",
+    "proposed",
+    "more than a block",
+    "forwarded",
+    "declined",
+    "deferred",
+    "not settled",
+];
+const STANDING: [&str; 6] = [
+    "11, our block waiting",
+    "11, our transfers waiting",
+    "5 inside a block, after our transfers",
+    "6 or 13, after our transfers",
+    "5 for an FS line",
+    "7",
+];
+const UNSETTLED: [&str; 4] =
+    ["inside our block", "before the FS line", "inside our transfers", "after them"];
 const TURNS: [&str; 6] = ["0", "1 to 2", "3 to 5", "6 to 10", "11 to 20", "over 20"];
 
 #[derive(Debug, Default)]
@@ -78,6 +101,12 @@ pub struct Tally {
     unsaid: [u64; 2],
     /// Bytes that arrived while such a line waited.
     pub late: u64,
+    /// Sessions whose front panel showed at the end, by `SHOWN`.
+    shown: [u64; 9],
+    /// Sessions that were refused while records were not settled, by `STANDING`.
+    standing: [u64; 6],
+    /// Links that dropped while records were not settled, by `UNSETTLED`.
+    unsettled: [u64; 4],
 }
 
 impl Tally {
@@ -151,6 +180,31 @@ impl Tally {
         self.count_reason(session.waiting(), refusal);
         self.count_kind(second);
         self.count_records(second);
+        self.count_panel(second, refusal);
+    }
+
+    /// What the front panel showed at the end, and where it stood so.
+    fn count_panel(&mut self, second: &Second, refusal: u8) {
+        let Panel { waiting, sizes, sheet } = second.tally;
+        let shown = [
+            waiting == RECORD_LIMIT,
+            sizes > 0xFF_FF,
+            sizes > 0xFF_FF_FF,
+            sheet.proposed > 0,
+            sheet.proposed > BLOCK_LIMIT,
+            sheet.forwarded > 0,
+            sheet.declined > 0,
+            sheet.deferred > 0,
+            sheet.unsettled > 0,
+        ];
+        for (times, shown) in self.shown.iter_mut().zip(shown) {
+            *times += u64::from(shown);
+        }
+        if sheet.unsettled > 0 {
+            let session = &second.session;
+            standing(session, refusal).into_iter().for_each(|kind| self.standing[kind] += 1);
+            unsettled(session).into_iter().for_each(|kind| self.unsettled[kind] += 1);
+        }
     }
 
     /// How far we came in saying why.
@@ -236,6 +290,9 @@ impl Tally {
             ("dropped before saying why", named(&["all", "the rest"], &self.unsaid)),
             ("before we had said why", named(&["bytes came"], &[self.late])),
             ("dropped inside", named(&["nothing", "a line", "a transfer", "ours"], &self.cuts)),
+            ("the front panel showed", named(&SHOWN, &self.shown)),
+            ("refused with records not settled:", named(&STANDING, &self.standing)),
+            ("dropped with records not settled:", named(&UNSETTLED, &self.unsettled)),
         ]
     }
 
@@ -265,6 +322,31 @@ fn phase(phase: &Phase) -> usize {
         Phase::Transfers { .. } => 4,
         Phase::Quit => 5,
         Phase::Over => 6,
+    }
+}
+
+/// How a session was refused whose records are not settled, by `STANDING`.
+fn standing(session: &Session, refusal: u8) -> Option<usize> {
+    let in_block = |phase: &Phase| matches!(phase, Phase::Turn { block, .. } if !block.is_empty());
+    match (refusal, session.refused_in()?) {
+        (11, Phase::Answer { .. }) => Some(0),
+        (11, _) => Some(1),
+        (5, phase) if in_block(phase) => Some(2),
+        (6 | 13, _) => Some(3),
+        (5, Phase::Answer { .. }) => Some(4),
+        (7, _) => Some(5),
+        _ => None,
+    }
+}
+
+/// Where the link dropped while records were not settled, by `UNSETTLED`.
+fn unsettled(session: &Session) -> Option<usize> {
+    match (session.phase(), session.waiting()) {
+        (Phase::Answer { .. }, 1..) => Some(0),
+        (Phase::Answer { .. }, 0) => Some(1),
+        (Phase::Turn { .. }, 1..) => Some(2),
+        (Phase::Turn { .. }, 0) => Some(3),
+        _ => None,
     }
 }
 

@@ -1,4 +1,4 @@
-//! The claims of request Q-13, on plain vectors of letters, states and kept
+//! The claims of requests, on plain vectors of letters, states and kept
 //! messages. Nothing here is taken from the library: what both nodes were at the
 //! start and are now is all that it sees, and the bytes that crossed the link.
 
@@ -7,6 +7,7 @@ use second::host::Letter;
 use second::log::Kept;
 use second::memory::State;
 use second::record::Form;
+use second::tally::Tally;
 
 /// A node at the start of a series and now.
 #[derive(Clone, Copy)]
@@ -97,6 +98,41 @@ pub fn marks_stand(before: &[State], after: &[State]) -> Result<(), String> {
     let again = |(old, new): (&State, &State)| *old != State::Waiting && old != new;
     if before.iter().zip(after).any(again) || before.len() != after.len() {
         return Err(format!("marks were {before:?} and are {after:?}"));
+    }
+    Ok(())
+}
+
+/// Request Q-3, by what an end gave and took in a meeting: the BIDs that it proposed and
+/// those of them that were deferred; and by its states before the meeting.
+pub struct Sheet<'a> {
+    pub before: &'a [State],
+    pub proposed: usize,
+    pub deferred: usize,
+}
+
+/// What the front panel shows after a meeting is what has become of the records.
+pub fn tallied(shown: Tally, now: &Node, sheet: Sheet<'_>) -> Result<(), String> {
+    let Sheet { before, proposed, deferred } = sheet;
+    let letters = now.letters.iter().zip(&now.states);
+    let waiting = letters.filter(|(_, &state)| state == State::Waiting);
+    let marked = |mark: State| {
+        let marks = before.iter().zip(&now.states);
+        marks.filter(|(&old, &new)| old == State::Waiting && new == mark).count()
+    };
+    let (forwarded, declined) = (marked(State::Forwarded), marked(State::Declined));
+    let expected = Tally {
+        waiting: waiting.clone().count(),
+        sizes: waiting.map(|(letter, _)| letter.size as usize).sum(),
+        sheet: second::log::Sheet {
+            proposed,
+            forwarded,
+            declined,
+            deferred,
+            unsettled: proposed.saturating_sub(forwarded + declined + deferred),
+        },
+    };
+    if shown != expected {
+        return Err(format!("the front panel shows {shown:?}, and it is {expected:?}"));
     }
     Ok(())
 }

@@ -3,10 +3,13 @@
 use crate::node::{Carrying, Node, Room};
 use fuzz::library::{self, Lent};
 use second::host::Buffers;
-use second::layout::{read_message, MESSAGE_BYTES, RECORD_BYTES, SESSION_KEPT};
+use second::layout::{
+    read_message, read_tally, MESSAGE_BYTES, RECORD_BYTES, SESSION_KEPT, SESSION_TALLY,
+};
 use second::log::Kept;
 use second::memory::State;
 use second::session::Reply;
+use second::tally::Tally;
 
 /// Roles of open.
 const CALLED: u8 = 0;
@@ -148,9 +151,15 @@ impl End {
         self.host.session[LINE_BYTES..LINE_BYTES + 2] != [0, 0]
     }
 
-    /// The table with its states, and how many messages are kept.
+    /// The table with its states, how many messages are kept, and the front panel's numbers.
     pub fn settled(&self) -> Vec<u8> {
-        [&self.host.table[..], &[self.host.session[SESSION_KEPT]]].concat()
+        let session = &self.host.session;
+        [&self.host.table[..], &[session[SESSION_KEPT]], &session[SESSION_TALLY]].concat()
+    }
+
+    /// What the front panel shows.
+    pub fn tally(&self) -> Tally {
+        read_tally(&self.host.session)
     }
 
     pub fn is_live(&mut self) -> bool {

@@ -20,6 +20,7 @@ use link::{Cut, WHOLE};
 use node::{Carrying, Node, Room};
 use reasons::Reasons;
 use second::memory::{State, MESSAGE_LIMIT};
+use second::tally::Tally as Panel;
 use series::{Meeting, Series, Went};
 use std::process::ExitCode;
 use worlds::Small;
@@ -73,6 +74,9 @@ struct Tally {
     /// What became of the records of whole series.
     forwarded: usize,
     declined: usize,
+    /// Ends of meetings with records deferred, and with records not settled.
+    deferred: u64,
+    unsettled: u64,
 }
 
 impl Tally {
@@ -84,6 +88,10 @@ impl Tally {
                 self.cuts += u64::from(went.was_cut);
                 self.farewells += u64::from(went.fq_came);
                 self.overruns += u64::from(went.refusals.contains(&STORE_FULL));
+                for Panel { sheet, .. } in went.tallies {
+                    self.deferred += u64::from(sheet.deferred > 0);
+                    self.unsettled += u64::from(sheet.unsettled > 0);
+                }
                 Some(went)
             }
             Err(said) => {
@@ -213,10 +221,15 @@ fn main() -> ExitCode {
         every_pair(&mut random, small, carrying, &mut tally);
         println!("meetings: {}: every pair, {} cuts", small.said, tally.cuts - before);
     }
-    let Tally { cuts, sessions, faults, farewells, overruns, forwarded, declined } = tally;
+    if tally.deferred == 0 || tally.unsettled == 0 {
+        tally.fault("front panels", "none showed records deferred, or not settled");
+    }
+    let Tally { cuts, sessions, faults, farewells, overruns, .. } = tally;
+    let Tally { forwarded, declined, deferred, unsettled, .. } = tally;
     println!(
         "meetings: {farewells} ended by FQ, {overruns} by a byte without room; \
-         of the records at the end {forwarded} forwarded, {declined} declined"
+         of the records at the end {forwarded} forwarded, {declined} declined; \
+         {deferred} front panels showed some deferred, {unsettled} some not settled"
     );
     println!("meetings: {cuts} cuts, {sessions} sessions, {faults} faults");
     if faults == 0 {

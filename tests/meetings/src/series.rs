@@ -1,11 +1,12 @@
 //! Meetings one after another, each held against the claims.
 
-use crate::claims::{self, Course};
+use crate::claims::{self, Course, Sheet};
 use crate::end::End;
 use crate::link::{self, Cut, WHOLE};
 use crate::node::{Carrying, Node, Room};
 use crate::wire;
 use crate::worlds::BODY_LIMIT;
+use second::tally::Tally;
 
 /// One meeting: whether the first node calls, what each is lent, where the link drops.
 #[derive(Clone, Copy, Debug)]
@@ -26,6 +27,8 @@ pub struct Went {
     pub fq_came: bool,
     /// The refusals that ended it at both ends, or 0.
     pub refusals: [u8; 2],
+    /// What the front panels showed at the end.
+    pub tallies: [Tally; 2],
 }
 
 /// Two nodes as they were at the start and as they are.
@@ -61,14 +64,19 @@ impl<'a> Series<'a> {
         claims::marks_stand(&before[1], &self.now[1].states)?;
         self.hold()?;
         let fq_came = first.fq_came || second.fq_came;
-        if fq_came {
-            let deferred =
-                |ours: &End, theirs: &End| wire::deferred(&ours.given, &theirs.given[..ours.taken]);
-            claims::none_left(&self.now[0], &deferred(&first, &second))?;
-            claims::none_left(&self.now[1], &deferred(&second, &first))?;
+        let mut tallies = [Tally::default(); 2];
+        for (at, ours, theirs) in [(0, &first, &second), (1, &second, &first)] {
+            let deferred = wire::deferred(&ours.given, &theirs.given[..ours.taken]);
+            let proposed = wire::proposed(&ours.given);
+            let sheet = Sheet { before: &before[at], proposed, deferred: deferred.len() };
+            tallies[at] = ours.tally();
+            claims::tallied(tallies[at], &self.now[at], sheet)?;
+            if fq_came {
+                claims::none_left(&self.now[at], &deferred)?;
+            }
         }
         let refusals = [first.refusal, second.refusal];
-        Ok(Went { given, was_cut, fq_came, refusals })
+        Ok(Went { given, was_cut, fq_came, refusals, tallies })
     }
 
     /// What holds at any time.

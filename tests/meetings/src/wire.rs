@@ -1,5 +1,5 @@
-//! What was deferred in a meeting, read from the bytes on the link alone: lines
-//! end with CR, and what begins with 01 is a transfer.
+//! What was proposed and deferred in a meeting, read from the bytes on the link alone:
+//! lines end with CR, and what begins with 01 is a transfer.
 
 const CR: u8 = b'\r';
 /// The first bytes of a transfer's header, of a block, and of the checksum.
@@ -21,6 +21,11 @@ pub fn deferred(ours: &[u8], theirs: &[u8]) -> Vec<Vec<u8>> {
         deferred.extend(answered.filter(|(_, &sign)| sign == b'=').map(|(bid, _)| bid));
     }
     deferred
+}
+
+/// How many records we proposed, by the bytes that we gave.
+pub fn proposed(ours: &[u8]) -> usize {
+    blocks(ours).iter().map(Vec::len).sum()
 }
 
 /// The BIDs of each whole block.
@@ -83,5 +88,6 @@ mod tests {
         assert_eq!(deferred(ours, theirs), [b"X2".to_vec(), b"X3".to_vec()]);
         assert_eq!(deferred(ours, &theirs[..24]), [b"X2".to_vec()]);
         assert_eq!(deferred(&ours[..51], theirs), Vec::<Vec<u8>>::new());
+        assert_eq!((proposed(ours), proposed(&ours[..51]), proposed(theirs)), (3, 0, 0));
     }
 }

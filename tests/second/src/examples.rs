@@ -8,6 +8,7 @@ mod paper002;
 mod paper003;
 mod paper01;
 mod request1;
+pub mod request3;
 mod request5;
 mod request6;
 

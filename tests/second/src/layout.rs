@@ -6,8 +6,10 @@
 //! that don't matter (zeros where the library writes them)."
 
 use crate::field::{AT_LIMIT, BID_LIMIT, CALL_LIMIT, HEADING_LIMIT};
+use crate::log::Sheet;
 use crate::memory::{Envelope, Message, Record, Span, State, PARTNERS};
 use crate::record::{Form, Kind};
+use crate::tally::Tally;
 use std::ops::Range;
 
 /// "session memory | exactly 1,024 bytes"
@@ -24,8 +26,28 @@ pub const SESSION_KEPT: usize = 66;
 pub const SESSION_LEVEL: usize = 117;
 /// The partner that open was told, at 118.
 pub const SESSION_PARTNER: usize = 118;
-/// "Bytes 119 to 159 and 920 to 1,023 are free: no call reads or writes them".
-pub const SESSION_FREE: [Range<usize>; 2] = [119..160, 920..SESSION_BYTES];
+/// The front panel's numbers, from 119 on: waiting 1 byte, the sum of their sizes 4, then
+/// proposed, forwarded, declined, deferred and not settled, 1 byte each.
+pub const SESSION_TALLY: Range<usize> = 119..129;
+/// "Bytes 129 to 159 and 920 to 1,023 are free: no call reads or writes them".
+pub const SESSION_FREE: [Range<usize>; 2] = [129..160, 920..SESSION_BYTES];
+
+/// The front panel's numbers in session memory.
+pub fn read_tally(session: &[u8]) -> Tally {
+    let mut numbers = In(&session[SESSION_TALLY]);
+    let mut number = |bytes| numbers.number(bytes).expect("session memory has them");
+    Tally {
+        waiting: number(1),
+        sizes: number(4),
+        sheet: Sheet {
+            proposed: number(1),
+            forwarded: number(1),
+            declined: number(1),
+            deferred: number(1),
+            unsettled: number(1),
+        },
+    }
+}
 
 /// An entry being written.
 #[derive(Default)]

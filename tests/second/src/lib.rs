@@ -10,6 +10,7 @@
 //! - [`session`]: open, receive and give over the lent memory ([`memory`], and
 //!   [`layout`] for its bytes).
 //! - [`log`]: what a session's bytes mean, read from the whole of them.
+//! - [`tally`]: what the front panel shows (request Q-3), by the log and the table.
 //! - [`examples`]: the papers' own sessions.
 //!
 //! A sentence of 01 stands in quotes above the item that renders it;
@@ -33,4 +34,5 @@ pub mod refusal;
 pub mod route;
 pub mod session;
 pub mod sid;
+pub mod tally;
 pub mod transfer;

@@ -39,6 +39,25 @@ pub struct Kept {
 pub struct Log {
     pub states: Vec<State>,
     pub kept: Vec<Kept>,
+    pub sheet: Sheet,
+}
+
+/// Request Q-3's tally sheet: "records proposed, forwarded, declined, deferred, and not
+/// settled yet, all 0 when open accepts".
+#[derive(Clone, Copy, Debug, Default, PartialEq, Eq)]
+pub struct Sheet {
+    pub proposed: usize,
+    pub forwarded: usize,
+    pub declined: usize,
+    pub deferred: usize,
+    pub unsettled: usize,
+}
+
+impl Sheet {
+    /// "the first is always the sum of the other four"
+    pub fn adds_up(&self) -> bool {
+        self.proposed == self.forwarded + self.declined + self.deferred + self.unsettled
+    }
 }
 
 /// Who the session is with.
@@ -53,12 +72,23 @@ pub struct With {
 /// this table.
 pub fn read(with: With, table: &[Record], stores: &Stores, trace: &Trace) -> Log {
     let column = table.iter().map(|record| record.states[with.partner]);
-    let log = Log { states: column.collect(), kept: Vec::new() };
-    let link = Link::new(trace);
-    let (mode, level) = (Mode::Plain, Level::Zero);
-    let mut reading = Reading { link, table, stores, mode, level, sent: Vec::new(), log };
+    let log = Log { states: column.collect(), kept: Vec::new(), sheet: Sheet::default() };
+    let mut reading = Reading {
+        link: Link::new(trace),
+        table,
+        stores,
+        mode: Mode::Plain,
+        level: Level::Zero,
+        asked: Vec::new(),
+        accepted: Vec::new(),
+        sent: Vec::new(),
+        log,
+    };
     // Nothing left, FQ, or a thing forbidden: the log is what it is by then.
     let _ = reading.follow(with.we_called);
+    // "not settled are those proposed whose FS hasn't come, or which were accepted and
+    // aren't forwarded yet"
+    reading.log.sheet.unsettled = reading.asked.len() + reading.accepted.len();
     reading.log
 }
 
@@ -76,6 +106,10 @@ struct Reading<'a> {
     mode: Mode,
     /// At which the partner's FS lines are read.
     level: Level,
+    /// Records proposed whose FS line hasn't come.
+    asked: Vec<usize>,
+    /// Records accepted and not forwarded yet.
+    accepted: Vec<usize>,
     /// Records sent.
     sent: Vec<usize>,
     log: Log,
@@ -166,6 +200,8 @@ impl<'a> Reading<'a> {
         if side == Side::Partner {
             for place in self.sent.drain(..) {
                 self.log.states[place] = State::Forwarded;
+                self.log.sheet.forwarded += 1;
+                self.accepted.retain(|&accepted| accepted != place);
             }
         }
     }
@@ -181,6 +217,8 @@ impl<'a> Reading<'a> {
             Side::Partner => Some(Vec::new()),
         };
         let ours = ours?;
+        self.log.sheet.proposed += ours.len();
+        self.asked = ours.clone();
         // "We write only `+`, `-` and `=`."
         let level = match side {
             Side::Us => self.level,
@@ -200,9 +238,16 @@ impl<'a> Reading<'a> {
     /// The partner's FS line "makes declined records 2". "Our owed transfer, as
     /// we write it, given whole: its record is sent."
     fn our_transfers(&mut self, ours: &[usize], signs: &[Sign]) -> Option<()> {
+        self.asked.clear();
         for (&place, sign) in ours.iter().zip(signs) {
-            if *sign == Sign::Decline {
-                self.log.states[place] = State::Declined;
+            match sign {
+                Sign::Accept => self.accepted.push(place),
+                Sign::Decline => {
+                    self.log.states[place] = State::Declined;
+                    self.log.sheet.declined += 1;
+                }
+                // "deferred at the FS line"
+                Sign::Defer => self.log.sheet.deferred += 1,
             }
         }
         for (&place, sign) in ours.iter().zip(signs) {

@@ -128,6 +128,8 @@ pub struct Session {
     sent: Vec<usize>,
     /// Records deferred in this session.
     deferred: Vec<usize>,
+    /// After a refusal: what was awaited and what waited before the refused byte came.
+    before_refusal: Option<(Phase, Vec<u8>)>,
     /// Messages kept, and the store bytes that they use.
     kept: usize,
     used: usize,
@@ -180,6 +182,20 @@ impl Session {
         self.waiting.len() - self.given
     }
 
+    /// What we have still to say, by the last byte that wasn't refused: all that waits, and
+    /// after a refusal what waited before it.
+    pub fn unsaid(&self) -> &[u8] {
+        match &self.before_refusal {
+            Some((_, waited)) => waited,
+            None => &self.waiting[self.given..],
+        }
+    }
+
+    /// After a refusal: what was awaited before the refused byte came.
+    pub fn refused_in(&self) -> Option<&Phase> {
+        self.before_refusal.as_ref().map(|(phase, _)| phase)
+    }
+
     /// Records that the partner deferred.
     pub fn deferred(&self) -> usize {
         self.deferred.len()
@@ -227,6 +243,7 @@ impl Session {
 
     /// "After refusals 2 to 10, give must still hand over one line and CR".
     fn refuse(&mut self, refusal: Refusal) {
+        self.before_refusal = Some((self.phase.clone(), self.unsaid().to_vec()));
         self.end();
         self.say(refusal.reason());
     }

@@ -29,7 +29,7 @@ judged-requires : tie.Need-judged-requires
 judged-requires c κs = search needs
 
 settle-requires : tie.Need-settle-requires
-settle-requires c κs = search needs
+settle-requires c κs = c .before .before .before .mem .given ∙ c .before .before .before .before .before .before .before .before .before .before .before .before .before .before .before .before .pre
 
 same-length : tie.Need-same-length
 same-length c = search needs

@@ -19,9 +19,12 @@ load-reader-requires c κs = search needs
 load-line-requires : tie.Need-load-line-requires
 load-line-requires c κs = search needs
 
+load-tally-requires : tie.Need-load-tally-requires
+load-tally-requires c κs = search needs
+
 returns : tie.Need-returns
 unfolding numbersAt
-returns c = same-numbers (c .before .before .before .before .load-await .ensures) (c .before .before .before .load-say .ensures) (c .before .before .load-keep .ensures) (c .before .load-reader .ensures) (c .load-line .ensures)
+returns c = same-numbers (c .before .before .before .before .before .load-await .ensures) (c .before .before .before .before .load-say .ensures) (c .before .before .before .load-keep .ensures) (c .before .before .load-reader .ensures) (c .before .load-line .ensures) (c .load-tally .ensures)
 
 pub load-spec : {M : Type 1} → statement M
 load-spec =
@@ -32,4 +35,5 @@ load-spec =
     load-keep-requires
     load-reader-requires
     load-line-requires
+    load-tally-requires
     returns)

@@ -1,4 +1,6 @@
 -- One law for each way out: partner, role, sizes, known BIDs, a record, and the session opened.
+use mathlib.Core.Path.{ap, _∙_}
+use Rattle.tally.specs.Tally.{counted}
 use Rattle.open.proofs.Laws.{open-partner, open-role, open-sizes, open-known, open-fault, open-good, size-told}
 use borrow.Author.Needs.{needs}
 use Rattle.form_test.specs.Form.{lentSizes}
@@ -63,14 +65,20 @@ returns-5 c =
     open-fault (a .role) (a .partner) (a .sm .now) (a .table .now) (a .titles .now) (a .names .now) (a .bodies .now) (a .known .now) (a .inbox .now) (a .store .now)
     (c .before .before .before .before .before .before .before .before .if1 .left) (c .before .before .before .before .before .before .before .if2 .left) (c .before .before .before .before .before .before .sizes-ok .ensures) (c .before .before .before .before .before .if3 .left) (c .before .before .before .before .known-ok .ensures) (c .before .before .before .if4 .left) _ (c .before .before .table-fault .ensures) (c .before .if5 .taken) _ (c .bad5 .ensures)
 
+no-sheet-requires : tie.Need-no-sheet-requires
+no-sheet-requires c κs = search needs
+
+counted-requires : tie.Need-counted-requires
+counted-requires c κs = search needs
+
 save-sizes-requires : tie.Need-save-sizes-requires
 save-sizes-requires c κs = search needs
 
 save-fresh-requires : tie.Need-save-fresh-requires
 unfolding sizesOk
 save-fresh-requires c κs =
-    let a = c .before .before .before .before .before .before .before .before .before .before .before .before .before .before .before .before .before .before .before .before .before .args in
-    size-told (a .sm .now) (a .table .now) (a .known .now) (a .inbox .now) (c .before .before .before .before .before .before .before .before .before .before .sizes-ok .ensures) (c .before .before .before .before .before .before .before .before .before .if3 .left)
+    let a = c .before .before .before .before .before .before .before .before .before .before .before .before .before .before .before .before .before .before .before .before .before .before .before .args in
+    size-told (a .sm .now) (a .table .now) (a .known .now) (a .inbox .now) (c .before .before .before .before .before .before .before .before .before .before .before .before .sizes-ok .ensures) (c .before .before .before .before .before .before .before .before .before .before .before .if3 .left)
     (lentSizes (a .table .now) (a .titles .now) (a .names .now) (a .bodies .now) (a .known .now) (a .inbox .now) (a .store .now)) (c .before .before .before .save-sizes .ensures)
 
 same-length : tie.Need-same-length
@@ -79,9 +87,9 @@ same-length c = search needs
 returns-6 : tie.Need-returns-6
 unfolding sizesOk
 returns-6 c =
-    let a = c .before .before .before .before .before .before .before .before .before .before .before .before .before .before .before .before .before .before .before .before .before .before .before .before .args in
+    let a = c .before .before .before .before .before .before .before .before .before .before .before .before .before .before .before .before .before .before .before .before .before .before .before .before .before .before .args in
     open-good (a .role) (a .partner) (a .sm .now) (a .table .now) (a .titles .now) (a .names .now) (a .bodies .now) (a .known .now) (a .inbox .now) (a .store .now)
-    (c .before .before .before .before .before .before .before .before .before .before .before .before .before .before .before .if1 .left) (c .before .before .before .before .before .before .before .before .before .before .before .before .before .before .if2 .left) (c .before .before .before .before .before .before .before .before .before .before .before .before .before .sizes-ok .ensures) (c .before .before .before .before .before .before .before .before .before .before .before .before .if3 .left) (c .before .before .before .before .before .before .before .before .before .before .before .known-ok .ensures) (c .before .before .before .before .before .before .before .before .before .before .if4 .left) _ (c .before .before .before .before .before .before .before .before .before .table-fault .ensures) (c .before .before .before .before .before .before .before .before .if5 .left) _ (c .before .before .before .before .before .before .save-sizes .ensures) _ (c .before .before .save-fresh .ensures)
+    (c .before .before .before .before .before .before .before .before .before .before .before .before .before .before .before .before .before .if1 .left) (c .before .before .before .before .before .before .before .before .before .before .before .before .before .before .before .before .if2 .left) (c .before .before .before .before .before .before .before .before .before .before .before .before .before .before .before .sizes-ok .ensures) (c .before .before .before .before .before .before .before .before .before .before .before .before .before .before .if3 .left) (c .before .before .before .before .before .before .before .before .before .before .before .before .before .known-ok .ensures) (c .before .before .before .before .before .before .before .before .before .before .before .before .if4 .left) _ (c .before .before .before .before .before .before .before .before .before .before .before .table-fault .ensures) (c .before .before .before .before .before .before .before .before .before .before .if5 .left) _ (c .before .before .before .before .before .before .save-sizes .ensures) _ (c .before .before .before .before .before .before .before .before .counted .ensures ∙ ap (counted (a .partner) (a .table .now)) (c .before .before .before .before .before .before .before .before .before .no-sheet .ensures)) _ (c .before .before .save-fresh .ensures)
 
 pub open-spec : {M : Type 1} → statement M
 open-spec =
@@ -100,6 +108,8 @@ open-spec =
     table-fault-requires
     bad-requires-5
     returns-5
+    no-sheet-requires
+    counted-requires
     save-sizes-requires
     save-fresh-requires
     same-length

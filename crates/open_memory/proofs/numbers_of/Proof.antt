@@ -11,7 +11,7 @@ start-requires : tie.Need-start-requires
 start-requires c κs = search needs
 
 returns : tie.Need-returns
-returns c = let a = c .before .before .args in numbers-are (a .partner) (a .awaited) (a .first) (c .before .no-five .ensures) (c .start .ensures)
+returns c = let a = c .before .before .args in numbers-are (a .partner) (a .tally) (a .awaited) (a .first) (c .before .no-five .ensures) (c .start .ensures)
 
 pub numbers-of-spec : {M : Type 1} → statement M
 numbers-of-spec =

@@ -5,7 +5,8 @@ use native.Mathlib.Omega.{arith}
 use borrow.Author.Needs.{needs}
 use borrow.Author.Tests.{not-true, not-false}
 use Rattle.places.specs.Places.{recordSizeAt}
-use Rattle.our_turn.proofs.Block.{Choosing, choosing-none, choosing-pass, choosing-add, chosen-now, block-five, block-full, block-end, size-small}
+use Rattle.our_turn.proofs.Block.{Choosing, choosing-none, choosing-pass, choosing-add, chosen-now, block-five, block-full, block-end}
+use Rattle.entries.proofs.Laws.{size-small}
 use Rattle.our_turn.proofs.choose.Statement.{statement}
 use Rattle.our_turn.proofs.choose.Tie as tie
 

@@ -116,6 +116,7 @@ fn start(role: Role, partner: usize, sizes: Sizes) -> Session {
         given: 0,
         sent: Vec::new(),
         deferred: Vec::new(),
+        before_refusal: None,
         kept: 0,
         used: 0,
         turns: 0,

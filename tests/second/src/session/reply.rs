@@ -24,6 +24,12 @@ impl Reply {
         Reply { answer: refusal.number(), place: 0, count }
     }
 
+    /// A byte was refused, and the session is over: neither 0 nor 1, nor 12, which consumes
+    /// nothing.
+    pub const fn refuses_a_byte(&self) -> bool {
+        !matches!(self.answer, 0 | 1 | 12)
+    }
+
     /// "place = first bad record, from 0"
     pub const fn bad_memory(place: u8) -> Reply {
         Reply { answer: Refusal::BadMemory.number(), place, count: 0 }

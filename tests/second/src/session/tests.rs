@@ -10,4 +10,5 @@ mod received;
 mod refusals;
 mod slips;
 mod sums;
+mod tallies;
 mod turns;

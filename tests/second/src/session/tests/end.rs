@@ -6,6 +6,7 @@ use crate::log::{self, Kept, Trace, With};
 use crate::memory::{Memory, Record, State};
 use crate::session::{open, Reply, Session};
 use crate::sid::Mode;
+use crate::tally::{Tally, Told};
 
 pub const CALLED: u8 = 0;
 pub const CALLER: u8 = 1;
@@ -25,6 +26,7 @@ pub struct End {
     role: u8,
     opened: Vec<Record>,
     trace: Trace,
+    told: Told,
 }
 
 impl End {
@@ -35,7 +37,7 @@ impl End {
     pub fn with(partner: u8, role: u8, buffers: &Buffers) -> End {
         let (session, memory) = open(role, partner, &buffers.lent()).expect("an accepted open");
         let opened = memory.table.clone();
-        End { session, memory, role, opened, trace: Trace::new() }
+        End { session, memory, role, opened, trace: Trace::new(), told: Told::default() }
     }
 
     /// A called end that has heard a partner without B and awaits its turn.
@@ -65,6 +67,7 @@ impl End {
     pub fn hear(&mut self, bytes: &[u8]) -> Reply {
         let reply = self.session.receive(&mut self.memory, bytes);
         self.trace.consumed(&bytes[..reply.count]);
+        self.told.received(bytes, reply);
         self.check_log();
         reply
     }
@@ -105,6 +108,7 @@ impl End {
         assert_eq!((reply.answer, reply.place), (0, 0));
         buffer.truncate(reply.count);
         self.trace.given(&buffer);
+        self.told.given(&self.session, &buffer);
         self.check_log();
         buffer
     }
@@ -141,17 +145,45 @@ impl End {
             .collect()
     }
 
+    /// What the front panel shows.
+    pub fn tally(&self) -> Tally {
+        let Memory { table, stores, .. } = &self.memory;
+        self.told.tally(self.with_whom(), &self.session, (&self.opened, table), stores)
+    }
+
+    fn with_whom(&self) -> With {
+        With { we_called: self.role == CALLER, partner: self.session.partner() }
+    }
+
     /// Demand 3: "after the list, the table is as open found it but with the
     /// log's states, and the inbox up to its count is the log's messages kept".
     fn check_log(&self) {
         let stores = &self.memory.stores;
-        let partner = self.session.partner();
-        let with = With { we_called: self.role == CALLER, partner };
+        let with = self.with_whom();
+        let partner = with.partner;
         let log = log::read(with, &self.opened, stores, &self.trace);
         let mut table = self.opened.clone();
         table.iter_mut().zip(&log.states).for_each(|(r, &state)| r.states[partner] = state);
         assert_eq!(self.memory.table, table);
         assert_eq!(self.kept(), log.kept);
+        self.check_tally();
+    }
+
+    /// "the first is always the sum of the other four"; what is forwarded and declined can be
+    /// counted in the table too.
+    fn check_tally(&self) {
+        let sheet = self.tally().sheet;
+        assert!(sheet.adds_up(), "{sheet:?}");
+        let states = self.opened.iter().zip(self.states());
+        let became = |state| {
+            let marked = |(record, now): &(&Record, State)| {
+                record.states[self.session.partner()] == State::Waiting && *now == state
+            };
+            states.clone().filter(marked).count()
+        };
+        assert_eq!(sheet.forwarded, became(State::Forwarded));
+        assert_eq!(sheet.declined, became(State::Declined));
+        assert_eq!(sheet.deferred, self.session.deferred());
     }
 }
 

@@ -1,0 +1,146 @@
+-- What a line or a message counts, on lent memory and on lists: the sheet's events are the counts', and what waits is counted in the partner's column.
+use mathlib.Core.Path.{_≡_, refl, sym, ap, _∙_, subst}
+use mathlib.Core.Bool.{Bool, true, false, cond}
+use mathlib.Core.List.{List, [], _∷_}
+use Prim.Native.Nat.{ℕ, zero, suc, _+_, _-_, _%_, _≤_}
+use native.Mathlib.Omega.{arith}
+use native.Mathlib.Nat.{add-zero}
+use lib.Dec.{eqb}
+use lib.ListN.{take}
+use borrow.Author.Tests.{eqb-true}
+use Rattle.grammar.specs.Bytes.{Bytes}
+use Rattle.mail.specs.Mail.{Record}
+use Rattle.mail.specs.Tally.{Counts, moreProposed, moreForwarded, moreDeclined, moreDeferred, waits, waitingBytes}
+use Rattle.session.specs.Choices.{Shelf}
+use Rattle.session.specs.Session.{Memory}
+use Rattle.layout.specs.Layout.{entryAt, recordOf, recordSize}
+use Rattle.entries.specs.Decoded.{entriesFrom, recordCount, recordsOf}
+use Rattle.sheet.specs.declared.Sheet.{Sheet}
+use Rattle.sheet.specs.Sheet.{byteRange, proposedBy, forwardedBy, declinedBy, deferredBy}
+use Rattle.session_memory.specs.State.{held}
+use Rattle.session_memory.specs.declared.Tally.{Tally}
+use Rattle.session_memory.specs.declared.Five.{Five}
+use Rattle.session_memory.specs.Session.{Await, Keep}
+use Rattle.tally.specs.Tally.{sizesRange, waitingIn, sizesIn, counted}
+use Rattle.line_effect.specs.declared.Marks.{Marks}
+use Rattle.line_effect.specs.Judged.{Judged}
+use Rattle.marking.specs.States.{statesOf, markAll}
+use Rattle.receive_defined.specs.Receiving.{markedBy}
+use Rattle.receive_defined.specs.Tallied.{sheetMarked, proposesOf, recountedOf, talliedOf}
+use Rattle.form_closed.specs.Fixed.{Fixed}
+use Rattle.represents.specs.Represents.{Holds}
+use Rattle.represents.specs.Tallies.{SheetIs, Tallies, countsMarked}
+
+-- none more is as many
+pub none-more : (c : Counts) → c ≡ moreProposed 0 c
+none-more c = ap (λ (n : ℕ). record { proposed = n; forwarded = c .forwarded; declined = c .declined; deferred = c .deferred }) (sym (add-zero (c .proposed)))
+
+-- ---------------------------------------------------------------- the sheet
+
+module _ (h : Sheet) (c : Counts) (k : SheetIs h c) (n : ℕ) where
+  sheet-proposed : SheetIs (proposedBy h n) (moreProposed n c)
+  sheet-proposed =
+      record { proposed = omega (arith, k .proposed); forwarded = k .forwarded; declined = k .declined; deferred = k .deferred; balance = omega (arith, k .balance) }
+
+  sheet-forwarded : n ≤ byteRange → SheetIs (forwardedBy h n) (moreForwarded n c)
+  sheet-forwarded l =
+      record { proposed = k .proposed; forwarded = omega (arith, k .forwarded); declined = k .declined; deferred = k .deferred; balance = omega (arith, k .balance, l) }
+
+  sheet-declined : n ≤ byteRange → SheetIs (declinedBy h n) (moreDeclined n c)
+  sheet-declined l =
+      record { proposed = k .proposed; forwarded = k .forwarded; declined = omega (arith, k .declined); deferred = k .deferred; balance = omega (arith, k .balance, l) }
+
+  sheet-deferred : n ≤ byteRange → SheetIs (deferredBy h n) (moreDeferred n c)
+  sheet-deferred l =
+      record { proposed = k .proposed; forwarded = k .forwarded; declined = k .declined; deferred = omega (arith, k .deferred); balance = omega (arith, k .balance, l) }
+
+sheet-marked : (h : Sheet) (c : Counts) (m : Marks) → m .places .count ≤ byteRange → m .deferred ≤ byteRange → SheetIs h c → SheetIs (sheetMarked h m) (countsMarked m c)
+sheet-marked h c m few less k = go (eqb (m .state) 1) (eqb (m .state) 2)
+  where
+    n : ℕ
+    n = m .places .count
+
+    go : (a b : Bool) → SheetIs (cond a (forwardedBy h n) (cond b (deferredBy (declinedBy h n) (m .deferred)) h)) (cond a (moreForwarded n c) (cond b (moreDeferred (m .deferred) (moreDeclined n c)) c))
+    go true b = sheet-forwarded h c k n few
+    go false true = sheet-deferred (declinedBy h n) (moreDeclined n c) (sheet-declined h c k n few) (m .deferred) less
+    go false false = k
+
+-- ---------------------------------------------------------------- what waits
+
+-- no size depends on titles, names and bodies
+sizes-from : (ti na bo t : Bytes) (st : List ℕ) (i n : ℕ)
+    → waitingBytes (entriesFrom (recordOf [] [] []) recordSize t i n) st ≡ waitingBytes (entriesFrom (recordOf ti na bo) recordSize t i n) st
+sizes-from ti na bo t st i zero = refl
+sizes-from ti na bo t [] i (suc n) = refl
+sizes-from ti na bo t (x ∷ st) i (suc n) =
+    ap (λ (y : ℕ). cond (eqb x 0) (recordOf ti na bo (entryAt recordSize t i) .size + y) y) (sizes-from ti na bo t st (suc i) n)
+
+pub sizes-law : (ti na bo t : Bytes) (st : List ℕ) → waitingBytes (recordsOf [] [] [] t) st ≡ waitingBytes (recordsOf ti na bo t) st
+unfolding recordsOf
+sizes-law ti na bo t st = sizes-from ti na bo t st 0 (recordCount t)
+
+-- ---------------------------------------------------------------- a line or a message
+
+-- What was judged, from the memory m₀ before it and m after it: its marks and our turn, of which w awaits the answer, are the counts; and who the partner is stays.
+pub record Counting (partner : ℕ) (m₀ m : Memory) (j : Judged) (w : Await) : Type 0 where
+  pub counts : m .counts ≡ moreProposed (proposesOf (j .speaks) w) (countsMarked (j .marks) (m₀ .counts))
+  pub few : j .marks .places .count ≤ byteRange
+  pub less : j .marks .deferred ≤ byteRange
+  pub column : j .keep .terms .partner ≡ partner
+
+-- a line at which it isn't our turn counts its marks alone
+pub counting-quiet : (k : Keep) (m₀ m : Memory) (j : Judged) (w : Await) → j .speaks ≡ 0 → m .counts ≡ countsMarked (j .marks) (m₀ .counts) → j .marks .places .count ≤ byteRange → j .marks .deferred ≤ byteRange
+    → j .keep .terms .partner ≡ k .terms .partner → Counting (k .terms .partner) m₀ m j w
+counting-quiet k m₀ m j w z e l n q =
+    record {
+      counts = e ∙ none-more (countsMarked (j .marks) (m₀ .counts))
+          ∙ ap (λ (x : ℕ). moreProposed (cond (eqb x 0) 0 (cond (eqb (w .phase) 4) (w .ours .count) 0)) (countsMarked (j .marks) (m₀ .counts))) (sym z);
+      few = l;
+      less = n;
+      column = q;
+    }
+
+no-places : (f : Five) → f .count ≡ 0 → held f ≡ []
+no-places f e = ap (λ (n : ℕ). take n (f .items)) e
+
+-- THE TALLY AFTER IT
+module _ (F : Fixed) (E : Shelf) (t : Bytes) (T : Tally) (m₀ m : Memory) (j : Judged) (w : Await) (p : ℕ) where
+  pub tallied-law : Tallies E T m₀ → statesOf p t ≡ m₀ .states → Counting p m₀ m j w → {k : Keep} {i st : Bytes} → k .terms .partner ≡ j .keep .terms .partner
+      → Holds F E k (markedBy j t) i st m → Tallies E (talliedOf T j w (markedBy j t)) m
+  unfolding talliedOf waitingIn sizesIn
+  tallied-law before states c {k} e h = go (eqb (j .marks .places .count) 0) refl
+    where
+      q : ℕ
+      q = j .keep .terms .partner
+
+      u : Bytes
+      u = markedBy j t
+
+      sheet : Sheet
+      sheet = proposedBy (sheetMarked (T .sheet) (j .marks)) (proposesOf (j .speaks) w)
+
+      sheet-is : SheetIs sheet (m .counts)
+      sheet-is =
+          subst (SheetIs sheet) (sym (c .counts))
+          (sheet-proposed (sheetMarked (T .sheet) (j .marks)) (countsMarked (j .marks) (m₀ .counts)) (sheet-marked (T .sheet) (m₀ .counts) (j .marks) (c .few) (c .less) (before .sheet))
+          (proposesOf (j .speaks) w))
+
+      column : statesOf q u ≡ m .states
+      column = ap (λ (x : ℕ). statesOf x u) (sym e) ∙ h .states
+
+      go : (b : Bool) → eqb (j .marks .places .count) 0 ≡ b → Tallies E (cond b (record { waiting = T .waiting; sizes = T .sizes; sheet = sheet }) (counted q u sheet)) m
+      go true z =
+          let same : m₀ .states ≡ m .states =
+          sym states ∙ ap (λ (x : ℕ). statesOf x t) (sym (c .column)) ∙ ap (λ (is : List ℕ). statesOf q (markAll q is (j .marks .state) t)) (sym (no-places (j .marks .places) (eqb-true _ 0 z))) ∙ column in
+          record {
+            waiting = before .waiting ∙ ap waits same;
+            sizes = before .sizes ∙ ap (λ (l : List ℕ). waitingBytes (E .table) l % sizesRange) same;
+            sheet = sheet-is;
+          }
+      go false z =
+          record {
+            waiting = ap waits column;
+            sizes = ap (λ (n : ℕ). n % sizesRange)
+                (sizes-law (F .titles) (F .names) (F .bodies) u (statesOf q u) ∙ ap (λ (R : List Record). waitingBytes R (statesOf q u)) (h .shelved .records) ∙ ap (waitingBytes (E .table)) column);
+            sheet = sheet-is;
+          }

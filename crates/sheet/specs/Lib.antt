@@ -1,0 +1,2 @@
+-- The tally sheet and its events.
+pub mod Sheet

@@ -1,0 +1,121 @@
+-- What waits for partner p, from a record on: a record that waits adds one and its size, any other nothing. The records counted and those left are all.
+use mathlib.Core.Path.{_≡_, refl, sym, ap, _∙_}
+use mathlib.Core.Bool.{Bool, true, false, cond}
+use mathlib.Core.List.{List, [], _∷_}
+use Prim.Native.Nat.{ℕ, suc, _+_, _-_, _*_, _/_, _%_, _<_, _≤_}
+use native.Mathlib.Omega.{arith}
+use native.Mathlib.Nat.{min-le-left}
+use lib.Dec.{eqb}
+use lib.ListN.{length}
+use borrow.Author.Tests.{eq-eqb, ne-eqb}
+use Rattle.grammar.specs.Bytes.{Bytes}
+use Rattle.mail.specs.Mail.{Record}
+use Rattle.mail.specs.Tally.{waits, waitingBytes}
+use Rattle.places.specs.Places.{recordSizeAt}
+use Rattle.layout.specs.Layout.{byteAt, le4At, entryAt, recordOf, recordSize}
+use Rattle.entries.specs.Decoded.{entriesFrom, entries, recordCount, recordsOf}
+use Rattle.entries.proofs.Laws.{entries-more, entries-all, entries-end, entries-length}
+use Rattle.marking.specs.States.{statesOf}
+use Rattle.sheet.specs.declared.Sheet.{Sheet}
+use Rattle.session_memory.specs.declared.Tally.{Tally}
+use Rattle.session_memory.proofs.Laws.{same-tally}
+use Rattle.tally.specs.Tally.{sizesRange, waitingIn, sizesIn, counted}
+
+module _ (p : ℕ) (table : Bytes) (n : ℕ) where
+  -- the records from i on, and their states
+  abbrev recordsFrom : ℕ → List Record
+  recordsFrom i = entriesFrom (recordOf [] [] []) recordSize table i (n - i)
+
+  abbrev statesFrom : ℕ → List ℕ
+  statesFrom i = entriesFrom (λ (c : Bytes). byteAt c p) recordSize table i (n - i)
+
+  abbrev stateAt : ℕ → ℕ
+  stateAt i = byteAt (entryAt recordSize table i) p
+
+  abbrev sizeAt : ℕ → ℕ
+  sizeAt i = le4At (entryAt recordSize table i) recordSizeAt
+
+  -- w records wait before record i, with sizes of z in all; of what was added no number is too large for the code
+  pub record Counting (w z i : ℕ) : Type 0 where
+    pub records : w + waits (statesFrom i) ≡ waits (statesFrom 0)
+    pub sizes : z + waitingBytes (recordsFrom i) (statesFrom i) ≡ waitingBytes (recordsFrom 0) (statesFrom 0)
+    pub few : w ≤ i
+    pub small : z ≤ i * sizesRange
+
+  pub counting-none : Counting 0 0 0
+  counting-none = record { records = omega arith; sizes = omega arith; few = omega arith; small = omega arith }
+
+  pub counting-pass : {w z i : ℕ} → Counting w z i → i < n → (stateAt i ≡ 0 → ⊥) → Counting w z (i + 1)
+  counting-pass {w} {z} {i} c h e =
+      record {
+        records = ap (λ (x : ℕ). w + x) (sym (ap waits states ∙ rw (ne-eqb (stateAt i) 0 e))) ∙ c .records;
+        sizes = ap (λ (x : ℕ). z + x) (sym (both ∙ rw (ne-eqb (stateAt i) 0 e))) ∙ c .sizes;
+        few = omega (arith, c .few);
+        small = omega (arith, c .small);
+      }
+    where
+      states : statesFrom i ≡ stateAt i ∷ statesFrom (i + 1)
+      states = entries-more (λ (c : Bytes). byteAt c p) recordSize table i n h
+
+      both : waitingBytes (recordsFrom i) (statesFrom i) ≡ waitingBytes (recordOf [] [] [] (entryAt recordSize table i) ∷ recordsFrom (i + 1)) (stateAt i ∷ statesFrom (i + 1))
+      both = ap (λ (l : List ℕ). waitingBytes (recordsFrom i) l) states ∙ ap (λ (T : List Record). waitingBytes T (stateAt i ∷ statesFrom (i + 1))) (entries-more (recordOf [] [] []) recordSize table i n h)
+
+  pub counting-add : {w z i : ℕ} → Counting w z i → i < n → stateAt i ≡ 0 → sizeAt i < sizesRange → Counting (w + 1) (z + sizeAt i) (i + 1)
+  counting-add {w} {z} {i} c h e l =
+      let f : waits (statesFrom i) ≡ suc (waits (statesFrom (i + 1))) = ap waits states ∙ rw (eq-eqb (stateAt i) 0 e) in
+      let g : waitingBytes (recordsFrom i) (statesFrom i) ≡ sizeAt i + waitingBytes (recordsFrom (i + 1)) (statesFrom (i + 1)) = both ∙ rw (eq-eqb (stateAt i) 0 e) in
+      record {
+        records = omega (arith, c .records, f);
+        sizes = omega (arith, c .sizes, g);
+        few = omega (arith, c .few);
+        small = omega (arith, c .small, l);
+      }
+    where
+      states : statesFrom i ≡ stateAt i ∷ statesFrom (i + 1)
+      states = entries-more (λ (c : Bytes). byteAt c p) recordSize table i n h
+
+      both : waitingBytes (recordsFrom i) (statesFrom i) ≡ waitingBytes (recordOf [] [] [] (entryAt recordSize table i) ∷ recordsFrom (i + 1)) (stateAt i ∷ statesFrom (i + 1))
+      both = ap (λ (l : List ℕ). waitingBytes (recordsFrom i) l) states ∙ ap (λ (T : List Record). waitingBytes T (stateAt i ∷ statesFrom (i + 1))) (entries-more (recordOf [] [] []) recordSize table i n h)
+
+  -- past the last record all is counted
+  module _ {w z i : ℕ} (c : Counting w z i) (l : n ≤ i) where
+    none-left : statesFrom i ≡ []
+    none-left = entries-end (λ (c : Bytes). byteAt c p) recordSize table i n l
+
+    pub records-all : w ≡ waits (entries (λ (c : Bytes). byteAt c p) recordSize table n)
+    records-all =
+        let e : waits (statesFrom i) ≡ 0 = ap waits none-left in
+        let f : w ≡ waits (statesFrom 0) = omega (arith, c .records, e) in
+        f ∙ ap waits (sym (entries-all (λ (c : Bytes). byteAt c p) recordSize table n))
+
+    pub sizes-all : z ≡ waitingBytes (entries (recordOf [] [] []) recordSize table n) (entries (λ (c : Bytes). byteAt c p) recordSize table n)
+    sizes-all =
+        let e : waitingBytes (recordsFrom i) (statesFrom i) ≡ 0 = ap (λ (T : List Record). waitingBytes T (statesFrom i)) (entries-end (recordOf [] [] []) recordSize table i n l) in
+        let f : z ≡ waitingBytes (recordsFrom 0) (statesFrom 0) = omega (arith, c .sizes, e) in
+        f ∙ ap (λ (T : List Record). waitingBytes T (statesFrom 0)) (sym (entries-all (recordOf [] [] []) recordSize table n))
+        ∙ ap (waitingBytes (entries (recordOf [] [] []) recordSize table n)) (sym (entries-all (λ (c : Bytes). byteAt c p) recordSize table n))
+
+pub counted-all : (p : ℕ) (table : Bytes) {n w z i : ℕ} → n ≡ recordCount table → Counting p table n w z i → n ≤ i → (h : Sheet)
+    → _≡_ {A = Tally} (record { waiting = w; sizes = z % sizesRange; sheet = h }) (counted p table h)
+unfolding waitingIn sizesIn statesOf recordsOf
+counted-all p table {n} e c l h = rw (← e) (same-tally (records-all p table n c l) (ap (λ (x : ℕ). x % sizesRange) (sizes-all p table n c l)) refl)
+
+pub few-records : (table : Bytes) {n : ℕ} → n ≡ recordCount table → n ≤ 64
+few-records table e = rw e (min-le-left 64 (length table / recordSize))
+
+-- no more wait than there are records
+waits-most : (st : List ℕ) → waits st ≤ length st
+waits-most [] = omega arith
+waits-most (x ∷ st) = go (eqb x 0) (waits-most st)
+  where
+    go : (b : Bool) → waits st ≤ length st → cond b (suc (waits st)) (waits st) ≤ suc (length st)
+    go true h = omega arith
+    go false h = omega arith
+
+pub waiting-few : (p : ℕ) (table : Bytes) → waitingIn p table ≤ 64
+unfolding waitingIn statesOf
+waiting-few p table =
+    let h = waits-most (statesOf p table) in
+    let e = entries-length (λ (c : Bytes). byteAt c p) recordSize table 0 (recordCount table) in
+    let f = few-records table refl in
+    omega (arith, h, e, f)

@@ -1,0 +1,2 @@
+-- What waits for a partner, counted in the table.
+pub mod Tally
