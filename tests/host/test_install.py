@@ -1,5 +1,7 @@
-"""What an operator installs: the program, its manual page, and the sample units of docs/HOST.md."""
+"""What an operator installs: the programs, their manual pages, and the sample units of docs/HOST.md."""
 from node import *
+
+PAGES = ("fringemole.1", "fringemole-replay.1")
 
 
 def options_of(text):
@@ -13,13 +15,22 @@ class Installed(Folder):
         return {str(path.relative_to(self.folder)): path for path in self.folder.rglob("*") if path.is_file()}
 
     def test_install(self):
-        "make install puts the program and its page under DESTDIR and PREFIX, and nothing else"
+        "make install puts both programs and their pages under DESTDIR and PREFIX, and nothing else"
+        replay = self.folder / "replay"
         for prefix, words in (("usr/local", ()), ("opt/node", ("PREFIX=/opt/node",))):
-            files = self.install(*words)
-            self.assertEqual(set(files), {prefix + "/bin/fringemole", prefix + "/share/man/man1/fringemole.1"})
+            replay.write_bytes(b"#!/bin/sh\necho a replay\n")
+            files = self.install("REPLAY=%s" % replay, *words)
+            self.assertEqual(set(files), {"replay"} | {prefix + path for path in ("/bin/fringemole", "/bin/fringemole-replay", *("/share/man/man1/" + page for page in PAGES))})
             done = subprocess.run([files[prefix + "/bin/fringemole"], "--version"], stdout=subprocess.PIPE, check=True)
             self.assertRegex(done.stdout.decode(), r"^fringemole \d")
+            done = subprocess.run([files[prefix + "/bin/fringemole-replay"]], stdout=subprocess.PIPE, check=True)
+            self.assertEqual(done.stdout, b"a replay\n")
             shutil.rmtree(self.folder / prefix.split("/")[0])
+
+    def test_archive_alone(self):
+        "where the program of a replay isn't built, the host is installed without it"
+        files = self.install("REPLAY=%s" % (self.folder / "none"))
+        self.assertEqual(set(files), {"usr/local/bin/fringemole", "usr/local/share/man/man1/fringemole.1"})
 
     def test_page(self):
         "the manual page has each command, option and exit code of --help and no other, and groff takes it as it is"
@@ -32,8 +43,9 @@ class Installed(Folder):
         self.assertEqual(re.findall(r"^\.B (\d)$", page, re.M), re.findall(r"^  (\d)  ", help_text.split("Exit codes")[1], re.M))
         if not shutil.which("groff"):
             self.skipTest("groff is not installed")
-        done = subprocess.run(["groff", "-man", "-Tutf8", "-ww", "-z", HOST / "host" / "fringemole.1"], stderr=subprocess.PIPE)
-        self.assertEqual((done.returncode, done.stderr), (0, b""))
+        for name in PAGES:
+            done = subprocess.run(["groff", "-man", "-Tutf8", "-ww", "-z", HOST / "host" / name], stderr=subprocess.PIPE)
+            self.assertEqual((done.returncode, done.stderr), (0, b""))
 
     def test_samples(self):
         "every fringemole line of docs/HOST.md's samples is one that the program knows"

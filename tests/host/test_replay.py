@@ -80,6 +80,21 @@ class Replayed(Folder):
             host = subprocess.run([PLAIN, "replay", "-"], input=capture, stdout=subprocess.PIPE, timeout=PATIENCE)
             self.assertEqual(program_says(host.stdout), done.stdout)
 
+    def test_readme(self):
+        "the captures that the README shows come out as it shows them, by the host and by the program"
+        blocks = re.findall(r"(?m)^    (\S.*)\n\n((?:    .*\n)+)", (ROOT / "README.md").read_text().split("## What would we have made of a capture?")[1].split("\n## ")[0])
+        self.assertEqual([command.split()[0] for command, _ in blocks], ["fringemole", "printf", "fringemole-replay"])
+        if not PROGRAM.exists():
+            self.skipTest("the program is not built (rt check replay)")
+        names = self.folder / "bin"
+        names.mkdir()
+        (names / "fringemole").symlink_to(PLAIN)
+        (names / "fringemole-replay").symlink_to(PROGRAM)
+        path = "%s:%s" % (names, os.environ["PATH"])
+        for command, shown in blocks:
+            done = subprocess.run(command, shell=True, cwd=ROOT, env=dict(os.environ, PATH=path), stdout=subprocess.PIPE, timeout=PATIENCE)
+            self.assertEqual(done.stdout.decode(), re.sub(r"(?m)^    ", "", shown), command)
+
     def test_words(self):
         "replay needs no base, takes one file, and says why it can't read it"
         capture = self.folder / "capture"

@@ -1,0 +1,43 @@
+-- What waits after the call open.
+use mathlib.Core.Path.{ap, _∙_}
+use borrow.Author.Needs.{needs}
+use Rattle.called_station.specs.Station.{Answered}
+use Rattle.capture.specs.Playing.{takenOf, startOf}
+use Rattle.capture.proofs.start.Statement.{statement}
+use Rattle.capture.proofs.start.Tie as tie
+
+open-requires : tie.Need-open-requires
+open-requires c κs = search needs
+
+taken-requires : tie.Need-taken-requires
+taken-requires c κs = search needs
+
+same-length : tie.Need-same-length
+same-length c = search needs
+
+same-length-2 : tie.Need-same-length-2
+same-length-2 c = search needs
+
+same-length-3 : tie.Need-same-length-3
+same-length-3 c = search needs
+
+same-length-4 : tie.Need-same-length-4
+same-length-4 c = search needs
+
+returns : tie.Need-returns
+unfolding startOf
+returns c =
+    let a = c .before .before .before .before .before .before .before .before .before .before .before .before .before .before .before .before .before .before .before .before .before .before .before .args in
+    c .before .before .before .before .before .before .before .before .taken .ensures ∙ ap (λ (o : Answered). takenOf (o .answer) (o .station) (a .out .now) 0) (c .before .before .before .before .before .before .before .before .before .before .before .before .before .before .before .«open» .ensures)
+
+pub start-spec : {M : Type 1} → statement M
+start-spec =
+    tie.close
+    (tie.spec
+    open-requires
+    taken-requires
+    same-length
+    same-length-2
+    same-length-3
+    same-length-4
+    returns)

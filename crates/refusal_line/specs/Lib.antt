@@ -1,0 +1,2 @@
+-- The last line of a replay.
+pub mod Line
