@@ -1,17 +1,18 @@
 -- Laws of texts put one after the other, for every crate that writes. Assumes nothing.
 use Prim.Native.Nat.{ℕ, zero, suc, _+_, _-_, _<_, _≤_, min}
-use mathlib.Core.Path.{_≡_, refl, sym, ap, _∙_}
+use mathlib.Core.Path.{_≡_, refl, sym, ap, subst, _∙_}
 use mathlib.Core.Bool.{Bool, true, false, cond}
 use mathlib.Core.List.{[], _∷_, _++_, append-assoc, append-nil}
 use native.Mathlib.Omega.{arith}
 use native.Mathlib.Nat.{add-zero, sub-zero, zero-sub, suc-sub-suc, add-assoc, zero-min, min-zero, suc-min-suc, le-of-suc-le-suc, not-suc-le-zero}
 use native.Mathlib.Numerals.{add-one}
 use lib.Dec.{ltb}
-use lib.ListN.{length, take, drop, getD, set, length-append, length-take, length-drop, take-append-drop, drop-of-length-le}
-use lib.Seq.{take-at, take-length, drop-drop, drop-append-add, take-nil, drop-nil}
+use lib.ListN.{length, take, drop, getD, set, replicate, length-append, length-take, length-drop, length-replicate, take-append-drop, drop-of-length-le}
+use lib.Seq.{set-split, take-add, take-at, drop-at, take-length, drop-drop, drop-append-add, take-nil, drop-nil}
 use borrow.Author.Tests.{lt-ltb, le-ltb, ltb-true, ltb-false}
 use Rattle.grammar.specs.Bytes.{Bytes}
 use Rattle.grammar.proofs.Basics.{to-end}
+use Rattle.copying.proofs.Laws.{past-end}
 use Rattle.buffer.specs.declared.Cursor.{Cursor}
 use Rattle.buffer.specs.Put.{wrote, cut, putBytes, putCursor, Puts}
 
@@ -188,23 +189,9 @@ puts-then d c p q a b = (b .0 ∙ after-cursor d c p q a, b .1 ∙ after-bytes d
 pub puts-as : (d : Bytes) (c : Cursor) {p q : Bytes} {r : Cursor} {e : Bytes} → p ≡ q → Puts d c p r e → Puts d c q r e
 puts-as d c t a = rw (← t) a
 
--- ---------------------------------------------------------------- for `copy`, `put_whole`, `fill` and `put`
+-- ---------------------------------------------------------------- for `put_whole` and `put`
 
--- a turn of the loop that copies
-pub copy-more : (s d : Bytes) (i : ℕ) → i < length s → i < length d → set (take i s ++ drop i d) i (getD s i 0) ≡ take (suc i) s ++ drop (suc i) d
-copy-more [] d i h k = absurd (not-suc-le-zero h)
-copy-more (x ∷ s) [] i h k = absurd (not-suc-le-zero k)
-copy-more (x ∷ s) (y ∷ d) zero h k = refl
-copy-more (x ∷ s) (y ∷ d) (suc i) h k = ap (λ (l : Bytes). x ∷ l) (copy-more s d i (le-of-suc-le-suc h) (le-of-suc-le-suc k))
-
-pub copy-next : (s d e : Bytes) (i : ℕ) → e ≡ take i s ++ drop i d → i < length s → i < length d → set e i (getD s i 0) ≡ take (i + 1) s ++ drop (i + 1) d
-copy-next s d e i q h k = rw (q, add-one i) (copy-more s d i h k)
-
--- nothing lies past a buffer's end
-past-end : (d : Bytes) (at : ℕ) → drop (length d - at) (drop at d) ≡ []
-past-end d at = drop-of-length-le (drop at d) {i = length d - at} (simp length-drop (omega arith))
-
--- what `copy` did with the buffer from a place on and a whole text
+-- what `copy_each` did with the buffer from a place on and a whole text
 pub puts-whole : (d s : Bytes) (at : ℕ) (w : Bytes) → w ≡ take (length s) s ++ drop (length s) (take (length d - at) (drop at d))
     → take at d ++ (w ++ drop (length d - at) (drop at d)) ≡ wrote d at s
 puts-whole d s at w f = rw (past-end d at, append-nil w, f, to-end d at, take-length s, drop-drop)
@@ -234,3 +221,45 @@ module _ (d s : Bytes) (c : Cursor) (h : c .at < length d) (k : c .skip < length
 
   pub puts-some : Puts d c s (cursor (c .at + n) 0) (take (c .at) d ++ (w ++ drop (length d - c .at) (drop (c .at) d)))
   puts-some = (some-cursor, some-bytes)
+
+-- ---------------------------------------------------------------- for `put_byte`
+
+take-one : (n b : ℕ) → 0 < n → take n (b ∷ []) ≡ b ∷ []
+take-one zero b h = absurd (not-suc-le-zero h)
+take-one (suc n) b h = rw (take-nil n)
+
+pub puts-byte : (d : Bytes) (c : Cursor) (b : ℕ) → c .at < length d → c .skip ≡ 0 → Puts d c (b ∷ []) (cursor (c .at + 1) 0) (set d (c .at) b)
+unfolding putBytes putCursor
+puts-byte d c b h z =
+    let e : cut (length d - c .at) (c .skip) (b ∷ []) ≡ b ∷ [] = rw z (take-one (length d - c .at) b (omega arith)) in
+    (rw (e, lt-ltb (c .at) (length d) h, z, zero-sub), rw (e, add-one (c .at)) (set-split d (c .at) b h))
+
+-- ---------------------------------------------------------------- for `put_zeros`
+
+pub take-zeros : (k n : ℕ) → k ≤ n → _≡_ {A = Bytes} (take k (replicate n 0)) (replicate k 0)
+take-zeros zero n h = refl
+take-zeros (suc k) zero h = absurd (not-suc-le-zero h)
+take-zeros (suc k) (suc n) h = ap (λ (l : Bytes). 0 ∷ l) (take-zeros k n (le-of-suc-le-suc h))
+
+drop-zeros : (k n : ℕ) → _≡_ {A = Bytes} (drop k (replicate n 0)) (replicate (n - k) 0)
+drop-zeros zero n = rw (sub-zero n)
+drop-zeros (suc k) zero = rw (zero-sub (suc k))
+drop-zeros (suc k) (suc n) = rw (suc-sub-suc n k) (drop-zeros k n)
+
+-- zeros that an earlier give has handed out
+pub zeros-past : (d : Bytes) (c : Cursor) (n : ℕ) → c .at < length d → n ≤ c .skip → Puts d c (replicate n 0) (cursor (c .at) (c .skip - n)) d
+zeros-past d c n h k =
+    let e : length (replicate {A = ℕ} n 0) ≡ n = length-replicate n 0 in
+    subst (λ (i : ℕ). Puts d c (replicate n 0) (cursor (c .at) (c .skip - i)) d) e (puts-past d c (replicate n 0) h (rw e k))
+
+-- what `clear` did with the buffer from the place on
+pub puts-zeros : (d : Bytes) (c : Cursor) (n : ℕ) → c .at < length d → c .skip < n → (k : ℕ) (w : Bytes) → k ≡ min (length d - c .at) (n - c .skip)
+    → w ≡ replicate k 0 ++ drop k (take (length d - c .at) (drop (c .at) d))
+    → Puts d c (replicate n 0) (cursor (c .at + k) 0) (take (c .at) d ++ (w ++ drop (length d - c .at) (drop (c .at) d)))
+puts-zeros d c n h l k w e f =
+    puts-some d s c h (rw (length-replicate {A = ℕ} n 0) l) k w
+    (e ∙ simp (to-end, length-take, length-drop, length-replicate) (omega arith))
+    (f ∙ rw (to-end s (c .skip), drop-zeros (c .skip) n, take-zeros k (n - c .skip) (omega arith)))
+  where
+    s : Bytes
+    s = replicate n 0

@@ -1,9 +1,12 @@
 // Text written into a part of a lent buffer: from a place to the end of the buffer at most, and resumed where an earlier give stopped.
+use copying::clear;
+use copying::copy;
+use copying::copy_each;
 use part::at_most;
 ghost use Prim.Native.Nat.{_+_, _≤_, min};
 ghost use mathlib.Core.Path.{_≡_};
 ghost use mathlib.Core.List.{[], _∷_, _++_};
-ghost use lib.ListN.{length, take, drop};
+ghost use lib.ListN.{length, take, drop, replicate};
 ghost use Rattle.grammar.specs.Bytes.{CR, SP};
 ghost use Rattle.buffer.specs.Put.{wrote, Puts};
 
@@ -11,18 +14,6 @@ ghost use Rattle.buffer.specs.Put.{wrote, Puts};
 pub struct Cursor {
     pub at: usize,
     pub skip: usize,
-}
-
-// The first n bytes of src over those of dst.
-fn copy(dst: &mut [u8], src: &[u8], n: usize)
-    requires { ⌜ (n ≤ length (now dst)) × (n ≤ length (now src)) ⌝ }
-    ensures { λ _. ⌜ now (dst .exit) ≡ take n (now (src .entry)) ++ drop n (now (dst .entry)) ⌝ }
-{
-    let mut i = 0;
-    while i < n {
-        dst[i] = src[i];
-        i += 1;
-    }
 }
 
 // What fits of src, over the start of dst; how many bytes that is.
@@ -39,7 +30,7 @@ pub fn put_whole(buf: &mut [u8], at: usize, src: &[u8])
     requires { ⌜ at + length (now src) ≤ length (now buf) ⌝ }
     ensures { λ _. ⌜ now (buf .exit) ≡ wrote (now (buf .entry)) at (now (src .entry)) ⌝ }
 {
-    copy(&mut buf[at..], src, src.len());
+    copy_each(&mut buf[at..], src, src.len());
 }
 
 // A text at the cursor: what of it isn't passed over and fits. A cursor at the buffer's end or past it writes nothing.
@@ -65,12 +56,49 @@ pub fn put(buf: &mut [u8], c: Cursor, src: &[u8]) -> Cursor
     }
 }
 
+// So many zeros at the cursor, as a text of them.
+pub fn put_zeros(buf: &mut [u8], c: Cursor, zeros: usize) -> Cursor
+    ensures { λ r. ⌜ Puts (now (buf .entry)) c (replicate zeros 0) r (now (buf .exit)) ⌝ }
+{
+    let at = c.at;
+    let skip = c.skip;
+    if buf.len() <= at {
+        return Cursor { at: at, skip: 0 };
+    }
+    if zeros <= skip {
+        return Cursor {
+            at: at,
+            skip: skip - zeros,
+        };
+    }
+    let count = at_most(buf.len() - at, zeros - skip);
+    clear(&mut buf[at..], count);
+    Cursor {
+        at: at + count,
+        skip: 0,
+    }
+}
+
 // One byte at the cursor.
 pub fn put_byte(buf: &mut [u8], c: Cursor, b: u8) -> Cursor
     ensures { λ r. ⌜ Puts (now (buf .entry)) c (b ∷ []) r (now (buf .exit)) ⌝ }
 {
-    let one = [b];
-    put(buf, c, &one)
+    let at = c.at;
+    let skip = c.skip;
+    if buf.len() <= at {
+        return Cursor { at: at, skip: 0 };
+    }
+    if skip != 0 {
+        return Cursor {
+            at: at,
+            skip: skip - 1,
+        };
+    }
+    buf[at] = b;
+    Cursor {
+        at: at + 1,
+        skip: 0,
+    }
 }
 
 // A word and the space after it, at the cursor.

@@ -20,11 +20,11 @@ use Rattle.pending.specs.Pending.{waits, overOf}
 use Rattle.numbers.specs.declared.Numbers.{Numbers}
 use Rattle.numbers.specs.Whole.{wholeOf, numbersAt, numberBytes}
 use Rattle.region.specs.Region.{lent}
-use Rattle.buffer.specs.Put.{putBytes}
+use Rattle.buffer.specs.Put.{wrote, putBytes}
 use Rattle.session_memory.specs.State.{at, loadOf, saveOf}
 use Rattle.give.specs.Giving.{reply}
 use Rattle.numbers_in_place.specs.Changed.{withLine, withReader}
-use Rattle.numbers_in_place.proofs.Written.{put-sets}
+use Rattle.numbers_in_place.proofs.Written.{wrote-sets}
 use Rattle.numbers_in_place.proofs.Arrays.{line-set, arraysIn, arrays-length, load-arrays, numbers-lent, saved-lent, saved-numbers}
 use Rattle.layout.specs.Layout.{byteAt}
 use Rattle.transfer_step.specs.declared.Reader.{Reader}
@@ -153,12 +153,12 @@ module _ (sm bs : Bytes) (h : Numbers) (v : Live h sm bs) (q : Quiet h bs) where
       ∙ ap (λ (y : Bytes). record { reply = reply 0 0 (length bs); sm = y; table = table; inbox = inbox; store = st }) (sym e)
 
   -- w: the arrays with the bytes in the line, x: session memory with them and the numbers of the line
-  pub line-taken : (h .now .phase ≡ phaseTransfer → ⊥) → hasCr bs ≡ false → h .line .len + length bs ≤ 256 → (w x : Bytes) → w ≡ putBytes (arraysIn sm) (at (lineAt + h .line .len)) bs
+  pub line-taken : (h .now .phase ≡ phaseTransfer → ⊥) → hasCr bs ≡ false → h .line .len + length bs ≤ 256 → (w x : Bytes) → w ≡ wrote (arraysIn sm) (lineAt + h .line .len) bs
       → x ≡ putBytes (lent arraysAt arraysLen sm w) (at places.numbersStart) (numberBytes (withLine (h .line .len + length bs) (numbersAt (lent arraysAt arraysLen sm w))))
       → (store : Bytes) → Takes true sm store bs x store
   line-taken p c l w x e f store =
       let n : length (arraysIn sm) ≡ arraysLen = arrays-length sm (v .size) in
-      let g : w ≡ sets (arraysIn sm) (lineAt + h .line .len) bs = e ∙ put-sets (arraysIn sm) (lineAt + h .line .len) bs (omega arith) in
+      let g : w ≡ sets (arraysIn sm) (lineAt + h .line .len) bs = e ∙ wrote-sets (arraysIn sm) (lineAt + h .line .len) bs (omega arith) in
       let k : length w ≡ arraysLen = ap length g ∙ length-sets (arraysIn sm) (lineAt + h .line .len) bs ∙ n in
       let t : Numbers = withLine (h .line .len + length bs) h in
       takes store store x (wholeOf t w)

@@ -1,6 +1,5 @@
 // Bytes that only make the line or the body under way longer, taken where the state stands in session memory: of its numbers only those
 // that change are written. All of the bytes are such, or none is taken.
-use buffer::Cursor;
 use numbers::Numbers;
 ghost use mathlib.Core.Path.{_≡_};
 ghost use mathlib.Core.Bool.{_&&_};
@@ -40,11 +39,11 @@ fn line_run(s: Numbers, bytes: &[u8], sm: &mut [u8]) -> bool
     if has_cr(bytes) {
         return false;
     }
-    let c = Cursor {
-        at: places::LINE + len,
-        skip: 0,
-    };
-    let _d = buffer::put(&mut sm[places::ARRAYS..places::ARRAYS_END], c, bytes);
+    buffer::put_whole(
+        &mut sm[places::ARRAYS..places::ARRAYS_END],
+        places::LINE + len,
+        bytes,
+    );
     numbers_in_place::put_line(sm, len + bytes.len());
     true
 }

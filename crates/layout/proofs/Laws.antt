@@ -77,10 +77,10 @@ field-length n w = simp (length-take, length-append, length-replicate) (omega ar
 -- a field that stands first
 pub field-here : (n : ℕ) (w r : Bytes) → length w ≤ n → n ≤ 255 → fieldIn n 0 (fieldOut n w ++ r) ≡ w
 field-here n w r h k =
-    let z : Bytes = take (n - length w) (replicate n 0) in
+    let z : Bytes = replicate (n - length w) 0 in
     let e : length w % 256 ≡ length w = omega arith in
     let f : min n (length w) ≡ length w = omega arith in
-    rw (← field-padded n n w h (omega arith), append-assoc w z r, e, f)
+    rw (← field-padded n w h, append-assoc w z r, e, f)
     (part-skip (length w ∷ []) (w ++ (z ++ r)) 1 refl 0 (length w) ∙ part-here w (z ++ r) (length w) refl)
 
 -- ---------------------------------------------------------------- the fields of a message, from any place on

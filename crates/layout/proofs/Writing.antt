@@ -1,16 +1,15 @@
 -- What `field` reads and `put_field` writes, way by way.
-use Prim.Native.Nat.{ℕ, zero, suc, _+_, _-_, _%_, _<_, _≤_}
-use mathlib.Core.Path.{_≡_, refl, sym, ap, _∙_}
+use Prim.Native.Nat.{ℕ, _+_, _-_, _%_, _<_, _≤_}
+use mathlib.Core.Path.{_≡_, sym, ap, _∙_}
 use mathlib.Core.List.{[], _∷_, _++_}
 use native.Mathlib.Omega.{arith}
-use native.Mathlib.Nat.{le-of-suc-le-suc, not-suc-le-zero}
 use lib.ListN.{length, take, replicate}
 use lib.Seq.{take-append-le, take-append-add}
 use Rattle.grammar.specs.Bytes.{Bytes}
 use Rattle.grammar.specs.Transfers.{partOf}
 use Rattle.buffer.specs.declared.Cursor.{Cursor}
 use Rattle.buffer.specs.Put.{Puts}
-use Rattle.buffer.proofs.Laws.{puts-then, puts-as}
+use Rattle.buffer.proofs.Laws.{puts-then, puts-as, take-zeros}
 use Rattle.layout.specs.Layout.{byteAt, fieldIn, fieldOut}
 
 -- ---------------------------------------------------------------- for `field`
@@ -24,19 +23,14 @@ field-whole n at s h = ap (λ (k : ℕ). partOf s (at + 1) k) (omega arith)
 
 -- ---------------------------------------------------------------- for `put_field`
 
-take-zeros : (k n : ℕ) → k ≤ n → _≡_ {A = Bytes} (take k (replicate n 0)) (replicate k 0)
-take-zeros zero n h = refl
-take-zeros (suc k) zero h = absurd (not-suc-le-zero h)
-take-zeros (suc k) (suc n) h = ap (λ (l : Bytes). 0 ∷ l) (take-zeros k n (le-of-suc-le-suc h))
-
 -- a field as it is written: its place filled, or zeros after it
 field-full : (n : ℕ) (w : Bytes) → n ≤ length w → take n w ≡ take n (w ++ replicate n 0)
 field-full n w h = sym (take-append-le n w (replicate n 0) h)
 
-pub field-padded : (n m : ℕ) (w : Bytes) → length w ≤ n → n ≤ m → w ++ take (n - length w) (replicate m 0) ≡ take n (w ++ replicate n 0)
-field-padded n m w h k =
+pub field-padded : (n : ℕ) (w : Bytes) → length w ≤ n → w ++ replicate (n - length w) 0 ≡ take n (w ++ replicate n 0)
+field-padded n w h =
     let e : length w + (n - length w) ≡ n = omega arith in
-    rw (take-zeros (n - length w) m (omega arith), ← take-zeros (n - length w) n (omega arith))
+    rw (← take-zeros (n - length w) n (omega arith))
     (sym (take-append-add w (replicate n 0) (n - length w)) ∙ ap (λ (i : ℕ). take i (w ++ replicate n 0)) e)
 
 module _ (d : Bytes) (c : Cursor) (n : ℕ) (w : Bytes) {r s : Cursor} {e f : Bytes} (a : Puts d c (length w % 256 ∷ []) r e) where
@@ -44,8 +38,8 @@ module _ (d : Bytes) (c : Cursor) (n : ℕ) (w : Bytes) {r s : Cursor} {e f : By
   puts-full h b =
       puts-then d c (length w % 256 ∷ []) (take n (w ++ replicate n 0)) a (puts-as e r (field-full n w h) b)
 
-  pub puts-padded : {t : Cursor} {g : Bytes} → length w ≤ n → n ≤ 255 → Puts e r w s f → Puts f s (take (n - length w) (replicate 255 0)) t g → Puts d c (fieldOut n w) t g
-  puts-padded {t} {g} h k b z =
+  pub puts-padded : {t : Cursor} {g : Bytes} → length w ≤ n → Puts e r w s f → Puts f s (replicate (n - length w) 0) t g → Puts d c (fieldOut n w) t g
+  puts-padded {t} {g} h b z =
       puts-then d c (length w % 256 ∷ []) (take n (w ++ replicate n 0)) a
-      (puts-as e r (field-padded n 255 w h k)
-      (puts-then e r w (take (n - length w) (replicate 255 0)) b z))
+      (puts-as e r (field-padded n w h)
+      (puts-then e r w (replicate (n - length w) 0) b z))

@@ -23,9 +23,7 @@ fn put_field(buf: &mut [u8], c: Cursor, w: &[u8], n: u8) -> Cursor
         return buffer::put(buf, c1, &w[..m]);
     }
     let c2 = buffer::put(buf, c1, w);
-    let zeros = [0u8; 255];
-    let k = m - w.len();
-    buffer::put(buf, c2, &zeros[..k])
+    buffer::put_zeros(buf, c2, m - w.len())
 }
 
 // The fields of a message.

@@ -14,9 +14,7 @@ use Rattle.grammar.specs.Transfers.{byteSum}
 use Rattle.grammar.proofs.TransferBack.{sum-wraps}
 use Rattle.line.specs.declared.LineByte as code
 use Rattle.line.specs.Byte.{lineByteIs}
-use Rattle.buffer.specs.Put.{putBytes}
-use Rattle.layout.proofs.Places.{put-fits}
-use Rattle.session_memory.specs.State.{at}
+use Rattle.buffer.specs.Put.{wrote}
 use Rattle.session_memory.specs.Session.{Session}
 use Rattle.places.specs.Places.{arraysLen, lineAt}
 use Rattle.region.specs.Region.{region}
@@ -89,14 +87,14 @@ pub line-is : (m l : Bytes) (n k : ℕ) → length m ≡ arraysLen → l ≡ lin
 line-is m l n k h e f = ap (take n) e ∙ clipped (lineIn m) lineLimit k n (line-length m h) f
 
 -- the copy of the line
-pub copied : (m e : Bytes) → length m ≡ arraysLen → e ≡ putBytes (replicate lineLimit 0) (at 0) (take lineLimit (drop lineAt m)) → e ≡ lineIn m
+pub copied : (m e : Bytes) → length m ≡ arraysLen → e ≡ wrote (replicate lineLimit 0) 0 (take lineLimit (drop lineAt m)) → e ≡ lineIn m
 unfolding region
 copied m e h f =
     let x : Bytes = take lineLimit (drop lineAt m) in
     let z : Bytes = replicate lineLimit 0 in
     let n : length x ≡ lineLimit = line-length m h in
     let k : length z ≡ lineLimit = length-replicate {A = ℕ} lineLimit 0 in
-    f ∙ put-fits z 0 x (omega (arith, n, k)) ∙ ap (λ (l : Bytes). x ++ l) (drop-of-length-le z {i = 0 + length x} (omega (arith, n, k))) ∙ append-nil x
+    f ∙ ap (λ (l : Bytes). x ++ l) (drop-of-length-le z {i = 0 + length x} (omega (arith, n, k))) ∙ append-nil x
 
 -- ---------------------------------------------------------------- the line's end
 

@@ -1,5 +1,4 @@
 // A byte of a line: dropped, one more in its line, the line's end and what it leaves, or a line too long.
-use buffer::Cursor;
 use line::LineByte;
 use line_effect::Verdict;
 use numbers::Numbers;
@@ -24,11 +23,7 @@ fn line_of(mem: &[u8]) -> [u8; 256]
     ensures { λ r. ⌜ r ≡ lineIn (now (mem .entry)) ⌝ }
 {
     let mut line = [0u8; 256];
-    let _c = buffer::put(
-        &mut line,
-        Cursor { at: 0, skip: 0 },
-        &mem[places::LINE..places::BLOCK],
-    );
+    buffer::put_whole(&mut line, 0, &mem[places::LINE..places::BLOCK]);
     line
 }
 

@@ -2,14 +2,14 @@
 use Prim.Native.Nat.{ℕ, suc, _+_, _-_, _<_, _≤_}
 use mathlib.Core.Path.{_≡_, refl, sym, ap, _∙_}
 use mathlib.Core.Bool.{Bool}
-use mathlib.Core.List.{[], _∷_, _++_}
+use mathlib.Core.List.{[], _∷_, _++_, append-assoc}
 use native.Mathlib.Omega.{arith}
 use lib.ListN.{length, take, drop, getD, length-append, length-drop, take-append-drop}
 use lib.Dec.{eqb}
 use lib.Seq.{drop-append-le, drop-at, drop-drop, take-add, take-all, length-take-le, take-append-le, take-take, getD-take, getD-drop}
 use Rattle.grammar.specs.Bytes.{Bytes}
-use Rattle.buffer.specs.Put.{putBytes, Puts}
-use Rattle.places.specs.Places.{numbersStart, numbersEnd, numbersLen, arraysAt, freeLen, deferredLen, headingLen, lineLen, blockLen, deferredAt, headingAt, lineAt, blockAt, arraysLen, arraysEnd, sessionLen}
+use Rattle.buffer.specs.Put.{wrote, putBytes}
+use Rattle.places.specs.Places.{numbersStart, lineLengthAt, tailAt, numbersEnd, numbersLen, arraysAt, freeLen, deferredLen, headingLen, lineLen, blockLen, deferredAt, headingAt, lineAt, blockAt, arraysLen, arraysEnd, sessionLen}
 use Rattle.layout.specs.Layout.{byteAt, le2, le4, le8}
 use Rattle.layout.proofs.Places.{put-fits}
 use Rattle.session_memory.specs.State.{at, flag, fiveOut, arrayAt, fiveAt, loadOf, loadAwait, loadSay, loadKeep, loadReading, loadLine, smallOut, numbersOut, tailOut, sheetOut, loadTally, arraysOut, numberPart, saveOf}
@@ -25,8 +25,7 @@ use Rattle.numbers.specs.declared.KeepNumbers.{KeepNumbers}
 use Rattle.numbers.specs.declared.LineNumbers.{LineNumbers}
 use Rattle.numbers.specs.declared.Numbers.{Numbers}
 use Rattle.numbers.specs.Whole.{deferredIn, headingIn, lineIn, blockIn, sessionOf, wholeOf, awaitNumbers, sayNumbers, keepNumbers, readerNumbers, lineNumbers, numbersAt, smallBytes, largeBytes, tailBytes, numberBytes}
-use Rattle.buffer.specs.declared.Cursor.{Cursor}
-use Rattle.buffer.proofs.Laws.{puts-then}
+use Rattle.buffer.proofs.Laws.{wrote-wrote}
 
 -- ---------------------------------------------------------------- read
 
@@ -180,11 +179,37 @@ pub tail-are : (h : Numbers) {z : Bytes} → z ≡ le4 (h .tally .sizes) → tai
 unfolding tailOut
 tail-are h e = ap (tailFrom h) e
 
--- the parts, put one behind the other
-pub parts-saved : (sm : Bytes) (h : Numbers) {x y z : Bytes} {r t u : Cursor} {e f g : Bytes} → x ≡ smallBytes h → y ≡ largeBytes h → z ≡ tailBytes h
-    → Puts sm (at numbersStart) x r e → Puts e r y t f → Puts f t z u g → g ≡ putBytes sm (at numbersStart) (numberBytes h)
+small-length : (h : Numbers) → length (smallBytes h) ≡ lineLengthAt - numbersStart
+unfolding smallOut
+small-length h = refl
+
+large-length : (h : Numbers) → length (largeBytes h) ≡ tailAt - lineLengthAt
+unfolding numbersOut
+large-length h = refl
+
+tail-length : (h : Numbers) → length (tailBytes h) ≡ numbersEnd - tailAt
+unfolding tailOut
+tail-length h = refl
+
+-- three texts, each written where the one before it ends, are put as one
+three-fit : (d : Bytes) (a i j : ℕ) (p q r : Bytes) → i ≡ a + length p → j ≡ i + length q → j + length r ≤ length d
+    → wrote (wrote (wrote d a p) i q) j r ≡ putBytes d (at a) (p ++ (q ++ r))
+three-fit d a i j p q r e f h =
+    let k : length (p ++ q) ≡ length p + length q = length-append p q in
+    let two : wrote (wrote d a p) i q ≡ wrote d a (p ++ q) = rw e (wrote-wrote d a p q (omega arith)) in
+    let n : j ≡ a + length (p ++ q) = omega (arith, k) in
+    ap (λ (l : Bytes). wrote l j r) two ∙ ap (λ (x : ℕ). wrote (wrote d a (p ++ q)) x r) n ∙ wrote-wrote d a (p ++ q) r (omega (arith, k))
+    ∙ ap (wrote d a) (append-assoc p q r) ∙ sym (put-fits d a (p ++ (q ++ r)) (simp length-append (omega arith)))
+
+-- the parts of the numbers
+pub parts-saved : (sm : Bytes) (h : Numbers) {x y z e f g : Bytes} → length sm ≡ sessionLen → x ≡ smallBytes h → y ≡ largeBytes h → z ≡ tailBytes h
+    → e ≡ wrote sm numbersStart x → f ≡ wrote e lineLengthAt y → g ≡ wrote f tailAt z → g ≡ putBytes sm (at numbersStart) (numberBytes h)
 unfolding numberBytes
-parts-saved sm h {x} {y} {z} e₁ e₂ e₃ a b c =
-    puts-then sm (at numbersStart) x (y ++ z) a (puts-then _ _ y z b c) .1
-    ∙ ap (λ (l : Bytes). putBytes sm (at numbersStart) (l ++ (y ++ z))) e₁ ∙ ap (λ (l : Bytes). putBytes sm (at numbersStart) (smallBytes h ++ (l ++ z))) e₂
-    ∙ ap (λ (l : Bytes). putBytes sm (at numbersStart) (smallBytes h ++ (largeBytes h ++ l))) e₃
+parts-saved sm h {x} {y} {z} n e₁ e₂ e₃ a b c =
+    let k : length x ≡ lineLengthAt - numbersStart = ap length e₁ ∙ small-length h in
+    let l : length y ≡ tailAt - lineLengthAt = ap length e₂ ∙ large-length h in
+    let m : length z ≡ numbersEnd - tailAt = ap length e₃ ∙ tail-length h in
+    c ∙ ap (λ (w : Bytes). wrote w tailAt z) (b ∙ ap (λ (w : Bytes). wrote w lineLengthAt y) a)
+    ∙ three-fit sm numbersStart lineLengthAt tailAt x y z (omega (arith, k)) (omega (arith, l)) (omega (arith, m, n))
+    ∙ ap (λ (w : Bytes). putBytes sm (at numbersStart) (w ++ (y ++ z))) e₁ ∙ ap (λ (w : Bytes). putBytes sm (at numbersStart) (smallBytes h ++ (w ++ z))) e₂
+    ∙ ap (λ (w : Bytes). putBytes sm (at numbersStart) (smallBytes h ++ (largeBytes h ++ w))) e₃

@@ -1,5 +1,4 @@
 // The numbers of a session's state; its four arrays stay in session memory.
-use buffer::Cursor;
 use number_write::bytes2;
 use number_write::bytes4;
 use number_write::bytes8;
@@ -17,6 +16,9 @@ ghost use Rattle.places.specs.Places.{numbersStart, sessionLen};
 ghost use Rattle.layout.specs.Layout.{byteAt, le2At, le4At, le8At};
 ghost use Rattle.session_memory.specs.State.{at, flag, fiveAt, termsAt, sheetAt, loadTally};
 ghost use Rattle.numbers.specs.Whole.{awaitNumbers, sayNumbers, keepNumbers, readerNumbers, lineNumbers, numbersAt, smallBytes, largeBytes, tailBytes, numberBytes};
+
+// Where the numbers of more than one byte begin: the line's length is the first of them.
+const LARGE: usize = places::LINE_LENGTH;
 
 pub struct AwaitNumbers {
     pub phase: u8,
@@ -343,19 +345,13 @@ fn tail_bytes(h: Numbers) -> [u8; 13]
 
 // The numbers into session memory.
 pub fn save(sm: &mut [u8], h: Numbers)
+    requires { ⌜ length (now sm) ≡ sessionLen ⌝ }
     ensures { λ _. ⌜ now (sm .exit) ≡ putBytes (now (sm .entry)) (at numbersStart) (numberBytes h) ⌝ }
 {
     let small = small_bytes(h);
     let large = large_bytes(h);
     let tail = tail_bytes(h);
-    let c = buffer::put(
-        sm,
-        Cursor {
-            at: places::NUMBERS,
-            skip: 0,
-        },
-        &small,
-    );
-    let d = buffer::put(sm, c, &large);
-    let _e = buffer::put(sm, d, &tail);
+    buffer::put_whole(sm, places::NUMBERS, &small);
+    buffer::put_whole(sm, LARGE, &large);
+    buffer::put_whole(sm, places::TAIL, &tail);
 }

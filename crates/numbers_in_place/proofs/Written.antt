@@ -8,7 +8,7 @@ use native.Mathlib.Numerals.{add-one}
 use lib.ListN.{length, getD, set, take, drop}
 use lib.Seq.{sets, sets-eq, set-getD, getD-set-other}
 use Rattle.grammar.specs.Bytes.{Bytes}
-use Rattle.buffer.specs.Put.{putBytes}
+use Rattle.buffer.specs.Put.{wrote, putBytes}
 use Rattle.layout.specs.Layout.{byteAt, le2At, le4At, le8At, le2, le4, le8}
 use Rattle.layout.proofs.Places.{put-fits}
 use Rattle.session_memory.specs.State.{at}
@@ -42,8 +42,11 @@ skipped (suc k) i m m₀ l a =
     ∙ ap (λ (x : Bytes). sets x (suc i) (bytesFrom m₀ (suc i) k ++ l)) (set-getD m i 0)
     ∙ skipped k (suc i) m m₀ l (λ j h. a j (omega arith)) ∙ ap (λ (j : ℕ). sets m j l) (omega arith)
 
+pub wrote-sets : (m : Bytes) (i : ℕ) (l : Bytes) → i + length l ≤ length m → wrote m i l ≡ sets m i l
+wrote-sets m i l h = sym (append-assoc (take i m) l (drop (i + length l) m)) ∙ sym (sets-eq l m i h)
+
 pub put-sets : (m : Bytes) (i : ℕ) (l : Bytes) → i + length l ≤ length m → putBytes m (at i) l ≡ sets m i l
-put-sets m i l h = put-fits m i l h ∙ sym (append-assoc (take i m) l (drop (i + length l) m)) ∙ sym (sets-eq l m i h)
+put-sets m i l h = put-fits m i l h ∙ wrote-sets m i l h
 
 -- ---------------------------------------------------------------- a number that was read from bytes is written as those bytes
 

@@ -1,16 +1,14 @@
 -- A fresh session is its numbers and arrays of zeros.
 use mathlib.Core.Path.{_≡_, refl, sym, ap, _∙_}
 use mathlib.Core.Bool.{Bool, true, false}
-use Prim.Native.Nat.{ℕ, _+_, _≤_}
-use native.Mathlib.Omega.{arith}
+use Prim.Native.Nat.{ℕ, _+_}
 use lib.ListN.{length, replicate, take, drop, length-replicate}
 use lib.Seq.{drop-drop}
 use mathlib.Core.List.{_++_}
 use Rattle.grammar.specs.Bytes.{Bytes}
-use Rattle.layout.proofs.Places.{put-fits}
 use Rattle.places.specs.Places.{sessionLen, arraysAt, arraysLen}
 use Rattle.places.specs.Places as places
-use Rattle.buffer.specs.Put.{putBytes}
+use Rattle.buffer.specs.Put.{wrote, putBytes}
 use Rattle.region.specs.Region.{region, lent}
 use Rattle.transfer_step.specs.Step.{startOf}
 use Rattle.transfer_step.specs.declared.Reader.{Reader}
@@ -32,14 +30,14 @@ unfolding wholeOf freshOf region
 fresh-called {p = p} {t = t} e k = ap (λ (h : Numbers). wholeOf h (replicate arraysLen 0)) e ∙ ap (λ (x : Bool). freshOf x p t) (sym k)
 
 -- zeros in the place of the arrays, then the numbers
-pub fresh-saved : (sm : Bytes) → length sm ≡ sessionLen → (h : Numbers) {s : Session} {m x : Bytes} → m ≡ putBytes sm (at arraysAt) (replicate arraysLen 0)
+pub fresh-saved : (sm : Bytes) → length sm ≡ sessionLen → (h : Numbers) {s : Session} {m x : Bytes} → m ≡ wrote sm arraysAt (replicate arraysLen 0)
     → wholeOf h (replicate arraysLen 0) ≡ s → x ≡ putBytes m (at places.numbersStart) (numberBytes h) → x ≡ saveOf sm s
 unfolding lent
 fresh-saved sm n h e f g =
     let z : Bytes = replicate arraysLen 0 in
     let l : length z ≡ arraysLen = length-replicate {A = ℕ} arraysLen 0 in
-    let k : putBytes sm (at arraysAt) z ≡ lent arraysAt arraysLen sm z =
-    put-fits sm arraysAt z (omega (arith, l)) ∙ ap (λ (i : ℕ). take arraysAt sm ++ (z ++ drop (arraysAt + i) sm)) l
+    let k : wrote sm arraysAt z ≡ lent arraysAt arraysLen sm z =
+    ap (λ (i : ℕ). take arraysAt sm ++ (z ++ drop (arraysAt + i) sm)) l
     ∙ ap (λ (y : Bytes). take arraysAt sm ++ (z ++ y)) (sym (drop-drop arraysLen arraysAt sm)) in
     g ∙ ap (λ (y : Bytes). putBytes y (at places.numbersStart) (numberBytes h)) (e ∙ k) ∙ save-whole sm h z n l ∙ ap (saveOf sm) f
 

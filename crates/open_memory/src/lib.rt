@@ -126,13 +126,6 @@ pub fn save_fresh(sm: &mut [u8], caller: bool, partner: u8, tally: Tally)
     ensures { λ _. ⌜ now (sm .exit) ≡ saveOf (now (sm .entry)) (freshOf caller partner tally) ⌝ }
 {
     let none = [0u8; places::ARRAYS_LENGTH];
-    let _c = buffer::put(
-        sm,
-        Cursor {
-            at: places::ARRAYS,
-            skip: 0,
-        },
-        &none,
-    );
+    buffer::put_whole(sm, places::ARRAYS, &none);
     numbers::save(sm, fresh(caller, partner, tally));
 }

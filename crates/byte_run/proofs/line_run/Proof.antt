@@ -1,7 +1,5 @@
 -- The bytes are put behind those of the line, in the arrays' part of session memory; then the line's numbers are written.
-use mathlib.Core.Path.{_≡_, sym, _∙_}
-use Prim.Native.Nat.{_+_, _≤_}
-use lib.ListN.{length}
+use mathlib.Core.Path.{sym, _∙_}
 use native.Mathlib.Omega.{arith}
 use Rattle.region.specs.Region.{region, lent}
 use Rattle.byte_run.proofs.Laws.{line-taken}
@@ -24,23 +22,23 @@ has-cr-requires c κs = search needs
 returns-3 : tie.Need-returns-3
 returns-3 c = search needs
 
+sub-put-whole : tie.Need-sub-put-whole
+sub-put-whole c = search needs
+
+part-put-whole-start : tie.Need-part-put-whole-start
+part-put-whole-start c = search needs
+
+part-put-whole-end : tie.Need-part-put-whole-end
+part-put-whole-end c = search needs
+
+add-put-whole : tie.Need-add-put-whole
+add-put-whole c = search needs
+
+put-whole-requires : tie.Need-put-whole-requires
+put-whole-requires c κs = search needs
+
 add-put-line : tie.Need-add-put-line
 add-put-line c = search needs
-
-sub-put : tie.Need-sub-put
-sub-put c = search needs
-
-part-put-start : tie.Need-part-put-start
-part-put-start c = search needs
-
-part-put-end : tie.Need-part-put-end
-part-put-end c = search needs
-
-put-requires : tie.Need-put-requires
-put-requires c κs = search needs
-
-add-put-line-2 : tie.Need-add-put-line-2
-add-put-line-2 c = search needs
 
 put-line-requires : tie.Need-put-line-requires
 put-line-requires c κs = search needs
@@ -53,7 +51,7 @@ unfolding region lent
 returns-4 c =
     let a = c .before .before .before .before .before .before .before .before .before .before .before .before .before .before .before .args in
     let p = c .before .before .before .before .before .before .before .before .before .before .before .before .before .before .before .pre in
-    line-taken (a .sm .now) (a .bytes .now) (a .s) (p .0) (p .1) (p .2) (sym (c .before .before .before .before .before .before .before .before .before .has-cr .ensures) ∙ c .before .before .before .before .before .before .before .before .if3 .left) (omega (arith, c .before .before .before .before .before .before .before .before .before .before .before .if1 .left, c .before .before .before .before .before .before .before .before .before .before .if2 .left)) _ _ (c .before .before .before .before .before .before .put .ensures .1) (c .before .before .put-line .ensures)
+    line-taken (a .sm .now) (a .bytes .now) (a .s) (p .0) (p .1) (p .2) (sym (c .before .before .before .before .before .before .before .before .before .has-cr .ensures) ∙ c .before .before .before .before .before .before .before .before .if3 .left) (omega (arith, c .before .before .before .before .before .before .before .before .before .before .before .if1 .left, c .before .before .before .before .before .before .before .before .before .before .if2 .left)) _ _ (c .before .before .before .before .before .before .put-whole .ensures) (c .before .before .put-line .ensures)
 
 pub line-run-spec : {M : Type 1} → statement M
 line-run-spec =
@@ -64,12 +62,12 @@ line-run-spec =
     returns-2
     has-cr-requires
     returns-3
+    sub-put-whole
+    part-put-whole-start
+    part-put-whole-end
+    add-put-whole
+    put-whole-requires
     add-put-line
-    sub-put
-    part-put-start
-    part-put-end
-    put-requires
-    add-put-line-2
     put-line-requires
     same-length
     returns-4)

@@ -1,8 +1,6 @@
 -- The length byte, then the bytes that fill the place, or the bytes and zeros: texts put as one.
 use mathlib.Core.Path.{sym}
 use native.Mathlib.Omega.{arith}
-use Prim.Native.Nat.{_-_}
-use lib.ListN.{length, replicate}
 use lib.Seq.{length-take-le}
 use Rattle.layout.proofs.Writing.{puts-full, puts-padded}
 use borrow.Author.Needs.{needs}
@@ -30,23 +28,19 @@ returns c = let a = c .before .before .before .before .before .before .before .b
 put-requires-2 : tie.Need-put-requires-2
 put-requires-2 c κs = search needs
 
-sub-k : tie.Need-sub-k
-sub-k c = search needs
+sub-put-zeros : tie.Need-sub-put-zeros
+sub-put-zeros c = search needs
 
-array-share-prefix-zeros : tie.Need-array-share-prefix-zeros
-array-share-prefix-zeros c = search needs
-
-slice-aggregate-put-2 : tie.Need-slice-aggregate-put-2
-slice-aggregate-put-2 c = let a = c .before .before .before .before .before .before .before .before .before .before .before .before .before .args in sym (length-take-le (a .n - length (a .w .now)) (replicate 255 0) (omega arith))
-
-put-requires-3 : tie.Need-put-requires-3
-put-requires-3 c κs = search needs
+put-zeros-requires : tie.Need-put-zeros-requires
+put-zeros-requires c κs = search needs
 
 same-length-2 : tie.Need-same-length-2
 same-length-2 c = search needs
 
 returns-2 : tie.Need-returns-2
-returns-2 c = let a = c .before .before .before .before .before .before .before .before .before .before .before .before .before .before .before .before .args in puts-padded (a .buf .now) (a .c) (a .n) (a .w .now) (c .before .before .before .before .before .before .before .before .before .before .before .before .put-byte .ensures) (omega arith) (omega arith) (c .before .before .before .before .before .before .before .put2 .ensures) (c .before .before .put3 .ensures)
+returns-2 c =
+    let a = c .before .before .before .before .before .before .before .before .before .before .before .before .before .before .before .args in
+    puts-padded (a .buf .now) (a .c) (a .n) (a .w .now) (c .before .before .before .before .before .before .before .before .before .before .before .put-byte .ensures) (omega arith) (c .before .before .before .before .before .before .put2 .ensures) (c .before .before .put-zeros .ensures)
 
 pub put-field-spec : {M : Type 1} → statement M
 put-field-spec =
@@ -59,9 +53,7 @@ put-field-spec =
     same-length
     returns
     put-requires-2
-    sub-k
-    array-share-prefix-zeros
-    slice-aggregate-put-2
-    put-requires-3
+    sub-put-zeros
+    put-zeros-requires
     same-length-2
     returns-2)

@@ -1,10 +1,8 @@
+-- The numbers of one byte, the longer ones and the tail, each where the one before it ends.
 use Rattle.numbers.proofs.Laws.{parts-saved}
 use borrow.Author.Needs.{needs}
 use Rattle.numbers.proofs.save.Statement.{statement}
 use Rattle.numbers.proofs.save.Tie as tie
-use Rattle.numbers.proofs.large_bytes.Reads as large-bytes-reads
-use Rattle.numbers.proofs.small_bytes.Reads as small-bytes-reads
-use Rattle.numbers.proofs.tail_bytes.Reads as tail-bytes-reads
 
 small-bytes-requires : tie.Need-small-bytes-requires
 small-bytes-requires c κs = search needs
@@ -15,29 +13,32 @@ large-bytes-requires c κs = search needs
 tail-bytes-requires : tie.Need-tail-bytes-requires
 tail-bytes-requires c κs = search needs
 
-slice-aggregate-put : tie.Need-slice-aggregate-put
-slice-aggregate-put c = search needs
+slice-aggregate-put-whole : tie.Need-slice-aggregate-put-whole
+slice-aggregate-put-whole c = search needs
 
-put-requires : tie.Need-put-requires
-put-requires c κs = search needs
+put-whole-requires : tie.Need-put-whole-requires
+put-whole-requires c κs = search needs
 
-slice-aggregate-put-2 : tie.Need-slice-aggregate-put-2
-slice-aggregate-put-2 c = search needs
+slice-aggregate-put-whole-2 : tie.Need-slice-aggregate-put-whole-2
+slice-aggregate-put-whole-2 c = search needs
 
-put-requires-2 : tie.Need-put-requires-2
-put-requires-2 c κs = search needs
+put-whole-requires-2 : tie.Need-put-whole-requires-2
+put-whole-requires-2 c κs = search needs
 
-slice-aggregate-put-3 : tie.Need-slice-aggregate-put-3
-slice-aggregate-put-3 c = search needs
+slice-aggregate-put-whole-3 : tie.Need-slice-aggregate-put-whole-3
+slice-aggregate-put-whole-3 c = search needs
 
-put-requires-3 : tie.Need-put-requires-3
-put-requires-3 c κs = search needs
+put-whole-requires-3 : tie.Need-put-whole-requires-3
+put-whole-requires-3 c κs = search needs
 
 same-length : tie.Need-same-length
 same-length c = search needs
 
 returns : tie.Need-returns
-returns c = parts-saved (c .before .before .before .before .before .before .before .before .before .before .before .before .before .before .before .before .before .before .before .args .sm .now) (c .before .before .before .before .before .before .before .before .before .before .before .before .before .before .before .before .before .before .before .args .h) (c .before .before .before .before .before .before .before .before .before .before .before .before .before .before .before .before .before .small-bytes .ensures) (c .before .before .before .before .before .before .before .before .before .before .before .before .before .before .before .before .large-bytes .ensures) (c .before .before .before .before .before .before .before .before .before .before .before .before .before .before .before .tail-bytes .ensures) (c .before .before .before .before .before .before .before .before .before .before .before .before .put .ensures) (c .before .before .before .before .before .before .before .put2 .ensures) (c .before .before .put3 .ensures)
+returns c =
+    let a = c .before .before .before .before .before .before .before .before .before .before .before .before .before .before .before .before .before .before .before .args in
+    let p = c .before .before .before .before .before .before .before .before .before .before .before .before .before .before .before .before .before .before .before .pre in
+    parts-saved (a .sm .now) (a .h) p (c .before .before .before .before .before .before .before .before .before .before .before .before .before .before .before .before .before .small-bytes .ensures) (c .before .before .before .before .before .before .before .before .before .before .before .before .before .before .before .before .large-bytes .ensures) (c .before .before .before .before .before .before .before .before .before .before .before .before .before .before .before .tail-bytes .ensures) (c .before .before .before .before .before .before .before .before .before .before .before .before .put-whole .ensures) (c .before .before .before .before .before .before .before .put-whole2 .ensures) (c .before .before .put-whole3 .ensures)
 
 pub save-spec : {M : Type 1} → statement M
 save-spec =
@@ -46,11 +47,11 @@ save-spec =
     small-bytes-requires
     large-bytes-requires
     tail-bytes-requires
-    slice-aggregate-put
-    put-requires
-    slice-aggregate-put-2
-    put-requires-2
-    slice-aggregate-put-3
-    put-requires-3
+    slice-aggregate-put-whole
+    put-whole-requires
+    slice-aggregate-put-whole-2
+    put-whole-requires-2
+    slice-aggregate-put-whole-3
+    put-whole-requires-3
     same-length
     returns)

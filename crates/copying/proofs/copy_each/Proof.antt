@@ -5,9 +5,9 @@ use mathlib.Core.List.{_++_}
 use native.Mathlib.Omega.{arith}
 use lib.ListN.{length, take, drop, length-set}
 use borrow.Author.Needs.{needs}
-use Rattle.buffer.proofs.Laws.{copy-next}
-use Rattle.buffer.proofs.copy.Statement.{statement}
-use Rattle.buffer.proofs.copy.Tie as tie
+use Rattle.copying.proofs.Laws.{copy-next}
+use Rattle.copying.proofs.copy_each.Statement.{statement}
+use Rattle.copying.proofs.copy_each.Tie as tie
 
 abbrev Inv-loop : tie.InvT-loop
 Inv-loop dst₀ src n i₀ dst i =
@@ -48,8 +48,8 @@ same-length c = omega arith
 returns : tie.Need-returns Inv-loop μ-loop
 returns c = let e : c .before .loop .i ≡ c .before .before .args .n = omega arith in rw (← e) (c .before .loop .inv .4)
 
-pub copy-spec : {M : Type 1} → statement M
-copy-spec =
+pub copy-each-spec : {M : Type 1} → statement M
+copy-each-spec =
     tie.close
     (tie.spec
     Inv-loop
