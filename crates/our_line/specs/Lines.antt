@@ -6,22 +6,17 @@ use Rattle.grammar.specs.Ascii.{text}
 use Rattle.grammar.specs.Fields.{formIs}
 use Rattle.grammar.specs.Turns.{FixedLine, ourSid, ourPrompt, ourFF, ourFQ, ourEnd, protocolError, checksumError, Proposal}
 use Rattle.our_line.specs.declared.Fixed.{Fixed}
-use Rattle.our_line.specs.declared.Fixed.the-variants.{Sid, Prompt, FF, FQ, End}
-use Rattle.our_line.specs.declared.Reason.{Reason}
-use Rattle.our_line.specs.declared.Reason.the-variants.{Protocol, Checksum}
+use Rattle.our_line.specs.declared.Fixed.the-variants.{Sid, Prompt, FF, FQ, End, ProtocolError, ChecksumError}
 
--- The lines that never differ: SID, prompt, `FF`, `FQ` and `F>`.
+-- The lines that never differ: SID, prompt, `FF`, `FQ`, `F>`, and the two that say why we hang up.
 abbrev pub fixedIs : Fixed → FixedLine
 fixedIs Sid = ourSid
 fixedIs Prompt = ourPrompt
 fixedIs FF = ourFF
 fixedIs FQ = ourFQ
 fixedIs End = ourEnd
-
--- The lines that say why we hang up.
-abbrev pub reasonIs : Reason → FixedLine
-reasonIs Protocol = protocolError
-reasonIs Checksum = checksumError
+fixedIs ProtocolError = protocolError
+fixedIs ChecksumError = checksumError
 
 -- The proposal with these fields: form, type, from, at, to, BID, size.
 abbrev pub proposalIs : ℕ → ℕ → Bytes → Bytes → Bytes → Bytes → ℕ → Proposal

@@ -7,15 +7,17 @@ ghost use Rattle.grammar.specs.Bytes.{CR};
 ghost use Rattle.grammar.specs.Fields.{formIs, decimal};
 ghost use Rattle.grammar.specs.Turns.{fixedText, proposalLine, withCr, formLetter};
 ghost use Rattle.buffer.specs.Put.{Puts};
-ghost use Rattle.our_line.specs.Lines.{fixedIs, reasonIs, proposalIs, fsText};
+ghost use Rattle.our_line.specs.Lines.{fixedIs, proposalIs, fsText};
 
-// The lines that never differ: our SID, the prompt, `FF`, `FQ`, and `F>`, which ends a block.
+// The lines that never differ: our SID, the prompt, `FF`, `FQ`, `F>`, which ends a block, and the two that say why we hang up.
 pub enum Fixed {
     Sid,
     Prompt,
     FF,
     FQ,
     End,
+    ProtocolError,
+    ChecksumError,
 }
 
 // One of the lines that never differ.
@@ -28,22 +30,8 @@ pub fn write_fixed(which: Fixed, buf: &mut [u8], c: Cursor) -> Cursor
         Fixed::FF => buffer::put(buf, c, b"FF\r"),
         Fixed::FQ => buffer::put(buf, c, b"FQ\r"),
         Fixed::End => buffer::put(buf, c, b"F>\r"),
-    }
-}
-
-// Why we hang up: a transfer's checksum was wrong, or anything else.
-pub enum Reason {
-    Protocol,
-    Checksum,
-}
-
-// The line that says why we hang up. Beside write_fixed, which give has inlined for its lines.
-pub fn write_reason(which: Reason, buf: &mut [u8], c: Cursor) -> Cursor
-    ensures { λ r. ⌜ Puts (now (buf .entry)) c (withCr (fixedText (reasonIs which))) r (now (buf .exit)) ⌝ }
-{
-    match which {
-        Reason::Protocol => buffer::put(buf, c, b"*** Protocol error\r"),
-        Reason::Checksum => buffer::put(buf, c, b"*** Checksum error\r"),
+        Fixed::ProtocolError => buffer::put(buf, c, b"*** Protocol error\r"),
+        Fixed::ChecksumError => buffer::put(buf, c, b"*** Checksum error\r"),
     }
 }
 

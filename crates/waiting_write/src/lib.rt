@@ -5,7 +5,6 @@ use layout::entry;
 use layout::field;
 use number_read::number4;
 use our_line::Fixed;
-use our_line::Reason;
 use waiting::in_use;
 ghost use mathlib.Core.Path.{_≡_};
 ghost use mathlib.Core.List.{[]};
@@ -92,10 +91,10 @@ fn write_first(buf: &mut [u8], c: Cursor, sm: &[u8]) -> Cursor
         return our_line::write_fixed(Fixed::Sid, buf, c);
     }
     if first == phase::PIECE_PROTOCOL_ERROR {
-        return our_line::write_reason(Reason::Protocol, buf, c);
+        return our_line::write_fixed(Fixed::ProtocolError, buf, c);
     }
     if first == phase::PIECE_CHECKSUM_ERROR {
-        return our_line::write_reason(Reason::Checksum, buf, c);
+        return our_line::write_fixed(Fixed::ChecksumError, buf, c);
     }
     let start = places::SIGNS + 1;
     let end = start + in_use(sm[places::SIGNS]) as usize;

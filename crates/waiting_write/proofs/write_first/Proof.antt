@@ -44,25 +44,25 @@ returns-3 : tie.Need-returns-3
 unfolding loadOf loadSay
 returns-3 c = let a = c .before .before .before .before .before .before .before .before .before .before .args in puts-as (a .buf .now) (a .c) (first-sid (loadOf (a .sm .now) .say .first) (loadOf (a .sm .now) .say .signs) (c .before .before .before .before .if3 .taken)) (c .before .before .write-fixed3 .ensures)
 
-write-reason-requires : tie.Need-write-reason-requires
-write-reason-requires c κs = search needs
+write-fixed-requires-4 : tie.Need-write-fixed-requires-4
+write-fixed-requires-4 c κs = search needs
 
 same-length-4 : tie.Need-same-length-4
 same-length-4 c = search needs
 
 returns-4 : tie.Need-returns-4
 unfolding loadOf loadSay
-returns-4 c = let a = c .before .before .before .before .before .before .before .before .before .before .before .args in puts-as (a .buf .now) (a .c) (first-protocol (loadOf (a .sm .now) .say .first) (loadOf (a .sm .now) .say .signs) (c .before .before .before .before .if4 .taken)) (c .before .before .write-reason .ensures)
+returns-4 c = let a = c .before .before .before .before .before .before .before .before .before .before .before .args in puts-as (a .buf .now) (a .c) (first-protocol (loadOf (a .sm .now) .say .first) (loadOf (a .sm .now) .say .signs) (c .before .before .before .before .if4 .taken)) (c .before .before .write-fixed4 .ensures)
 
-write-reason-requires-2 : tie.Need-write-reason-requires-2
-write-reason-requires-2 c κs = search needs
+write-fixed-requires-5 : tie.Need-write-fixed-requires-5
+write-fixed-requires-5 c κs = search needs
 
 same-length-5 : tie.Need-same-length-5
 same-length-5 c = search needs
 
 returns-5 : tie.Need-returns-5
 unfolding loadOf loadSay
-returns-5 c = let a = c .before .before .before .before .before .before .before .before .before .before .before .before .args in puts-as (a .buf .now) (a .c) (first-checksum (loadOf (a .sm .now) .say .first) (loadOf (a .sm .now) .say .signs) (c .before .before .before .before .if5 .taken)) (c .before .before .write-reason2 .ensures)
+returns-5 c = let a = c .before .before .before .before .before .before .before .before .before .before .before .before .args in puts-as (a .buf .now) (a .c) (first-checksum (loadOf (a .sm .now) .say .first) (loadOf (a .sm .now) .say .signs) (c .before .before .before .before .if5 .taken)) (c .before .before .write-fixed5 .ensures)
 
 add-start : tie.Need-add-start
 add-start c = search needs
@@ -113,10 +113,10 @@ write-first-spec =
     write-fixed-requires-3
     same-length-3
     returns-3
-    write-reason-requires
+    write-fixed-requires-4
     same-length-4
     returns-4
-    write-reason-requires-2
+    write-fixed-requires-5
     same-length-5
     returns-5
     add-start
