@@ -18,7 +18,8 @@ HEAD = re.compile(rb"(?:R:[^\r]*\r\n?)+\r\n?From: [^\r]*\r\n?To  : [^\r]*\r\n?\r
 
 
 CONSOLE_PATIENCE = 10  # seconds until the console shows what happens
-STARTS = 3  # so often a mailbox is begun until it greets
+GREETING_PATIENCE = 10  # seconds until a mailbox that is up greets
+STARTS = 3  # so often it is begun until it does
 LOG_SHOWN = 2000  # bytes of its log, where a case fails
 
 
@@ -68,13 +69,17 @@ class Box:
             raise RuntimeError("LinFBB doesn't start: " + done.stderr.decode("latin-1"))
 
     def greets(self):
-        try:
-            link = partner.login_call(self.port, None)
-            link.until(b"Callsign : ")
-            link.s.close()
-            return True
-        except (partner.Closed, partner.Silent, OSError):
-            return False
+        """Whether it asks a caller for the callsign, within some time: it may still be starting behind an open port."""
+        end = time.monotonic() + GREETING_PATIENCE
+        while time.monotonic() < end:
+            try:
+                link = partner.login_call(self.port, None)
+                link.until(b"Callsign : ")
+                link.s.close()
+                return True
+            except (partner.Closed, partner.Silent, OSError):
+                time.sleep(0.2)
+        return False
 
     def log(self):
         """The end of what LinFBB has said of itself."""
