@@ -1,5 +1,5 @@
 -- The SID by what its reader answers, any line by the phase, and one array lent: what is judged on it is judged on all of them.
-use mathlib.Core.Path.{_≡_, refl, sym, ap, _∙_, subst}
+use mathlib.Core.Path.{_≡_, refl, sym, ap, _∙_}
 use mathlib.Core.Bool.{Bool, true, false, cond}
 use mathlib.Core.Option.{Option, none, some}
 use mathlib.Core.List.{List, _++_}
@@ -12,66 +12,64 @@ use borrow.Author.Tests.{eq-eqb, ne-eqb, eqb-false}
 use Rattle.grammar.specs.Bytes.{Bytes}
 use Rattle.grammar.specs.Refusals.{noForwarding}
 use Rattle.grammar.specs.Lines.{isComment}
-use Rattle.grammar.specs.Sid.{hasFeature, framed, levelInForce}
+use Rattle.grammar.specs.Sid.{hasFeature, framed, levelInForce, letterF}
 use Rattle.sid.specs.declared.Sid.{Sid}
 use Rattle.sid.specs.Meaning.{sidOf}
-use Rattle.transfer_step.specs.declared.Reader.{Reader}
-use Rattle.session_memory.specs.Session.{Await}
-use Rattle.session_memory.specs.declared.Say.{Say}
-use Rattle.session_memory.specs.Session.{Keep}
+use Rattle.session_memory.specs.Session.{Session}
+use Rattle.session_memory.specs.Setters.{withNow, withKeep}
 use Rattle.phase.specs.Phase.{phaseCalledSid, phaseCallerSid, phasePrompt}
-use Rattle.places.specs.Places.{deferredAt, deferredLen, headingAt, headingLen, lineLen, blockAt, blockLen, arraysLen}
+use Rattle.places.specs.Places.{headingAt, blockAt, blockLen, arraysLen}
 use Rattle.region.specs.Region.{region, lent}
-use Rattle.region.proofs.Laws.{lent-here, lent-before, lent-after}
 use Rattle.numbers.specs.declared.Numbers.{Numbers}
-use Rattle.numbers.specs.Whole.{awaitOf, keepOf, deferredIn, blockIn}
+use Rattle.numbers.specs.Whole.{Arrays, withDeferred, withBlock, arraysIn, sessionOf, wholeOf}
+use Rattle.numbers_in_place.proofs.Arrays.{deferred-lent, block-lent}
 use Rattle.line_effect.specs.declared.Verdict.{Verdict}
 use Rattle.line_effect.specs.Judged.{Judged}
-use Rattle.line_effect.specs.Verdict.{judgedOf, Judges}
+use Rattle.line_effect.specs.Verdict.{judgedOf, judgedIn}
 use Rattle.line_effect.specs.Judge.{refusal, wentOn, inPhase, toTurn, inMode, afterSid, sidRead, sidLine, lineIn, judgeOf}
 
-module _ (w : Await) (y : Say) (k : Keep) (rd : Reader) where
+module _ (s : Session) where
   -- a SID
-  pub sid-no : (o : Option (List ℕ)) (r : Sid) → r ≡ sidOf o → (r .number ≡ 0 → ⊥) → refusal (r .number) w y k rd ≡ sidRead o w y k rd
+  pub sid-no : (o : Option (List ℕ)) (r : Sid) → r ≡ sidOf o → (r .number ≡ 0 → ⊥) → refusal (r .number) s ≡ sidRead o s
   unfolding sidOf
-  sid-no none r e n = ap (λ (x : Sid). refusal (x .number) w y k rd) e
-  sid-no (some fs) r e n = go (hasFeature 5 fs) refl
+  sid-no none r e n = ap (λ (x : Sid). refusal (x .number) s) e
+  sid-no (some fs) r e n = go (hasFeature letterF fs) refl
     where
-      go : (b : Bool) → hasFeature 5 fs ≡ b → refusal (r .number) w y k rd ≡ cond b (wentOn (afterSid w) y (inMode (framed fs) (levelInForce fs) k) rd) (refusal noForwarding w y k rd)
+      go : (b : Bool) → hasFeature letterF fs ≡ b → refusal (r .number) s ≡ cond b (wentOn (withNow (afterSid (s .now)) (withKeep (inMode (framed fs) (levelInForce fs) (s .keep)) s))) (refusal noForwarding s)
       go true q = absurd (n (ap (λ (x : Sid). x .number) e ∙ rw q))
-      go false q = ap (λ (x : Sid). refusal (x .number) w y k rd) e ∙ rw q
+      go false q = ap (λ (x : Sid). refusal (x .number) s) e ∙ rw q
 
-  sid-yes : (o : Option (List ℕ)) (r : Sid) → r ≡ sidOf o → r .number ≡ 0 → wentOn (afterSid w) y (inMode (framed (r .features .levels)) (levelInForce (r .features .levels)) k) rd ≡ sidRead o w y k rd
+  sid-yes : (o : Option (List ℕ)) (r : Sid) → r ≡ sidOf o → r .number ≡ 0 → wentOn (withNow (afterSid (s .now)) (withKeep (inMode (framed (r .features .levels)) (levelInForce (r .features .levels)) (s .keep)) s)) ≡ sidRead o s
   unfolding sidOf
   sid-yes none r e n = let z : ⊥ = omega (arith, ap (λ (x : Sid). x .number) e) in absurd z
-  sid-yes (some fs) r e n = go (hasFeature 5 fs) refl
+  sid-yes (some fs) r e n = go (hasFeature letterF fs) refl
     where
-      go : (b : Bool) → hasFeature 5 fs ≡ b → wentOn (afterSid w) y (inMode (framed (r .features .levels)) (levelInForce (r .features .levels)) k) rd ≡ cond b (wentOn (afterSid w) y (inMode (framed fs) (levelInForce fs) k) rd) (refusal noForwarding w y k rd)
-      go true q = ap (λ (x : Sid). wentOn (afterSid w) y (inMode (framed (x .features .levels)) (levelInForce (x .features .levels)) k) rd) e
+      go : (b : Bool) → hasFeature letterF fs ≡ b → wentOn (withNow (afterSid (s .now)) (withKeep (inMode (framed (r .features .levels)) (levelInForce (r .features .levels)) (s .keep)) s)) ≡ cond b (wentOn (withNow (afterSid (s .now)) (withKeep (inMode (framed fs) (levelInForce fs) (s .keep)) s))) (refusal noForwarding s)
+      go true q = ap (λ (x : Sid). wentOn (withNow (afterSid (s .now)) (withKeep (inMode (framed (x .features .levels)) (levelInForce (x .features .levels)) (s .keep)) s))) e
       go false q = let f : r .number ≡ noForwarding = ap (λ (x : Sid). x .number) e ∙ rw q in let z : ⊥ = omega (arith, f) in absurd z
 
   module _ (o : Option (List ℕ)) (r : Sid) (e : r ≡ sidOf o) (n : r .number ≡ 0) (b : Bool) (f : b ≡ framed (r .features .levels)) (v : ℕ) (g : v ≡ levelInForce (r .features .levels)) where
-    pub sid-prompt : w .phase ≡ phaseCallerSid → wentOn (inPhase phasePrompt w) y (inMode b v k) rd ≡ sidRead o w y k rd
+    pub sid-prompt : s .now .phase ≡ phaseCallerSid → wentOn (withNow (inPhase phasePrompt (s .now)) (withKeep (inMode b v (s .keep)) s)) ≡ sidRead o s
     sid-prompt h =
-        let q : inPhase phasePrompt w ≡ afterSid w = rw (eq-eqb _ _ h) in
+        let q : inPhase phasePrompt (s .now) ≡ afterSid (s .now) = rw (eq-eqb _ _ h) in
         rw (q, f, g) (sid-yes o r e n)
 
-    pub sid-turn : (w .phase ≡ phaseCallerSid → ⊥) → wentOn (toTurn false w) y (inMode b v k) rd ≡ sidRead o w y k rd
+    pub sid-turn : (s .now .phase ≡ phaseCallerSid → ⊥) → wentOn (withNow (toTurn false (s .now)) (withKeep (inMode b v (s .keep)) s)) ≡ sidRead o s
     sid-turn h =
-        let q : toTurn false w ≡ afterSid w = rw (ne-eqb _ _ h) in
+        let q : toTurn false (s .now) ≡ afterSid (s .now) = rw (ne-eqb _ _ h) in
         rw (q, f, g) (sid-yes o r e n)
 
   -- any line by the phase
   module _ (ln : Bytes) (n : ℕ) (table known inbox : Bytes) (store : ℕ) (j : Judged) where
-    pub line-in : (p : ℕ) (b : Bool) → w .phase ≡ p → b ≡ isComment ln → b ≡ false → j ≡ lineIn p ln n w y k rd table known inbox store → j ≡ judgeOf ln n w y k rd table known inbox store
+    pub line-in : (p : ℕ) (b : Bool) → s .now .phase ≡ p → b ≡ isComment ln → b ≡ false → j ≡ lineIn p ln n s table known inbox store → j ≡ judgeOf ln n s table known inbox store
     unfolding judgeOf
-    line-in p b e c z f = rw (sym c ∙ z) (f ∙ ap (λ (q : ℕ). lineIn q ln n w y k rd table known inbox store) (sym e))
+    line-in p b e c z f = rw (sym c ∙ z) (f ∙ ap (λ (q : ℕ). lineIn q ln n s table known inbox store) (sym e))
 
     -- a SID is awaited in the first two phases
-    pub sid-in : (p : ℕ) → p < phasePrompt → j ≡ sidLine ln w y k rd → j ≡ lineIn p ln n w y k rd table known inbox store
+    pub sid-in : (p : ℕ) → p < phasePrompt → j ≡ sidLine ln s → j ≡ lineIn p ln n s table known inbox store
     sid-in p l f = go (eqb p phaseCalledSid) refl
       where
-        go : (b : Bool) → eqb p phaseCalledSid ≡ b → j ≡ lineIn p ln n w y k rd table known inbox store
+        go : (b : Bool) → eqb p phaseCalledSid ≡ b → j ≡ lineIn p ln n s table known inbox store
         go true q = rw q f
         go false q = let z = eqb-false p phaseCalledSid q in rw (q, eq-eqb p phaseCallerSid (omega arith)) f
 
@@ -82,39 +80,25 @@ past-sid p q l g = ne-eqb p q (λ k. omega arith)
 -- ---------------------------------------------------------------- on the arrays where they stand
 
 -- the line, whose sum is n, judged beside the table, the known BIDs, the inbox and a store of this size
-abbrev pub judging : Bytes → ℕ → Bytes → Bytes → Bytes → ℕ → Await → Say → Keep → Reader → Judged
-judging ln n table known inbox store w y k r = judgeOf ln n w y k r table known inbox store
+abbrev pub judging : Bytes → ℕ → Bytes → Bytes → Bytes → ℕ → Session → Judged
+judging ln n table known inbox store s = judgeOf ln n s table known inbox store
 
-module _ (s : Numbers) (m : Bytes) (n : length m ≡ arraysLen) (v : Verdict) (f : Await → Say → Keep → Reader → Judged) where
+module _ (s : Numbers) (m : Bytes) (n : length m ≡ arraysLen) (v : Verdict) (f : Session → Judged) where
   -- nothing was lent
-  pub as-it-was : ((block deferred : Bytes) → judgedOf v block deferred ≡ f (awaitOf (s .now) block) (s .say) (keepOf (s .keep) deferred) (s .reader)) → Judges s m v m f
-  as-it-was e = (e (blockIn m) (deferredIn m), refl)
+  pub as-it-was : ((a : Arrays) → judgedOf v a ≡ f (sessionOf s a)) → judgedIn v m ≡ f (wholeOf s m)
+  unfolding wholeOf
+  as-it-was e = e (arraysIn m)
 
   -- the flags were lent, `&mut mem[..HEADING]`, and given back as u
   pub on-deferred : (u : Bytes) → length u ≡ length (take headingAt m)
-      → ((block : Bytes) → judgedOf v block u ≡ f (awaitOf (s .now) block) (s .say) (keepOf (s .keep) (take headingAt m)) (s .reader))
-      → Judges s m v (u ++ drop headingAt m) f
-  unfolding region lent
-  on-deferred u l e =
-      let h : length u ≡ deferredLen = l ∙ length-take-le headingAt m (omega arith) in
-      let d : deferredIn (lent deferredAt deferredLen m u) ≡ u = lent-here deferredAt deferredLen m u (omega arith) h in
-      let b : blockIn (lent deferredAt deferredLen m u) ≡ blockIn m = lent-after deferredAt deferredLen m u (omega arith) h blockAt blockLen (omega arith) in (
-        ap (λ (x : Bytes). judgedOf v x (deferredIn (lent deferredAt deferredLen m u))) b ∙ ap (λ (x : Bytes). judgedOf v (blockIn m) x) d ∙ e (blockIn m),
-        lent-after deferredAt deferredLen m u (omega arith) h headingAt (headingLen + lineLen) (omega arith),
-      )
+      → ((a : Arrays) → judgedOf v (withDeferred u a) ≡ f (sessionOf s (withDeferred (take headingAt m) a)))
+      → judgedIn v (u ++ drop headingAt m) ≡ f (wholeOf s m)
+  unfolding wholeOf region lent
+  on-deferred u l e = ap (judgedOf v) (deferred-lent m u n (l ∙ length-take-le headingAt m (omega arith))) ∙ e (arraysIn m)
 
-  -- the block was lent, `&mut mem[BLOCK..]`, and given back as u
-  pub on-block : (u : Bytes) → length u ≡ length (take (length m - blockAt) (drop blockAt m))
-      → ((deferred : Bytes) → judgedOf v u deferred ≡ f (awaitOf (s .now) (take (length m - blockAt) (drop blockAt m))) (s .say) (keepOf (s .keep) deferred) (s .reader))
-      → Judges s m v (take blockAt m ++ (u ++ drop (length m - blockAt) (drop blockAt m))) f
-  unfolding region lent
-  on-block u l e =
-      let i : length m - blockAt ≡ blockLen = omega arith in
-      let h : length u ≡ blockLen = l ∙ ap (λ (x : ℕ). length (take x (drop blockAt m))) i ∙ length-take-le blockLen (drop blockAt m) (simp length-drop (omega arith)) in
-      let b : blockIn (lent blockAt blockLen m u) ≡ u = lent-here blockAt blockLen m u (omega arith) h in
-      let d : deferredIn (lent blockAt blockLen m u) ≡ deferredIn m = lent-before blockAt blockLen m u (omega arith) h deferredAt deferredLen (omega arith) in
-      subst (λ (x : ℕ). Judges s m v (take blockAt m ++ (u ++ drop x (drop blockAt m))) f) (sym i) (
-        ap (λ (x : Bytes). judgedOf v x (deferredIn (lent blockAt blockLen m u))) b ∙ ap (λ (x : Bytes). judgedOf v u x) d ∙ e (deferredIn m)
-            ∙ ap (λ (x : ℕ). f (awaitOf (s .now) (take x (drop blockAt m))) (s .say) (keepOf (s .keep) (deferredIn m)) (s .reader)) i,
-        lent-before blockAt blockLen m u (omega arith) h headingAt (headingLen + lineLen) (omega arith),
-      )
+  -- the block was lent, `&mut mem[BLOCK..AFTER_BLOCK]`, and given back as u
+  pub on-block : (u : Bytes) → length u ≡ length (take blockLen (drop blockAt m))
+      → ((a : Arrays) → judgedOf v (withBlock u a) ≡ f (sessionOf s (withBlock (take blockLen (drop blockAt m)) a)))
+      → judgedIn v (take blockAt m ++ (u ++ drop blockLen (drop blockAt m))) ≡ f (wholeOf s m)
+  unfolding wholeOf region lent
+  on-block u l e = ap (judgedOf v) (block-lent m u n (l ∙ length-take-le blockLen (drop blockAt m) (simp length-drop (omega arith)))) ∙ e (arraysIn m)

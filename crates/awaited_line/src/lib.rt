@@ -7,15 +7,14 @@ use next_awaited::to_turn;
 use numbers::Numbers;
 ghost use mathlib.Core.Path.{_≡_};
 ghost use lib.ListN.{length};
-ghost use Rattle.grammar.specs.Bytes.{Bytes};
 ghost use Rattle.places.specs.Places.{arraysLen};
-ghost use Rattle.numbers.specs.Whole.{awaitOf, keepOf};
+ghost use Rattle.numbers.specs.Whole.{Arrays, sessionOf, wholeOf};
 ghost use Rattle.line_effect.specs.Judge.{sidLine, textLine, judgeOf};
-ghost use Rattle.line_effect.specs.Verdict.{judgedOf, Judges};
+ghost use Rattle.line_effect.specs.Verdict.{judgedOf, judgedIn};
 
 // The partner's SID.
 fn sid_line(line: &[u8], s: Numbers) -> Verdict
-    ensures { λ r. ⌜ ((block deferred : Bytes) → judgedOf r block deferred ≡ sidLine (now (line .entry)) (awaitOf (s .now) block) (s .say) (keepOf (s .keep) deferred) (s .reader)) ⌝ }
+    ensures { λ r. ⌜ ((a : Arrays) → judgedOf r a ≡ sidLine (now (line .entry)) (sessionOf s a)) ⌝ }
 {
     let r = sid::read_sid(line);
     if r.number != refusal::NONE {
@@ -38,7 +37,7 @@ fn sid_line(line: &[u8], s: Numbers) -> Verdict
 
 // A text line of the called station before its prompt, or the prompt.
 fn text_line(line: &[u8], s: Numbers) -> Verdict
-    ensures { λ r. ⌜ ((block deferred : Bytes) → judgedOf r block deferred ≡ textLine (now (line .entry)) (awaitOf (s .now) block) (s .say) (keepOf (s .keep) deferred) (s .reader)) ⌝ }
+    ensures { λ r. ⌜ ((a : Arrays) → judgedOf r a ≡ textLine (now (line .entry)) (sessionOf s a)) ⌝ }
 {
     if line::is_prompt(line) {
         let mut t = s;
@@ -66,7 +65,7 @@ pub fn judge(
     store: usize,
 ) -> Verdict
     requires { ⌜ length (now mem) ≡ arraysLen ⌝ }
-    ensures { λ r. ⌜ Judges s (now (mem .entry)) r (now (mem .exit)) (λ w y k d. judgeOf (now (line .entry)) sum w y k d (now (table .entry)) (now (known .entry)) (now (inbox .entry)) store) ⌝ }
+    ensures { λ r. ⌜ judgedIn r (now (mem .exit)) ≡ judgeOf (now (line .entry)) sum (wholeOf s (now (mem .entry))) (now (table .entry)) (now (known .entry)) (now (inbox .entry)) store ⌝ }
 {
     if line::is_comment(line) {
         return went(s);
@@ -82,7 +81,7 @@ pub fn judge(
             line,
             sum,
             s,
-            &mut mem[places::BLOCK..],
+            &mut mem[places::BLOCK..places::AFTER_BLOCK],
             table,
             known,
             inbox,

@@ -13,7 +13,7 @@ use lib.Seq.{drop-cons, take-all, getD-take, getD-drop, length-take-le}
 use borrow.Author.Tests.{eq-eqb, ne-eqb, eqb-true, eqb-false, lt-leb, leb-true, leb-false, ltb-true, ltb-false, not-true, not-false}
 use Rattle.grammar.specs.Bytes.{Bytes}
 use Rattle.grammar.specs.Fields.{upper, sameBid}
-use Rattle.grammar.specs.Bids.{AsOne, sameByte, capitalFirst, smallFirst}
+use Rattle.grammar.specs.Bids.{AsOne, sameByte, capitalFirst, smallFirst, capitalA, capitalZ, toSmall}
 use Rattle.grammar.proofs.Bids.{as-one, one-upper, bid-itself, bid-more, bid-length, bid-none}
 use Rattle.session.specs.Choices.{among}
 use Rattle.places.specs.Places.{bidMax}
@@ -26,70 +26,70 @@ use Rattle.bid.specs.Letter.{isLetter}
 -- ---------------------------------------------------------------- two bytes
 
 -- a capital and its small letter differ in one bit
-one-bit : (x : ℕ) → 65 ≤ x → x ≤ 90 → bitXor x (x + 32) ≡ 32
+one-bit : (x : ℕ) → capitalA ≤ x → x ≤ capitalZ → bitXor x (x + toSmall) ≡ toSmall
 one-bit x h k =
-    let r : ℕ = x - 64 in
-    let e : x ≡ 64 + r = omega arith in
-    ap (λ (y : ℕ). bitXor y (y + 32)) e
-    ∙ ap (bitXor (64 + r)) (let f : 64 + r + 32 ≡ 96 + r = omega arith in f)
+    let r : ℕ = x - 2 * toSmall in
+    let e : x ≡ 2 * toSmall + r = omega arith in
+    ap (λ (y : ℕ). bitXor y (y + toSmall)) e
+    ∙ ap (bitXor (2 * toSmall + r)) (let f : 2 * toSmall + r + toSmall ≡ 3 * toSmall + r = omega arith in f)
     ∙ xor-block 5 2 3 r r (omega arith) (omega arith)
-    ∙ ap (λ (y : ℕ). 32 + y) (xor-self r)
+    ∙ ap (λ (y : ℕ). toSmall + y) (xor-self r)
 
 -- bytes that differ, and not in that bit alone, are not one
-pub bytes-apart : (a b : ℕ) → (a ≡ b → ⊥) → (bitXor a b ≡ 32 → ⊥) → false ≡ eqb (upper a) (upper b)
+pub bytes-apart : (a b : ℕ) → (a ≡ b → ⊥) → (bitXor a b ≡ toSmall → ⊥) → false ≡ eqb (upper a) (upper b)
 bytes-apart a b n m = sym (ne-eqb (upper a) (upper b) (λ e. go (as-one a b e)))
   where
     go : AsOne a b → ⊥
     go (sameByte e) = n e
     go (capitalFirst h k e) = m (ap (bitXor a) e ∙ one-bit a h k)
-    go (smallFirst h k e) = m (ap (λ (x : ℕ). bitXor x b) e ∙ xor-comm (b + 32) b ∙ one-bit b h k)
+    go (smallFirst h k e) = m (ap (λ (x : ℕ). bitXor x b) e ∙ xor-comm (b + toSmall) b ∙ one-bit b h k)
 
 -- bytes that differ in that bit alone
-module _ (a b : ℕ) (e : bitXor a b ≡ 32) where
-  same-low : a % 32 ≡ b % 32
+module _ (a b : ℕ) (e : bitXor a b ≡ toSmall) where
+  same-low : a % toSmall ≡ b % toSmall
   same-low =
-      let x : bitXor (a % 32) (b % 32) ≡ 0 = sym (xor-mod a b 5) ∙ ap (λ (n : ℕ). n % 32) e in
-      omega (arith, x, xor-add-and (a % 32) (b % 32), and-le-l (a % 32) (b % 32), and-le-r (a % 32) (b % 32))
+      let x : bitXor (a % toSmall) (b % toSmall) ≡ 0 = sym (xor-mod a b 5) ∙ ap (λ (n : ℕ). n % toSmall) e in
+      omega (arith, x, xor-add-and (a % toSmall) (b % toSmall), and-le-l (a % toSmall) (b % toSmall), and-le-r (a % toSmall) (b % toSmall))
 
-  high : (p : ℕ) → a / 32 ≡ p → bitXor p (b / 32) ≡ 1
-  high p k = ap (λ (n : ℕ). bitXor n (b / 32)) (sym k) ∙ sym (xor-shr a b 5) ∙ ap (λ (n : ℕ). n / 32) e
+  high : (p : ℕ) → a / toSmall ≡ p → bitXor p (b / toSmall) ≡ 1
+  high p k = ap (λ (n : ℕ). bitXor n (b / toSmall)) (sym k) ∙ sym (xor-shr a b 5) ∙ ap (λ (n : ℕ). n / toSmall) e
 
   -- the other of two neighbours
-  beside : (p : ℕ) → bitXor p (b / 32) ≡ 1 → (b / 32 + 1 ≡ p → ⊥) → b / 32 ≡ p + 1
-  beside p x n = go (eqb (b / 32 + 1) p) refl
+  beside : (p : ℕ) → bitXor p (b / toSmall) ≡ 1 → (b / toSmall + 1 ≡ p → ⊥) → b / toSmall ≡ p + 1
+  beside p x n = go (eqb (b / toSmall + 1) p) refl
     where
-      go : (c : Bool) → eqb (b / 32 + 1) p ≡ c → b / 32 ≡ p + 1
-      go true k = absurd (n (eqb-true (b / 32 + 1) p k))
-      go false k = let z = eqb-false (b / 32 + 1) p k in omega (arith, x, xor-add-and p (b / 32), and-le-l p (b / 32), and-le-r p (b / 32))
+      go : (c : Bool) → eqb (b / toSmall + 1) p ≡ c → b / toSmall ≡ p + 1
+      go true k = absurd (n (eqb-true (b / toSmall + 1) p k))
+      go false k = let z = eqb-false (b / toSmall + 1) p k in omega (arith, x, xor-add-and p (b / toSmall), and-le-l p (b / toSmall), and-le-r p (b / toSmall))
 
-  below : (p : ℕ) → bitXor p (b / 32) ≡ 1 → (b / 32 ≡ p + 1 → ⊥) → b / 32 + 1 ≡ p
-  below p x n = go (eqb (b / 32) (p + 1)) refl
+  below : (p : ℕ) → bitXor p (b / toSmall) ≡ 1 → (b / toSmall ≡ p + 1 → ⊥) → b / toSmall + 1 ≡ p
+  below p x n = go (eqb (b / toSmall) (p + 1)) refl
     where
-      go : (c : Bool) → eqb (b / 32) (p + 1) ≡ c → b / 32 + 1 ≡ p
-      go true k = absurd (n (eqb-true (b / 32) (p + 1) k))
-      go false k = let z = eqb-false (b / 32) (p + 1) k in omega (arith, x, xor-add-and p (b / 32), and-le-l p (b / 32), and-le-r p (b / 32))
+      go : (c : Bool) → eqb (b / toSmall) (p + 1) ≡ c → b / toSmall + 1 ≡ p
+      go true k = absurd (n (eqb-true (b / toSmall) (p + 1) k))
+      go false k = let z = eqb-false (b / toSmall) (p + 1) k in omega (arith, x, xor-add-and p (b / toSmall), and-le-l p (b / toSmall), and-le-r p (b / toSmall))
 
-  of-capital : 65 ≤ a → a ≤ 90 → AsOne a b
+  of-capital : capitalA ≤ a → a ≤ capitalZ → AsOne a b
   of-capital h k =
-      let x : bitXor 2 (b / 32) ≡ 1 = high 2 (omega arith) in
-      let q : b / 32 ≡ 3 = beside 2 x (λ z. let o : b / 32 ≡ 1 = omega arith in let w : 3 ≡ 1 = sym (ap (bitXor 2) o) ∙ x in omega arith) in
+      let x : bitXor 2 (b / toSmall) ≡ 1 = high 2 (omega arith) in
+      let q : b / toSmall ≡ 3 = beside 2 x (λ z. let o : b / toSmall ≡ 1 = omega arith in let w : 3 ≡ 1 = sym (ap (bitXor 2) o) ∙ x in omega arith) in
       capitalFirst h k (omega (arith, q, same-low))
 
-  of-small : 97 ≤ a → a < 123 → AsOne a b
+  of-small : (capitalA + toSmall) ≤ a → a < (capitalZ + toSmall + 1) → AsOne a b
   of-small h k =
-      let x : bitXor 3 (b / 32) ≡ 1 = high 3 (omega arith) in
-      let q : b / 32 + 1 ≡ 3 = below 3 x (λ z. let o : b / 32 ≡ 4 = omega arith in let w : 7 ≡ 1 = sym (ap (bitXor 3) o) ∙ x in omega arith) in
-      let f : a ≡ b + 32 = omega (arith, q, same-low) in
+      let x : bitXor 3 (b / toSmall) ≡ 1 = high 3 (omega arith) in
+      let q : b / toSmall + 1 ≡ 3 = below 3 x (λ z. let o : b / toSmall ≡ 4 = omega arith in let w : 7 ≡ 1 = sym (ap (bitXor 3) o) ∙ x in omega arith) in
+      let f : a ≡ b + toSmall = omega (arith, q, same-low) in
       smallFirst (omega arith) (omega arith) f
 
 -- bytes that differ in that bit alone are one exactly if they are letters
-pub letter-decides : (a b : ℕ) → (a ≡ b → ⊥) → bitXor a b ≡ 32 → {r : Bool} → r ≡ isLetter a → r ≡ eqb (upper a) (upper b)
-letter-decides a b n e f = f ∙ go (ltb a 65) (ltb a 91) (ltb a 97) (ltb a 123) refl refl refl refl
+pub letter-decides : (a b : ℕ) → (a ≡ b → ⊥) → bitXor a b ≡ toSmall → {r : Bool} → r ≡ isLetter a → r ≡ eqb (upper a) (upper b)
+letter-decides a b n e f = f ∙ go (ltb a capitalA) (ltb a (capitalZ + 1)) (ltb a (capitalA + toSmall)) (ltb a (capitalZ + toSmall + 1)) refl refl refl refl
   where
     one : AsOne a b → true ≡ eqb (upper a) (upper b)
     one o = sym (eq-eqb (upper a) (upper b) (one-upper a b o))
 
-    two : ((65 ≤ a) → a ≤ 90 → ⊥) → ((97 ≤ a) → a ≤ 122 → ⊥) → false ≡ eqb (upper a) (upper b)
+    two : ((capitalA ≤ a) → a ≤ capitalZ → ⊥) → (((capitalA + toSmall) ≤ a) → a ≤ (capitalZ + toSmall) → ⊥) → false ≡ eqb (upper a) (upper b)
     two h k = sym (ne-eqb (upper a) (upper b) (λ z. at (as-one a b z)))
       where
         at : AsOne a b → ⊥
@@ -97,13 +97,13 @@ letter-decides a b n e f = f ∙ go (ltb a 65) (ltb a 91) (ltb a 97) (ltb a 123)
         at (capitalFirst l m z) = h l m
         at (smallFirst l m z) = k (omega arith) (omega arith)
 
-    go : (c d x y : Bool) → ltb a 65 ≡ c → ltb a 91 ≡ d → ltb a 97 ≡ x → ltb a 123 ≡ y
+    go : (c d x y : Bool) → ltb a capitalA ≡ c → ltb a (capitalZ + 1) ≡ d → ltb a (capitalA + toSmall) ≡ x → ltb a (capitalZ + toSmall + 1) ≡ y
         → cond c false (cond d true (cond x false y)) ≡ eqb (upper a) (upper b)
-    go true d x y i j k l = let z = ltb-true a 65 i in two (λ o p. omega arith) (λ o p. omega arith)
-    go false true x y i j k l = one (of-capital a b e (ltb-false a 65 i) (let z = ltb-true a 91 j in omega arith))
-    go false false true y i j k l = let z = ltb-false a 91 j in let w = ltb-true a 97 k in two (λ o p. omega arith) (λ o p. omega arith)
-    go false false false true i j k l = one (of-small a b e (ltb-false a 97 k) (ltb-true a 123 l))
-    go false false false false i j k l = let z = ltb-false a 123 l in two (λ o p. omega arith) (λ o p. omega arith)
+    go true d x y i j k l = let z = ltb-true a capitalA i in two (λ o p. omega arith) (λ o p. omega arith)
+    go false true x y i j k l = one (of-capital a b e (ltb-false a capitalA i) (let z = ltb-true a (capitalZ + 1) j in omega arith))
+    go false false true y i j k l = let z = ltb-false a (capitalZ + 1) j in let w = ltb-true a (capitalA + toSmall) k in two (λ o p. omega arith) (λ o p. omega arith)
+    go false false false true i j k l = one (of-small a b e (ltb-false a (capitalA + toSmall) k) (ltb-true a (capitalZ + toSmall + 1) l))
+    go false false false false i j k l = let z = ltb-false a (capitalZ + toSmall + 1) l in two (λ o p. omega arith) (λ o p. omega arith)
 
 -- ---------------------------------------------------------------- two BIDs
 

@@ -12,7 +12,7 @@ ghost use Rattle.entries.specs.Decoded.{entries};
 ghost use Rattle.bid.specs.Letter.{isLetter};
 
 // The capital and the small form of a letter differ in this bit alone.
-const CASE: u8 = 0x20;
+const CASE: u8 = b'a' - b'A';
 
 // A letter, in either case.
 fn is_letter(a: u8) -> bool

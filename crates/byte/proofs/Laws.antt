@@ -12,10 +12,11 @@ use lib.ListN.{length, getD, drop, drop-of-length-le}
 use lib.Seq.{drop-cons}
 use borrow.Author.Tests.{eq-eqb, ne-eqb, ltb-true, ltb-false}
 use Rattle.grammar.specs.Bytes.{Bytes, every}
-use Rattle.grammar.specs.Fields.{digit, upper, hexCapital, hexDigit, hexPair}
+use Rattle.grammar.specs.Fields.{digit, upper, hexCapital, hexDigit, hexPair, hexBase}
 use Rattle.byte.specs.declared.Hex.{Hex}
-use Rattle.byte.specs.Hex.{hexIs}
+use Rattle.byte.specs.Hex.{hexIs, valueA}
 use Rattle.grammar.proofs.Basics.{and2}
+use Rattle.grammar.specs.Ascii.{char}
 
 or-true : (a : Bool) → (a || true) ≡ true
 or-true true = refl
@@ -62,12 +63,12 @@ pub all-end : (c : ℕ → Bool) (l : Bytes) (i : ℕ) → length l ≤ i → tr
 all-end c l i h = rw (drop-of-length-le l {i = i} h)
 
 -- a digit's bounds
-pub digit-is : (x : ℕ) → digit x ≡ true → (48 ≤ x) × (x ≤ 57)
-digit-is x e = go (ltb x 48) refl e
+pub digit-is : (x : ℕ) → digit x ≡ true → (char "0" ≤ x) × (x ≤ char "9")
+digit-is x e = go (ltb x (char "0")) refl e
   where
-    go : (c : Bool) → ltb x 48 ≡ c → cond c false (ltb x 58) ≡ true → (48 ≤ x) × (x ≤ 57)
+    go : (c : Bool) → ltb x (char "0") ≡ c → cond c false (ltb x (char "9" + 1)) ≡ true → (char "0" ≤ x) × (x ≤ char "9")
     go true q k = let z : _≡_ {A = ℕ} 0 1 = cc in (omega arith, omega arith)
-    go false q k = let y = ltb-false x 48 q in let z = ltb-true x 58 k in (omega arith, omega arith)
+    go false q k = let y = ltb-false x (char "0") q in let z = ltb-true x (char "9" + 1) k in (omega arith, omega arith)
 
 -- ---------------------------------------------------------------- hexadecimal digits
 
@@ -79,16 +80,16 @@ hex-by b u e f = f ∙ ap hexCapital e
 -- a digit's value is below 16
 abbrev Low : Option ℕ → Type 0
 Low none = Unit {0}
-Low (some n) = n < 16
+Low (some n) = n < hexBase
 
 capital-low : (u : ℕ) → Low (hexCapital u)
-capital-low u = go (ltb u 48) (ltb u 58) (ltb u 65) (ltb u 71) refl refl refl
+capital-low u = go (ltb u (char "0")) (ltb u (char "9" + 1)) (ltb u (char "A")) (ltb u (char "F" + 1)) refl refl refl
   where
-    go : (a b c d : Bool) → ltb u 58 ≡ b → ltb u 65 ≡ c → ltb u 71 ≡ d → Low (cond a none (cond b (some (u - 48)) (cond c none (cond d (some (u - 55)) none))))
+    go : (a b c d : Bool) → ltb u (char "9" + 1) ≡ b → ltb u (char "A") ≡ c → ltb u (char "F" + 1) ≡ d → Low (cond a none (cond b (some (u - char "0")) (cond c none (cond d (some (u - (char "A" - valueA))) none))))
     go true b c d q r s = tt
-    go false true c d q r s = let z = ltb-true u 58 q in omega arith
+    go false true c d q r s = let z = ltb-true u (char "9" + 1) q in omega arith
     go false false true d q r s = tt
-    go false false false true q r s = let z = ltb-true u 71 s in omega arith
+    go false false false true q r s = let z = ltb-true u (char "F" + 1) s in omega arith
     go false false false false q r s = tt
 
 module _ (h x : Hex) (b : ℕ) (e : hexIs h ≡ hexDigit b) (f : h ≡ x) where
@@ -96,7 +97,7 @@ module _ (h x : Hex) (b : ℕ) (e : hexIs h ≡ hexDigit b) (f : h ≡ x) where
   pub hex-as : hexDigit b ≡ hexIs x
   hex-as = sym e ∙ ap hexIs f
 
-pub hex-low : (h : Hex) (v b : ℕ) → hexIs h ≡ hexDigit b → h ≡ Hex.Value v → v < 16
+pub hex-low : (h : Hex) (v b : ℕ) → hexIs h ≡ hexDigit b → h ≡ Hex.Value v → v < hexBase
 unfolding hexDigit
 hex-low h v b e f = go (hexCapital (upper b)) (capital-low (upper b)) (sym e ∙ ap hexIs f)
   where
@@ -104,6 +105,6 @@ hex-low h v b e f = go (hexCapital (upper b)) (capital-low (upper b)) (sym e ∙
     got none = 0
     got (some n) = n
 
-    go : (o : Option ℕ) → Low o → o ≡ some v → v < 16
+    go : (o : Option ℕ) → Low o → o ≡ some v → v < hexBase
     go none l q = let z : 0 ≡ v = ap got q in omega arith
     go (some n) l q = let z : n ≡ v = ap got q in omega arith

@@ -6,6 +6,16 @@ ghost use Rattle.grammar.specs.Sid.{authorByte, dataByte};
 ghost use Rattle.byte.specs.Classes.{classOf};
 ghost use Rattle.byte.specs.Hex.{hexIs};
 
+// A small letter stands so much further on than its capital.
+const TO_SMALL: u8 = b'a' - b'A';
+
+// Hexadecimal digits: `A` stands for ten, and a digit counts sixteen times the one after it.
+const VALUE_A: u8 = 10;
+
+const HEX_BASE: u8 = 16;
+
+const BELOW_A: u8 = b'A' - VALUE_A;
+
 // The classes by name, so that a rule over a class is written and proved once.
 pub enum Class {
     Call,
@@ -28,7 +38,7 @@ pub fn upper_of(b: u8) -> u8
     ensures { λ r. ⌜ r ≡ upper b ⌝ }
 {
     match b {
-        b'a'..=b'z' => b - 32,
+        b'a'..=b'z' => b - TO_SMALL,
         _ => b,
     }
 }
@@ -80,8 +90,8 @@ pub fn hex_digit(b: u8) -> Hex
 {
     let u = upper_of(b);
     match u {
-        b'0'..=b'9' => Hex::Value(u - 48),
-        b'A'..=b'F' => Hex::Value(u - 55),
+        b'0'..=b'9' => Hex::Value(u - b'0'),
+        b'A'..=b'F' => Hex::Value(u - BELOW_A),
         _ => Hex::Other,
     }
 }
@@ -98,7 +108,7 @@ pub fn hex_pair(high: u8, low: u8) -> Hex
     let Hex::Value(b) = second else {
         return Hex::Other;
     };
-    Hex::Value(a * 16 + b)
+    Hex::Value(a * HEX_BASE + b)
 }
 
 // A byte of a SID's author.

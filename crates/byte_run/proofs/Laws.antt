@@ -13,19 +13,19 @@ use borrow.Author.Tests.{eq-eqb, ne-eqb, lt-ltb}
 use Rattle.grammar.specs.Bytes.{Bytes, CR, LF}
 use Rattle.grammar.proofs.Basics.{to-end}
 use Rattle.phase.specs.Phase.{phaseTransfer}
-use Rattle.places.specs.Places.{arraysAt, arraysLen, lineAt}
+use Rattle.places.specs.Places.{arraysAt, arraysLen, lineAt, lineLen}
 use Rattle.places.specs.Places as places
 use Rattle.session_memory.specs.Session.{Session}
 use Rattle.pending.specs.Pending.{waits, overOf}
 use Rattle.numbers.specs.declared.Numbers.{Numbers}
-use Rattle.numbers.specs.Whole.{wholeOf, numbersAt, numberBytes}
+use Rattle.numbers.specs.Whole.{Arrays, sessionOf, wholeOf, numbersAt, numberBytes}
 use Rattle.region.specs.Region.{lent}
 use Rattle.buffer.specs.Put.{wrote, putBytes}
 use Rattle.session_memory.specs.State.{at, loadOf, saveOf}
 use Rattle.give.specs.Giving.{reply}
 use Rattle.numbers_in_place.specs.Changed.{withLine, withReader}
 use Rattle.numbers_in_place.proofs.Written.{wrote-sets}
-use Rattle.numbers_in_place.proofs.Arrays.{line-set, arraysIn, arrays-length, load-arrays, numbers-lent, saved-lent, saved-numbers}
+use Rattle.numbers_in_place.proofs.Arrays.{line-set, arraysPart, arrays-length, load-arrays, numbers-lent, saved-lent, saved-numbers}
 use Rattle.layout.specs.Layout.{byteAt}
 use Rattle.transfer_step.specs.declared.Reader.{Reader}
 use Rattle.transfer_read.specs.Feed as transfer
@@ -49,16 +49,16 @@ module _ (known table inbox store : Bytes) where
   here h m = cs (wholeOf h m) table inbox store
 
   -- one byte
-  longer-by : (s : Session) (b : ℕ) → s .line .«after_cr» && eqb b LF ≡ false → waits (s .say) ≡ false → (s .now .phase ≡ phaseTransfer → ⊥) → eqb b CR ≡ false → s .line .len < 256
+  longer-by : (s : Session) (b : ℕ) → s .line .«after_cr» && eqb b LF ≡ false → waits (s .say) ≡ false → (s .now .phase ≡ phaseTransfer → ⊥) → eqb b CR ≡ false → s .line .len < lineLen
       → byteOf known (cs s table inbox store) b ≡ moved 0 (cs (longer s b) table inbox store)
   unfolding byteOf lineStepOf
-  longer-by s b d q p c l = rw (d, q, ne-eqb (s .now .phase) phaseTransfer p, c, lt-ltb (s .line .len) 256 l)
+  longer-by s b d q p c l = rw (d, q, ne-eqb (s .now .phase) phaseTransfer p, c, lt-ltb (s .line .len) lineLen l)
 
-  grow : (h : Numbers) (m : Bytes) (b : ℕ) → h .line .«after_cr» && eqb b LF ≡ false → waits (h .say) ≡ false → (h .now .phase ≡ phaseTransfer → ⊥) → eqb b CR ≡ false → h .line .len < 256
+  grow : (h : Numbers) (m : Bytes) (b : ℕ) → h .line .«after_cr» && eqb b LF ≡ false → waits (h .say) ≡ false → (h .now .phase ≡ phaseTransfer → ⊥) → eqb b CR ≡ false → h .line .len < lineLen
       → byteOf known (here h m) b ≡ moved 0 (here (withLine (h .line .len + 1) h) (set m (lineAt + h .line .len) b))
   unfolding wholeOf
   grow h m b d q p c l =
-      longer-by (wholeOf h m) b d q p c l ∙ ap (λ (x : Session). moved 0 (cs x table inbox store)) (sym (line-set (withLine (h .line .len + 1) h) m (h .line .len) b l))
+      longer-by (wholeOf h m) b d q p c l ∙ ap (λ (x : Arrays). moved 0 (cs (sessionOf (withLine (h .line .len + 1) h) x) table inbox store)) (sym (line-set m (h .line .len) b l))
 
   -- the session goes on
   still : (h : Numbers) (m w : Bytes) (k : ℕ) → overOf (wholeOf h m) ≡ false → overOf (wholeOf (withLine k h) w) ≡ false
@@ -70,7 +70,7 @@ module _ (known table inbox store : Bytes) where
 
   -- one byte, and then the others
   grow-on : (b : ℕ) (bs : Bytes) (h : Numbers) (m : Bytes) (n : ℕ) → h .line .«after_cr» && eqb b LF ≡ false → waits (h .say) ≡ false → (h .now .phase ≡ phaseTransfer → ⊥)
-      → overOf (wholeOf h m) ≡ false → eqb b CR ≡ false → h .line .len < 256
+      → overOf (wholeOf h m) ≡ false → eqb b CR ≡ false → h .line .len < lineLen
       → receiveFrom known (here (grown h 1) (set m (lineAt + h .line .len) b)) (suc n) bs
       ≡ run 0 (suc n + length bs) (here (withLine (h .line .len + 1 + length bs) h) (sets (set m (lineAt + h .line .len) b) (lineAt + (h .line .len + 1)) bs))
       → receiveFrom known (here h m) n (b ∷ bs) ≡ run 0 (n + length (b ∷ bs)) (here (grown h (length (b ∷ bs))) (sets m (lineAt + h .line .len) (b ∷ bs)))
@@ -90,7 +90,7 @@ module _ (known table inbox store : Bytes) where
 
   -- all of them, where the last byte before them was no CR
   grows : (bs : Bytes) (h : Numbers) (m : Bytes) (n : ℕ) → h .line .«after_cr» ≡ false → waits (h .say) ≡ false → (h .now .phase ≡ phaseTransfer → ⊥) → overOf (wholeOf h m) ≡ false
-      → hasCr bs ≡ false → h .line .len + length bs ≤ 256
+      → hasCr bs ≡ false → h .line .len + length bs ≤ lineLen
       → receiveFrom known (here h m) n bs ≡ run 0 (n + length bs) (here (grown h (length bs)) (sets m (lineAt + h .line .len) bs))
   unfolding receiveFrom
   grows [] h m n a q p o c l = rw (add-zero n, add-zero (h .line .len), ← a)
@@ -102,7 +102,7 @@ module _ (known table inbox store : Bytes) where
 
   -- A RUN OF A LINE'S BYTES
   pub line-run : (bs : Bytes) (h : Numbers) (m : Bytes) → (length bs ≡ 0 → ⊥) → Quiet h bs → (h .now .phase ≡ phaseTransfer → ⊥) → overOf (wholeOf h m) ≡ false
-      → hasCr bs ≡ false → h .line .len + length bs ≤ 256
+      → hasCr bs ≡ false → h .line .len + length bs ≤ lineLen
       → receiveFrom known (here h m) 0 bs ≡ run 0 (length bs) (here (grown h (length bs)) (sets m (lineAt + h .line .len) bs))
   line-run [] h m s q p o c l = absurd (s refl)
   line-run (b ∷ bs) h m s q p o c l =
@@ -142,38 +142,38 @@ module _ (known table inbox store : Bytes) where
 -- ---------------------------------------------------------------- in session memory
 
 module _ (sm bs : Bytes) (h : Numbers) (v : Live h sm bs) (q : Quiet h bs) where
-  loads : loadOf sm ≡ wholeOf h (arraysIn sm)
-  loads = load-arrays sm (v .size) ∙ ap (λ (x : Numbers). wholeOf x (arraysIn sm)) (sym (v .numbers))
+  loads : loadOf sm ≡ wholeOf h (arraysPart sm)
+  loads = load-arrays sm (v .size) ∙ ap (λ (x : Numbers). wholeOf x (arraysPart sm)) (sym (v .numbers))
 
   -- s: the session after the bytes
   takes : (store st x : Bytes) (s : Session) → x ≡ saveOf sm s
-      → ((known table inbox : Bytes) → receiveFrom known (cs (wholeOf h (arraysIn sm)) table inbox store) 0 bs ≡ run 0 (length bs) (cs s table inbox st)) → Takes true sm store bs x st
+      → ((known table inbox : Bytes) → receiveFrom known (cs (wholeOf h (arraysPart sm)) table inbox store) 0 bs ≡ run 0 (length bs) (cs s table inbox st)) → Takes true sm store bs x st
   takes store st x s e f known table inbox =
       ap (λ (y : Session). saved sm (receiveFrom known (cs y table inbox store) 0 bs)) loads ∙ ap (saved sm) (f known table inbox)
       ∙ ap (λ (y : Bytes). record { reply = reply 0 0 (length bs); sm = y; table = table; inbox = inbox; store = st }) (sym e)
 
   -- w: the arrays with the bytes in the line, x: session memory with them and the numbers of the line
-  pub line-taken : (h .now .phase ≡ phaseTransfer → ⊥) → hasCr bs ≡ false → h .line .len + length bs ≤ 256 → (w x : Bytes) → w ≡ wrote (arraysIn sm) (lineAt + h .line .len) bs
+  pub line-taken : (h .now .phase ≡ phaseTransfer → ⊥) → hasCr bs ≡ false → h .line .len + length bs ≤ lineLen → (w x : Bytes) → w ≡ wrote (arraysPart sm) (lineAt + h .line .len) bs
       → x ≡ putBytes (lent arraysAt arraysLen sm w) (at places.numbersStart) (numberBytes (withLine (h .line .len + length bs) (numbersAt (lent arraysAt arraysLen sm w))))
       → (store : Bytes) → Takes true sm store bs x store
   line-taken p c l w x e f store =
-      let n : length (arraysIn sm) ≡ arraysLen = arrays-length sm (v .size) in
-      let g : w ≡ sets (arraysIn sm) (lineAt + h .line .len) bs = e ∙ wrote-sets (arraysIn sm) (lineAt + h .line .len) bs (omega arith) in
-      let k : length w ≡ arraysLen = ap length g ∙ length-sets (arraysIn sm) (lineAt + h .line .len) bs ∙ n in
+      let n : length (arraysPart sm) ≡ arraysLen = arrays-length sm (v .size) in
+      let g : w ≡ sets (arraysPart sm) (lineAt + h .line .len) bs = e ∙ wrote-sets (arraysPart sm) (lineAt + h .line .len) bs (omega arith) in
+      let k : length w ≡ arraysLen = ap length g ∙ length-sets (arraysPart sm) (lineAt + h .line .len) bs ∙ n in
       let t : Numbers = withLine (h .line .len + length bs) h in
       takes store store x (wholeOf t w)
       (saved-lent sm w t (v .size) k
       (f ∙ ap (λ (y : Numbers). putBytes (lent arraysAt arraysLen sm w) (at places.numbersStart) (numberBytes (withLine (h .line .len + length bs) y))) (numbers-lent sm w (v .size) ∙ sym (v .numbers))))
-      (λ known table inbox. line-run known table inbox store bs h (arraysIn sm) (v .some) q p (sym (ap overOf loads) ∙ v .going) c l
+      (λ known table inbox. line-run known table inbox store bs h (arraysPart sm) (v .some) q p (sym (ap overOf loads) ∙ v .going) c l
       ∙ ap (λ (y : Bytes). run 0 (length bs) (cs (wholeOf t y) table inbox store)) (sym g))
 
   pub body-taken : h .now .phase ≡ phaseTransfer → (store : Bytes) → h .keep .used ≤ length store → (r : Reader) (st x : Bytes) → RunsOn true r (h .reader) bs (drop (h .keep .used) store) st
       → x ≡ putBytes sm (at places.numbersStart) (numberBytes (withReader r (numbersAt sm))) → Takes true sm store bs x (take (h .keep .used) store ++ st)
   unfolding wholeOf
   body-taken p store u r st x e f =
-      takes store (take (h .keep .used) store ++ st) x (wholeOf (withReader r h) (arraysIn sm))
+      takes store (take (h .keep .used) store ++ st) x (wholeOf (withReader r h) (arraysPart sm))
       (saved-numbers sm (withReader r h) (v .size) (f ∙ ap (λ (y : Numbers). putBytes sm (at places.numbersStart) (numberBytes (withReader r y))) (sym (v .numbers))))
-      (λ known table inbox. body-run known table inbox store (wholeOf h (arraysIn sm)) u p (q .silent) bs (v .some) (q .no-lf) r st e)
+      (λ known table inbox. body-run known table inbox store (wholeOf h (arraysPart sm)) u p (q .silent) bs (v .some) (q .no-lf) r st e)
 
 -- ---------------------------------------------------------------- the store behind the kept messages lent, and given back as w
 

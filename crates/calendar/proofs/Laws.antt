@@ -8,7 +8,7 @@ use lib.Dec.{eqb, ltb, leb}
 use lib.ListN.{getD}
 use borrow.Author.Tests.{eq-eqb, ne-eqb, le-leb, lt-leb, eqb-true}
 use Rattle.grammar.proofs.Basics.{or-second}
-use Rattle.dates.specs.Dates.{Date, Time, isDate, isTime, isLeap, daysIn}
+use Rattle.dates.specs.Dates.{Date, Time, isDate, isTime, isLeap, daysIn, february, lastMonth}
 use Rattle.dates.proofs.Dates.{below, below-at}
 
 -- ---------------------------------------------------------------- months
@@ -21,23 +21,23 @@ lengths = 31 ∷ 28 ∷ 31 ∷ 30 ∷ 31 ∷ 30 ∷ 31 ∷ 31 ∷ 30 ∷ 31 ∷ 
 monthTest : Bool → ℕ → Bool
 monthTest leap k = cond (eqb k 1) true (eqb (getD lengths k 0) (daysIn leap (k + 1)))
 
-all-months : (leap : Bool) → below 12 (monthTest leap) ≡ true
+all-months : (leap : Bool) → below lastMonth (monthTest leap) ≡ true
 unfolding below monthTest
 all-months true = refl
 all-months false = refl
 
-pub other-days : (leap : Bool) (m : ℕ) → 1 ≤ m → m ≤ 12 → (m ≡ 2 → ⊥) → getD lengths (m - 1) 0 ≡ daysIn leap m
+pub other-days : (leap : Bool) (m : ℕ) → 1 ≤ m → m ≤ lastMonth → (m ≡ february → ⊥) → getD lengths (m - 1) 0 ≡ daysIn leap m
 unfolding monthTest
 other-days leap m h k n =
     let one : m - 1 + 1 ≡ m = omega arith in
-    let e : cond (eqb (m - 1) 1) true (eqb (getD lengths (m - 1) 0) (daysIn leap (m - 1 + 1))) ≡ true = below-at 12 (monthTest leap) (all-months leap) (m - 1) (omega arith) in
+    let e : cond (eqb (m - 1) 1) true (eqb (getD lengths (m - 1) 0) (daysIn leap (m - 1 + 1))) ≡ true = below-at lastMonth (monthTest leap) (all-months leap) (m - 1) (omega arith) in
     eqb-true _ _ (rw (ne-eqb (m - 1) 1 (λ z. n (omega arith))) at e) ∙ ap (daysIn leap) one
 
-pub february-days : (leap : Bool) (m r : ℕ) → m ≡ 2 → r ≡ daysIn leap 2 → r ≡ daysIn leap m
+pub february-days : (leap : Bool) (m r : ℕ) → m ≡ february → r ≡ daysIn leap february → r ≡ daysIn leap m
 february-days leap m r e f = f ∙ sym (ap (daysIn leap) e)
 
-pub long-days : (leap : Bool) → leap ≡ true → 29 ≡ daysIn leap 2
+pub long-days : (leap : Bool) → leap ≡ true → 29 ≡ daysIn leap february
 long-days leap e = rw e
 
-pub short-days : (leap : Bool) → leap ≡ false → 28 ≡ daysIn leap 2
+pub short-days : (leap : Bool) → leap ≡ false → 28 ≡ daysIn leap february
 short-days leap e = rw e

@@ -1,14 +1,17 @@
 // Whether year, month and day are a date of 1970 to 2069, and hour and minute a time.
 ghost use mathlib.Core.Path.{_≡_};
 ghost use Prim.Native.Nat.{_≤_};
-ghost use Rattle.dates.specs.Dates.{daysIn, isDate, isTime};
+ghost use Rattle.dates.specs.Dates.{daysIn, isDate, isTime, february, lastMonth};
 ghost use Rattle.calendar.specs.Meaning.{dateIs, timeIs};
 
-const FIRST_YEAR: u16 = 1970;
+pub const FIRST_YEAR: u16 = 1970;
 
 const LAST_YEAR: u16 = 2069;
 
-const MONTHS: u8 = 12;
+pub const MONTHS: u8 = 12;
+
+// Every fourth year is a long one.
+pub const CYCLE_YEARS: u16 = 4;
 
 const FEBRUARY: u8 = 2;
 
@@ -31,7 +34,7 @@ pub struct Time {
 
 // How many days February has, in a long year or a short one.
 fn february(leap: bool) -> u8
-    ensures { λ r. ⌜ r ≡ daysIn leap 2 ⌝ }
+    ensures { λ r. ⌜ r ≡ daysIn leap february ⌝ }
 {
     if leap {
         return 29;
@@ -41,7 +44,7 @@ fn february(leap: bool) -> u8
 
 // How many days a month has, in a long year or a short one.
 fn days_in(leap: bool, month: u8) -> u8
-    requires { ⌜ (1 ≤ month) × (month ≤ 12) ⌝ }
+    requires { ⌜ (1 ≤ month) × (month ≤ lastMonth) ⌝ }
     ensures { λ r. ⌜ r ≡ daysIn leap month ⌝ }
 {
     if month == FEBRUARY {
@@ -71,7 +74,7 @@ pub fn is_date(d: Date) -> bool
     if d.day < 1 {
         return false;
     }
-    let days = days_in(d.year % 4 == 0, d.month);
+    let days = days_in(d.year % CYCLE_YEARS == 0, d.month);
     d.day <= days
 }
 

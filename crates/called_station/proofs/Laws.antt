@@ -7,7 +7,7 @@ use native.Mathlib.Omega.{arith}
 use lib.Dec.{ltb}
 use lib.ListN.{length}
 use Rattle.grammar.specs.Bytes.{Bytes}
-use Rattle.grammar.specs.Refusals.{badMemory, sessionEnded}
+use Rattle.grammar.specs.Refusals.{badMemory, sessionEnded, noPlace}
 use Rattle.buffer.proofs.Laws.{cut-length}
 use Rattle.session_memory.specs.State.{loadOf}
 use Rattle.pending.specs.Pending as pending
@@ -27,7 +27,7 @@ hears-none s = go (formOf (s .session) [] [] [] [] [] (s .inbox) (s .store)) (pe
     same : Reply → Received
     same r = unchanged r (s .session) [] (s .inbox) (s .store)
 
-    go : (a b : Bool) → leftBy (cond a (cond b (same (reply sessionEnded 0 0)) (same (reply 0 0 0))) (same (reply badMemory 255 0))) ≡ s
+    go : (a b : Bool) → leftBy (cond a (cond b (same (reply sessionEnded 0 0)) (same (reply 0 0 0))) (same (reply badMemory noPlace 0))) ≡ s
     go true true = refl
     go true false = refl
     go false b = refl
@@ -43,7 +43,7 @@ given-within s out n = go (formOf (s .session) [] [] [] [] [] (s .inbox) (s .sto
     lot : Given
     lot = handing (loadOf (s .session)) (waitingOf (loadOf (s .session)) [] [] [] []) (s .session) out n
 
-    go : (a b c : Bool) → cond a (cond b (cond c lot (none 0 0)) (none 0 0)) (none badMemory 255) .reply .count ≤ length out - n
+    go : (a b c : Bool) → cond a (cond b (cond c lot (none 0 0)) (none 0 0)) (none badMemory noPlace) .reply .count ≤ length out - n
     go true true true = omega (arith, cut-length (length out - n) (loadOf (s .session) .say .pos) (waitingOf (loadOf (s .session)) [] [] [] []))
     go true true false = omega arith
     go true false c = omega arith

@@ -3,6 +3,7 @@ use mathlib.Core.List.{[]}
 use Prim.Native.Nat.{ℕ, _+_}
 use Rattle.grammar.specs.Bytes.{Bytes}
 use Rattle.give.specs.Giving.{Given, giveOf}
+use Rattle.open.specs.Lending.{lending, roleCalled}
 use Rattle.open.specs.Opening.{Opened, openOf}
 use Rattle.receive_defined.specs.Receiving.{Received, receiveOf}
 
@@ -15,15 +16,11 @@ pub record Station : Type 0 where
 abbrev pub station : Bytes → Bytes → Bytes → Station
 station session inbox store = record { session = session; inbox = inbox; store = store }
 
--- "role (0 called, 1 caller)"
-abbrev pub called : ℕ
-called = 0
-
 abbrev pub firstPartner : ℕ
 firstPartner = 0
 
 abbrev pub opens : Station → Opened
-opens s = openOf called firstPartner (s .session) [] [] [] [] [] (s .inbox) (s .store)
+opens s = openOf (lending roleCalled firstPartner (s .session) [] [] [] [] [] (s .inbox) (s .store))
 
 abbrev pub hears : Station → Bytes → Received
 hears s bs = receiveOf (s .session) [] [] [] [] [] (s .inbox) (s .store) bs

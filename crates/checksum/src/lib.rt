@@ -4,12 +4,13 @@ ghost use Prim.Native.Nat.{_+_, _-_, _%_, _≤_};
 ghost use mathlib.Core.Path.{_≡_};
 ghost use lib.ListN.{length, take};
 ghost use Rattle.grammar.specs.Transfers.{byteSum, checksum};
-ghost use Rattle.checksum.specs.Lanes.{lanesSum, fourSum};
+ghost use Rattle.checksum.specs.Lanes.{lanesSum, fourSum, roundSize, turnSize};
+ghost use Rattle.grammar.specs.Bytes.{byteValues};
 
 // Bytes of a round.
 const ROUND: usize = 8;
 // Bytes of a turn: four rounds, each into lanes of its own.
-const TURN: usize = 32;
+const TURN: usize = 4 * ROUND;
 
 // Eight lanes: the sums of each round's first bytes, of its second ones, and so on.
 struct Lanes {
@@ -38,14 +39,14 @@ struct Summed {
 }
 
 fn add(a: u8, b: u8) -> u8
-    ensures { λ r. ⌜ r ≡ (a + b) % 256 ⌝ }
+    ensures { λ r. ⌜ r ≡ (a + b) % byteValues ⌝ }
 {
     std::num::wrapping_add_u8(a, b)
 }
 
 // The bytes one by one, added to t.
 pub fn each(t: u8, s: &[u8]) -> u8
-    ensures { λ r. ⌜ r ≡ (t + byteSum (now (s .entry))) % 256 ⌝ }
+    ensures { λ r. ⌜ r ≡ (t + byteSum (now (s .entry))) % byteValues ⌝ }
 {
     let mut r = t;
     let mut i = 0;
@@ -74,8 +75,8 @@ fn empty() -> Lanes
 
 // The lanes after a round.
 fn round(t: Lanes, s: &[u8]) -> Lanes
-    requires { ⌜ 8 ≤ length (now s) ⌝ }
-    ensures { λ r. ⌜ lanesSum r % 256 ≡ (lanesSum t + byteSum (take 8 (now (s .entry)))) % 256 ⌝ }
+    requires { ⌜ roundSize ≤ length (now s) ⌝ }
+    ensures { λ r. ⌜ lanesSum r % byteValues ≡ (lanesSum t + byteSum (take roundSize (now (s .entry)))) % byteValues ⌝ }
 {
     Lanes {
         a: add(t.a, s[0]),
@@ -91,7 +92,7 @@ fn round(t: Lanes, s: &[u8]) -> Lanes
 
 // The sum of the lanes.
 fn folded(t: Lanes) -> u8
-    ensures { λ r. ⌜ r ≡ lanesSum t % 256 ⌝ }
+    ensures { λ r. ⌜ r ≡ lanesSum t % byteValues ⌝ }
 {
     let front = add(add(t.a, t.b), add(t.c, t.d));
     let back = add(add(t.e, t.f), add(t.g, t.h));
@@ -100,8 +101,8 @@ fn folded(t: Lanes) -> u8
 
 // The lanes of a turn after four rounds, each by its own.
 fn turn(f: Four, s: &[u8]) -> Four
-    requires { ⌜ 32 ≤ length (now s) ⌝ }
-    ensures { λ r. ⌜ fourSum r % 256 ≡ (fourSum f + byteSum (take 32 (now (s .entry)))) % 256 ⌝ }
+    requires { ⌜ turnSize ≤ length (now s) ⌝ }
+    ensures { λ r. ⌜ fourSum r % byteValues ≡ (fourSum f + byteSum (take turnSize (now (s .entry)))) % byteValues ⌝ }
 {
     Four {
         t: round(f.t, s),
@@ -114,8 +115,8 @@ fn turn(f: Four, s: &[u8]) -> Four
 // The bytes of whole turns, of which there is one at least. The test is against the last place where a turn may begin: where the compiler can
 // tell the number of turns, it unrolls the loop, and sums of up to six turns take more.
 fn turns(s: &[u8]) -> Summed
-    requires { ⌜ 32 ≤ length (now s) ⌝ }
-    ensures { λ r. ⌜ (r .at ≡ length (now (s .entry)) - length (now (s .entry)) % 32) × (r .sum ≡ byteSum (take (r .at) (now (s .entry))) % 256) ⌝ }
+    requires { ⌜ turnSize ≤ length (now s) ⌝ }
+    ensures { λ r. ⌜ (r .at ≡ length (now (s .entry)) - length (now (s .entry)) % turnSize) × (r .sum ≡ byteSum (take (r .at) (now (s .entry))) % byteValues) ⌝ }
 {
     let last = s.len() - TURN;
     let mut f = Four {
@@ -135,8 +136,8 @@ fn turns(s: &[u8]) -> Summed
 
 // The bytes of whole rounds, added to t.
 fn rounds(t: u8, s: &[u8]) -> u8
-    requires { ⌜ length (now s) % 8 ≡ 0 ⌝ }
-    ensures { λ r. ⌜ r ≡ (t + byteSum (now (s .entry))) % 256 ⌝ }
+    requires { ⌜ length (now s) % roundSize ≡ 0 ⌝ }
+    ensures { λ r. ⌜ r ≡ (t + byteSum (now (s .entry))) % byteValues ⌝ }
 {
     let mut u = empty();
     let mut i = 0;
@@ -149,7 +150,7 @@ fn rounds(t: u8, s: &[u8]) -> u8
 
 // The bytes after whole turns, added to t: whole rounds, and the last 0 to 7 bytes one by one.
 fn rest(t: u8, s: &[u8]) -> u8
-    ensures { λ r. ⌜ r ≡ (t + byteSum (now (s .entry))) % 256 ⌝ }
+    ensures { λ r. ⌜ r ≡ (t + byteSum (now (s .entry))) % byteValues ⌝ }
 {
     if s.len() == 0 {
         return t;
@@ -166,7 +167,7 @@ fn rest(t: u8, s: &[u8]) -> u8
 // shorter than a turn. s is lent on as `&s[..]`: so this function, which isn't inlined, is handed pointer and length in registers
 // (docs/PERFORMANCE.md, "Slices in registers").
 pub fn sum(s: &[u8]) -> u8
-    ensures { λ r. ⌜ r ≡ byteSum (now (s .entry)) % 256 ⌝ }
+    ensures { λ r. ⌜ r ≡ byteSum (now (s .entry)) % byteValues ⌝ }
 {
     if s.len() < TURN {
         return rest(0, &s[..]);
@@ -179,7 +180,7 @@ pub fn sum(s: &[u8]) -> u8
 // The byte that makes the sum of all data bytes plus itself 0 modulo 256.
 pub fn checksum(s: &[u8]) -> u8
     ensures { λ r. ⌜ r ≡ checksum (now (s .entry)) ⌝ }
-    ensures { λ r. ⌜ (byteSum (now (s .entry)) + r) % 256 ≡ 0 ⌝ }
+    ensures { λ r. ⌜ (byteSum (now (s .entry)) + r) % byteValues ≡ 0 ⌝ }
 {
     std::num::wrapping_sub_u8(0, sum(s))
 }

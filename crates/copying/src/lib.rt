@@ -3,7 +3,7 @@ ghost use mathlib.Core.Path.{_≡_};
 ghost use mathlib.Core.List.{_++_};
 ghost use Prim.Native.Nat.{_≤_};
 ghost use lib.ListN.{length, take, drop, replicate};
-ghost use Rattle.copying.specs.Eight.{bytesOf};
+ghost use Rattle.copying.specs.Eight.{bytesOf, halfSize, pairSize, strideSize};
 
 // Half a round, a round, and a turn of the loop.
 const HALF: usize = 8;
@@ -26,8 +26,8 @@ struct Eight {
 
 // The first eight.
 fn read(src: &[u8]) -> Eight
-    requires { ⌜ 8 ≤ length (now src) ⌝ }
-    ensures { λ r. ⌜ bytesOf r ≡ take 8 (now (src .entry)) ⌝ }
+    requires { ⌜ halfSize ≤ length (now src) ⌝ }
+    ensures { λ r. ⌜ bytesOf r ≡ take halfSize (now (src .entry)) ⌝ }
 {
     Eight {
         a: src[0],
@@ -43,8 +43,8 @@ fn read(src: &[u8]) -> Eight
 
 // Eight over the first eight.
 fn write(dst: &mut [u8], e: Eight)
-    requires { ⌜ 8 ≤ length (now dst) ⌝ }
-    ensures { λ _. ⌜ now (dst .exit) ≡ bytesOf e ++ drop 8 (now (dst .entry)) ⌝ }
+    requires { ⌜ halfSize ≤ length (now dst) ⌝ }
+    ensures { λ _. ⌜ now (dst .exit) ≡ bytesOf e ++ drop halfSize (now (dst .entry)) ⌝ }
 {
     dst[0] = e.a;
     dst[1] = e.b;
@@ -58,8 +58,8 @@ fn write(dst: &mut [u8], e: Eight)
 
 // A round. All its bytes are read before one is written, so that the compiler makes one load and one store of them.
 fn copy_round(dst: &mut [u8], src: &[u8])
-    requires { ⌜ (16 ≤ length (now dst)) × (16 ≤ length (now src)) ⌝ }
-    ensures { λ _. ⌜ now (dst .exit) ≡ take 16 (now (src .entry)) ++ drop 16 (now (dst .entry)) ⌝ }
+    requires { ⌜ (pairSize ≤ length (now dst)) × (pairSize ≤ length (now src)) ⌝ }
+    ensures { λ _. ⌜ now (dst .exit) ≡ take pairSize (now (src .entry)) ++ drop pairSize (now (dst .entry)) ⌝ }
 {
     let x = read(src);
     let y = read(&src[HALF..]);
@@ -69,8 +69,8 @@ fn copy_round(dst: &mut [u8], src: &[u8])
 
 // Two rounds.
 fn copy_turn(dst: &mut [u8], src: &[u8])
-    requires { ⌜ (32 ≤ length (now dst)) × (32 ≤ length (now src)) ⌝ }
-    ensures { λ _. ⌜ now (dst .exit) ≡ take 32 (now (src .entry)) ++ drop 32 (now (dst .entry)) ⌝ }
+    requires { ⌜ (strideSize ≤ length (now dst)) × (strideSize ≤ length (now src)) ⌝ }
+    ensures { λ _. ⌜ now (dst .exit) ≡ take strideSize (now (src .entry)) ++ drop strideSize (now (dst .entry)) ⌝ }
 {
     copy_round(dst, src);
     copy_round(&mut dst[ROUND..], &src[ROUND..]);

@@ -10,11 +10,12 @@ use borrow.Author.Tests.{eq-eqb, ne-eqb}
 use Rattle.grammar.specs.Bytes.{Bytes, every}
 use Rattle.grammar.specs.Fields.{digit}
 use Rattle.grammar.proofs.Basics.{and-false, both, told, told-not}
+use Rattle.grammar.specs.Ascii.{char}
 use Rattle.byte.specs.Classes.{classOf}
 use Rattle.byte.specs.declared.Class.{Class}
 use Rattle.byte.proofs.Laws.{all-get, digit-is}
 use Rattle.dates.specs.Dates.{Date, Time, isDate, isTime}
-use Rattle.dates.specs.Digits.{pairAt, digits, dateSaid, timeSaid, readDate, readTime}
+use Rattle.dates.specs.Digits.{pairAt, digits, dateSaid, timeSaid, readDate, readTime, dateLength, monthPlace, dayPlace, timeLength}
 
 -- the class of digits, as the code names it
 pub class-digit : (w : Bytes) (r : Bool) → r ≡ every (classOf Class.Digit) w → r ≡ every digit w
@@ -22,7 +23,7 @@ unfolding classOf
 class-digit w r e = e
 
 -- a byte of two digits
-pub digit-there : (w : Bytes) (i : ℕ) → every digit w ≡ true → i < length w → (48 ≤ getD w i 0) × (getD w i 0 ≤ 57)
+pub digit-there : (w : Bytes) (i : ℕ) → every digit w ≡ true → i < length w → (char "0" ≤ getD w i 0) × (getD w i 0 ≤ char "9")
 digit-there w i e h = digit-is (getD w i 0) (all-get digit w i e h)
 
 digits-length : (n : ℕ) (w : Bytes) → (length w ≡ n → ⊥) → digits n w ≡ false
@@ -35,49 +36,49 @@ digits-are : (n : ℕ) (w : Bytes) → length w ≡ n → every digit w ≡ true
 digits-are n w e f = both (every digit w) (eqb (length w) n) f (eq-eqb _ _ e)
 
 module _ (w : Bytes) where
-  pub date-length : (length w ≡ 6 → ⊥) → none ≡ readDate w
+  pub date-length : (length w ≡ dateLength → ⊥) → none ≡ readDate w
   unfolding readDate
-  date-length h = rw (digits-length 6 w h)
+  date-length h = rw (digits-length dateLength w h)
 
   pub date-class : (r : Bool) → r ≡ every (classOf Class.Digit) w → not r ≡ true → none ≡ readDate w
   unfolding readDate
-  date-class r e f = rw (digits-class 6 w (told-not (class-digit w r e) f))
+  date-class r e f = rw (digits-class dateLength w (told-not (class-digit w r e) f))
 
-  pub time-length : (length w ≡ 4 → ⊥) → none ≡ readTime w
+  pub time-length : (length w ≡ timeLength → ⊥) → none ≡ readTime w
   unfolding readTime
-  time-length h = rw (digits-length 4 w h)
+  time-length h = rw (digits-length timeLength w h)
 
   pub time-class : (r : Bool) → r ≡ every (classOf Class.Digit) w → not r ≡ true → none ≡ readTime w
   unfolding readTime
-  time-class r e f = rw (digits-class 4 w (told-not (class-digit w r e) f))
+  time-class r e f = rw (digits-class timeLength w (told-not (class-digit w r e) f))
 
   -- all are digits: the date that they say decides
   module _ (r : Bool) (e : r ≡ every (classOf Class.Digit) w) (f : not r ≡ false) where
     pub all-digits : every digit w ≡ true
     all-digits = told (class-digit w r e) f
 
-    module _ (d : Date) (t : Bool) (s : d ≡ dateSaid w) (i : t ≡ isDate d) (l : length w ≡ 6) where
+    module _ (d : Date) (t : Bool) (s : d ≡ dateSaid w) (i : t ≡ isDate d) (l : length w ≡ dateLength) where
       pub date-not : not t ≡ true → none ≡ readDate w
       unfolding readDate
-      date-not k = rw (digits-are 6 w l all-digits, ← s, told-not i k)
+      date-not k = rw (digits-are dateLength w l all-digits, ← s, told-not i k)
 
       pub date-says : not t ≡ false → some d ≡ readDate w
       unfolding readDate
-      date-says k = rw (digits-are 6 w l all-digits, ← s, told i k)
+      date-says k = rw (digits-are dateLength w l all-digits, ← s, told i k)
 
-    module _ (d : Time) (t : Bool) (s : d ≡ timeSaid w) (i : t ≡ isTime d) (l : length w ≡ 4) where
+    module _ (d : Time) (t : Bool) (s : d ≡ timeSaid w) (i : t ≡ isTime d) (l : length w ≡ timeLength) where
       pub time-not : not t ≡ true → none ≡ readTime w
       unfolding readTime
-      time-not k = rw (digits-are 4 w l all-digits, ← s, told-not i k)
+      time-not k = rw (digits-are timeLength w l all-digits, ← s, told-not i k)
 
       pub time-says : not t ≡ false → some d ≡ readTime w
       unfolding readTime
-      time-says k = rw (digits-are 4 w l all-digits, ← s, told i k)
+      time-says k = rw (digits-are timeLength w l all-digits, ← s, told i k)
 
 -- what the pairs say
-pub said-date : (w : Bytes) (y m d : ℕ) (f : ℕ → ℕ) (year : ℕ) → y ≡ pairAt w 0 → m ≡ pairAt w 2 → d ≡ pairAt w 4 → year ≡ f y
-    → _≡_ {A = Date} (record { year = year; month = m; day = d }) (record { year = f (pairAt w 0); month = pairAt w 2; day = pairAt w 4 })
+pub said-date : (w : Bytes) (y m d : ℕ) (f : ℕ → ℕ) (year : ℕ) → y ≡ pairAt w 0 → m ≡ pairAt w monthPlace → d ≡ pairAt w dayPlace → year ≡ f y
+    → _≡_ {A = Date} (record { year = year; month = m; day = d }) (record { year = f (pairAt w 0); month = pairAt w monthPlace; day = pairAt w dayPlace })
 said-date w y m d f year a b c e = rw (e, a, b, c)
 
-pub said-time : (w : Bytes) (h m : ℕ) → h ≡ pairAt w 0 → m ≡ pairAt w 2 → _≡_ {A = Time} (record { hour = h; minute = m }) (timeSaid w)
+pub said-time : (w : Bytes) (h m : ℕ) → h ≡ pairAt w 0 → m ≡ pairAt w monthPlace → _≡_ {A = Time} (record { hour = h; minute = m }) (timeSaid w)
 said-time w h m a b = rw (a, b)

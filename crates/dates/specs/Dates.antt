@@ -21,14 +21,37 @@ firstYear = 1970
 abbrev pub lastYear : ℕ
 lastYear = 2069
 
+-- Four years make a cycle, in which one is a long one.
+abbrev pub cycleYears : ℕ
+cycleYears = 4
+
+abbrev pub yearDays : ℕ
+yearDays = 365
+
+abbrev pub longYearDays : ℕ
+longYearDays = yearDays + 1
+
+abbrev pub february : ℕ
+february = 2
+
+-- "Month 1 to 12", "hour to 23, minute to 59"
+abbrev pub lastMonth : ℕ
+lastMonth = 12
+
+abbrev pub lastHour : ℕ
+lastHour = 23
+
+abbrev pub lastMinute : ℕ
+lastMinute = 59
+
 -- Every fourth year is a long one: 2000 is, and 2100 lies past the end. `leap-rule` holds this against the calendar's own rule.
 abbrev pub isLeap : ℕ → Bool
-isLeap y = eqb (y % 4) 0
+isLeap y = eqb (y % cycleYears) 0
 
 -- How many days of the year come before each month, and, last, all days of the year: the one table of months.
 abbrev pub monthStarts : Bool → List ℕ
-monthStarts false = 0 ∷ 31 ∷ 59 ∷ 90 ∷ 120 ∷ 151 ∷ 181 ∷ 212 ∷ 243 ∷ 273 ∷ 304 ∷ 334 ∷ 365 ∷ []
-monthStarts true = 0 ∷ 31 ∷ 60 ∷ 91 ∷ 121 ∷ 152 ∷ 182 ∷ 213 ∷ 244 ∷ 274 ∷ 305 ∷ 335 ∷ 366 ∷ []
+monthStarts false = 0 ∷ 31 ∷ 59 ∷ 90 ∷ 120 ∷ 151 ∷ 181 ∷ 212 ∷ 243 ∷ 273 ∷ 304 ∷ 334 ∷ yearDays ∷ []
+monthStarts true = 0 ∷ 31 ∷ 60 ∷ 91 ∷ 121 ∷ 152 ∷ 182 ∷ 213 ∷ 244 ∷ 274 ∷ 305 ∷ 335 ∷ longYearDays ∷ []
 
 abbrev pub startOf : Bool → ℕ → ℕ
 startOf leap m = getD (monthStarts leap) (m - 1) 0
@@ -50,17 +73,17 @@ example-long = refl
 unfoldable pub isDate : Date → Bool
 isDate d =
     (leb firstYear (d .year) && leb (d .year) lastYear)
-    && ((leb 1 (d .month) && leb (d .month) 12) && (leb 1 (d .day) && leb (d .day) (daysIn (isLeap (d .year)) (d .month))))
+    && ((leb 1 (d .month) && leb (d .month) lastMonth) && (leb 1 (d .day) && leb (d .day) (daysIn (isLeap (d .year)) (d .month))))
 
 -- "hour to 23, minute to 59"
 unfoldable pub isTime : Time → Bool
-isTime t = leb (t .hour) 23 && leb (t .minute) 59
+isTime t = leb (t .hour) lastHour && leb (t .minute) lastMinute
 
 -- ---------------------------------------------------------------- days from 1970-01-01
 
 -- 1972 is the first long year, so (year - 1969) / 4 long years lie before a year.
 unfoldable pub dayNumber : Date → ℕ
-dayNumber d = 365 * (d .year - firstYear) + (d .year - 1969) / 4 + (startOf (isLeap (d .year)) (d .month) + (d .day - 1))
+dayNumber d = yearDays * (d .year - firstYear) + (d .year - (firstYear - 1)) / cycleYears + (startOf (isLeap (d .year)) (d .month) + (d .day - 1))
 
 -- The last month that starts by day t of the year; ms: the starts of the months after m.
 abbrev pub monthFrom : ℕ → List ℕ → ℕ → ℕ
@@ -76,13 +99,23 @@ monthOf leap t = monthFrom 1 (later (monthStarts leap)) t
 
 -- Four years have so many days; the third of them, counted from 1970, is the long one.
 abbrev pub cycleDays : ℕ
-cycleDays = 1461
+cycleDays = cycleYears * yearDays + 1
+
+abbrev pub longYear : ℕ
+longYear = 2
+
+-- The days of a cycle before its third year, and before its fourth.
+abbrev pub thirdYear : ℕ
+thirdYear = 2 * yearDays
+
+abbrev pub fourthYear : ℕ
+fourthYear = thirdYear + longYearDays
 
 abbrev pub yearIn : ℕ → ℕ
-yearIn r = cond (ltb r 365) 0 (cond (ltb r 730) 1 (cond (ltb r 1096) 2 3))
+yearIn r = cond (ltb r yearDays) 0 (cond (ltb r thirdYear) 1 (cond (ltb r fourthYear) 2 3))
 
 abbrev pub yearStart : ℕ → ℕ
-yearStart i = getD (0 ∷ 365 ∷ 730 ∷ 1096 ∷ []) i 0
+yearStart i = getD (0 ∷ yearDays ∷ thirdYear ∷ fourthYear ∷ []) i 0
 
 -- Day t, from 0, of a year.
 abbrev pub dateIn : ℕ → Bool → ℕ → Date
@@ -90,10 +123,10 @@ dateIn y leap t = record { year = y; month = monthOf leap t; day = t - startOf l
 
 -- So many days have the hundred years: 25 cycles.
 abbrev pub allDays : ℕ
-allDays = 36525
+allDays = 25 * cycleDays
 
 -- The date of a day number below `allDays`.
 unfoldable pub dateOf : ℕ → Date
 dateOf n =
     let r = n % cycleDays in
-    dateIn (firstYear + 4 * (n / cycleDays) + yearIn r) (eqb (yearIn r) 2) (r - yearStart (yearIn r))
+    dateIn (firstYear + cycleYears * (n / cycleDays) + yearIn r) (eqb (yearIn r) longYear) (r - yearStart (yearIn r))

@@ -8,43 +8,72 @@ use lib.Dec.{eqb, ltb}
 use lib.ListN.{length, getD}
 use Rattle.grammar.specs.Bytes.{Bytes, every}
 use Rattle.grammar.specs.Fields.{digit}
-use Rattle.grammar.specs.Ascii.{text}
+use Rattle.grammar.specs.Ascii.{text, char}
 use Rattle.dates.specs.Dates.{Date, Time, isDate, isTime}
 
 -- "years 70 to 99 are 19xx, the rest 20xx"
+abbrev pub turnYear : ℕ
+turnYear = 70
+
+abbrev pub lastCentury : ℕ
+lastCentury = 1900
+
+abbrev pub thisCentury : ℕ
+thisCentury = 2000
+
+-- Two digits are a number below this.
+abbrev pub pairValues : ℕ
+pairValues = 100
+
+-- "YYMMDD", "HHMM": how long each is, and where its parts stand.
+abbrev pub dateLength : ℕ
+dateLength = 6
+
+abbrev pub monthPlace : ℕ
+monthPlace = 2
+
+abbrev pub dayPlace : ℕ
+dayPlace = 4
+
+abbrev pub timeLength : ℕ
+timeLength = 4
+
+abbrev pub minutePlace : ℕ
+minutePlace = 2
+
 abbrev pub fullYear : ℕ → ℕ
-fullYear yy = cond (ltb yy 70) (2000 + yy) (1900 + yy)
+fullYear yy = cond (ltb yy turnYear) (thisCentury + yy) (lastCentury + yy)
 
 -- The number of the two digits at place i.
 abbrev pub pairAt : Bytes → ℕ → ℕ
-pairAt w i = (getD w i 0 - 48) * 10 + (getD w (i + 1) 0 - 48)
+pairAt w i = (getD w i 0 - char "0") * 10 + (getD w (i + 1) 0 - char "0")
 
 -- Exactly n bytes, each a digit.
 abbrev pub digits : ℕ → Bytes → Bool
 digits n w = every digit w && eqb (length w) n
 
 abbrev pub dateSaid : Bytes → Date
-dateSaid w = record { year = fullYear (pairAt w 0); month = pairAt w 2; day = pairAt w 4 }
+dateSaid w = record { year = fullYear (pairAt w 0); month = pairAt w monthPlace; day = pairAt w dayPlace }
 
 abbrev pub timeSaid : Bytes → Time
-timeSaid w = record { hour = pairAt w 0; minute = pairAt w 2 }
+timeSaid w = record { hour = pairAt w 0; minute = pairAt w minutePlace }
 
 -- The date that bytes say, where they are six digits that say one.
 unfoldable pub readDate : Bytes → Option Date
-readDate w = cond (digits 6 w && isDate (dateSaid w)) (some (dateSaid w)) none
+readDate w = cond (digits dateLength w && isDate (dateSaid w)) (some (dateSaid w)) none
 
 -- The time that bytes say, where they are four digits that say one.
 unfoldable pub readTime : Bytes → Option Time
-readTime w = cond (digits 4 w && isTime (timeSaid w)) (some (timeSaid w)) none
+readTime w = cond (digits timeLength w && isTime (timeSaid w)) (some (timeSaid w)) none
 
 -- ---------------------------------------------------------------- written
 
 -- A number below 100 as two digits.
 abbrev pub twoDigits : ℕ → Bytes
-twoDigits n = (48 + n / 10) ∷ (48 + n % 10) ∷ []
+twoDigits n = (char "0" + n / 10) ∷ (char "0" + n % 10) ∷ []
 
 unfoldable pub dateText : Date → Bytes
-dateText d = twoDigits (d .year % 100) ++ (twoDigits (d .month) ++ twoDigits (d .day))
+dateText d = twoDigits (d .year % pairValues) ++ (twoDigits (d .month) ++ twoDigits (d .day))
 
 unfoldable pub timeText : Time → Bytes
 timeText t = twoDigits (t .hour) ++ twoDigits (t .minute)

@@ -9,7 +9,7 @@ use lib.Dec.{eqb, ltb}
 use lib.ListN.{length, getD, drop}
 use lib.Seq.{drop-cons}
 use borrow.Author.Tests.{lt-ltb, le-ltb, ltb-true, ltb-false}
-use Rattle.dates.specs.Dates.{Date, isDate, isLeap, monthStarts, startOf, daysIn, dayNumber, monthFrom, later, monthOf, yearIn, yearStart, dateIn, dateOf}
+use Rattle.dates.specs.Dates.{Date, isDate, isLeap, monthStarts, startOf, daysIn, dayNumber, monthFrom, later, monthOf, yearIn, yearStart, dateIn, dateOf, firstYear, cycleYears, yearDays, longYearDays, lastMonth, cycleDays, longYear, thirdYear, fourthYear, allDays}
 use Rattle.dates.proofs.Dates.{Valid, valid, number-back, days-most}
 use Rattle.day_number.specs.Meaning.{yearLength, MonthIs}
 
@@ -18,7 +18,7 @@ use Rattle.day_number.specs.Meaning.{yearLength, MonthIs}
 pub start-by : (leap b : Bool) (m r : ℕ) → leap ≡ b → r ≡ startOf b m → r ≡ startOf leap m
 start-by leap b m r e f = f ∙ sym (ap (λ (x : Bool). startOf x m) e)
 
-starts-length : (leap : Bool) → length (monthStarts leap) ≡ 13
+starts-length : (leap : Bool) → length (monthStarts leap) ≡ lastMonth + 1
 starts-length true = refl
 starts-length false = refl
 
@@ -26,7 +26,7 @@ starts-length false = refl
 pub record Months (leap : Bool) (day m : ℕ) : Type 0 where
   pub left : monthOf leap day ≡ monthFrom m (drop m (monthStarts leap)) day
   pub least : 1 ≤ m
-  pub most : m ≤ 12
+  pub most : m ≤ lastMonth
   pub starts : startOf leap m ≤ day
 
 pub months-all : (leap : Bool) (day : ℕ) → Months leap day 1
@@ -46,7 +46,7 @@ module _ (leap : Bool) (day m : ℕ) (k : Months leap day m) where
         let f = e ∙ next-start in
         (sym (step ∙ rw (lt-ltb day (getD (monthStarts leap) m 0) (omega (arith, f, h)))), k .least, k .most, k .starts)
 
-    pub month-later : s ≤ day → m < 12 → Months leap day (m + 1)
+    pub month-later : s ≤ day → m < lastMonth → Months leap day (m + 1)
     month-later h n =
         let f = e ∙ next-start in
         let l = k .least in
@@ -58,23 +58,23 @@ module _ (leap : Bool) (day m : ℕ) (k : Months leap day m) where
         }
 
   -- December is the last
-  pub month-last : 12 ≤ m → day < yearLength leap → MonthIs leap day m
+  pub month-last : lastMonth ≤ m → day < yearLength leap → MonthIs leap day m
   month-last h n =
       let l = k .most in
-      let z : m ≡ 12 = omega (arith, h, l) in
+      let z : m ≡ lastMonth = omega (arith, h, l) in
       (sym (step ∙ ap (λ (i : ℕ). cond (ltb day (getD (monthStarts leap) i 0)) m (monthFrom (suc m) (drop (suc m) (monthStarts leap)) day)) z ∙ last leap n), k .least, k .most, k .starts)
     where
-      last : (b : Bool) → day < yearLength b → cond (ltb day (getD (monthStarts b) 12 0)) m (monthFrom (suc m) (drop (suc m) (monthStarts leap)) day) ≡ m
-      last true i = rw (lt-ltb day 366 i)
-      last false i = rw (lt-ltb day 365 i)
+      last : (b : Bool) → day < yearLength b → cond (ltb day (getD (monthStarts b) lastMonth 0)) m (monthFrom (suc m) (drop (suc m) (monthStarts leap)) day) ≡ m
+      last true i = rw (lt-ltb day longYearDays i)
+      last false i = rw (lt-ltb day yearDays i)
 
 -- ---------------------------------------------------------------- the number of a date
 
 pub date-fits : (d : Date) → isDate d ≡ true → Valid d
 date-fits d e = valid d e
 
-pub number-is : (d : Date) (years long start day : ℕ) → isDate d ≡ true → years ≡ d .year - 1970 → long ≡ (d .year - 1969) / 4 → start ≡ startOf (isLeap (d .year)) (d .month) → day ≡ d .day - 1
-    → 365 * years + long + (start + day) ≡ dayNumber d
+pub number-is : (d : Date) (years long start day : ℕ) → isDate d ≡ true → years ≡ d .year - firstYear → long ≡ (d .year - (firstYear - 1)) / cycleYears → start ≡ startOf (isLeap (d .year)) (d .month) → day ≡ d .day - 1
+    → yearDays * years + long + (start + day) ≡ dayNumber d
 unfolding dayNumber
 number-is d years long start day e a b c f = rw (a, b, c, f)
 
@@ -82,49 +82,49 @@ number-is d years long start day e a b c f = rw (a, b, c, f)
 
 -- the year of a day of a cycle, and the day of that year
 pub record InCycle (r : ℕ) : Type 0 where
-  pub four : yearIn r < 4
+  pub four : yearIn r < cycleYears
   pub starts : yearStart (yearIn r) ≤ r
   pub day : r - yearStart (yearIn r) < yearLength (eqb (yearIn r) 2)
 
-pub in-cycle : (r : ℕ) → r < 1461 → InCycle r
-in-cycle r h = go (ltb r 365) refl (ltb r 730) refl (ltb r 1096) refl
+pub in-cycle : (r : ℕ) → r < cycleDays → InCycle r
+in-cycle r h = go (ltb r yearDays) refl (ltb r thirdYear) refl (ltb r fourthYear) refl
   where
     year : Bool → Bool → Bool → ℕ
     year a b c = cond a 0 (cond b 1 (cond c 2 3))
 
-    all : (n : ℕ) → yearIn r ≡ n → n < 4 → yearStart n ≤ r → r - yearStart n < yearLength (eqb n 2) → InCycle r
-    all n e a b c = subst (λ (i : ℕ). (i < 4) → (yearStart i ≤ r) → (r - yearStart i < yearLength (eqb i 2)) → InCycle r) e (λ x y z. record { four = x; starts = y; day = z }) a b c
+    all : (n : ℕ) → yearIn r ≡ n → n < cycleYears → yearStart n ≤ r → r - yearStart n < yearLength (eqb n longYear) → InCycle r
+    all n e a b c = subst (λ (i : ℕ). (i < cycleYears) → (yearStart i ≤ r) → (r - yearStart i < yearLength (eqb i longYear)) → InCycle r) e (λ x y z. record { four = x; starts = y; day = z }) a b c
 
-    go : (a : Bool) → ltb r 365 ≡ a → (b : Bool) → ltb r 730 ≡ b → (c : Bool) → ltb r 1096 ≡ c → InCycle r
-    go true e b f c g = let x = ltb-true r 365 e in all 0 (rw e) (omega arith) (omega arith) (omega arith)
-    go false e true f c g = let x = ltb-true r 730 f in let y = ltb-false r 365 e in all 1 (rw (e, f)) (omega arith) (omega arith) (omega arith)
-    go false e false f true g = let x = ltb-true r 1096 g in let y = ltb-false r 730 f in all 2 (rw (e, f, g)) (omega arith) (omega arith) (omega arith)
-    go false e false f false g = let x = ltb-false r 1096 g in all 3 (rw (e, f, g)) (omega arith) (omega arith) (omega arith)
+    go : (a : Bool) → ltb r yearDays ≡ a → (b : Bool) → ltb r thirdYear ≡ b → (c : Bool) → ltb r fourthYear ≡ c → InCycle r
+    go true e b f c g = let x = ltb-true r yearDays e in all 0 (rw e) (omega arith) (omega arith) (omega arith)
+    go false e true f c g = let x = ltb-true r thirdYear f in let y = ltb-false r yearDays e in all 1 (rw (e, f)) (omega arith) (omega arith) (omega arith)
+    go false e false f true g = let x = ltb-true r fourthYear g in let y = ltb-false r thirdYear f in all 2 (rw (e, f, g)) (omega arith) (omega arith) (omega arith)
+    go false e false f false g = let x = ltb-false r fourthYear g in all 3 (rw (e, f, g)) (omega arith) (omega arith) (omega arith)
 
-module _ (n y : ℕ) (h : n < 36525) (e : y ≡ yearIn (n % 1461)) where
-  cycle-of : InCycle (n % 1461)
-  cycle-of = in-cycle (n % 1461) (omega arith)
+module _ (n y : ℕ) (h : n < allDays) (e : y ≡ yearIn (n % cycleDays)) where
+  cycle-of : InCycle (n % cycleDays)
+  cycle-of = in-cycle (n % cycleDays) (omega arith)
 
-  pub year-four : y < 4
+  pub year-four : y < cycleYears
   year-four = let a = cycle-of .four in omega (arith, a, e)
 
   module _ (z : ℕ) (f : z ≡ yearStart y) where
-    start-is : z ≡ yearStart (yearIn (n % 1461))
+    start-is : z ≡ yearStart (yearIn (n % cycleDays))
     start-is = f ∙ ap yearStart e
 
-    pub year-starts : z ≤ n % 1461
+    pub year-starts : z ≤ n % cycleDays
     year-starts = let a = cycle-of .starts in let b = start-is in omega (arith, a, b)
 
-    pub day-within : n % 1461 - z < yearLength (eqb y 2)
+    pub day-within : n % cycleDays - z < yearLength (eqb y longYear)
     day-within = rw (start-is, e) (cycle-of .day)
 
-    module _ (m : ℕ) (g : m ≡ monthOf (eqb y 2) (n % 1461 - z)) (s : ℕ) (k : s ≡ startOf (eqb y 2) m) where
-      pub date-is : _≡_ {A = Date} (record { year = 1970 + 4 * (n / 1461) + y; month = m; day = n % 1461 - z - s + 1 }) (dateOf n)
+    module _ (m : ℕ) (g : m ≡ monthOf (eqb y longYear) (n % cycleDays - z)) (s : ℕ) (k : s ≡ startOf (eqb y longYear) m) where
+      pub date-is : _≡_ {A = Date} (record { year = firstYear + cycleYears * (n / cycleDays) + y; month = m; day = n % cycleDays - z - s + 1 }) (dateOf n)
       unfolding dateOf
       date-is = rw (k, g, start-is, e)
 
       -- no month has more than 31 days
-      pub day-most : n % 1461 - z - s + 1 ≤ 31
+      pub day-most : n % cycleDays - z - s + 1 ≤ 31
       day-most =
           let v = valid (dateOf n) ((number-back n h) .1) in
           let a = days-most (isLeap ((dateOf n) .year)) ((dateOf n) .month) (v .month) (v .months) in

@@ -3,24 +3,32 @@ use calendar::Date;
 ghost use mathlib.Core.Path.{_≡_};
 ghost use mathlib.Core.Bool.{true, false};
 ghost use Prim.Native.Nat.{_≤_, _<_};
-ghost use Rattle.dates.specs.Dates.{isDate, startOf, dayNumber, yearIn, yearStart, dateOf};
+ghost use Rattle.dates.specs.Dates.{isDate, startOf, dayNumber, yearIn, yearStart, dateOf, lastMonth, cycleYears, allDays};
 ghost use Rattle.calendar.specs.Meaning.{dateIs};
 ghost use Rattle.day_number.specs.Meaning.{yearLength, MonthIs};
 
-const FIRST_YEAR: u16 = 1970;
+const FIRST_YEAR: u16 = calendar::FIRST_YEAR;
 
 const YEAR_DAYS: u32 = 365;
 
-const MONTHS: u8 = 12;
+const LONG_YEAR_DAYS: u32 = YEAR_DAYS + 1;
+
+const MONTHS: u8 = calendar::MONTHS;
 
 // Four years: the third of them, counted from 1970, is the long one.
-const CYCLE_DAYS: u32 = 1461;
+const CYCLE_YEARS: u32 = calendar::CYCLE_YEARS as u32;
+
+const CYCLE_DAYS: u32 = CYCLE_YEARS * YEAR_DAYS + 1;
+
+const THIRD_YEAR: u32 = 2 * YEAR_DAYS;
+
+const FOURTH_YEAR: u32 = THIRD_YEAR + LONG_YEAR_DAYS;
 
 const LONG_YEAR: u32 = 2;
 
 // How many days of a long year come before a month.
 fn long_start(month: u8) -> u16
-    requires { ⌜ (1 ≤ month) × (month ≤ 12) ⌝ }
+    requires { ⌜ (1 ≤ month) × (month ≤ lastMonth) ⌝ }
     ensures { λ r. ⌜ r ≡ startOf true month ⌝ }
 {
     let starts = [
@@ -44,7 +52,7 @@ fn long_start(month: u8) -> u16
 
 // How many days of a short year come before a month.
 fn short_start(month: u8) -> u16
-    requires { ⌜ (1 ≤ month) × (month ≤ 12) ⌝ }
+    requires { ⌜ (1 ≤ month) × (month ≤ lastMonth) ⌝ }
     ensures { λ r. ⌜ r ≡ startOf false month ⌝ }
 {
     let starts = [
@@ -68,7 +76,7 @@ fn short_start(month: u8) -> u16
 
 // How many days of the year come before a month.
 fn start_of(leap: bool, month: u8) -> u16
-    requires { ⌜ (1 ≤ month) × (month ≤ 12) ⌝ }
+    requires { ⌜ (1 ≤ month) × (month ≤ lastMonth) ⌝ }
     ensures { λ r. ⌜ r ≡ startOf leap month ⌝ }
 {
     if leap {
@@ -83,8 +91,8 @@ pub fn number_of(d: Date) -> u32
     ensures { λ r. ⌜ r ≡ dayNumber (dateIs d) ⌝ }
 {
     let years = (d.year - FIRST_YEAR) as u32;
-    let long_years = ((d.year - (FIRST_YEAR - 1)) / 4) as u32;
-    let start = start_of(d.year % 4 == 0, d.month) as u32;
+    let long_years = ((d.year - (FIRST_YEAR - 1)) / calendar::CYCLE_YEARS) as u32;
+    let start = start_of(d.year % calendar::CYCLE_YEARS == 0, d.month) as u32;
     let day = (d.day - 1) as u32;
     YEAR_DAYS * years + long_years + (start + day)
 }
@@ -93,13 +101,13 @@ pub fn number_of(d: Date) -> u32
 fn year_in(day: u32) -> u32
     ensures { λ r. ⌜ r ≡ yearIn day ⌝ }
 {
-    if day < 365 {
+    if day < YEAR_DAYS {
         return 0;
     }
-    if day < 730 {
+    if day < THIRD_YEAR {
         return 1;
     }
-    if day < 1096 {
+    if day < FOURTH_YEAR {
         return 2;
     }
     3
@@ -107,10 +115,10 @@ fn year_in(day: u32) -> u32
 
 // How many days of a cycle come before a year of it.
 fn year_start(year: u32) -> u32
-    requires { ⌜ year < 4 ⌝ }
+    requires { ⌜ year < cycleYears ⌝ }
     ensures { λ r. ⌜ r ≡ yearStart year ⌝ }
 {
-    let starts = [0u32, 365, 730, 1096];
+    let starts = [0u32, YEAR_DAYS, THIRD_YEAR, FOURTH_YEAR];
     let i = year as usize;
     starts[i]
 }
@@ -132,7 +140,7 @@ fn month_of(leap: bool, day: u32) -> u8
 
 // The date of a number.
 pub fn date_of(n: u32) -> Date
-    requires { ⌜ n < 36525 ⌝ }
+    requires { ⌜ n < allDays ⌝ }
     ensures { λ r. ⌜ dateIs r ≡ dateOf n ⌝ }
 {
     let in_cycle = n % CYCLE_DAYS;
@@ -142,7 +150,7 @@ pub fn date_of(n: u32) -> Date
     let month = month_of(leap, day);
     let start = start_of(leap, month) as u32;
     Date {
-        year: ((FIRST_YEAR as u32) + 4 * (n / CYCLE_DAYS) + year) as u16,
+        year: ((FIRST_YEAR as u32) + CYCLE_YEARS * (n / CYCLE_DAYS) + year) as u16,
         month: month,
         day: (day - start + 1) as u8,
     }

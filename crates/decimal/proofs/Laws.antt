@@ -10,22 +10,23 @@ use lib.ListN.{length, take, drop, set, length-drop}
 use lib.Seq.{set-split, drop-at, length-take-le, take-all}
 use borrow.Author.Tests.{lt-ltb, le-ltb}
 use Rattle.grammar.specs.Bytes.{Bytes}
-use Rattle.grammar.specs.Fields.{decimal, writeNum}
+use Rattle.grammar.specs.Fields.{decimal, writeNum, decimalDigits}
+use Rattle.grammar.specs.Ascii.{char}
 
 drop-set : (l : Bytes) (i b : ℕ) → i < length l → drop i (set l i b) ≡ b ∷ drop (suc i) l
 drop-set l i b h = rw (set-split l i b h) (drop-at (take i l) (b ∷ drop (suc i) l) i (length-take-le i l (omega arith)))
 
 -- a turn of the loop: the last digit of what is left goes before those that are there
-pub digits-more : (n rest at b : ℕ) (l : Bytes) → 1 ≤ at → at < length l → 10 ≤ rest → b ≡ 48 + rest % 10
-    → writeNum 10 n ≡ writeNum (at + 1) rest ++ drop (at + 1) l → writeNum 10 n ≡ writeNum (at - 1 + 1) (rest / 10) ++ drop (at - 1 + 1) (set l at b)
+pub digits-more : (n rest at b : ℕ) (l : Bytes) → 1 ≤ at → at < length l → 10 ≤ rest → b ≡ char "0" + rest % 10
+    → writeNum decimalDigits n ≡ writeNum (at + 1) rest ++ drop (at + 1) l → writeNum decimalDigits n ≡ writeNum (at - 1 + 1) (rest / 10) ++ drop (at - 1 + 1) (set l at b)
 unfolding writeNum
 digits-more n rest at b l g h k q e =
     let z : at - 1 + 1 ≡ at = omega arith in
-    e ∙ rw (z, drop-set l at b h, add-one at, le-ltb rest 10 k, q) (append-assoc (writeNum at (rest / 10)) ((48 + rest % 10) ∷ []) (drop (suc at) l))
+    e ∙ rw (z, drop-set l at b h, add-one at, le-ltb rest 10 k, q) (append-assoc (writeNum at (rest / 10)) ((char "0" + rest % 10) ∷ []) (drop (suc at) l))
 
 -- the digit that is left at the end
-pub digits-end : (n rest at b : ℕ) (l : Bytes) → at < length l → rest < 10 → b ≡ 48 + rest % 10
-    → writeNum 10 n ≡ writeNum (at + 1) rest ++ drop (at + 1) l → drop at (set l at b) ≡ writeNum 10 n
+pub digits-end : (n rest at b : ℕ) (l : Bytes) → at < length l → rest < 10 → b ≡ char "0" + rest % 10
+    → writeNum decimalDigits n ≡ writeNum (at + 1) rest ++ drop (at + 1) l → drop at (set l at b) ≡ writeNum decimalDigits n
 unfolding writeNum
 digits-end n rest at b l h k q e =
     let z : rest % 10 ≡ rest = omega arith in
@@ -49,5 +50,5 @@ spare-digits (suc f) zero n l h = let z : ⊥ = omega arith in absurd z
 spare-digits (suc f) (suc g) n l h = rw (spare-digits f g (n / 10) (omega arith) (omega arith))
 
 -- the bytes from the start on, of a number of nine digits at most
-pub nine-digits : (bytes : Bytes) (start n : ℕ) → length bytes ≡ 10 → drop start bytes ≡ decimal n → n < 1000000000 → take (10 - start) (drop start bytes) ≡ writeNum 9 n
-nine-digits bytes start n k e h = take-all (10 - start) (drop start bytes) (simp length-drop (omega arith)) ∙ e ∙ spare-digits 8 9 n (omega arith) (omega arith)
+pub nine-digits : (bytes : Bytes) (start n : ℕ) → length bytes ≡ decimalDigits → drop start bytes ≡ decimal n → n < 10 ^ 9 → take (decimalDigits - start) (drop start bytes) ≡ writeNum 9 n
+nine-digits bytes start n k e h = take-all (decimalDigits - start) (drop start bytes) (simp length-drop (omega arith)) ∙ e ∙ spare-digits 8 9 n (omega arith) (omega arith)

@@ -13,6 +13,7 @@ use Rattle.grammar.specs.Answers.{Sign, accept, decline, defer, writeSign, read
 use Rattle.session.specs.Choices.{Shelf, answersTo}
 use Rattle.session.specs.Session.{awaitsAnswer, aLine, Memory, Session, Stepped, step, ended, levelInForce}
 use Rattle.session.specs.Calls.{Received, receive, give}
+use Rattle.demand2.specs.Limits.{recordLimit}
 use Rattle.demand2.specs.Refusals.{WholeLine, SoFar, Live}
 use Rattle.demand2.specs.Marks.{withSign, AnswerLeaves}
 use Rattle.demand2.specs.Events.{messageFrom, withMessage, endsWithCr, Event, lfGoes, lineGrows, ignored, sidOfCaller, sidOfCalled, textLine, prompt, proposal, ffTurn, fqTurn, blockEnd, fsLineComes, transferGrows, transferWhole}
@@ -61,9 +62,9 @@ step-flags E q s b L S = go (byte-found E q s b L S)
     go (found n h) = ap (λ (o : Stepped). flags (o .session .memory)) (refuses-with E s b q S n h)
 
 -- 64 FLAGS, always
-pub reached-flags : (E : Shelf) (s : Session) (q : Bytes) → Reached E s q → length (s .memory .deferred) ≡ 64
+pub reached-flags : (E : Shelf) (s : Session) (q : Bytes) → Reached E s q → length (s .memory .deferred) ≡ recordLimit
 unfolding give
-reached-flags E s q (atOpen caller states) = length-replicate {A = ℕ} 64 0
+reached-flags E s q (atOpen caller states) = length-replicate {A = ℕ} recordLimit 0
 reached-flags E s q (received {s = t} {q = r} h b) = go (ended t) refl ∙ reached-flags E t r h
   where
     go : (c : Bool) → ended t ≡ c → flags (receive E t (b ∷ []) .session .memory) ≡ flags (t .memory)

@@ -94,6 +94,6 @@ pub twelve : (E : Shelf) (s : Session) (bs : Bytes) → Exact12 E s bs
 unfolding receive
 twelve E s bs = record { given = λ o. rw (over-ended s o); only = λ e. ended-over s (go (ended s) refl e) }
   where
-    go : (c : Bool) → ended s ≡ c → (cond c (record { answer = number.sessionEnded; count = 0; session = s }) (receiveOn E s bs)) .answer ≡ 12 → c ≡ true
+    go : (c : Bool) → ended s ≡ c → (cond c (record { answer = number.sessionEnded; count = 0; session = s }) (receiveOn E s bs)) .answer ≡ number.sessionEnded → c ≡ true
     go true e f = refl
     go false e f = absurd (portion-other E bs s e f)

@@ -20,6 +20,7 @@ use Rattle.grammar.proofs.Refusal.{whole-got}
 use Rattle.mail.specs.Mail.{Record, messageOf, proposalOf, transferOf, recordAt, proposalLines, turnText, transfersText, accepted}
 use Rattle.session.specs.Choices.{Shelf, answersTo}
 use Rattle.session.specs.Session.{awaitsSid, awaitsPrompt, awaitsAnswer, Phase, aLine, newTurn, leaving, Memory, Session, withLevel, withFramed, withTerms, withCounts, withSid, withPart, withAfterCr, between, goesOn, speaking, turnMarks, answering, answered, turnJudged, answerMarks, awaitedJudged, Stepped, moved, settled, lineMoved, isPlain, keptIn, nextTransfer, transferMoved, freeStep, step, levelInForce}
+use Rattle.demand2.specs.Limits.{lineLimit, blockLimit}
 use Rattle.demand2.specs.Room.{room}
 use Rattle.demand2.specs.Marks.{withSign, AnswerLeaves, TurnLeaves}
 use Rattle.demand2.specs.Refusals.{isDropped, Heeded, awaitsLine, WholeLine, TurnSaid, SoFar, TransferByte}
@@ -86,20 +87,20 @@ module _ (E : Shelf) (q : Bytes) (s : Session) (b : ℕ) where
   goes-lf : isDropped s b ≡ true → step E s b ≡ moved (withAfterCr false s)
   goes-lf e = ap (λ (c : Bool). cond c (moved (withAfterCr false s)) (freeStep E (s .out) s b)) e
 
-  goes-line : Heeded s b → awaitsLine (s .phase) ≡ true → eqb b CR ≡ false → length (s .part) < 256
+  goes-line : Heeded s b → awaitsLine (s .phase) ≡ true → eqb b CR ≡ false → length (s .part) < lineLimit
       → step E s b ≡ moved (withPart (s .part ++ (b ∷ [])) (withAfterCr false s))
   goes-line h w e l =
       let a = which-line (s .phase) w in
       line-step E s b (a .0) h (a .1)
-      ∙ ap (λ (c : Bool). lineMoved E (a .0) s b (cond c ends (cond (ltb (length (s .part)) 256) grows overruns))) e
-      ∙ ap (λ (c : Bool). lineMoved E (a .0) s b (cond c grows overruns)) (lt-ltb (length (s .part)) 256 l)
+      ∙ ap (λ (c : Bool). lineMoved E (a .0) s b (cond c ends (cond (ltb (length (s .part)) lineLimit) grows overruns))) e
+      ∙ ap (λ (c : Bool). lineMoved E (a .0) s b (cond c grows overruns)) (lt-ltb (length (s .part)) lineLimit l)
 
   goes-ignored : Heeded s b → awaitsLine (s .phase) ≡ true → b ≡ CR → isComment (trim (s .part)) ≡ true
       → step E s b ≡ moved (between (s .phase) true [] (s .memory))
   goes-ignored h w e c =
       let a = which-line (s .phase) w in
       line-step E s b (a .0) h (a .1)
-      ∙ ap (λ (d : Bool). lineMoved E (a .0) s b (cond d ends (cond (ltb (length (s .part)) 256) grows overruns))) (eq-eqb b CR e)
+      ∙ ap (λ (d : Bool). lineMoved E (a .0) s b (cond d ends (cond (ltb (length (s .part)) lineLimit) grows overruns))) (eq-eqb b CR e)
       ∙ ap (λ (d : Bool). settled s true (cond d (goesOn (aLine (a .0)) (s .memory) []) (awaitedJudged E (a .0) (s .memory) (s .part)))) c
       ∙ ap (λ (p : Phase). moved (between p true [] (s .memory))) (sym (a .1))
 
@@ -142,7 +143,7 @@ module _ (E : Shelf) (q : Bytes) (s : Session) (b : ℕ) where
     happens t (textLine ln w p r) = whole-step E s b awaitsPrompt ln w p ∙ rw (w .bytes, r)
     happens t (prompt ln w p r) =
         whole-step E s b awaitsPrompt ln w p ∙ rw (w .bytes, r) (speaks E s true (withCr (fixedText ourSid)) false (proposed E (s .memory)) (s .memory))
-    happens t (proposal ln ff ps w p r l) = turn-step E s b ff ps ln w ∙ rw (r, lt-ltb (length ps) 5 l)
+    happens t (proposal ln ff ps w p r l) = turn-step E s b ff ps ln w ∙ rw (r, lt-ltb (length ps) blockLimit l)
     happens t (ffTurn ln w r m l) = goes-ff ln w r ∙ ap (λ (n : Memory). moved (weSpeak E true true [] n)) (sym (turn-only (s .memory) m l))
     happens t (fqTurn ln w r) = turn-step E s b true [] ln w ∙ rw r
     happens t (blockEnd ln ff p ps w r m l) = goes-block ln ff p ps w r ∙ ap (λ (n : Memory). moved (answerTo (p ∷ ps) n)) (sym (turn-only (s .memory) m l))

@@ -14,6 +14,7 @@ use Rattle.grammar.proofs.Basics.{or-second, no-both}
 use Rattle.mail.specs.Mail.{Message, accepted, marked, declined}
 use Rattle.mail.specs.Tally.{Counts, declinedOnes, deferredOnes}
 use Rattle.session.specs.Session.{Terms, withFramed, withTerms, withStates, withSending, withInbox, withDeferred, withCounts, Memory, turnMarks, deferring, answerMarks}
+use Rattle.demand2.specs.Limits.{stateForwarded, stateDeclined}
 use Rattle.demand2.specs.Marks.{isIn, isSign, withSign, AnswerLeaves, TurnLeaves}
 use Rattle.demand2.specs.OurTurn.{rising}
 use Rattle.demand2.proofs.Candidates.{rising-first, rising-rest}
@@ -43,15 +44,15 @@ set-at (i ∷ is) v l k h = set-at is v (set l i v) k (lt-length-set l i v h) �
 
 -- ---------------------------------------------------------------- the session's marks
 
-marked-is : (is l : List ℕ) → marked is l ≡ setAll is 1 l
+marked-is : (is l : List ℕ) → marked is l ≡ setAll is stateForwarded l
 marked-is [] l = refl
-marked-is (i ∷ is) l = marked-is is (set l i 1)
+marked-is (i ∷ is) l = marked-is is (set l i stateForwarded)
 
-declined-is : (is : List ℕ) (ss : List Sign) (l : List ℕ) → declined is ss l ≡ setAll (withSign decline is ss) 2 l
+declined-is : (is : List ℕ) (ss : List Sign) (l : List ℕ) → declined is ss l ≡ setAll (withSign decline is ss) stateDeclined l
 declined-is [] ss l = refl
 declined-is (i ∷ is) [] l = refl
 declined-is (i ∷ is) (accept ∷ ss) l = declined-is is ss l
-declined-is (i ∷ is) (decline ∷ ss) l = declined-is is ss (set l i 2)
+declined-is (i ∷ is) (decline ∷ ss) l = declined-is is ss (set l i stateDeclined)
 declined-is (i ∷ is) (defer ∷ ss) l = declined-is is ss l
 
 deferring-is : (is : List ℕ) (ss : List Sign) (l : List ℕ) → deferring is ss l ≡ setAll (withSign defer is ss) 1 l
@@ -89,8 +90,8 @@ deferred-ones (i ∷ is) (defer ∷ ss) = ap (λ (l : List ℕ). i ∷ l) (defer
 pub answer-marks : (is : List ℕ) (ss : List Sign) (m : Memory) → AnswerLeaves is ss m (answerMarks is ss m)
 answer-marks is ss m =
     record {
-      state = λ k h. ap (λ (l : List ℕ). getD l k 0) (declined-is is ss (m .states)) ∙ set-at (withSign decline is ss) 2 (m .states) k h;
-      records = ap length (declined-is is ss (m .states)) ∙ set-length (withSign decline is ss) 2 (m .states);
+      state = λ k h. ap (λ (l : List ℕ). getD l k 0) (declined-is is ss (m .states)) ∙ set-at (withSign decline is ss) stateDeclined (m .states) k h;
+      records = ap length (declined-is is ss (m .states)) ∙ set-length (withSign decline is ss) stateDeclined (m .states);
       flag = λ k h. ap (λ (l : List ℕ). getD l k 0) (deferring-is is ss (m .deferred)) ∙ set-at (withSign defer is ss) 1 (m .deferred) k h;
       flags = ap length (deferring-is is ss (m .deferred)) ∙ set-length (withSign defer is ss) 1 (m .deferred);
       sending = ap (λ (l : List ℕ). m .sending ++ l) (accepted-is is ss);
@@ -107,8 +108,8 @@ answer-marks is ss m =
 pub turn-marks : (m : Memory) → TurnLeaves m (turnMarks m)
 turn-marks m =
     record {
-      state = λ k h. ap (λ (l : List ℕ). getD l k 0) (marked-is (m .sending) (m .states)) ∙ set-at (m .sending) 1 (m .states) k h;
-      records = ap length (marked-is (m .sending) (m .states)) ∙ set-length (m .sending) 1 (m .states);
+      state = λ k h. ap (λ (l : List ℕ). getD l k 0) (marked-is (m .sending) (m .states)) ∙ set-at (m .sending) stateForwarded (m .states) k h;
+      records = ap length (marked-is (m .sending) (m .states)) ∙ set-length (m .sending) stateForwarded (m .states);
       sending = refl;
       forwarded = refl;
       proposed = refl;
@@ -151,7 +152,7 @@ pub answer-only : (is : List ℕ) (ss : List Sign) (m n : Memory) → AnswerLeav
 answer-only is ss m n a =
     let z = answer-marks is ss m in
     memory-is n (answerMarks is ss m) (a .mode) (a .terms)
-    (alike (λ (k : ℕ). cond (isIn k (withSign decline is ss)) 2 (getD (m .states) k 0)) (m .states) (n .states) (declined is ss (m .states))
+    (alike (λ (k : ℕ). cond (isIn k (withSign decline is ss)) stateDeclined (getD (m .states) k 0)) (m .states) (n .states) (declined is ss (m .states))
     (a .records) (z .records) (a .state) (z .state))
     (a .sending ∙ sym (z .sending)) (a .inbox)
     (alike (λ (k : ℕ). cond (isIn k (withSign defer is ss)) 1 (getD (m .deferred) k 0)) (m .deferred) (n .deferred) (deferring is ss (m .deferred))
@@ -162,7 +163,7 @@ pub turn-only : (m n : Memory) → TurnLeaves m n → n ≡ turnMarks m
 turn-only m n a =
     let z = turn-marks m in
     memory-is n (turnMarks m) (a .mode) (a .terms)
-    (alike (λ (k : ℕ). cond (isIn k (m .sending)) 1 (getD (m .states) k 0)) (m .states) (n .states) (marked (m .sending) (m .states))
+    (alike (λ (k : ℕ). cond (isIn k (m .sending)) stateForwarded (getD (m .states) k 0)) (m .states) (n .states) (marked (m .sending) (m .states))
     (a .records) (z .records) (a .state) (z .state))
     (a .sending) (a .inbox) (a .flags) (counts-are (n .counts) (turnMarks m .counts) (a .proposed) (a .forwarded) (a .declined) (a .deferred))
 

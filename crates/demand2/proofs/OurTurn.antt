@@ -10,6 +10,7 @@ use lib.Dec.{eqb, ltb, leb}
 use lib.ListN.{length, getD}
 use borrow.Author.Tests.{eqb-true, eq-eqb, ne-eqb, ltb-true, ltb-false, lt-ltb, leb-true, le-leb}
 use Rattle.grammar.specs.Bytes.{Bytes}
+use Rattle.grammar.specs.Ascii.{char}
 use Rattle.grammar.specs.Fields.{Form, plain, message, file}
 use Rattle.grammar.specs.Turns.{ourBlock, formLetter, proposalLine, fixedText, ourFF, ourFQ, withCr}
 use Rattle.grammar.proofs.Basics.{and2, both, or-left, or-right, or-second, no-both, not-so}
@@ -17,6 +18,7 @@ use Rattle.mail.specs.Mail.{Record, recordAt}
 use Rattle.session.specs.Choices.{Shelf, candidates, sizeAt, chosen}
 use Rattle.session.specs.Session.{Memory}
 use Rattle.session.proofs.Choices.{few}
+use Rattle.demand2.specs.Limits.{blockLimit, announcedLimit}
 use Rattle.demand2.specs.Marks.{isIn}
 use Rattle.demand2.specs.OurTurn.{mayPropose, rising, sizes, OurBlock, TurnExact}
 use Rattle.demand2.specs.Events.{proposed, blockText, turnSaid}
@@ -29,32 +31,32 @@ module _ (T : List Record) where
   record Rest (n s : ℕ) (xs block : List ℕ) : Type 0 where
     rest : List ℕ
     split : xs ≡ block ++ rest
-    full : (y : ℕ) (ys : List ℕ) → rest ≡ y ∷ ys → leb 5 (n + length block) || leb 10240 (s + sizes T block) ≡ true
+    full : (y : ℕ) (ys : List ℕ) → rest ≡ y ∷ ys → leb blockLimit (n + length block) || leb announcedLimit (s + sizes T block) ≡ true
 
   -- one of the two limits is met
-  limit : (n s : ℕ) → ltb n 5 && ltb s 10240 ≡ false → leb 5 n || leb 10240 s ≡ true
-  limit n s e = go (ltb n 5) (ltb s 10240) refl refl e
+  limit : (n s : ℕ) → ltb n blockLimit && ltb s announcedLimit ≡ false → leb blockLimit n || leb announcedLimit s ≡ true
+  limit n s e = go (ltb n blockLimit) (ltb s announcedLimit) refl refl e
     where
-      go : (a b : Bool) → ltb n 5 ≡ a → ltb s 10240 ≡ b → a && b ≡ false → leb 5 n || leb 10240 s ≡ true
+      go : (a b : Bool) → ltb n blockLimit ≡ a → ltb s announcedLimit ≡ b → a && b ≡ false → leb blockLimit n || leb announcedLimit s ≡ true
       go true true p q e = absurd (no-both true refl e)
-      go true false p q e = or-right (leb 5 n) (leb 10240 s) (le-leb 10240 s (ltb-false s 10240 q))
-      go false b p q e = or-left (leb 5 n) (leb 10240 s) (le-leb 5 n (ltb-false n 5 p))
+      go true false p q e = or-right (leb blockLimit n) (leb announcedLimit s) (le-leb announcedLimit s (ltb-false s announcedLimit q))
+      go false b p q e = or-left (leb blockLimit n) (leb announcedLimit s) (le-leb blockLimit n (ltb-false n blockLimit p))
 
-  no-limit : (n s : ℕ) → n < 5 → s < 10240 → ltb n 5 && ltb s 10240 ≡ true
-  no-limit n s h k = both (ltb n 5) (ltb s 10240) (lt-ltb n 5 h) (lt-ltb s 10240 k)
+  no-limit : (n s : ℕ) → n < blockLimit → s < announcedLimit → ltb n blockLimit && ltb s announcedLimit ≡ true
+  no-limit n s h k = both (ltb n blockLimit) (ltb s announcedLimit) (lt-ltb n blockLimit h) (lt-ltb s announcedLimit k)
 
-  met : (n s : ℕ) → leb 5 n || leb 10240 s ≡ true → ltb n 5 && ltb s 10240 ≡ false
-  met n s e = not-so (ltb n 5 && ltb s 10240) (λ k. go k (leb 5 n) refl e)
+  met : (n s : ℕ) → leb blockLimit n || leb announcedLimit s ≡ true → ltb n blockLimit && ltb s announcedLimit ≡ false
+  met n s e = not-so (ltb n blockLimit && ltb s announcedLimit) (λ k. go k (leb blockLimit n) refl e)
     where
-      go : ltb n 5 && ltb s 10240 ≡ true → (c : Bool) → leb 5 n ≡ c → c || leb 10240 s ≡ true → ⊥
-      go k true q e = let p = and2 (ltb n 5) (ltb s 10240) k in omega (arith, leb-true 5 n q, ltb-true n 5 (p .0))
-      go k false q e = let p = and2 (ltb n 5) (ltb s 10240) k in omega (arith, leb-true 10240 s e, ltb-true s 10240 (p .1))
+      go : ltb n blockLimit && ltb s announcedLimit ≡ true → (c : Bool) → leb blockLimit n ≡ c → c || leb announcedLimit s ≡ true → ⊥
+      go k true q e = let p = and2 (ltb n blockLimit) (ltb s announcedLimit) k in omega (arith, leb-true blockLimit n q, ltb-true n blockLimit (p .0))
+      go k false q e = let p = and2 (ltb n blockLimit) (ltb s announcedLimit) k in omega (arith, leb-true announcedLimit s e, ltb-true s announcedLimit (p .1))
 
   block-rest : (n s : ℕ) (xs : List ℕ) → Rest n s xs (ourBlock (sizeAt T) n s xs)
   block-rest n s [] = record { rest = []; split = refl; full = λ y ys e. absurd (let z : _≡_ {A = ℕ} 0 1 = cc in omega arith) }
-  block-rest n s (x ∷ xs) = go (ltb n 5 && ltb s 10240) refl (block-rest (n + 1) (s + sizeAt T x) xs)
+  block-rest n s (x ∷ xs) = go (ltb n blockLimit && ltb s announcedLimit) refl (block-rest (n + 1) (s + sizeAt T x) xs)
     where
-      go : (c : Bool) → ltb n 5 && ltb s 10240 ≡ c → Rest (n + 1) (s + sizeAt T x) xs (ourBlock (sizeAt T) (n + 1) (s + sizeAt T x) xs)
+      go : (c : Bool) → ltb n blockLimit && ltb s announcedLimit ≡ c → Rest (n + 1) (s + sizeAt T x) xs (ourBlock (sizeAt T) (n + 1) (s + sizeAt T x) xs)
           → Rest n s (x ∷ xs) (cond c (x ∷ ourBlock (sizeAt T) (n + 1) (s + sizeAt T x) xs) [])
       go true e h =
           let b : List ℕ = ourBlock (sizeAt T) (n + 1) (s + sizeAt T x) xs in
@@ -63,7 +65,7 @@ module _ (T : List Record) where
           record {
             rest = h .rest;
             split = ap (λ (l : List ℕ). x ∷ l) (h .split);
-            full = λ y ys f. ap (λ (k : ℕ). leb 5 k || leb 10240 (s + (sizeAt T x + sizes T b))) (sym p) ∙ ap (λ (k : ℕ). leb 5 (n + 1 + length b) || leb 10240 k) (sym q) ∙ h .full y ys f;
+            full = λ y ys f. ap (λ (k : ℕ). leb blockLimit k || leb announcedLimit (s + (sizeAt T x + sizes T b))) (sym p) ∙ ap (λ (k : ℕ). leb blockLimit (n + 1 + length b) || leb announcedLimit k) (sym q) ∙ h .full y ys f;
           }
       go false e h =
           let p : n + 0 ≡ n = omega arith in
@@ -72,16 +74,16 @@ module _ (T : List Record) where
 
   -- a record is added only while the sizes so far are below 10,240
   Below : ℕ → List ℕ → Type 0
-  Below s is = (xs : List ℕ) (i : ℕ) (ys : List ℕ) → is ≡ xs ++ i ∷ ys → s + sizes T xs < 10240
+  Below s is = (xs : List ℕ) (i : ℕ) (ys : List ℕ) → is ≡ xs ++ i ∷ ys → s + sizes T xs < announcedLimit
 
-  below-cons : (s x : ℕ) (is : List ℕ) → s < 10240 → Below (s + sizeAt T x) is → Below s (x ∷ is)
+  below-cons : (s x : ℕ) (is : List ℕ) → s < announcedLimit → Below (s + sizeAt T x) is → Below s (x ∷ is)
   unfolding Below
   below-cons s x is h k [] i ys e = omega arith
   below-cons s x is h k (z ∷ xs) i ys e =
       let p : x ≡ z = cc in
       let q : is ≡ xs ++ i ∷ ys = cc in
       let m = k xs i ys q in
-      subst (λ (y : ℕ). s + (sizeAt T y + sizes T xs) < 10240) p (omega arith)
+      subst (λ (y : ℕ). s + (sizeAt T y + sizes T xs) < announcedLimit) p (omega arith)
 
   below-none : (s : ℕ) → Below s []
   unfolding Below
@@ -90,11 +92,11 @@ module _ (T : List Record) where
 
   block-below : (n s : ℕ) (xs : List ℕ) → Below s (ourBlock (sizeAt T) n s xs)
   block-below n s [] = below-none s
-  block-below n s (x ∷ xs) = go (ltb n 5 && ltb s 10240) refl (block-below (n + 1) (s + sizeAt T x) xs)
+  block-below n s (x ∷ xs) = go (ltb n blockLimit && ltb s announcedLimit) refl (block-below (n + 1) (s + sizeAt T x) xs)
     where
-      go : (c : Bool) → ltb n 5 && ltb s 10240 ≡ c → Below (s + sizeAt T x) (ourBlock (sizeAt T) (n + 1) (s + sizeAt T x) xs)
+      go : (c : Bool) → ltb n blockLimit && ltb s announcedLimit ≡ c → Below (s + sizeAt T x) (ourBlock (sizeAt T) (n + 1) (s + sizeAt T x) xs)
           → Below s (cond c (x ∷ ourBlock (sizeAt T) (n + 1) (s + sizeAt T x) xs) [])
-      go true e h = below-cons s x (ourBlock (sizeAt T) (n + 1) (s + sizeAt T x) xs) (ltb-true s 10240 (and2 (ltb n 5) (ltb s 10240) e .1)) h
+      go true e h = below-cons s x (ourBlock (sizeAt T) (n + 1) (s + sizeAt T x) xs) (ltb-true s announcedLimit (and2 (ltb n blockLimit) (ltb s announcedLimit) e .1)) h
       go false e h = below-none s
 
 -- ---------------------------------------------------------------- our block
@@ -125,8 +127,8 @@ module _ (T : List Record) (md : Bool) (states flags : List ℕ) where
         full = λ i m n. limited is (h .rest) (h .full) i (in-rest is (h .rest) (h .split) i m n);
       }
     where
-      limited : (is rest : List ℕ) → ((y : ℕ) (ys : List ℕ) → rest ≡ y ∷ ys → leb 5 (0 + length is) || leb 10240 (0 + sizes T is) ≡ true) → (i : ℕ)
-          → isIn i rest ≡ true → leb 5 (length is) || leb 10240 (sizes T is) ≡ true
+      limited : (is rest : List ℕ) → ((y : ℕ) (ys : List ℕ) → rest ≡ y ∷ ys → leb blockLimit (0 + length is) || leb announcedLimit (0 + sizes T is) ≡ true) → (i : ℕ)
+          → isIn i rest ≡ true → leb blockLimit (length is) || leb announcedLimit (sizes T is) ≡ true
       limited is [] f i e = absurd (no-both false e refl)
       limited is (y ∷ rest) f i e =
           let p : 0 + length is ≡ length is = omega arith in
@@ -186,8 +188,8 @@ beginning (x ∷ c) (j ∷ is) r t a f =
 
 module _ (T : List Record) where
   -- a beginning within the limits that is as long as they allow
-  longest : (is rest : List ℕ) (n s : ℕ) → n + length is ≤ 5 → Below T s is
-      → ((y : ℕ) (ys : List ℕ) → rest ≡ y ∷ ys → leb 5 (n + length is) || leb 10240 (s + sizes T is) ≡ true) → is ≡ ourBlock (sizeAt T) n s (is ++ rest)
+  longest : (is rest : List ℕ) (n s : ℕ) → n + length is ≤ blockLimit → Below T s is
+      → ((y : ℕ) (ys : List ℕ) → rest ≡ y ∷ ys → leb blockLimit (n + length is) || leb announcedLimit (s + sizes T is) ≡ true) → is ≡ ourBlock (sizeAt T) n s (is ++ rest)
   unfolding Below
   longest [] [] n s l b f = refl
   longest [] (y ∷ rest) n s l b f =
@@ -215,7 +217,7 @@ block-only T md states flags is h =
     ∙ ap (ourBlock (sizeAt T) 0 0) (sym (b .1))
   where
     -- a candidate that is left out
-    left : (y : ℕ) (ys rest : List ℕ) → candidates md states flags 0 T ≡ is ++ rest → rest ≡ y ∷ ys → leb 5 (0 + length is) || leb 10240 (0 + sizes T is) ≡ true
+    left : (y : ℕ) (ys rest : List ℕ) → candidates md states flags 0 T ≡ is ++ rest → rest ≡ y ∷ ys → leb blockLimit (0 + length is) || leb announcedLimit (0 + sizes T is) ≡ true
     left y ys rest e f =
         let p : 0 + length is ≡ length is = omega arith in
         let q : 0 + sizes T is ≡ sizes T is = omega arith in
@@ -232,11 +234,11 @@ block-only T md states flags is h =
 second : Bytes → ℕ
 second o = getD o 1 0
 
-block-second : (T : List Record) (i : ℕ) (is : List ℕ) → (second (blockText T (i ∷ is)) ≡ 65) ⊎ (second (blockText T (i ∷ is)) ≡ 66)
+block-second : (T : List Record) (i : ℕ) (is : List ℕ) → (second (blockText T (i ∷ is)) ≡ char "A") ⊎ (second (blockText T (i ∷ is)) ≡ char "B")
 unfolding second proposalLine
 block-second T i is = go (recordAt T i .form)
   where
-    go : (f : Form) → (formLetter f ≡ 65) ⊎ (formLetter f ≡ 66)
+    go : (f : Form) → (formLetter f ≡ char "A") ⊎ (formLetter f ≡ char "B")
     go plain = inr refl
     go message = inl refl
     go file = inr refl
@@ -269,19 +271,19 @@ turn-exact E ff m =
     block-said : (ff : Bool) (i : ℕ) (is : List ℕ) → turnSaid E ff (i ∷ is) ≡ blockText (E .table) (i ∷ is)
     block-said ff i is = refl
 
-    other : (i : ℕ) (is : List ℕ) (n : ℕ) → second (blockText (E .table) (i ∷ is)) ≡ n → (n ≡ 65 → ⊥) → (n ≡ 66 → ⊥) → ⊥
+    other : (i : ℕ) (is : List ℕ) (n : ℕ) → second (blockText (E .table) (i ∷ is)) ≡ n → (n ≡ char "A" → ⊥) → (n ≡ char "B" → ⊥) → ⊥
     other i is n e a b = go (block-second (E .table) i is)
       where
-        go : (second (blockText (E .table) (i ∷ is)) ≡ 65) ⊎ (second (blockText (E .table) (i ∷ is)) ≡ 66) → ⊥
+        go : (second (blockText (E .table) (i ∷ is)) ≡ char "A") ⊎ (second (blockText (E .table) (i ∷ is)) ≡ char "B") → ⊥
         go (inl k) = a (sym e ∙ k)
         go (inr k) = b (sym e ∙ k)
 
     is-ff : (is : List ℕ) (ff : Bool) → turnSaid E ff is ≡ withCr (fixedText ourFF) → (is ≡ []) × (ff ≡ false)
     is-ff [] true e = absurd (omega (arith, ap second e))
     is-ff [] false e = (refl, refl)
-    is-ff (i ∷ is) ff e = absurd (other i is 70 (ap second e) (λ k. omega arith) (λ k. omega arith))
+    is-ff (i ∷ is) ff e = absurd (other i is (char "F") (ap second e) (λ k. omega arith) (λ k. omega arith))
 
     is-fq : (is : List ℕ) (ff : Bool) → turnSaid E ff is ≡ withCr (fixedText ourFQ) → (is ≡ []) × (ff ≡ true)
     is-fq [] true e = (refl, refl)
     is-fq [] false e = absurd (omega (arith, ap second e))
-    is-fq (i ∷ is) ff e = absurd (other i is 81 (ap second e) (λ k. omega arith) (λ k. omega arith))
+    is-fq (i ∷ is) ff e = absurd (other i is (char "Q") (ap second e) (λ k. omega arith) (λ k. omega arith))

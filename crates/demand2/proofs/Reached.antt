@@ -11,6 +11,7 @@ use lib.ListN.{length, drop}
 use lib.Seq.{drop-drop}
 use borrow.Author.Tests.{eq-eqb, ne-eqb}
 use Rattle.grammar.specs.Bytes.{Bytes, null}
+use Rattle.grammar.specs.Refusals.{badChecksum}
 use Rattle.grammar.specs.Turns.{Proposal, fixedText, withCr, protocolError, checksumError}
 use Rattle.grammar.specs.Errors.{isSilent, errorText}
 use Rattle.grammar.specs.Scan.{Scan, Scanned, goes, scan, scanByte, scanFrom, onward}
@@ -48,7 +49,7 @@ nothing-left e = (no11, 0, e)
 -- the reason for a number
 reason-of : (n : ℕ) → (r : Refusal) × (errorText n ≡ reasonFor r)
 unfolding errorText
-reason-of n = go (isSilent n) (eqb n 9)
+reason-of n = go (isSilent n) (eqb n badChecksum)
   where
     go : (a b : Bool) → (r : Refusal) × (cond a [] (withCr (fixedText (cond b checksumError protocolError))) ≡ reasonFor r)
     go true b = (no11, refl)

@@ -10,6 +10,7 @@ use lib.Dec.{eqb, ltb}
 use lib.ListN.{length}
 use borrow.Author.Tests.{eqb-true, eqb-false, ltb-true, ltb-false, not-true}
 use Rattle.grammar.specs.Bytes.{Bytes, CR}
+use Rattle.grammar.specs.Refusals as number
 use Rattle.grammar.specs.Lines.{trim}
 use Rattle.grammar.specs.Turns.{Proposal, TurnLine, saysFF, saysFQ, endsBlock, notAllowed, proposes, endsSummed, readTurnLine}
 use Rattle.grammar.specs.Errors.{errorText}
@@ -21,6 +22,7 @@ use Rattle.grammar.proofs.Refusal.{exact as exact-byte, Verdict, exact-8, exact
 use Rattle.session.specs.Choices.{Shelf}
 use Rattle.session.specs.Session.{Awaited, awaitsTurn, Phase, aLine, awaitsTransfer, leaving, over, Session, between, Outcome, turnMarks, answerMarks, Stepped, roomFor, step, ended, endedIn}
 use Rattle.session.proofs.Ways.{Wrong, noSid, noF, noTurnLine, ffAfterFf, ffInBlock, fqFirst, fqInBlock, emptyBlock, emptySummed, tooMany, wrongHex, noAnswer, EndsBlock as Ends, bare as justEnds, summed as endsWith, Judged, isWrong, hearsSid, hearsText, hearsPrompt, hearsProposal, hearsFF, hearsFQ, hearsEnd, hearsFs, At, Why, waits, hasLeft, isOver, tooLong, unread, unsummed, unkept, Way, isRefused, dropsLf, growsLine, ignoresLine, hearsLine, readsOn, readsLast, way}
+use Rattle.demand2.specs.Limits.{lineLimit, blockLimit}
 use Rattle.demand2.specs.Room.{room}
 use Rattle.demand2.specs.Refusals.{Heeded, awaitsLine, WholeLine, isAllowed, isMiscounted, beginsFs, inTurn, forAnswer, SoFar, TransferByte, Refusal, no2, no3, no4, no5, no6, no7, no8, no9, no10, no11, no13, numberOf, Situation, reasonFor, Exact, Live}
 use Rattle.demand2.specs.Events.{EndsBlock, bare, summed, Event, lfGoes, lineGrows, ignored, sidOfCaller, sidOfCalled, textLine, prompt, proposal, ffTurn, fqTurn, blockEnd, fsLineComes, transferGrows, transferWhole}
@@ -104,7 +106,7 @@ module _ (E : Shelf) (q : Bytes) (s : Session) (b : ℕ) where
   judged-found a e w o (hearsSid false fs r f) = happened _ (sidOfCaller line w e fs r f)
   judged-found a e w o (hearsText r) = happened _ (textLine line w e r)
   judged-found a e w o (hearsPrompt r) = happened _ (prompt line w e r)
-  judged-found a e w o (hearsProposal ff ps p r l) = happened _ (proposal line ff ps (record { whole = w; awaited = e }) p r (ltb-true (length ps) 5 l))
+  judged-found a e w o (hearsProposal ff ps p r l) = happened _ (proposal line ff ps (record { whole = w; awaited = e }) p r (ltb-true (length ps) blockLimit l))
   judged-found a e w o (hearsFF r) = happened _ (ffTurn line (record { whole = w; awaited = e }) r (turnMarks (s .memory)) (turn-marks (s .memory)))
   judged-found a e w o (hearsFQ r) = happened _ (fqTurn line (record { whole = w; awaited = e }) r)
   judged-found a e w o (hearsEnd ff p ps r) =
@@ -136,7 +138,7 @@ module _ (E : Shelf) (q : Bytes) (s : Session) (b : ℕ) (L : Live s) (S : SoFar
   why-found n (hasLeft w) = absurd (gone leaving refl w)
   why-found n (isOver w) = absurd (gone over refl w)
   why-found n (tooLong a w x y) =
-      found no2 (record { heeded = heeded E q s b w; awaited = ap awaitsLine (w .awaited); more = x; full = ltb-false (length (s .part)) 256 y })
+      found no2 (record { heeded = heeded E q s b w; awaited = ap awaitsLine (w .awaited); more = x; full = ltb-false (length (s .part)) lineLimit y })
   why-found n (unread p ps sc w e) =
       found no8
       (record {
@@ -159,7 +161,7 @@ module _ (E : Shelf) (q : Bytes) (s : Session) (b : ℕ) (L : Live s) (S : SoFar
   way-found : (o : Stepped) → Way E s b o → Found E q s b
   way-found o (isRefused n k w) = why-found n w
   way-found o (dropsLf e) = happened _ (lfGoes e)
-  way-found o (growsLine a w x y) = happened _ (lineGrows (heeded E q s b w) (ap awaitsLine (w .awaited)) x (ltb-true (length (s .part)) 256 y))
+  way-found o (growsLine a w x y) = happened _ (lineGrows (heeded E q s b w) (ap awaitsLine (w .awaited)) x (ltb-true (length (s .part)) lineLimit y))
   way-found o (ignoresLine a w x y) = happened _ (ignored (heeded E q s b w) (ap awaitsLine (w .awaited)) (eqb-true b CR x) y)
   way-found o (hearsLine a w x y z j) =
       judged-found E q s b a (w .awaited) (record { heeded = heeded E q s b w; end = eqb-true b CR x; bytes = refl; judged = y }) z j
@@ -177,8 +179,9 @@ module _ (E : Shelf) (q : Bytes) (s : Session) (b : ℕ) (L : Live s) (S : SoFar
 -- the numbers differ
 back : ℕ → Refusal
 back n =
-    cond (eqb n 2) no2 (cond (eqb n 3) no3 (cond (eqb n 4) no4 (cond (eqb n 5) no5 (cond (eqb n 6) no6
-    (cond (eqb n 7) no7 (cond (eqb n 8) no8 (cond (eqb n 9) no9 (cond (eqb n 10) no10 (cond (eqb n 11) no11 no13)))))))))
+    cond (eqb n number.lineTooLong) no2 (cond (eqb n number.notSid) no3 (cond (eqb n number.noForwarding) no4 (cond (eqb n number.lineNotAllowed) no5
+    (cond (eqb n number.proposalCount) no6 (cond (eqb n number.badAnswer) no7 (cond (eqb n number.badTransfer) no8 (cond (eqb n number.badChecksum) no9
+    (cond (eqb n number.storeFull) no10 (cond (eqb n number.bytesWait) no11 no13)))))))))
 
 number-back : (n : Refusal) → back (numberOf n) ≡ n
 unfolding back
@@ -194,7 +197,7 @@ number-back no10 = refl
 number-back no11 = refl
 number-back no13 = refl
 
-pub some-number : (n : Refusal) → (2 ≤ numberOf n) × (numberOf n ≡ 12 → ⊥)
+pub some-number : (n : Refusal) → (number.lineTooLong ≤ numberOf n) × (numberOf n ≡ number.sessionEnded → ⊥)
 some-number no2 = (omega arith, λ e. omega arith)
 some-number no3 = (omega arith, λ e. omega arith)
 some-number no4 = (omega arith, λ e. omega arith)

@@ -18,6 +18,7 @@ use Rattle.grammar.proofs.Rest.{Wrong}
 use Rattle.grammar.proofs.Refusal.{exact-8, exact-9, exact-10, isTen}
 use Rattle.session.specs.Choices.{Shelf}
 use Rattle.session.specs.Session.{awaitsSid, awaitsAnswer, Session, withAfterCr, turnJudged, Stepped, refused, moved, settled, lineMoved, transferMoved, freeStep, step, levelInForce}
+use Rattle.demand2.specs.Limits.{lineLimit, blockLimit}
 use Rattle.demand2.specs.Room.{room}
 use Rattle.demand2.specs.Refusals.{LineTooLong, NotSid, NoForwarding, isAllowed, isMiscounted, NoAnswer, beginsFs, LineNotAllowed, inTurn, forAnswer, WrongCount, WrongAnswer, WrongBlockSum, SoFar, WrongTransfer, WrongChecksum, NoRoom, BytesWait, Refusal, no2, no3, no4, no5, no6, no7, no8, no9, no10, no11, no13, numberOf, Situation}
 use Rattle.demand2.proofs.Room.{full-at}
@@ -32,8 +33,8 @@ module _ (E : Shelf) (s : Session) (b : ℕ) where
   too-long h =
       let a = which-line (s .phase) (h .awaited) in
       line-step E s b (a .0) (h .heeded) (a .1)
-      ∙ ap (λ (c : Bool). lineMoved E (a .0) s b (cond c ends (cond (ltb (length (s .part)) 256) grows overruns))) (h .more)
-      ∙ ap (λ (c : Bool). lineMoved E (a .0) s b (cond c grows overruns)) (le-ltb (length (s .part)) 256 (h .full))
+      ∙ ap (λ (c : Bool). lineMoved E (a .0) s b (cond c ends (cond (ltb (length (s .part)) lineLimit) grows overruns))) (h .more)
+      ∙ ap (λ (c : Bool). lineMoved E (a .0) s b (cond c grows overruns)) (le-ltb (length (s .part)) lineLimit (h .full))
 
   not-sid : NotSid s b → Refuses E s b number.notSid
   not-sid h = whole-step E s b (awaitsSid (h .caller)) (h .line) (h .whole) (h .awaited) ∙ rw (h .whole .bytes, h .invalid)
@@ -63,7 +64,7 @@ module _ (E : Shelf) (s : Session) (b : ℕ) where
   miscounted endsBlock ff [] raw e = refl
   miscounted endsBlock ff (p ∷ ps) raw e = cc
   miscounted notAllowed ff ps raw e = cc
-  miscounted (proposes q) ff ps raw e = rw (not-true (ltb (length ps) 5) e)
+  miscounted (proposes q) ff ps raw e = rw (not-true (ltb (length ps) blockLimit) e)
   miscounted (endsSummed h) ff [] raw e = refl
   miscounted (endsSummed h) ff (p ∷ ps) raw e = cc
 

@@ -24,6 +24,7 @@ use Rattle.session.specs.Choices.{Shelf}
 use Rattle.session.specs.Session.{Phase, aLine, awaitsTransfer, leaving, over, Memory, Session, between}
 use Rattle.session.specs.Session.{Outcome, refuses, goesOn, Stepped, moved, settled, lineMoved, isPlain, keptIn, nextTransfer, transferMoved, freeStep, step, ended, endedIn}
 use Rattle.session.specs.Calls.{Received, oneMore, stoppedAt, stops, receiveOn, receive}
+use Rattle.demand2.specs.Limits.{lineLimit}
 use Rattle.demand2.specs.Room.{room}
 use Rattle.demand2.specs.Refusals.{awaitsLine}
 use Rattle.demand2.specs.Events.{messageFrom, withMessage, endsWithCr, transfersOr}
@@ -55,16 +56,16 @@ module _ (E : Shelf) (p : Phase) (a : awaitsLine p ≡ true) (m : Memory) where
       go over e = cc
 
   -- one byte of it
-  grown : (cr : Bool) (w : Bytes) (b : ℕ) → cr && eqb b LF ≡ false → eqb b CR ≡ false → length w + 1 ≤ 256
+  grown : (cr : Bool) (w : Bytes) (b : ℕ) → cr && eqb b LF ≡ false → eqb b CR ≡ false → length w + 1 ≤ lineLimit
       → step E (lineBegun p m cr w) b ≡ moved (lineBegun p m false (w ++ (b ∷ [])))
   grown cr w b d e l =
       let l′ = which-line p a in
       line-step E (lineBegun p m cr w) b (l′ .0) (record { kept = d; silent = refl }) (l′ .1)
-      ∙ ap (λ (c : Bool). lineMoved E (l′ .0) (lineBegun p m cr w) b (cond c ends (cond (ltb (length w) 256) grows overruns))) e
-      ∙ ap (λ (c : Bool). lineMoved E (l′ .0) (lineBegun p m cr w) b (cond c grows overruns)) (lt-ltb (length w) 256 (omega arith))
+      ∙ ap (λ (c : Bool). lineMoved E (l′ .0) (lineBegun p m cr w) b (cond c ends (cond (ltb (length w) lineLimit) grows overruns))) e
+      ∙ ap (λ (c : Bool). lineMoved E (l′ .0) (lineBegun p m cr w) b (cond c grows overruns)) (lt-ltb (length w) lineLimit (omega arith))
 
   -- bytes of it, none of them its CR, where no LF is dropped
-  line-more : (u w : Bytes) → Lacks CR u → length w + length u ≤ 256
+  line-more : (u w : Bytes) → Lacks CR u → length w + length u ≤ lineLimit
       → receiveOn E (lineBegun p m false w) u ≡ record { answer = 0; count = length u; session = lineBegun p m false (w ++ u) }
   line-more [] w k l = ap (λ (x : Bytes). record { answer = 0; count = 0; session = lineBegun p m false x }) (sym (append-nil w))
   line-more (b ∷ u) w k l =
@@ -74,14 +75,14 @@ module _ (E : Shelf) (p : Phase) (a : awaitsLine p ≡ true) (m : Memory) where
       ∙ ap (λ (x : Bytes). record { answer = 0; count = suc (length u); session = lineBegun p m false x }) (snoc-cons w u b)
 
   -- also where one is
-  line-from : (cr : Bool) (u w : Bytes) → Lacks CR u → length w + length (dropLf cr u) ≤ 256
+  line-from : (cr : Bool) (u w : Bytes) → Lacks CR u → length w + length (dropLf cr u) ≤ lineLimit
       → receiveOn E (lineBegun p m cr w) u ≡ record { answer = 0; count = length u; session = lineBegun p m (cr && null u) (w ++ dropLf cr u) }
   line-from false [] w k l = line-more [] w k l
   line-from false (b ∷ u) w k l = line-more (b ∷ u) w k l
   line-from true [] w k l = ap (λ (x : Bytes). record { answer = 0; count = 0; session = lineBegun p m true x }) (sym (append-nil w))
   line-from true (b ∷ u) w k l = go (eqb b LF) refl l
     where
-      go : (c : Bool) → eqb b LF ≡ c → length w + length (cond c u (b ∷ u)) ≤ 256
+      go : (c : Bool) → eqb b LF ≡ c → length w + length (cond c u (b ∷ u)) ≤ lineLimit
           → receiveOn E (lineBegun p m true w) (b ∷ u) ≡ record { answer = 0; count = suc (length u); session = lineBegun p m false (w ++ cond c u (b ∷ u)) }
       go true q l =
           more E (lineBegun p m true w) (lineBegun p m false w) b u
@@ -97,7 +98,7 @@ module _ (E : Shelf) (p : Phase) (a : awaitsLine p ≡ true) (m : Memory) where
   pub line-whole : LineWhole E p m
   line-whole = record { taken = taken; judged = judged }
     where
-      taken : (cr : Bool) (w u : Bytes) → hasNoCr u ≡ true → length w + length (dropLf cr u) ≤ 256
+      taken : (cr : Bool) (w u : Bytes) → hasNoCr u ≡ true → length w + length (dropLf cr u) ≤ lineLimit
           → receive E (lineBegun p m cr w) u ≡ record { answer = 0; count = length u; session = lineBegun p m (cr && null u) (w ++ dropLf cr u) }
       taken cr w u k l =
           live-receive E (lineBegun p m cr w) u (lives cr w) ∙ line-from cr u w (all-lacks (λ (b : ℕ). not (eqb b CR)) CR u refl k) l
@@ -111,7 +112,7 @@ module _ (E : Shelf) (p : Phase) (a : awaitsLine p ≡ true) (m : Memory) where
           (ap (λ (r : Received). record { answer = r .answer; count = n + r .count; session = r .session }) (receive-byte E t CR l)
           ∙ ap (λ (k : ℕ). record { answer = step E t CR .answer; count = k; session = step E t CR .session }) z)
 
-      judged : (cr : Bool) (w u : Bytes) → hasNoCr u ≡ true → length w + length (dropLf cr u) ≤ 256
+      judged : (cr : Bool) (w u : Bytes) → hasNoCr u ≡ true → length w + length (dropLf cr u) ≤ lineLimit
           → receive E (lineBegun p m cr w) (u ++ (CR ∷ []))
           ≡ record {
             answer = step E (lineBegun p m (cr && null u) (w ++ dropLf cr u)) CR .answer;

@@ -41,6 +41,9 @@ abbrev pub letterF : ℕ
 letterF = 5
 
 -- "a state (0 waiting, 1 forwarded, 2 declined)"
+abbrev pub stateWaiting : ℕ
+stateWaiting = 0
+
 abbrev pub stateForwarded : ℕ
 stateForwarded = 1
 
@@ -68,6 +71,7 @@ pub record LimitsAre : Type 0 where
   pub announced : turns.announcedLimit ≡ announcedLimit
   pub records : mail.recordLimit ≡ recordLimit
   pub f : sid.letterF ≡ letterF
+  pub waiting : phase.stateWaiting ≡ stateWaiting
   pub forwarded : phase.stateForwarded ≡ stateForwarded
   pub declined : phase.stateDeclined ≡ stateDeclined
   pub b : sid.letterB ≡ letterB

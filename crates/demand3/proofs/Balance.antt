@@ -241,8 +241,8 @@ module _ (E : Shelf) where
 
   pub open-balances : (caller : Bool) (found : List ℕ) → length found ≡ length (E .table) → length (E .table) ≤ recordLimit → SessionBalanced (opened caller found)
   open-balances caller found e l =
-      let f = length-replicate {A = ℕ} 64 0 in
-      let m = open-most found (replicate 64 0) in
+      let f = length-replicate {A = ℕ} recordLimit 0 in
+      let m = open-most found (replicate recordLimit 0) in
       record { sum = refl; places = record { states = e; flags = omega arith; room = omega arith }; held = refl }
 
   -- ---------------------------------------------------------------- the bound

@@ -10,7 +10,7 @@ use lib.ListN.{length}
 use borrow.Author.Tests.{not-true, lt-ltb}
 use Rattle.grammar.specs.Bytes.{Bytes}
 use Rattle.grammar.specs.Fields.{sameBid}
-use Rattle.grammar.specs.Turns.{Proposal, proposable}
+use Rattle.grammar.specs.Turns.{Proposal, proposable, blockLimit}
 use Rattle.grammar.proofs.Basics.{and2, same-itself}
 use Rattle.grammar.proofs.Bids.{bids-apart}
 use Rattle.mail.specs.Mail.{Record, Message, recordAt, proposalOf, placeOf}
@@ -58,7 +58,7 @@ abbrev pub ourChoice : Shelf → Memory → List ℕ
 ourChoice E m = chosen (E .table) (m .framed) (m .states) (m .deferred)
 
 pub record Sound (E : Shelf) : Type 0 where
-  pub few : (m : Memory) → length (ourChoice E m) ≤ 5
+  pub few : (m : Memory) → length (ourChoice E m) ≤ blockLimit
   pub own : (m : Memory) → placesOf (E .table) (proposalsAt (E .table) (ourChoice E m)) ≡ some (ourChoice E m)
   pub fit : (m : Memory) → AllFit (m .framed) (proposalsAt (E .table) (ourChoice E m))
   pub full : (inbox : List Message) (ps : List Proposal) → length (answersTo E inbox ps) ≡ length ps

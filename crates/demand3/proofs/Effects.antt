@@ -9,6 +9,7 @@ use borrow.Author.Tests.{eq-eqb, ne-eqb}
 use Rattle.grammar.specs.Turns.{Proposal}
 use Rattle.grammar.specs.Answers.{Sign, accept, decline, defer}
 use Rattle.grammar.specs.Transfers.{Content}
+use Rattle.phase.specs.Phase.{stateForwarded, stateDeclined}
 use Rattle.mail.specs.Mail.{accepted, marked, declined, messageOf}
 use Rattle.mail.specs.Tally.{declinedOnes, deferredOnes}
 use Rattle.log.specs.Effects.{oneOf, madeFrom, forwardedSent, isMinus, isEquals, given, acceptedBy, declinedBy, keptAs}
@@ -39,16 +40,16 @@ made-none i v (s ∷ st) = ap (λ (l : List ℕ). s ∷ l) (made-none (suc i) v 
 
 -- "State 1 is set at the CR that ends the partner's next whole valid turn.", and the log's "makes every sent record 1"
 pub marked-alike : (is st : List ℕ) → marked is st ≡ forwardedSent is st
-marked-alike [] st = sym (made-none 0 1 st)
-marked-alike (i ∷ is) st = marked-alike is (set st i 1) ∙ made-set 0 1 i i is st (omega arith)
+marked-alike [] st = sym (made-none 0 stateForwarded st)
+marked-alike (i ∷ is) st = marked-alike is (set st i stateForwarded) ∙ made-set 0 stateForwarded i i is st (omega arith)
 
 -- "`-` sets state 2", and the log's "makes declined records 2"
 pub declined-alike : (is : List ℕ) (ss : List Sign) (st : List ℕ) → declined is ss st ≡ declinedBy ss is st
-declined-alike [] [] st = sym (made-none 0 2 st)
-declined-alike [] (s ∷ ss) st = sym (made-none 0 2 st)
-declined-alike (i ∷ is) [] st = sym (made-none 0 2 st)
+declined-alike [] [] st = sym (made-none 0 stateDeclined st)
+declined-alike [] (s ∷ ss) st = sym (made-none 0 stateDeclined st)
+declined-alike (i ∷ is) [] st = sym (made-none 0 stateDeclined st)
 declined-alike (i ∷ is) (accept ∷ ss) st = declined-alike is ss st
-declined-alike (i ∷ is) (decline ∷ ss) st = declined-alike is ss (set st i 2) ∙ made-set 0 2 i i (given isMinus ss is) st (omega arith)
+declined-alike (i ∷ is) (decline ∷ ss) st = declined-alike is ss (set st i stateDeclined) ∙ made-set 0 stateDeclined i i (given isMinus ss is) st (omega arith)
 declined-alike (i ∷ is) (defer ∷ ss) st = declined-alike is ss st
 
 -- ---------------------------------------------------------------- proposals and messages

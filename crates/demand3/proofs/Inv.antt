@@ -9,7 +9,8 @@ use Prim.Native.Nat.{ℕ, _≤_}
 use native.Mathlib.Omega.{arith}
 use lib.ListN.{length, take, drop, take-append-drop}
 use Rattle.grammar.specs.Bytes.{Bytes}
-use Rattle.grammar.specs.Turns.{proposes}
+use Rattle.grammar.specs.Lines.{lineLimit}
+use Rattle.grammar.specs.Turns.{proposes, blockLimit}
 use Rattle.grammar.specs.Scan.{goes}
 use Rattle.grammar.proofs.Refusal.{Reach}
 use Rattle.mail.specs.Mail.{Record}
@@ -53,7 +54,7 @@ bookOf m = record { framed = m .framed; level = m .terms .level; states = m .sta
 
 -- the session holds the line so far
 abbrev pub Line : Bytes → Bytes → Type 0
-Line part u = (u ≡ part) × (length part ≤ 256)
+Line part u = (u ≡ part) × (length part ≤ lineLimit)
 
 pub no-line : Line [] []
 no-line = (refl, omega arith)
@@ -62,7 +63,7 @@ no-line = (refl, omega arith)
 abbrev pub Few : Awaited → Type 0
 Few (awaitsSid c) = Unit {0}
 Few awaitsPrompt = Unit {0}
-Few (awaitsTurn ff ps raw) = length ps ≤ 5
+Few (awaitsTurn ff ps raw) = length ps ≤ blockLimit
 Few (awaitsAnswer is) = Unit {0}
 
 -- what the session holds of the partner's unit so far, u

@@ -10,9 +10,10 @@ use lib.Dec.{eqb, ltb}
 use lib.ListN.{length, getD, set, length-set}
 use lib.Seq.{getD-set-other}
 use borrow.Author.Tests.{eqb-true, eq-eqb}
-use Rattle.grammar.specs.Turns.{inMode, ourBlock}
+use Rattle.grammar.specs.Turns.{inMode, ourBlock, blockLimit, announcedLimit}
 use Rattle.grammar.specs.Answers.{Sign, accept, decline, defer}
 use Rattle.grammar.proofs.Basics.{and2}
+use Rattle.phase.specs.Phase.{stateForwarded, stateDeclined}
 use Rattle.mail.specs.Mail.{Record, accepted, marked, declined}
 use Rattle.mail.specs.Tally.{declinedOnes, deferredOnes}
 use Rattle.session.specs.Choices.{wanted, candidates, sizeAt, chosen}
@@ -99,13 +100,13 @@ after-flag st fl k v lo (i ∷ is) h r =
 
 pub marked-length : (is st : List ℕ) → length (marked is st) ≡ length st
 marked-length [] st = refl
-marked-length (i ∷ is) st = marked-length is (set st i 1) ∙ length-set st i 1
+marked-length (i ∷ is) st = marked-length is (set st i stateForwarded) ∙ length-set st i stateForwarded
 
 pub declined-length : (is : List ℕ) (ss : List Sign) (st : List ℕ) → length (declined is ss st) ≡ length st
 declined-length [] ss st = refl
 declined-length (i ∷ is) [] st = refl
 declined-length (i ∷ is) (accept ∷ ss) st = declined-length is ss st
-declined-length (i ∷ is) (decline ∷ ss) st = declined-length is ss (set st i 2) ∙ length-set st i 2
+declined-length (i ∷ is) (decline ∷ ss) st = declined-length is ss (set st i stateDeclined) ∙ length-set st i stateDeclined
 declined-length (i ∷ is) (defer ∷ ss) st = declined-length is ss st
 
 pub deferring-length : (is : List ℕ) (ss : List Sign) (fl : List ℕ) → length (deferring is ss fl) ≡ length fl
@@ -131,7 +132,7 @@ declined-other (i ∷ is) [] st k lo h a = refl
 declined-other (i ∷ is) (accept ∷ ss) st k lo h a = let l = a .0 in declined-other is ss st k (suc i) (omega arith) (a .1)
 declined-other (i ∷ is) (decline ∷ ss) st k lo h a =
     let l = a .0 in
-    declined-other is ss (set st i 2) k (suc i) (omega arith) (a .1) ∙ getD-set-other st i k 2 0 (λ z. omega arith)
+    declined-other is ss (set st i stateDeclined) k (suc i) (omega arith) (a .1) ∙ getD-set-other st i k stateDeclined 0 (λ z. omega arith)
 declined-other (i ∷ is) (defer ∷ ss) st k lo h a = let l = a .0 in declined-other is ss st k (suc i) (omega arith) (a .1)
 
 deferring-other : (is : List ℕ) (ss : List Sign) (fl : List ℕ) (k lo : ℕ) → k < lo → Above lo is → getD (deferring is ss fl) k 0 ≡ getD fl k 0
@@ -148,9 +149,9 @@ pub turn-takes : (is st fl : List ℕ) (lo : ℕ) → length st ≤ length fl �
 turn-takes [] st fl lo h r = omega arith
 turn-takes (i ∷ is) st fl lo h r =
     let p = r .1 .inTable in
-    let e = length-set st i 1 in
-    let t = state-takes st fl i 1 refl (omega arith) (r .1) in
-    let k = turn-takes is (set st i 1) fl (suc i) (omega arith) (after-state st fl i 1 (suc i) is (omega arith) (r .2)) in
+    let e = length-set st i stateForwarded in
+    let t = state-takes st fl i stateForwarded refl (omega arith) (r .1) in
+    let k = turn-takes is (set st i stateForwarded) fl (suc i) (omega arith) (after-state st fl i stateForwarded (suc i) is (omega arith) (r .2)) in
     omega arith
 
 -- AN FS LINE takes those of the declined and the deferred ones; the accepted ones are still open
@@ -181,9 +182,9 @@ answer-takes (i ∷ is) (accept ∷ ss) st fl lo h r =
     }
 answer-takes (i ∷ is) (decline ∷ ss) st fl lo h r =
     let p = r .1 .inTable in
-    let e = length-set st i 2 in
-    let t = state-takes st fl i 2 refl (omega arith) (r .1) in
-    let k = answer-takes is ss (set st i 2) fl (suc i) (omega arith) (after-state st fl i 2 (suc i) is (omega arith) (r .2)) in
+    let e = length-set st i stateDeclined in
+    let t = state-takes st fl i stateDeclined refl (omega arith) (r .1) in
+    let k = answer-takes is ss (set st i stateDeclined) fl (suc i) (omega arith) (after-state st fl i stateDeclined (suc i) is (omega arith) (r .2)) in
     let q = k .taken in
     let l = r .0 in
     record { taken = omega arith; stillOpen = from-lower _ _ lo (suc i) (accepted ss is) (omega arith) (k .stillOpen) }
@@ -210,7 +211,7 @@ one-each (i ∷ is) (defer ∷ ss) h = let k = one-each is ss (omega arith) in o
 
 block-rises : (st fl : List ℕ) (size : ℕ → ℕ) (n s lo : ℕ) (xs : List ℕ) → Rise st fl lo xs → Rise st fl lo (ourBlock size n s xs)
 block-rises st fl size n s lo [] r = tt
-block-rises st fl size n s lo (x ∷ xs) r = go (ltb n 5 && ltb s 10240) (block-rises st fl size (n + 1) (s + size x) (suc x) xs (r .2))
+block-rises st fl size n s lo (x ∷ xs) r = go (ltb n blockLimit && ltb s announcedLimit) (block-rises st fl size (n + 1) (s + size x) (suc x) xs (r .2))
   where
     go : (c : Bool) → Rise st fl (suc x) (ourBlock size (n + 1) (s + size x) xs) → Rise st fl lo (cond c (x ∷ ourBlock size (n + 1) (s + size x) xs) [])
     go true k = (r .0, r .1, k)

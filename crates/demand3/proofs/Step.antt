@@ -13,9 +13,9 @@ use Rattle.grammar.specs.Refusals.{lineTooLong, noForwarding, lineNotAllowed, p
 use Rattle.grammar.specs.Ascii.{text}
 use Rattle.grammar.specs.Fields
 use Rattle.grammar.specs.Fields.{Form, plain, message, file}
-use Rattle.grammar.specs.Lines.{ends, grows, overruns, trim, isComment, isPrompt}
-use Rattle.grammar.specs.Sid.{readSid, hasFeature, framed}
-use Rattle.grammar.specs.Turns.{Proposal, TurnLine, saysFF, saysFQ, endsBlock, notAllowed, proposes, endsSummed, readTurnLine, fixedText, ourSid, ourFF, ourFQ, withCr}
+use Rattle.grammar.specs.Lines.{ends, grows, overruns, trim, isComment, isPrompt, lineLimit}
+use Rattle.grammar.specs.Sid.{readSid, hasFeature, framed, letterF}
+use Rattle.grammar.specs.Turns.{Proposal, TurnLine, saysFF, saysFQ, endsBlock, notAllowed, proposes, endsSummed, readTurnLine, fixedText, ourSid, ourFF, ourFQ, withCr, blockLimit}
 use Rattle.grammar.specs.Answers.{Sign, readFs, fsNumber, fsLine, Level}
 use Rattle.grammar.specs.Transfers.{readTransfer, sumRight}
 use Rattle.grammar.specs.Scan.{Scan, Scanned, goes, got, malformed, wrongSum, noRoom, scanByte, scanFrom}
@@ -66,7 +66,7 @@ our-turn E S o ff m s a c e = go ff (ourChoice E m) (S .few m) (S .own m) (S .fi
         → spoken T (m .framed) (at n (accountOf m)) x ≡ some q → spoken T (m .framed) (some (c, [])) (o ++ x) ≡ some q
     then n x q e k = spoken-append T (m .framed) (some (c, [])) o x ∙ ap (λ (y : Option (Course × Bytes)). spoken T (m .framed) y x) e ∙ k
 
-    go : (ff : Bool) (is : List ℕ) → length is ≤ 5 → placesOf T (proposalsAt T is) ≡ some is → AllFit (m .framed) (proposalsAt T is)
+    go : (ff : Bool) (is : List ℕ) → length is ≤ blockLimit → placesOf T (proposalsAt T is) ≡ some is → AllFit (m .framed) (proposalsAt T is)
         → spoken T (m .framed) (some (c, [])) o ≡ at (ourNewTurn ff) (accountOf m) → After E (settled s a (speaking E o ff is m)) (after a m c)
     go true [] few own fit e =
         says E s a leaving m _ c (then (ourNewTurn true) (withCr (fixedText ourFQ)) (courseOf leaving m, []) e (fq-spoken T (m .framed) (accountOf m))) tt
@@ -80,7 +80,7 @@ our-turn E S o ff m s a c e = go ff (ourChoice E m) (S .few m) (S .own m) (S .fi
         ∙ ap (λ (js : Option (List ℕ)). afterLine (ourProposed js) (accountOf m)) own))
         (no-line, tt)
 
-answer : (E : Shelf) → Sound E → (ps : List Proposal) (m : Memory) (s : Session) → 1 ≤ length ps → length ps ≤ 5
+answer : (E : Shelf) → Sound E → (ps : List Proposal) (m : Memory) (s : Session) → 1 ≤ length ps → length ps ≤ blockLimit
     → After E (settled s true (answered E ps m)) (after true m (record { next = weSay (ourAnswer ps); account = accountOf m }))
 answer E S ps m s k l = go (accepted ss ps) (rw (accepted-alike ss ps) (fs-spoken (E .table) (m .framed) ps ss (accountOf m) (S .full (m .inbox) ps) k l))
   where
@@ -149,8 +149,8 @@ module _ (E : Shelf) (S : Sound E) (part : Bytes) (a : Bool) (m : Memory) where
       subst
       (λ (v : Level).
       AfterLine (awaitsSid c) (sidJudged c m (some fs))
-      (cond (hasFeature 5 fs) (effect (metAt v) (accountOf m) (theySay (Log.afterTheirSid c))) (effect (bookOf m) (accountOf m) Next.over)))
-      (sym (level-alike fs)) (go c (hasFeature 5 fs))
+      (cond (hasFeature letterF fs) (effect (metAt v) (accountOf m) (theySay (Log.afterTheirSid c))) (effect (bookOf m) (accountOf m) Next.over)))
+      (sym (level-alike fs)) (go c (hasFeature letterF fs))
     where
       k : Memory
       k = withSid fs m
@@ -181,29 +181,29 @@ module _ (E : Shelf) (S : Sound E) (part : Bytes) (a : Bool) (m : Memory) where
       (our-turn E S [] true (turnMarks m) (idle (aLine p) part a m) true (record { next = ourNewTurn true; account = withForwarded (accountOf m) })
       (spoken-nil (E .table) (m .framed) (at (ourNewTurn true) (withForwarded (accountOf m)))))
 
-  after-block : (p : Awaited) (q : Proposal) (qs : List Proposal) → length (q ∷ qs) ≤ 5
+  after-block : (p : Awaited) (q : Proposal) (qs : List Proposal) → length (q ∷ qs) ≤ blockLimit
       → AfterLine p (answered E (q ∷ qs) (turnMarks m)) (effect (Log.withStates (bookOf m) (forwardedSent (m .sending) (m .states))) (withForwarded (accountOf m)) (weSay (ourAnswer (q ∷ qs))))
   unfolding AfterLine
   after-block p q qs h = rw (← marked-alike (m .sending) (m .states)) (answer E S (q ∷ qs) (turnMarks m) (idle (aLine p) part a m) (omega arith) h)
 
   -- the lines of the partner's turn so far say ps, and are raw as received; the next is l
-  turn-line : (ff : Bool) (ps : List Proposal) (raw : Bytes) (l : TurnLine) → length ps ≤ 5
+  turn-line : (ff : Bool) (ps : List Proposal) (raw : Bytes) (l : TurnLine) → length ps ≤ blockLimit
       → AfterLine (awaitsTurn ff ps raw) (turnJudged E l ff ps raw part m) (theirTurnLine ff (map proposes ps) raw (bookOf m) (accountOf m) part (checked raw l))
   turn-line ff ps raw l h = rw (said-after ff ps (checked raw l ∷ []) h) (go ff ps l h)
     where
       says-now : Bool → List Proposal → TurnLine → Effect
       says-now ff ps l = theirSaid ff (map proposes ps ++ (l ∷ [])) (rawWith raw part l) (bookOf m) (accountOf m) (inOrder ff (saidOn ps (l ∷ [])))
 
-      five : (ff : Bool) (ps : List Proposal) (q : Proposal) (c : Bool) → ltb (length ps) 5 ≡ c
+      five : (ff : Bool) (ps : List Proposal) (q : Proposal) (c : Bool) → ltb (length ps) blockLimit ≡ c
           → AfterLine (awaitsTurn ff ps raw) (cond c (goesOn (aLine (awaitsTurn ff (ps ++ (q ∷ [])) (raw ++ withCr part))) m []) (refuses proposalCount))
           (theirSaid ff (map proposes ps ++ (proposes q ∷ [])) (raw ++ withCr part) (bookOf m) (accountOf m) (inOrder ff (cond c Log.unfinished Log.wrong)))
       five ff ps q true e =
           rw (map-snoc ps q)
-          (quiet _ (aLine (awaitsTurn ff (ps ++ (q ∷ [])) (raw ++ withCr part))) m (no-line, simp length-append (omega (arith, ltb-true (length ps) 5 e))))
+          (quiet _ (aLine (awaitsTurn ff (ps ++ (q ∷ [])) (raw ++ withCr part))) m (no-line, simp length-append (omega (arith, ltb-true (length ps) blockLimit e))))
       five ff ps q false e = wrong-line _ _ _ refl refl refl
 
       -- the checksum is right or wrong
-      summed-end : (ff : Bool) (p : Proposal) (ps : List Proposal) → length (p ∷ ps) ≤ 5 → (c : Bool)
+      summed-end : (ff : Bool) (p : Proposal) (ps : List Proposal) → length (p ∷ ps) ≤ blockLimit → (c : Bool)
           → AfterLine (awaitsTurn ff (p ∷ ps) raw) (cond c (answered E (p ∷ ps) (turnMarks m)) (refuses wrongBlockSum)) (says-now ff (p ∷ ps) (summedEnd c))
       summed-end ff p ps h true = after-block _ p ps h
       summed-end ff p ps h false = wrong-line _ _ _ refl refl refl
@@ -212,7 +212,7 @@ module _ (E : Shelf) (S : Sound E) (part : Bytes) (a : Bool) (m : Memory) where
       summed-alone ff true n r = wrong-line _ _ _ r refl refl
       summed-alone ff false n r = wrong-line _ _ _ r refl refl
 
-      go : (ff : Bool) (ps : List Proposal) (l : TurnLine) → length ps ≤ 5
+      go : (ff : Bool) (ps : List Proposal) (l : TurnLine) → length ps ≤ blockLimit
           → AfterLine (awaitsTurn ff ps raw) (turnJudged E l ff ps raw part m) (says-now ff ps (checked raw l))
       go true [] saysFF h = wrong-line _ _ _ refl refl refl
       go false [] saysFF h = after-ff _
@@ -224,7 +224,7 @@ module _ (E : Shelf) (S : Sound E) (part : Bytes) (a : Bool) (m : Memory) where
       go ff (p ∷ ps) endsBlock h = after-block _ p ps h
       go ff [] notAllowed h = wrong-line _ _ _ refl refl refl
       go ff (p ∷ ps) notAllowed h = wrong-line _ _ _ refl refl refl
-      go ff ps (proposes q) h = five ff ps q (ltb (length ps) 5) refl
+      go ff ps (proposes q) h = five ff ps q (ltb (length ps) blockLimit) refl
       go ff [] (endsSummed n) h = summed-alone ff (sumRight raw n) _ refl
       go ff (p ∷ ps) (endsSummed n) h = summed-end ff p ps h (sumRight raw n)
 
@@ -267,16 +267,16 @@ module _ (E : Shelf) (S : Sound E) (part : Bytes) (a : Bool) (m : Memory) where
       go false = read-line p f
 
   -- a byte of a line: it ends, it goes on, or it is too long
-  line-byte : (p : Awaited) (b : ℕ) → length part ≤ 256 → Few p
+  line-byte : (p : Awaited) (b : ℕ) → length part ≤ lineLimit → Few p
       → After E (lineStep E p (idle (aLine p) part a m) b)
       (cond (eqb b CR) (effected (judgedLine (lineOf p) (bookOf m) (accountOf m) part)) (twin (aLine p) false m (part ++ (b ∷ []))))
   unfolding AfterLine
-  line-byte p b z f = go (eqb b CR) (ltb (length part) 256) refl
+  line-byte p b z f = go (eqb b CR) (ltb (length part) lineLimit) refl
     where
-      go : (c d : Bool) → ltb (length part) 256 ≡ d
+      go : (c d : Bool) → ltb (length part) lineLimit ≡ d
           → After E (lineMoved E p (idle (aLine p) part a m) b (cond c ends (cond d grows overruns)))
           (cond c (effected (judgedLine (lineOf p) (bookOf m) (accountOf m) part)) (twin (aLine p) false m (part ++ (b ∷ []))))
-      go true d e = rw (le-leb (length part) 256 z) (heard p f)
+      go true d e = rw (le-leb (length part) lineLimit z) (heard p f)
       go false true e =
           went refl
           (record {
@@ -284,7 +284,7 @@ module _ (E : Shelf) (S : Sound E) (part : Bytes) (a : Bool) (m : Memory) where
             course = spoken-nil (E .table) (m .framed) (some (courseOf (aLine p) m, part ++ (b ∷ [])));
             book = refl;
             afterCr = refl;
-            pending = ((refl, simp length-append (omega (arith, ltb-true (length part) 256 e))), f);
+            pending = ((refl, simp length-append (omega (arith, ltb-true (length part) lineLimit e))), f);
           })
       go false false e = refusal E (idle (aLine p) part a m) lineTooLong (twin (aLine p) false m (part ++ (b ∷ []))) refl refl refl
 

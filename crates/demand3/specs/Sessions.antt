@@ -7,7 +7,7 @@ use Rattle.grammar.specs.Bytes.{Bytes}
 use Rattle.grammar.specs.Ascii.{text}
 use Rattle.grammar.specs.Fields.{Form, plain, message}
 use Rattle.mail.specs.Mail.{Record, Message}
-use Rattle.session.specs.Choices.{Shelf}
+use Rattle.session.specs.Choices.{Shelf, shelfWith}
 use Rattle.session.specs.Session.{Session, opened, ended}
 use Rattle.log.specs.Log.{Event, took, gave, log}
 use Rattle.demand3.specs.Demand.{Call, receiving, giving, refusedCall, run}
@@ -27,7 +27,7 @@ pub record Left : Type 0 where
   pub over : Bool
 
 abbrev pub shelfOf : Trial → Shelf
-shelfOf t = record { table = t .table; known = []; places = 2; bytes = 100 }
+shelfOf t = shelfWith (t .table) [] 2 100
 
 abbrev pub ran : Trial → Session × List Event
 ran t = run (shelfOf t) (opened (t .caller) (t .states)) (t .calls)

@@ -9,7 +9,7 @@ use native.Mathlib.Numerals.{add-one}
 use lib.Dec.{leb}
 use lib.ListN.{length, getD, take, drop}
 use lib.Seq.{getD-drop}
-use Rattle.grammar.specs.Bytes.{Bytes}
+use Rattle.grammar.specs.Bytes.{Bytes, byteValues, fourByteValues}
 use Rattle.session.specs.Choices.{recordBids, messageBids, bodyBytes}
 use Rattle.places.specs.Places.{bidAt, bidMax, recordBid}
 use Rattle.layout.specs.Layout.{byteAt, le4At, fieldIn, entryAt, recordOf, messageOf, recordSize, entrySize}
@@ -67,19 +67,19 @@ no-bodies s i zero = refl
 no-bodies s i (suc n) = omega (arith, no-bodies s (suc i) n)
 
 -- bytes of an entry are bytes of the memory, so that a size has 32 bits
-take-small : (n : ℕ) (l : Bytes) → ((i : ℕ) → byteAt l i < 256) → (i : ℕ) → byteAt (take n l) i < 256
+take-small : (n : ℕ) (l : Bytes) → ((i : ℕ) → byteAt l i < byteValues) → (i : ℕ) → byteAt (take n l) i < byteValues
 take-small zero l h i = omega arith
 take-small (suc n) [] h i = omega arith
 take-small (suc n) (x ∷ l) h zero = h zero
 take-small (suc n) (x ∷ l) h (suc i) = take-small n l (λ k. h (suc k)) i
 
-pub entry-small : (size : ℕ) (s : Bytes) (j : ℕ) → ((i : ℕ) → byteAt s i < 256) → (i : ℕ) → byteAt (entryAt size s j) i < 256
+pub entry-small : (size : ℕ) (s : Bytes) (j : ℕ) → ((i : ℕ) → byteAt s i < byteValues) → (i : ℕ) → byteAt (entryAt size s j) i < byteValues
 entry-small size s j h i = go (leb (j * size) (length s)) (leb size (length s - j * size))
   where
-    go : (a b : Bool) → byteAt (cond a (cond b (take size (drop (j * size) s)) []) []) i < 256
+    go : (a b : Bool) → byteAt (cond a (cond b (take size (drop (j * size) s)) []) []) i < byteValues
     go true true = take-small size (drop (j * size) s) (λ k. rw (getD-drop (j * size) s k 0) (h (j * size + k))) i
     go true false = omega arith
     go false b = omega arith
 
-pub size-small : (s : Bytes) (j at : ℕ) → ((i : ℕ) → byteAt s i < 256) → le4At (entryAt recordSize s j) at < 4294967296
+pub size-small : (s : Bytes) (j at : ℕ) → ((i : ℕ) → byteAt s i < byteValues) → le4At (entryAt recordSize s j) at < fourByteValues
 size-small s j at h = le4-small (entryAt recordSize s j) (entry-small recordSize s j h) at

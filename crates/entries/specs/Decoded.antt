@@ -4,7 +4,7 @@ use Prim.Native.Nat.{ℕ, zero, suc, _/_, min}
 use lib.ListN.{length}
 use Rattle.grammar.specs.Bytes.{Bytes}
 use Rattle.grammar.specs.Turns.{Proposal}
-use Rattle.mail.specs.Mail.{Record, Message}
+use Rattle.mail.specs.Mail.{Record, Message, recordLimit}
 use Rattle.layout.specs.Layout.{byteAt, entryAt, recordSize, knownSize, entrySize, proposalSize, recordOf, knownOf, proposalOf, messageOf}
 
 -- What f makes of n entries of this size, from entry i on.
@@ -15,12 +15,16 @@ entriesFrom f size s i (suc n) = f (entryAt size s i) ∷ entriesFrom f size s (
 abbrev pub entries : {A : Type 0} → (Bytes → A) → ℕ → Bytes → ℕ → List A
 entries f size s n = entriesFrom f size s 0 n
 
+-- 01, "Lent memory": the most known BIDs
+abbrev pub knownLimit : ℕ
+knownLimit = 1024
+
 -- "0 to 64 records"; open refuses more
 abbrev pub recordCount : Bytes → ℕ
-recordCount table = min 64 (length table / recordSize)
+recordCount table = min recordLimit (length table / recordSize)
 
 abbrev pub knownCount : Bytes → ℕ
-knownCount known = min 1024 (length known / knownSize)
+knownCount known = min knownLimit (length known / knownSize)
 
 abbrev pub placeCount : Bytes → ℕ
 placeCount inbox = length inbox / entrySize

@@ -3,10 +3,12 @@ ghost use mathlib.Core.Path.{_≡_};
 ghost use Prim.Native.Nat.{min};
 ghost use Rattle.entries.specs.Decoded.{recordCount, knownCount, placeCount};
 
-// 01, "Lent memory": the most records of a table, and the most known BIDs.
+// 01, "Lent memory": the most records of a table, the most known BIDs, and the most messages of an inbox.
 pub const RECORDS_MAX: u16 = 64;
 
 pub const KNOWN_MAX: u16 = 1024;
+
+pub const MESSAGES_MAX: u16 = 64;
 
 // n, or most where n is more.
 fn at_most(most: u16, n: usize) -> u16

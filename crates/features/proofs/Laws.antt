@@ -10,17 +10,18 @@ use lib.ListN.{length, List·getD-eq-default}
 use lib.Seq.{set-out}
 use borrow.Author.Tests.{lt-ltb, le-ltb}
 use Rattle.grammar.specs.Bytes.{Bytes}
-use Rattle.grammar.specs.Sid.{letterB, noFeatures, hasFeature, withFeature, levelOf, ourLevel, levelInForce, readSid}
+use Rattle.grammar.specs.Sid.{letterB, letterF, noFeatures, hasFeature, withFeature, levelOf, ourLevel, levelInForce, readSid, dollarPlace, featurePlaces}
 use Rattle.grammar.specs.Turns.{ourSid, fixedText}
+use Rattle.features.specs.Letters.{letterH}
 
 -- B, F, H and `$` added to none are what our SID says
-pub ours-said : {a b c d e : List ℕ} → a ≡ noFeatures → b ≡ withFeature 1 1 a → c ≡ withFeature 5 0 b → d ≡ withFeature 7 0 c → e ≡ withFeature 26 0 d
+pub ours-said : {a b c d e : List ℕ} → a ≡ noFeatures → b ≡ withFeature letterB ourLevel a → c ≡ withFeature letterF 0 b → d ≡ withFeature letterH 0 c → e ≡ withFeature dollarPlace 0 d
     → some e ≡ readSid (fixedText ourSid)
 unfolding readSid
 ours-said p q r s t = rw (t, s, r, q, p)
 
--- a place from 27 on has no feature and takes none
-module _ (i : ℕ) (fs : Bytes) (n : length fs ≡ 27) (h : 27 ≤ i) where
+-- a place past them has no feature and takes none
+module _ (i : ℕ) (fs : Bytes) (n : length fs ≡ featurePlaces) (h : featurePlaces ≤ i) where
   pub has-outside : false ≡ hasFeature i fs
   has-outside = rw (List·getD-eq-default fs 0 {n = i} (omega arith))
 

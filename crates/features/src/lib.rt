@@ -4,9 +4,15 @@ ghost use mathlib.Core.Option.{some};
 ghost use Rattle.grammar.specs.Sid.{noFeatures, hasFeature, withFeature, levelOf, readSid, framed, levelInForce};
 ghost use Rattle.grammar.specs.Turns.{ourSid, fixedText};
 
+// "Letters have fixed places A = 0 to Z = 25", and `$` has one after them.
+pub const PLACES: usize = FeatureSet::DOLLAR as usize + 1;
+
+// A level is a digit.
+const LEVELS: u8 = 10;
+
 // The features of a mailbox by the fixed places of their letters: 0 where a feature isn't there, else its level and 1 more.
 pub struct FeatureSet {
-    pub levels: [u8; 27],
+    pub levels: [u8; PLACES],
 }
 
 impl FeatureSet {
@@ -22,7 +28,9 @@ impl FeatureSet {
     pub fn none() -> Self
         ensures { λ r. ⌜ r .levels ≡ noFeatures ⌝ }
     {
-        Self { levels: [0u8; 27] }
+        Self {
+            levels: [0u8; PLACES],
+        }
     }
 
     // The level of our B.
@@ -43,9 +51,9 @@ impl FeatureSet {
     pub fn with(self, letter: u8, level: u8) -> Self
         ensures { λ r. ⌜ r .levels ≡ withFeature letter level (self .levels) ⌝ }
     {
-        if level < 10 {
+        if level < LEVELS {
             let at = letter as usize;
-            if at < 27 {
+            if at < PLACES {
                 let mut s = self;
                 s.levels[at] = level + 1;
                 return s;
@@ -60,7 +68,7 @@ impl FeatureSet {
         ensures { λ r. ⌜ r ≡ hasFeature letter (self .levels) ⌝ }
     {
         let at = letter as usize;
-        if 26 < at {
+        if PLACES <= at {
             return false;
         }
         let level = self.levels[at];
@@ -72,7 +80,7 @@ impl FeatureSet {
         ensures { λ r. ⌜ r ≡ levelOf letter (self .levels) ⌝ }
     {
         let at = letter as usize;
-        if 26 < at {
+        if PLACES <= at {
             return 0;
         }
         let held = self.levels[at];

@@ -10,59 +10,61 @@ use lib.ListN.{length, getD, take, drop, length-drop, drop-of-length-le}
 use lib.Seq.{drop-cons, drop-drop, take-all}
 use borrow.Author.Tests.{eq-eqb, ne-eqb, lt-ltb, le-ltb, ltb-true, ltb-false, le-leb, lt-leb, leb-true, leb-false, not-true, not-false}
 use Rattle.grammar.specs.Bytes.{Bytes, every, same}
-use Rattle.grammar.specs.Fields.{parts, toFirst, afterDot, allCalls, isCall, isAt, isBody, formIs}
+use Rattle.grammar.specs.Fields.{parts, toFirst, afterDot, allCalls, isCall, isAt, isBody, formIs, bodyLimit}
 use Rattle.grammar.proofs.Basics.{suc-ltb}
+use Rattle.grammar.specs.Ascii.{char}
 use Rattle.byte.specs.Classes.{classOf}
 use Rattle.byte.specs.declared.Class.{Class}
 use Rattle.span.specs.Places.{between, upto}
+use Rattle.places.specs.Places.{atMax, hierarchyMax}
 
-pub parts-upto : (l : Bytes) → parts l ≡ cond (ltb (upto 46 l) (length l)) (take (upto 46 l) l ∷ parts (drop (suc (upto 46 l)) l)) (l ∷ [])
+pub parts-upto : (l : Bytes) → parts l ≡ cond (ltb (upto (char ".") l) (length l)) (take (upto (char ".") l) l ∷ parts (drop (suc (upto (char ".") l)) l)) (l ∷ [])
 unfolding upto
 parts-upto [] = refl
-parts-upto (x ∷ l) = go (eqb x 46) (parts-upto l)
+parts-upto (x ∷ l) = go (eqb x (char ".")) (parts-upto l)
   where
-    has : (t : Bool) → toFirst x (cond t (take (upto 46 l) l ∷ parts (drop (suc (upto 46 l)) l)) (l ∷ [])) ≡ cond t ((x ∷ take (upto 46 l) l) ∷ parts (drop (suc (upto 46 l)) l)) ((x ∷ l) ∷ [])
+    has : (t : Bool) → toFirst x (cond t (take (upto (char ".") l) l ∷ parts (drop (suc (upto (char ".") l)) l)) (l ∷ [])) ≡ cond t ((x ∷ take (upto (char ".") l) l) ∷ parts (drop (suc (upto (char ".") l)) l)) ((x ∷ l) ∷ [])
     has true = refl
     has false = refl
 
-    go : (b : Bool) → parts l ≡ cond (ltb (upto 46 l) (length l)) (take (upto 46 l) l ∷ parts (drop (suc (upto 46 l)) l)) (l ∷ [])
-        → cond b ([] ∷ parts l) (toFirst x (parts l)) ≡ cond (ltb (cond b 0 (suc (upto 46 l))) (length (x ∷ l))) (take (cond b 0 (suc (upto 46 l))) (x ∷ l) ∷ parts (drop (suc (cond b 0 (suc (upto 46 l)))) (x ∷ l))) ((x ∷ l) ∷ [])
+    go : (b : Bool) → parts l ≡ cond (ltb (upto (char ".") l) (length l)) (take (upto (char ".") l) l ∷ parts (drop (suc (upto (char ".") l)) l)) (l ∷ [])
+        → cond b ([] ∷ parts l) (toFirst x (parts l)) ≡ cond (ltb (cond b 0 (suc (upto (char ".") l))) (length (x ∷ l))) (take (cond b 0 (suc (upto (char ".") l))) (x ∷ l) ∷ parts (drop (suc (cond b 0 (suc (upto (char ".") l)))) (x ∷ l))) ((x ∷ l) ∷ [])
     go true ih = rw (lt-ltb 0 (length (x ∷ l)) (omega arith))
-    go false ih = rw (suc-ltb (upto 46 l) (length l)) (ap (toFirst x) ih ∙ has (ltb (upto 46 l) (length l)))
+    go false ih = rw (suc-ltb (upto (char ".") l) (length l)) (ap (toFirst x) ih ∙ has (ltb (upto (char ".") l) (length l)))
 
-pub dot-upto : (l : Bytes) → afterDot l ≡ drop (suc (upto 46 l)) l
+pub dot-upto : (l : Bytes) → afterDot l ≡ drop (suc (upto (char ".") l)) l
 unfolding upto
 dot-upto [] = refl
-dot-upto (x ∷ l) = go (eqb x 46) (dot-upto l)
+dot-upto (x ∷ l) = go (eqb x (char ".")) (dot-upto l)
   where
-    go : (b : Bool) → afterDot l ≡ drop (suc (upto 46 l)) l → cond b l (afterDot l) ≡ drop (suc (cond b 0 (suc (upto 46 l)))) (x ∷ l)
+    go : (b : Bool) → afterDot l ≡ drop (suc (upto (char ".") l)) l → cond b l (afterDot l) ≡ drop (suc (cond b 0 (suc (upto (char ".") l)))) (x ∷ l)
     go true ih = refl
     go false ih = ih
 
 -- a call, and what follows its point
-pub calls-step : (s : Bytes) (a e : ℕ) → a ≤ length s → e ≡ a + upto 46 (drop a s)
+pub calls-step : (s : Bytes) (a e : ℕ) → a ≤ length s → e ≡ a + upto (char ".") (drop a s)
     → allCalls (parts (drop a s)) ≡ isCall (between s a e) && cond (ltb e (length s)) (allCalls (parts (drop (e + 1) s))) true
-calls-step s a e h r = go (ltb (upto 46 (drop a s)) (length (drop a s))) refl
+calls-step s a e h r = go (ltb (upto (char ".") (drop a s)) (length (drop a s))) refl
   where
-    m : e - a ≡ upto 46 (drop a s)
+    m : e - a ≡ upto (char ".") (drop a s)
     m = omega arith
 
-    d : drop (suc (upto 46 (drop a s))) (drop a s) ≡ drop (e + 1) s
-    d = drop-drop (suc (upto 46 (drop a s))) a s ∙ ap (λ (n : ℕ). drop n s) (let k : a + suc (upto 46 (drop a s)) ≡ e + 1 = omega arith in k)
+    d : drop (suc (upto (char ".") (drop a s))) (drop a s) ≡ drop (e + 1) s
+    d = drop-drop (suc (upto (char ".") (drop a s))) a s ∙ ap (λ (n : ℕ). drop n s) (let k : a + suc (upto (char ".") (drop a s)) ≡ e + 1 = omega arith in k)
 
     n : length (drop a s) ≡ length s - a
     n = length-drop a s
 
-    go : (t : Bool) → ltb (upto 46 (drop a s)) (length (drop a s)) ≡ t
+    go : (t : Bool) → ltb (upto (char ".") (drop a s)) (length (drop a s)) ≡ t
         → allCalls (parts (drop a s)) ≡ isCall (between s a e) && cond (ltb e (length s)) (allCalls (parts (drop (e + 1) s))) true
     go true q =
-        let k = ltb-true (upto 46 (drop a s)) (length (drop a s)) q in
+        let k = ltb-true (upto (char ".") (drop a s)) (length (drop a s)) q in
         rw (parts-upto (drop a s), q, d, m, lt-ltb e (length s) (omega (arith, k, n, r)))
     go false q =
-        let k = ltb-false (upto 46 (drop a s)) (length (drop a s)) q in
-        rw (parts-upto (drop a s), q, m, le-ltb e (length s) (omega (arith, k, n, r)), take-all (upto 46 (drop a s)) (drop a s) k)
+        let k = ltb-false (upto (char ".") (drop a s)) (length (drop a s)) q in
+        rw (parts-upto (drop a s), q, m, le-ltb e (length s) (omega (arith, k, n, r)), take-all (upto (char ".") (drop a s)) (drop a s) k)
 
-module _ (s : Bytes) (a e : ℕ) (r : Bool) (h : a ≤ length s) (f : e ≡ a + upto 46 (drop a s)) (i : r ≡ isCall (between s a e)) where
+module _ (s : Bytes) (a e : ℕ) (r : Bool) (h : a ≤ length s) (f : e ≡ a + upto (char ".") (drop a s)) (i : r ≡ isCall (between s a e)) where
   pub calls-stop : not r ≡ true → false ≡ allCalls (parts (drop a s))
   calls-stop k = rw (calls-step s a e h f, sym i ∙ not-true r k)
 
@@ -78,27 +80,27 @@ module _ (s : Bytes) (r : Bool) (i : r ≡ allCalls (parts s)) where
   unfolding isAt
   at-calls k = rw (sym i ∙ not-true r k)
 
-  pub at-long : not r ≡ false → 38 < length s → false ≡ isAt s
+  pub at-long : not r ≡ false → atMax < length s → false ≡ isAt s
   unfolding isAt
   at-long k h = rw (sym i ∙ not-false r k, lt-leb _ _ h)
 
-  pub at-dot : (d : ℕ) → not r ≡ false → length s ≤ 38 → d ≡ upto 46 s → leb (length s) (d + 32) ≡ isAt s
+  pub at-dot : (d : ℕ) → not r ≡ false → length s ≤ atMax → d ≡ upto (char ".") s → leb (length s) (d + (1 + hierarchyMax)) ≡ isAt s
   unfolding isAt
-  at-dot d k h e = rw (sym i ∙ not-false r k, le-leb _ _ h, dot-upto s) (go (leb (length s) (d + 32)) refl)
+  at-dot d k h e = rw (sym i ∙ not-false r k, le-leb _ _ h, dot-upto s) (go (leb (length s) (d + (1 + hierarchyMax))) refl)
     where
-      n : length (drop (suc (upto 46 s)) s) ≡ length s - suc (upto 46 s)
-      n = length-drop (suc (upto 46 s)) s
+      n : length (drop (suc (upto (char ".") s)) s) ≡ length s - suc (upto (char ".") s)
+      n = length-drop (suc (upto (char ".") s)) s
 
-      go : (t : Bool) → leb (length s) (d + 32) ≡ t → t ≡ leb (length (drop (suc (upto 46 s)) s)) 31
-      go true q = let z = leb-true (length s) (d + 32) q in sym (le-leb (length (drop (suc (upto 46 s)) s)) 31 (omega (arith, n, e, z)))
-      go false q = let z = leb-false (length s) (d + 32) q in sym (lt-leb (length (drop (suc (upto 46 s)) s)) 31 (omega (arith, n, e, z)))
+      go : (t : Bool) → leb (length s) (d + (1 + hierarchyMax)) ≡ t → t ≡ leb (length (drop (suc (upto (char ".") s)) s)) hierarchyMax
+      go true q = let z = leb-true (length s) (d + (1 + hierarchyMax)) q in sym (le-leb (length (drop (suc (upto (char ".") s)) s)) hierarchyMax (omega (arith, n, e, z)))
+      go false q = let z = leb-false (length s) (d + (1 + hierarchyMax)) q in sym (lt-leb (length (drop (suc (upto (char ".") s)) s)) hierarchyMax (omega (arith, n, e, z)))
 
 -- ---------------------------------------------------------------- bodies
 
-pub body-long : (n : ℕ) (x : Bytes) → 65535 < length x → false ≡ isBody (formIs n) x
+pub body-long : (n : ℕ) (x : Bytes) → bodyLimit < length x → false ≡ isBody (formIs n) x
 body-long n x h = rw (lt-leb _ _ h)
 
-module _ (n : ℕ) (x : Bytes) (h : length x ≤ 65535) where
+module _ (n : ℕ) (x : Bytes) (h : length x ≤ bodyLimit) where
   pub body-message : n ≡ 1 → true ≡ isBody (formIs n) x
   body-message e = rw (eq-eqb _ _ e, le-leb _ _ h)
 

@@ -7,6 +7,25 @@ ghost use mathlib.Core.Path.{_≡_};
 ghost use Rattle.grammar.specs.Fields.{field, isCall, isBid, isHeading, isAt, isBody, allCalls, parts, formIs};
 ghost use Rattle.byte.specs.Classes.{classOf};
 
+const CALL_MAX: usize = places::CALL_MAX as usize;
+
+const AT_MAX: usize = places::AT_MAX as usize;
+
+// The first `.` of an at and what follows it.
+const FROM_POINT_MAX: usize = 1 + places::HIERARCHY_MAX as usize;
+
+const BID_MAX: usize = places::BID_MAX as usize;
+
+const HEADING_MAX: usize = places::HEADING_MAX as usize;
+
+// The most bytes of a body.
+const BODY_LIMIT: usize = places::BODY_MAX as usize;
+
+// The forms of a packed message and of a packed file.
+const MESSAGE: u8 = phase::FORM_MESSAGE;
+
+const FILE: u8 = phase::FORM_FILE;
+
 // 1 to n bytes of the class.
 pub fn is_field(s: &[u8], class: Class, n: usize) -> bool
     ensures { λ r. ⌜ r ≡ field (classOf class) n (now (s .entry)) ⌝ }
@@ -24,34 +43,34 @@ pub fn is_field(s: &[u8], class: Class, n: usize) -> bool
 pub fn is_call(s: &[u8]) -> bool
     ensures { λ r. ⌜ r ≡ isCall (now (s .entry)) ⌝ }
 {
-    is_field(s, Class::Call, 6)
+    is_field(s, Class::Call, CALL_MAX)
 }
 
 // A BID.
 pub fn is_bid(s: &[u8]) -> bool
     ensures { λ r. ⌜ r ≡ isBid (now (s .entry)) ⌝ }
 {
-    is_field(s, Class::Bid, 12)
+    is_field(s, Class::Bid, BID_MAX)
 }
 
 // A title or a file name.
 pub fn is_heading(s: &[u8]) -> bool
     ensures { λ r. ⌜ r ≡ isHeading (now (s .entry)) ⌝ }
 {
-    is_field(s, Class::Heading, 80)
+    is_field(s, Class::Heading, HEADING_MAX)
 }
 
 // A body of the form with this number.
 pub fn is_body(form: u8, s: &[u8]) -> bool
     ensures { λ r. ⌜ r ≡ isBody (formIs form) (now (s .entry)) ⌝ }
 {
-    if 65535 < s.len() {
+    if BODY_LIMIT < s.len() {
         return false;
     }
-    if form == 1 {
+    if form == MESSAGE {
         return true;
     }
-    if form == 2 {
+    if form == FILE {
         return true;
     }
     all_of(s, Class::PlainBody)
@@ -81,9 +100,9 @@ pub fn is_at(s: &[u8]) -> bool
     if !are_calls(s) {
         return false;
     }
-    if 38 < s.len() {
+    if AT_MAX < s.len() {
         return false;
     }
     let d = find(s, b'.');
-    s.len() <= d + 32
+    s.len() <= d + FROM_POINT_MAX
 }

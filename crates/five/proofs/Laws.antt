@@ -6,6 +6,7 @@ use native.Mathlib.Omega.{arith}
 use native.Mathlib.Numerals.{add-one}
 use lib.ListN.{length, getD, set, drop, replicate, length-append, length-take, drop-of-length-le}
 use lib.Seq.{drop-cons, getD-take, set-append-seam, append-snoc}
+use Rattle.phase.specs.Phase.{blockLimit}
 use Rattle.session_memory.specs.State.{held, fiveOf}
 use Rattle.session_memory.specs.declared.Five.{Five}
 use Rattle.session_memory.proofs.Laws.{held-five}
@@ -23,11 +24,11 @@ held-cons f i n e h =
 pub held-end : (f : Five) (i n : ℕ) → n ≡ length (held f) → n ≤ i → drop i (held f) ≡ []
 held-end f i n e h = drop-of-length-le (held f) {i = i} (omega (arith, e))
 
-module _ (f : Five) (l : length (f .items) ≡ 5) where
-  pub count-many : 5 < f .count → 5 ≡ length (held f)
+module _ (f : Five) (l : length (f .items) ≡ blockLimit) where
+  pub count-many : blockLimit < f .count → blockLimit ≡ length (held f)
   count-many h = rw (length-take (f .count) (f .items)) (omega (arith, l))
 
-  pub count-few : f .count ≤ 5 → f .count ≡ length (held f)
+  pub count-few : f .count ≤ blockLimit → f .count ≡ length (held f)
   count-few h = rw (length-take (f .count) (f .items)) (omega (arith, l))
 
 -- ---------------------------------------------------------------- as they are collected
@@ -50,16 +51,16 @@ five-next f g x h e =
 pub filled-length : (f : Five) → Filled f → f .count ≤ length (f .items)
 filled-length f e =
     let xs = held f in
-    omega (arith, five-count f xs e, ap (λ (g : Five). length (g .items)) e, length-append xs (replicate (5 - length xs) 0))
+    omega (arith, five-count f xs e, ap (λ (g : Five). length (g .items)) e, length-append xs (replicate (blockLimit - length xs) 0))
 
 abbrev more : Five → ℕ → Five
 more f x = record { count = f .count + 1; items = set (f .items) (f .count) x }
 
-more-five : (xs : List ℕ) (x : ℕ) → length xs < 5 → more (fiveOf xs) x ≡ fiveOf (xs ++ (x ∷ []))
+more-five : (xs : List ℕ) (x : ℕ) → length xs < blockLimit → more (fiveOf xs) x ≡ fiveOf (xs ++ (x ∷ []))
 more-five xs x h =
-    let e : 5 - length xs ≡ suc (5 - (length xs + 1)) = omega arith in
-    rw (length-append xs (x ∷ []), e, set-append-seam xs 0 (replicate (5 - (length xs + 1)) 0) x, append-snoc xs x (replicate (5 - (length xs + 1)) 0))
+    let e : blockLimit - length xs ≡ suc (blockLimit - (length xs + 1)) = omega arith in
+    rw (length-append xs (x ∷ []), e, set-append-seam xs 0 (replicate (blockLimit - (length xs + 1)) 0) x, append-snoc xs x (replicate (blockLimit - (length xs + 1)) 0))
 
-pub five-more : (f : Five) (x : ℕ) → Filled f → f .count < 5 → more f x ≡ fiveOf (held f ++ (x ∷ []))
+pub five-more : (f : Five) (x : ℕ) → Filled f → f .count < blockLimit → more f x ≡ fiveOf (held f ++ (x ∷ []))
 five-more f x e h =
     ap (λ (g : Five). more g x) e ∙ more-five (held f) x (omega (arith, five-count f (held f) e))

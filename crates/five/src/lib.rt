@@ -8,13 +8,16 @@ ghost use Rattle.phase.specs.Phase.{blockLimit};
 ghost use Rattle.session_memory.specs.State.{held, fiveOf, noFive};
 ghost use Rattle.five.specs.Filled.{Filled};
 
+// The most numbers of a block, as a length.
+const BLOCK_LIMIT: usize = phase::BLOCK_LIMIT as usize;
+
 // No numbers.
 pub fn none() -> Five
     ensures { λ r. ⌜ r ≡ noFive ⌝ }
 {
     Five {
         count: 0,
-        items: [0u8; 5],
+        items: [0u8; BLOCK_LIMIT],
     }
 }
 

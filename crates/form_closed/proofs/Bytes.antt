@@ -7,10 +7,11 @@ use Prim.Native.Nat.{ℕ, suc, _+_, _≤_, _<_}
 use native.Mathlib.Omega.{arith}
 use lib.Dec.{eqb, ltb}
 use lib.ListN.{length, take, drop, length-drop, length-set}
-use borrow.Author.Tests.{eqb-true, eqb-false, ltb-true}
-use Rattle.grammar.specs.Bytes.{Bytes, CR, LF}
+use borrow.Author.Tests.{eqb-true, ltb-true}
+use Rattle.grammar.specs.Bytes.{Bytes, CR, LF, byteValues}
 use Rattle.grammar.specs.Refusals.{lineTooLong, badTransfer, badChecksum, storeFull, bytesWait}
-use Rattle.grammar.specs.Lines.{LineByte, ends, grows, overruns, trim}
+use Rattle.grammar.specs.Lines.{LineByte, ends, grows, overruns, trim, lineLimit}
+use Rattle.grammar.specs.Fields.{bodyLimit}
 use Rattle.grammar.proofs.Basics.{no-both}
 use Rattle.transfer_step.specs.declared.Stepped.{Stepped}
 use Rattle.transfer_step.specs.declared.Outcome.{Outcome}
@@ -18,13 +19,16 @@ use Rattle.transfer_step.specs.declared.Outcome.the-variants.{More, Whole, Malf
 use Rattle.transfer_step.specs.Step.{stepOf}
 use Rattle.transfer_read.specs.Feed.{headingPut, roomOf}
 use Rattle.transfer_read.proofs.Room.{step-within}
+use Rattle.session_memory.specs.Session.{Session}
 use Rattle.line_effect.specs.Judge.{lineSum, judgeOf}
-use Rattle.waiting.specs.Waiting.{waitingOf}
+use Rattle.waiting.specs.Waiting.{waitingOf, firstText, thenText}
 use Rattle.pending.specs.Pending.{waits}
 use Rattle.receive_defined.specs.Receiving.{Cs, cs, moved, refusedOf, Settled, lineMoved, lineStepOf, reading, transferMoved, transferStep, transferStepOf, lfDropped, lineByteOf, byteOf, run, stops, receiveFrom}
+use Rattle.phase.specs.Phase.{phaseTransfer}
 use Rattle.form_closed.specs.Fixed.{Fixed}
-use Rattle.form_closed.specs.Facts.{Octets, ReaderOk, HeadingOk, LineOk, Box, Under, Lent, Good}
+use Rattle.form_closed.specs.Facts.{Octets, ReaderOk, Under, Lent, Good}
 use Rattle.form_closed.proofs.Laws.{octets-first, octets-rest, octets-set}
+use Rattle.form_closed.proofs.Judged.{SessionOk, session-ok, good-by, ok-line}
 use Rattle.form_closed.proofs.Lines.{judge-ok}
 use Rattle.form_closed.proofs.Settled.{refused-good, settle-ok}
 use Rattle.form_closed.proofs.Reader.{step-stays, heading-ok, stored, stored-length, stored-octets}
@@ -33,13 +37,12 @@ use Rattle.form_closed.proofs.Waiting.{waits-none}
 
 -- ---------------------------------------------------------------- a byte
 
-module _ (F : Fixed) (nt ni ns : ℕ) (c : Cs) (b : ℕ) (G : Good F nt ni ns c) (O : b < 256) where
+module _ (F : Fixed) (nt ni ns : ℕ) (c : Cs) (b : ℕ) (G : Good F nt ni ns c) (O : b < byteValues) where
   refused : (n : ℕ) → Good F nt ni ns (cs (refusedOf n (c .session)) (c .table) (c .inbox) (c .store))
-  refused n =
-      refused-good F nt ni ns n (c .session) (c .table) (c .inbox) (c .store) (G .now) (G .say) (G .keep) (G .reader) (G .heading) (G .line) (G .tally) (G .box) (G .lent)
+  refused n = refused-good F nt ni ns n (c .session) (c .table) (c .inbox) (c .store) (session-ok G) (G .lent)
 
   -- after a byte of a transfer: s the session, st the store
-  module _ (E : waits (c .session .say) ≡ false) (P : c .session .now .phase ≡ 5) where
+  module _ (E : waits (c .session .say) ≡ false) (P : c .session .now .phase ≡ phaseTransfer) where
     U : Under (c .session .now) (c .session .say) (c .session .keep) (c .session .reading .reader) (c .inbox) (c .store)
     U = G .awaited .under P
 
@@ -49,7 +52,7 @@ module _ (F : Fixed) (nt ni ns : ℕ) (c : Cs) (b : ℕ) (G : Good F nt ni ns c)
     abbrev room : ℕ
     room = roomOf (drop (c .session .keep .used) (c .store))
 
-    room-left : (room ≤ 65535) × (c .session .keep .used + room ≤ length (c .store)) × (c .session .reading .reader .body ≤ room)
+    room-left : (room ≤ bodyLimit) × (c .session .keep .used + room ≤ length (c .store)) × (c .session .reading .reader .body ≤ room)
     room-left =
         let l = length-drop (c .session .keep .used) (c .store) in
         let w = G .box .within in
@@ -58,19 +61,29 @@ module _ (F : Fixed) (nt ni ns : ℕ) (c : Cs) (b : ℕ) (G : Good F nt ni ns c)
     moved-ok : (t : Stepped) → ReaderOk (t .reader) × (t .reader .body ≤ room) → Good F nt ni ns (transferStep c b t .cs)
     moved-ok t h = go (t .outcome)
       where
-        size : length (stored (c .session .keep .used) (t .put) (c .session .reading .reader) b (c .store)) ≡ length (c .store)
+        st : Bytes
+        st = stored (c .session .keep .used) (t .put) (c .session .reading .reader) b (c .store)
+
+        size : length st ≡ length (c .store)
         size = stored-length (c .session .keep .used) (t .put) (c .session .reading .reader) b (c .store) (G .box .within)
 
-        H : HeadingOk (headingPut (t .put) (c .session .reading .reader) b (c .session .reading .heading))
-        H = heading-ok (t .put) (c .session .reading .reader) b (c .session .reading .heading) O (G .heading)
+        s : Session
+        s = reading (c .session) (t .reader) (headingPut (t .put) (c .session .reading .reader) b (c .session .reading .heading))
 
-        L : LineOk (record { «after_cr» = false; len = c .session .line .len; bytes = c .session .line .bytes })
-        L = record { len = G .line .len; size = G .line .size; octets = G .line .octets }
+        S : SessionOk (c .inbox) st s
+        S =
+            record {
+              now = G .now;
+              say = G .say;
+              keep = G .keep;
+              reader = h .0;
+              heading = heading-ok (t .put) (c .session .reading .reader) b (c .session .reading .heading) O (G .heading);
+              line = record { len = G .line .len; size = G .line .size; octets = G .line .octets };
+              tally = G .tally;
+              box = record { limit = G .box .limit; placed = G .box .placed; used = G .box .used; within = omega (arith, size, G .box .within) };
+            }
 
-        B : Box (c .session .keep) (c .inbox) (stored (c .session .keep .used) (t .put) (c .session .reading .reader) b (c .store))
-        B = record { limit = G .box .limit; placed = G .box .placed; used = G .box .used; within = omega (arith, size, G .box .within) }
-
-        U′ : Under (c .session .now) (c .session .say) (c .session .keep) (t .reader) (c .inbox) (stored (c .session .keep .used) (t .put) (c .session .reading .reader) b (c .store))
+        U′ : Under (c .session .now) (c .session .say) (c .session .keep) (t .reader) (c .inbox) st
         U′ =
             record {
               current = U .current;
@@ -81,7 +94,7 @@ module _ (F : Fixed) (nt ni ns : ℕ) (c : Cs) (b : ℕ) (G : Good F nt ni ns c)
               room = omega (arith, size, room-left .1, h .1);
             }
 
-        M : Lent nt ni ns (c .table) (c .inbox) (stored (c .session .keep .used) (t .put) (c .session .reading .reader) b (c .store))
+        M : Lent nt ni ns (c .table) (c .inbox) st
         M =
             record {
               table = G .lent .table;
@@ -93,32 +106,12 @@ module _ (F : Fixed) (nt ni ns : ℕ) (c : Cs) (b : ℕ) (G : Good F nt ni ns c)
               storeOctets = stored-octets (c .session .keep .used) (t .put) (c .session .reading .reader) b (c .store) O (G .lent .storeOctets);
             }
 
-        ended : (n : ℕ) → Good F nt ni ns (cs (refusedOf n (reading (c .session) (t .reader) (headingPut (t .put) (c .session .reading .reader) b (c .session .reading .heading)))) (c .table) (c .inbox)
-            (stored (c .session .keep .used) (t .put) (c .session .reading .reader) b (c .store)))
-        ended n =
-            refused-good F nt ni ns n (reading (c .session) (t .reader) (headingPut (t .put) (c .session .reading .reader) b (c .session .reading .heading))) (c .table) (c .inbox)
-            (stored (c .session .keep .used) (t .put) (c .session .reading .reader) b (c .store)) (G .now) (G .say) (G .keep) (h .0) H L (G .tally) B M
+        ended : (n : ℕ) → Good F nt ni ns (cs (refusedOf n s) (c .table) (c .inbox) st)
+        ended n = refused-good F nt ni ns n s (c .table) (c .inbox) st S M
 
-        go : (o : Outcome)
-            → Good F nt ni ns (transferMoved o (reading (c .session) (t .reader) (headingPut (t .put) (c .session .reading .reader) b (c .session .reading .heading)))
-            (c .table) (c .inbox) (stored (c .session .keep .used) (t .put) (c .session .reading .reader) b (c .store)) .cs)
-        go More =
-            record {
-              now = G .now;
-              say = G .say;
-              keep = G .keep;
-              reader = h .0;
-              heading = H;
-              line = L;
-              tally = G .tally;
-              box = B;
-              awaited = record { quiet = λ a k. Z; under = λ e. U′; closed = λ l. absurd (omega arith) };
-              waiting = λ e. absurd (no-both (waits (c .session .say)) e E);
-              lent = M;
-            }
-        go Whole =
-            keep-ok F nt ni ns (reading (c .session) (t .reader) (headingPut (t .put) (c .session .reading .reader) b (c .session .reading .heading))) (c .table) (c .inbox)
-            (stored (c .session .keep .used) (t .put) (c .session .reading .reader) b (c .store)) (G .now) (G .say) (G .keep) (h .0) H L (G .tally) B U′ Z (waits-none (c .session .say) E .1) M
+        go : (o : Outcome) → Good F nt ni ns (transferMoved o s (c .table) (c .inbox) st .cs)
+        go More = good-by S (record { quiet = λ a k. Z; under = λ e. U′; closed = λ l. absurd (omega arith) }) (λ e. absurd (no-both (waits (c .session .say)) e E)) M
+        go Whole = keep-ok F nt ni ns s (c .table) (c .inbox) st S U′ Z (waits-none (c .session .say) E .1) M
         go Malformed = ended badTransfer
         go WrongSum = ended badChecksum
         go NoRoom = ended storeFull
@@ -130,70 +123,49 @@ module _ (F : Fixed) (nt ni ns : ℕ) (c : Cs) (b : ℕ) (G : Good F nt ni ns c)
         (step-stays room (c .session .reading .reader) b (G .reader) (room-left .0) O, step-within room (c .session .reading .reader) b (room-left .2))
 
   -- a byte of a line
-  line-ok : (known : Bytes) → waits (c .session .say) ≡ false → (c .session .now .phase ≡ 5 → ⊥) → Good F nt ni ns (lineByteOf known c b .cs)
+  line-ok : (known : Bytes) → waits (c .session .say) ≡ false → Good F nt ni ns (lineByteOf known c b .cs)
   unfolding lineStepOf
-  line-ok known E N = go (eqb b CR) (ltb (c .session .line .len) 256) refl
+  line-ok known E = go (eqb b CR) (ltb (c .session .line .len) lineLimit) refl
     where
-      out : LineByte → Settled
-      out l = lineMoved l (c .session) b (c .table) known (c .inbox) (length (c .store))
+      s : Session
+      s = c .session
 
-      go : (d e : Bool) → ltb (c .session .line .len) 256 ≡ e
+      l : Bytes
+      l = take (c .session .line .len) (c .session .line .bytes)
+
+      out : LineByte → Settled
+      out x = lineMoved x (c .session) b (c .table) known (c .inbox) (length (c .store))
+
+      go : (d e : Bool) → ltb (c .session .line .len) lineLimit ≡ e
           → Good F nt ni ns (cs (out (cond d ends (cond e grows overruns)) .session) (out (cond d ends (cond e grows overruns)) .table) (c .inbox) (c .store))
       go true e q =
-          settle-ok F nt ni ns (c .session)
-          (judgeOf (trim (take (c .session .line .len) (c .session .line .bytes))) (lineSum (take (c .session .line .len) (c .session .line .bytes))) (c .session .now) (c .session .say) (c .session .keep) (c .session .reading .reader) (c .table) known (c .inbox) (length (c .store)))
-          true (c .inbox) (c .store) (G .heading) (G .line) (G .tally) (c .table) (G .lent)
-          (judge-ok (c .table) known (c .inbox) (c .store) (c .session .now) (c .session .say) (c .session .keep) (c .session .reading .reader)
-          (G .now) (G .say) (G .keep) (G .reader) (G .box) (waits-none (c .session .say) E .0) (waits-none (c .session .say) E .1) (trim (take (c .session .line .len) (c .session .line .bytes))) (lineSum (take (c .session .line .len) (c .session .line .bytes))) (G .awaited .quiet) N)
-          (λ x. refused _)
+          settle-ok F nt ni ns (judgeOf (trim l) (lineSum l) s (c .table) known (c .inbox) (length (c .store))) true (c .inbox) (c .store) (c .table) (G .lent)
+          (judge-ok (c .table) known (c .inbox) (c .store) s (session-ok G) (G .awaited) (waits-none (s .say) E .0) (waits-none (s .say) E .1) (trim l) (lineSum l))
       go false true q =
-          record {
-            now = G .now;
-            say = G .say;
-            keep = G .keep;
-            reader = G .reader;
-            heading = G .heading;
-            line = record {
-              len = omega (arith, ltb-true (c .session .line .len) 256 q);
-              size = length-set (c .session .line .bytes) (c .session .line .len) b ∙ G .line .size;
-              octets = octets-set (c .session .line .bytes) (c .session .line .len) b O (G .line .octets);
-            };
-            tally = G .tally;
-            box = G .box;
-            awaited = G .awaited;
-            waiting = λ e. absurd (no-both (waits (c .session .say)) e E);
-            lent = G .lent;
-          }
+          good-by
+          (ok-line (session-ok G) (record {
+            len = omega (arith, ltb-true (s .line .len) lineLimit q);
+            size = length-set (s .line .bytes) (s .line .len) b ∙ G .line .size;
+            octets = octets-set (s .line .bytes) (s .line .len) b O (G .line .octets);
+          }))
+          (G .awaited) (λ e. absurd (no-both (waits (s .say)) e E)) (G .lent)
       go false false q = refused lineTooLong
 
   lf-ok : Good F nt ni ns (cs (lfDropped (c .session)) (c .table) (c .inbox) (c .store))
-  unfolding waitingOf
-  lf-ok =
-      record {
-        now = G .now;
-        say = G .say;
-        keep = G .keep;
-        reader = G .reader;
-        heading = G .heading;
-        line = record { len = G .line .len; size = G .line .size; octets = G .line .octets };
-        tally = G .tally;
-        box = G .box;
-        awaited = G .awaited;
-        waiting = G .waiting;
-        lent = G .lent;
-      }
+  unfolding waitingOf firstText thenText
+  lf-ok = good-by (ok-line (session-ok G) (record { len = G .line .len; size = G .line .size; octets = G .line .octets })) (G .awaited) (G .waiting) (G .lent)
 
   pub byte-ok : (known : Bytes) → Good F nt ni ns (byteOf known c b .cs)
   unfolding byteOf
-  byte-ok known = go (c .session .line .«after_cr» && eqb b LF) (waits (c .session .say)) (eqb (c .session .now .phase) 5) refl refl
+  byte-ok known = go (c .session .line .«after_cr» && eqb b LF) (waits (c .session .say)) (eqb (c .session .now .phase) phaseTransfer) refl refl
     where
-      go : (x y z : Bool) → waits (c .session .say) ≡ y → eqb (c .session .now .phase) 5 ≡ z
+      go : (x y z : Bool) → waits (c .session .say) ≡ y → eqb (c .session .now .phase) phaseTransfer ≡ z
           → Good F nt ni ns (cond x (moved 0 (cs (lfDropped (c .session)) (c .table) (c .inbox) (c .store)))
           (cond y (moved bytesWait (cs (refusedOf bytesWait (c .session)) (c .table) (c .inbox) (c .store))) (cond z (transferStepOf c b) (lineByteOf known c b))) .cs)
       go true y z e f = lf-ok
       go false true z e f = refused bytesWait
-      go false false true e f = transfer-ok e (eqb-true (c .session .now .phase) 5 f)
-      go false false false e f = line-ok known e (eqb-false (c .session .now .phase) 5 f)
+      go false false true e f = transfer-ok e (eqb-true (c .session .now .phase) phaseTransfer f)
+      go false false false e f = line-ok known e
 
 -- ---------------------------------------------------------------- a portion
 

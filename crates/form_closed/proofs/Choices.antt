@@ -7,9 +7,10 @@ use Prim.Native.Nat.{ℕ, _+_, _-_, _≤_, min, _<_, suc}
 use native.Mathlib.Omega.{arith}
 use lib.ListN.{length, length-map, length-append}
 use Rattle.grammar.specs.Bytes.{Bytes}
-use Rattle.grammar.specs.Turns.{Proposal}
+use Rattle.grammar.specs.Turns.{Proposal, blockLimit}
 use Rattle.grammar.specs.Answers.{writeSign, Sign, accept, decline, defer}
-use Rattle.mail.specs.Mail.{Record, Message, accepted}
+use Rattle.grammar.specs.Fields.{bodyLimit}
+use Rattle.mail.specs.Mail.{Record, Message, accepted, recordLimit}
 use Rattle.session.specs.Choices.{chosen, answersTo, Shelf, bodyBytes, announced, haveBid, noRoomFor, withAccepted, answersAfter}
 use Rattle.session.proofs.Choices.{few, Places, chosen-places, one-sign-each}
 use Rattle.places.specs.Places.{entryLen, proposalLen, recordLen}
@@ -31,7 +32,7 @@ use lib.Dec.{ltb}
 use borrow.Author.Tests.{ltb-true, not-false}
 use Rattle.grammar.proofs.Basics.{or2}
 
-places-octets : (md : Bool) (T : List Record) (is : List ℕ) → length T ≤ 64 → Places md T is → Octets is
+places-octets : (md : Bool) (T : List Record) (is : List ℕ) → length T ≤ recordLimit → Places md T is → Octets is
 places-octets md T [] h p = octets-nil
 places-octets md T (i ∷ is) h p = octets-cons (omega (arith, p .0)) (places-octets md T is h (p .2))
 
@@ -54,7 +55,7 @@ module _ (E : Shelf) (ms : List Message) where
     where
       free : noRoomFor E ms acc (p .size) ≡ false → length ms + length acc < E .places
       free e =
-          let f = (or2 (ltb 65535 (p .size)) (ltb (E .bytes - bodyBytes ms - announced acc) (p .size) || not (ltb (length ms + length acc) (E .places))) e) .1 in
+          let f = (or2 (ltb bodyLimit (p .size)) (ltb (E .bytes - bodyBytes ms - announced acc) (p .size) || not (ltb (length ms + length acc) (E .places))) e) .1 in
           let g = (or2 (ltb (E .bytes - bodyBytes ms - announced acc) (p .size)) (not (ltb (length ms + length acc) (E .places))) f) .1 in
           ltb-true (length ms + length acc) (E .places) (not-false (ltb (length ms + length acc) (E .places)) g)
 
@@ -88,16 +89,16 @@ pub record AnswersOk (w : Await) (k : Keep) (inbox : Bytes) (f : Five) : Type 0 
   pub each : f .count ≡ w .proposals
   pub places : k .kept + pluses (held f) ≤ placeCount inbox
 
-pub answers-ok : (w : Await) (k : Keep) (table known inbox : Bytes) (n : ℕ) → w .proposals ≤ 5 → k .kept ≤ placeCount inbox
+pub answers-ok : (w : Await) (k : Keep) (table known inbox : Bytes) (n : ℕ) → w .proposals ≤ blockLimit → k .kept ≤ placeCount inbox
     → AnswersOk w k inbox (answersOf w k table known inbox n)
 unfolding answersOf headsOf proposalsOf
 answers-ok w k table known inbox n h b =
     let E = shelfOf table known inbox (n - k .used) in
     let ms : List Message = headsOf inbox (k .kept) in
-    let ps : List Proposal = proposalsOf (w .block) (min 5 (w .proposals)) in
+    let ps : List Proposal = proposalsOf (w .block) (min blockLimit (w .proposals)) in
     let ss = answersTo E ms ps in
     let l₁ : length ms ≡ k .kept = entries-length (λ (c : Bytes). messageOf c []) entryLen inbox 0 (k .kept) in
-    let l₂ : length ps ≡ min 5 (w .proposals) = entries-length proposalOf proposalLen (w .block) 0 (min 5 (w .proposals)) in
+    let l₂ : length ps ≡ min blockLimit (w .proposals) = entries-length proposalOf proposalLen (w .block) 0 (min blockLimit (w .proposals)) in
     let l₃ = one-sign-each E ms ps in
     let l₄ : length (map writeSign ss) ≡ length ss = length-map ss writeSign in
     let p = answers-places E ms ps (omega arith) in

@@ -1,7 +1,7 @@
 -- ONE COLUMN: a receive leaves the partner's number, and of the table it changes states for that partner alone, whatever stands in memory that passes the
 -- form test, whoever wrote it. Idea: nothing but marks writes the table, marks go to the column of the state, and no line changes who the partner is.
 use mathlib.Core.Path.{_≡_, refl, sym, ap, _∙_, subst}
-use mathlib.Core.Bool.{Bool, true, false, cond, _&&_}
+use mathlib.Core.Bool.{Bool, true, false, _&&_}
 use mathlib.Core.List.{[], _∷_}
 use Prim.Native.Nat.{ℕ, suc, _+_, _<_}
 use lib.Dec.{eqb}
@@ -22,10 +22,10 @@ use Rattle.marking.proofs.States.{only-same, only-then, only-mark}
 use Rattle.line_effect.specs.Judge.{lineSum, nextAccepted, judgeOf}
 use Rattle.line_effect.specs.Judged.{Judged}
 use Rattle.line_effect.proofs.Kept.{judge-kept}
-use Rattle.our_turn.specs.Turn.{speakOf}
-use Rattle.phase.specs.Phase.{noProposal}
+use Rattle.our_turn.specs.Turn.{chooseOf, speakOf}
+use Rattle.phase.specs.Phase.{noProposal, phaseTransfer, notOurTurn, ourTurnAfterFF}
 use Rattle.pending.specs.Pending.{waits}
-use Rattle.receive_defined.specs.Receiving.{Cs, cs, Moved, refusedOf, settledOf, spokenOf, markedBy, Settled, settled, settleOf, longer, lineMoved, lineStepOf, nextJudged, isPlainAt, keepOf, transferMoved, transferStep, transferStepOf, byteOf, stops, Run, receiveFrom}
+use Rattle.receive_defined.specs.Receiving.{Cs, cs, Moved, refusedOf, spokenOf, markedBy, Settled, settled, settleOf, longer, lineMoved, lineStepOf, nextJudged, isPlainAt, keepOf, transferMoved, transferStep, transferStepOf, byteOf, stops, Run, receiveFrom}
 use Rattle.form_closed.specs.Columns.{partnerOf, OneColumn}
 
 pub column-same : (c : Cs) → OneColumn c c
@@ -49,25 +49,23 @@ module _ (p : ℕ) (column : p < partners) (t : Bytes) where
   in-same : (n : ℕ) (s : Session) → partnerOf s ≡ p → InOne p t (settled n s t)
   in-same n s e = record { partner = e; table = only-same p t }
 
-  module _ (s : Session) (j : Judged) (a : Bool) where
-    spoken-keep : (u : Bytes) → spokenOf s j a u .keep ≡ j .keep
-    spoken-keep u = go (eqb (j .speaks) 0)
-      where
-        go : (c : Bool)
-            → cond c (settledOf s j a (j .now) (j .say))
-            (settledOf s j a (speakOf (j .now) (j .say) (j .keep) u (eqb (j .speaks) 2) .now) (speakOf (j .now) (j .say) (j .keep) u (eqb (j .speaks) 2) .say)) .keep ≡ j .keep
-        go true = refl
-        go false = refl
+  module _ (j : Judged) (a : Bool) where
+    spoken-keep : (u : Bytes) → spokenOf j a u .keep ≡ j .next .keep
+    unfolding speakOf
+    spoken-keep u =
+        let P : Session → Type 0 = λ s. s .keep ≡ j .next .keep in
+        let places = chooseOf (j .next .keep .terms .partner) u (j .next .keep .framed) (j .next .keep .deferred) in
+        by-cond P (eqb (j .speaks) notOurTurn) refl (by-cond P (eqb (places .count) 0) (by-cond P (eqb (j .speaks) ourTurnAfterFF) refl refl) refl)
 
-    settle-one : partnerOf s ≡ p → j .keep .terms .partner ≡ p → InOne p t (settleOf s j a t)
+    settle-one : partnerOf (j .next) ≡ p → InOne p t (settleOf j a t)
     unfolding settleOf refusedOf
-    settle-one e f =
+    settle-one e =
         by-cond (InOne p t) (eqb (j .answer) 0)
         (record {
-          partner = ap (λ (k : Keep). k .terms .partner) (spoken-keep (markedBy j t)) ∙ f;
-          table = subst (λ (q : ℕ). StatesOnly p t (markAll q (held (j .marks .places)) (j .marks .state) t)) (sym f) (only-mark p (held (j .marks .places)) (j .marks .state) t column);
+          partner = ap (λ (k : Keep). k .terms .partner) (spoken-keep (markedBy j t)) ∙ e;
+          table = subst (λ (q : ℕ). StatesOnly p t (markAll q (held (j .marks .places)) (j .marks .state) t)) (sym e) (only-mark p (held (j .marks .places)) (j .marks .state) t column);
         })
-        (in-same (j .answer) (refusedOf (j .answer) s) e)
+        (in-same (j .answer) (refusedOf (j .answer) (j .next)) e)
 
   -- a byte of a line
   line-one : (s : Session) (b : ℕ) (known inbox : Bytes) (store : ℕ) → partnerOf s ≡ p → (l : LineByte) → InOne p t (lineMoved l s b t known inbox store)
@@ -75,16 +73,14 @@ module _ (p : ℕ) (column : p < partners) (t : Bytes) where
   line-one s b known inbox store e dropped = in-same 0 s e
   line-one s b known inbox store e ends =
       let w = take (s .line .len) (s .line .bytes) in
-      settle-one s (judgeOf (trim w) (lineSum w) (s .now) (s .say) (s .keep) (s .reading .reader) t known inbox store) true e
-      (judge-kept (s .now) (s .say) (s .keep) (s .reading .reader) (lineSum w) t known inbox store (trim w) .partner ∙ e)
+      settle-one (judgeOf (trim w) (lineSum w) s t known inbox store) true (judge-kept s (lineSum w) t known inbox store (trim w) .partner ∙ e)
   line-one s b known inbox store e grows = in-same 0 (longer s b) e
   line-one s b known inbox store e overruns = in-same _ (refusedOf _ s) e
 
   -- a message kept
   kept-one : (s : Session) → partnerOf s ≡ p → InOne p t (keepOf s t)
   unfolding keepOf
-  kept-one s e =
-      settle-one s (nextJudged s i) (isPlainAt s) e (by-cond (λ (j : Judged). j .keep .terms .partner ≡ p) (eqb i noProposal) e e)
+  kept-one s e = settle-one (nextJudged s i) (isPlainAt s) (by-cond (λ (j : Judged). partnerOf (j .next) ≡ p) (eqb i noProposal) e e)
     where
       i : ℕ
       i = nextAccepted (s .say .signs) (s .now .current + 1)
@@ -97,7 +93,7 @@ module _ (known : Bytes) where
   byte-column c b column =
       by-cond (λ (m : Moved). OneColumn c (m .cs)) (c .session .line .«after_cr» && eqb b LF) (record { partner = refl; table = only-same _ (c .table) })
       (by-cond (λ (m : Moved). OneColumn c (m .cs)) (waits (c .session .say)) (record { partner = refl; table = only-same _ (c .table) })
-      (by-cond (λ (m : Moved). OneColumn c (m .cs)) (eqb (c .session .now .phase) 5) (transfer (stepOf (roomOf (drop (c .session .keep .used) (c .store))) (c .session .reading .reader) b))
+      (by-cond (λ (m : Moved). OneColumn c (m .cs)) (eqb (c .session .now .phase) phaseTransfer) (transfer (stepOf (roomOf (drop (c .session .keep .used) (c .store))) (c .session .reading .reader) b))
       (line (lineByte false (c .session .line .len) b))))
     where
       line : (l : LineByte) → OneColumn c (cs (lineMoved l (c .session) b (c .table) known (c .inbox) (length (c .store)) .session) (lineMoved l (c .session) b (c .table) known (c .inbox) (length (c .store)) .table) (c .inbox) (c .store))

@@ -1,29 +1,30 @@
 -- NO CALL WRITES A FREE BYTE of session memory, on whatever memory. Idea: a call leaves session memory as it is, or saves a state there, whose
 -- arrays have their sizes by the facts of the form test; open writes the mark and the sizes before that.
-use mathlib.Core.Path.{_≡_, refl, sym, ap, _∙_, subst}
+use mathlib.Core.Path.{_≡_, refl, _∙_}
 use mathlib.Core.Bool.{Bool, true, false, cond}
-use Prim.Native.Nat.{ℕ, _+_, _-_, _≤_}
+use Prim.Native.Nat.{ℕ, _-_}
 use native.Mathlib.Omega.{arith}
 use lib.Dec.{eqb, ltb, leb}
-use lib.ListN.{length, length-append}
+use lib.ListN.{length}
 use borrow.Author.Tests.{eqb-true, ltb-true}
 use Rattle.grammar.specs.Bytes.{Bytes}
-use Rattle.grammar.specs.Refusals.{badMemory, sessionEnded}
+use Rattle.grammar.specs.Refusals.{badMemory, noPlace, sessionEnded}
 use Rattle.grammar.proofs.Basics.{and2}
 use Rattle.buffer.specs.Put.{cut}
-use Rattle.places.specs.Places.{markAt, numbersStart, arraysLen, partners, sessionLen}
+use Rattle.places.specs.Places.{markAt, partners, sessionLen}
 use Rattle.layout.proofs.Places.{part-after}
-use Rattle.session_memory.specs.State.{loadOf, saveOf, sizesOut, saveSizes, freshOf, arraysOut}
+use Rattle.session_memory.specs.State.{loadOf, saveOf, sizesOut, saveSizes}
 use Rattle.session_memory.specs.Session.{Session}
 use Rattle.session_memory.specs.declared.Sizes.{Sizes}
-use Rattle.session_memory.proofs.Laws.{Shaped, free-kept, end-kept, sizes-length}
+use Rattle.session_memory.proofs.Laws.{Shaped, arrays-length, free-kept, end-kept, sizes-length}
 use Rattle.waiting.specs.Waiting.{waitingOf}
 use Rattle.pending.specs.Pending.{waits, overOf}
-use Rattle.form_test.specs.Form.{lentSizes, formOf}
+use Rattle.form_test.specs.Form.{formOf}
 use Rattle.give.specs.Giving.{Given, reply, handedOf, handing, giveOf}
-use Rattle.open.specs.Opening.{knownOk, sizesOk, tableFault, Opened, opened, openOf}
+use Rattle.open.specs.Lending.{Lending, roleCaller}
+use Rattle.open.specs.Opening.{knownOk, sizesOk, sizesLent, faultIn, begun, openBy, openOf}
 use Rattle.receive_defined.specs.Receiving.{cs, receiveFrom, Received, unchanged, saved, receiveOf}
-use Rattle.form_closed.specs.Fixed.{Fixed}
+use Rattle.form_closed.specs.Fixed.{Fixed, fixedOf}
 use Rattle.form_closed.specs.Facts.{Octets}
 use Rattle.form_closed.specs.InForm.{InForm}
 use Rattle.form_closed.specs.Free.{FreeStays}
@@ -41,12 +42,8 @@ same-free sm = record { numbers = λ start len h k. refl; arrays = λ start len 
 then-free : {a b c : Bytes} → FreeStays a b → FreeStays b c → FreeStays a c
 then-free f g = record { numbers = λ start len h k. g .numbers start len h k ∙ f .numbers start len h k; arrays = λ start len h. g .arrays start len h ∙ f .arrays start len h }
 
-arrays-size : (s : Session) → Shaped s → length (arraysOut s) ≡ arraysLen
-unfolding arraysOut
-arrays-size s h = simp length-append (omega (arith, h .now .block, h .keep .deferred, h .reading .heading, h .line .bytes))
-
 saved-free : (sm : Bytes) (s : Session) → length sm ≡ sessionLen → Shaped s → FreeStays sm (saveOf sm s)
-saved-free sm s n h = record { numbers = free-kept sm s n (arrays-size s h); arrays = end-kept sm s n (arrays-size s h) }
+saved-free sm s n h = record { numbers = free-kept sm s n (arrays-length s h); arrays = end-kept sm s n (arrays-length s h) }
 
 sizes-free : (sm : Bytes) (z : Sizes) → length sm ≡ sessionLen → FreeStays sm (saveSizes sm z)
 unfolding saveSizes sizesOut
@@ -71,7 +68,7 @@ module _ (F : Fixed) (sm table inbox store : Bytes) (o : Octets sm) (ot : Octets
         cond t
         (cond a (unchanged (reply sessionEnded 0 0) sm table inbox store)
         (cond b (unchanged (reply 0 0 0) sm table inbox store) (saved sm (receiveFrom (F .known) (cs (loadOf sm) table inbox store) 0 bs))))
-        (unchanged (reply badMemory 255 0) sm table inbox store)
+        (unchanged (reply badMemory noPlace 0) sm table inbox store)
 
     -- RECEIVE
     pub receive-free : FreeStays sm (receiveOf sm table (F .titles) (F .names) (F .bodies) (F .known) inbox store bs .sm)
@@ -97,7 +94,7 @@ module _ (F : Fixed) (sm table inbox store : Bytes) (o : Octets sm) (ot : Octets
     given t a b =
         cond t
         (cond a (cond b (handing (loadOf sm) waiting sm buf place) (record { reply = reply 0 0 0; sm = sm; buf = buf })) (record { reply = reply 0 0 0; sm = sm; buf = buf }))
-        (record { reply = reply badMemory 255 0; sm = sm; buf = buf })
+        (record { reply = reply badMemory noPlace 0; sm = sm; buf = buf })
 
     -- GIVE
     pub give-free : FreeStays sm (giveOf sm table (F .titles) (F .names) (F .bodies) (F .known) inbox store buf place .sm)
@@ -118,32 +115,24 @@ module _ (F : Fixed) (sm table inbox store : Bytes) (o : Octets sm) (ot : Octets
 
 -- ---------------------------------------------------------------- open
 
-module _ (F : Fixed) (role partner : ℕ) (sm table inbox store : Bytes) where
-  abbrev lent : Sizes
-  lent = lentSizes table (F .titles) (F .names) (F .bodies) (F .known) inbox store
-
-  abbrev bad : ℕ → Opened
-  bad place = opened (reply badMemory place 0) sm
-
-  answer : Bool → Bool → Bool → Bool → Bool → Opened
-  answer o a b c d =
-      cond o (cond a (cond b (cond c (cond d (opened (reply 0 0 0) (saveOf (saveSizes sm lent) (freshOf (eqb role 1) partner (counted partner table noSheet)))) (bad (tableFault table (F .titles) (F .names) (F .bodies)))) (bad 255)) (bad 255)) (bad 255)) (bad 255)
-
-  long : sizesOk sm table (F .known) inbox ≡ true → length sm ≡ sessionLen
+module _ (L : Lending) where
+  long : sizesOk (L .session) (L .table) (L .known) (L .inbox) ≡ true → length (L .session) ≡ sessionLen
   unfolding sizesOk
-  long e = eqb-true (length sm) sessionLen (and2 (eqb (length sm) sessionLen) _ e .0)
+  long e = eqb-true (length (L .session)) sessionLen (and2 (eqb (length (L .session)) sessionLen) _ e .0)
 
   -- OPEN
-  pub open-free : FreeStays sm (openOf role partner sm table (F .titles) (F .names) (F .bodies) (F .known) inbox store .sm)
-  unfolding openOf answer
-  open-free = go (ltb partner partners) refl (leb role 1) (sizesOk sm table (F .known) inbox) refl (knownOk (F .known)) (eqb (tableFault table (F .titles) (F .names) (F .bodies)) 255)
+  pub open-free : FreeStays (L .session) (openOf L .sm)
+  unfolding openOf
+  open-free = go (ltb (L .partner) partners) refl (leb (L .role) roleCaller) (sizesOk (L .session) (L .table) (L .known) (L .inbox)) refl (knownOk (L .known)) (eqb (faultIn L) noPlace)
     where
-      go : (o : Bool) → ltb partner partners ≡ o → (a b : Bool) → sizesOk sm table (F .known) inbox ≡ b → (c d : Bool) → FreeStays sm (answer o a b c d .sm)
+      go : (o : Bool) → ltb (L .partner) partners ≡ o → (a b : Bool) → sizesOk (L .session) (L .table) (L .known) (L .inbox) ≡ b → (c d : Bool) → FreeStays (L .session) (openBy L o a b c d .sm)
       go true k true true e true true =
           let n = long e in
-          then-free (sizes-free sm lent n) (saved-free (saveSizes sm lent) (freshOf (eqb role 1) partner (counted partner table noSheet)) (sizes-length sm lent ∙ n) (fresh-shaped F (eqb role 1) partner (ltb-true partner partners k) (counted partner table noSheet) (open-counted partner table)))
-      go true k true true e true false = same-free sm
-      go true k true true e false d = same-free sm
-      go true k true false e c d = same-free sm
-      go true k false b e c d = same-free sm
-      go false k a b e c d = same-free sm
+          let sm = L .session in
+          let z = sizesLent L in
+          then-free (sizes-free sm z n) (saved-free (saveSizes sm z) (begun L) (sizes-length sm z ∙ n) (fresh-shaped (fixedOf L) (eqb (L .role) roleCaller) (L .partner) (ltb-true (L .partner) partners k) (counted (L .partner) (L .table) noSheet) (open-counted (L .partner) (L .table))))
+      go true k true true e true false = same-free (L .session)
+      go true k true true e false d = same-free (L .session)
+      go true k true false e c d = same-free (L .session)
+      go true k false b e c d = same-free (L .session)
+      go false k a b e c d = same-free (L .session)

@@ -1,42 +1,92 @@
--- What a whole line is judged to come to, as facts of the form test (`JudgedOk`), and each part of it after the change that a line makes: what
--- we await, what we say, what we send, the reader of the next transfer. Idea: a change that touches one number keeps every other fact.
+-- The facts of a session that hold whatever is awaited (`SessionOk`), part by part after the change that a line makes: what we await, what we say,
+-- what we send, the reader of the next transfer. What a whole line is judged to come to, as facts of the form test (`JudgedOk`). Idea: a change
+-- that touches one number keeps every other fact.
 use mathlib.Core.Path.{_≡_, refl, sym, ap, _∙_, subst}
 use mathlib.Core.Bool.{Bool, true, false, cond}
 use Prim.Native.Nat.{ℕ, _≤_, _<_}
 use native.Mathlib.Omega.{arith}
 use lib.Dec.{eqb}
 use lib.ListN.{length}
-use Rattle.grammar.specs.Bytes.{Bytes}
-use Rattle.grammar.proofs.Basics.{no-both}
+use Rattle.grammar.specs.Bytes.{Bytes, byteValues}
+use Rattle.grammar.specs.Turns.{blockLimit}
 use Rattle.layout.specs.Layout.{byteAt, entryAt, proposalSize}
 use Rattle.transfer_step.specs.declared.Reader.{Reader}
 use Rattle.transfer_step.specs.Step.{reader}
+use Rattle.transfer_step.specs.Names.{titlePlace, startPlace}
 use Rattle.session_memory.specs.State.{noFive}
 use Rattle.session_memory.specs.declared.Five.{Five}
 use Rattle.session_memory.specs.Session.{Await}
 use Rattle.session_memory.specs.declared.Say.{Say}
 use Rattle.session_memory.specs.Session.{Keep}
+use Rattle.session_memory.specs.Session.{Line}
+use Rattle.session_memory.specs.Session.{Session}
+use Rattle.session_memory.specs.Setters.{withReader, withNow, withSay, withKeep, withReading, withLine}
 use Rattle.entries.specs.Decoded.{placeCount}
-use Rattle.line_effect.specs.Judge.{inPhase, toTurn, toAnswer, toTransfer, saysThen, sends, readerFor}
+use Rattle.waiting.specs.Waiting.{waitingOf}
+use Rattle.pending.specs.Pending.{waits}
+use Rattle.line_effect.specs.Judge.{inPhase, toTurn, toAnswer, toTransfer, saysThen, sends, settledKeep, readerFor}
 use Rattle.line_effect.specs.Judged.{Judged}
+use Rattle.receive_defined.specs.Receiving.{Cs}
 use Rattle.form_test.specs.Form.{usedBy}
-use Rattle.form_closed.specs.Facts.{Octets, FiveOk, AwaitOk, SayOk, TermsOk, KeepOk, ReaderOk, Box, Last, Awaited}
+use Rattle.phase.specs.Phase.{phaseTurn, phaseTransfer, phaseLeaving, pieceBlock, notOurTurn}
+use Rattle.places.specs.Places.{deferredLen}
+use Rattle.form_closed.specs.Fixed.{Fixed}
+use Rattle.form_closed.specs.Facts.{Octets, FiveOk, AwaitOk, SayOk, KeepOk, ReaderOk, HeadingOk, LineOk, TallyOk, Box, Last, Awaited, Lent, Good}
 use Rattle.form_closed.proofs.Laws.{octets-zeros}
 
-pub record JudgedOk (inbox store : Bytes) (j : Judged) : Type 0 where
-  pub now : AwaitOk (j .now)
-  pub say : SayOk (j .say)
-  pub keep : KeepOk (j .keep)
-  pub reader : ReaderOk (j .reader)
-  pub box : Box (j .keep) inbox store
-  pub state : j .marks .state < 256
-  pub sent : 3 < j .say .then → 0 < j .keep .sending .count
-  pub quiet : eqb (j .speaks) 0 ≡ false → j .keep .sending .count ≡ 0
-  pub awaited : eqb (j .speaks) 0 ≡ true → Awaited (j .now) (j .say) (j .keep) (j .reader) inbox store
+-- ---------------------------------------------------------------- a session
 
--- where it is not refused
-abbrev pub JGood : Bytes → Bytes → Judged → Type 0
-JGood inbox store j = eqb (j .answer) 0 ≡ true → JudgedOk inbox store j
+pub record SessionOk (inbox store : Bytes) (s : Session) : Type 0 where
+  pub now : AwaitOk (s .now)
+  pub say : SayOk (s .say)
+  pub keep : KeepOk (s .keep)
+  pub reader : ReaderOk (s .reading .reader)
+  pub heading : HeadingOk (s .reading .heading)
+  pub line : LineOk (s .line)
+  pub tally : TallyOk (s .tally)
+  pub box : Box (s .keep) inbox store
+
+abbrev pub AwaitedIn : Bytes → Bytes → Session → Type 0
+AwaitedIn inbox store s = Awaited (s .now) (s .say) (s .keep) (s .reading .reader) inbox store
+
+-- what the test says of a state, taken apart and put together
+module _ {F : Fixed} {nt ni ns : ℕ} {c : Cs} where
+  pub session-ok : Good F nt ni ns c → SessionOk (c .inbox) (c .store) (c .session)
+  session-ok g = record { now = g .now; say = g .say; keep = g .keep; reader = g .reader; heading = g .heading; line = g .line; tally = g .tally; box = g .box }
+
+  pub good-by : SessionOk (c .inbox) (c .store) (c .session) → AwaitedIn (c .inbox) (c .store) (c .session)
+      → (waits (c .session .say) ≡ true → c .session .say .pos < length (waitingOf (c .session) (c .table) (F .titles) (F .names) (F .bodies)))
+      → Lent nt ni ns (c .table) (c .inbox) (c .store) → Good F nt ni ns c
+  good-by h a w l =
+      record { now = h .now; say = h .say; keep = h .keep; reader = h .reader; heading = h .heading; line = h .line; tally = h .tally; box = h .box; awaited = a; waiting = w; lent = l }
+
+module _ {inbox store : Bytes} {s : Session} (g : SessionOk inbox store s) where
+  pub ok-now : {w : Await} → AwaitOk w → SessionOk inbox store (withNow w s)
+  ok-now h = record { now = h; say = g .say; keep = g .keep; reader = g .reader; heading = g .heading; line = g .line; tally = g .tally; box = g .box }
+
+  pub ok-say : {y : Say} → SayOk y → SessionOk inbox store (withSay y s)
+  ok-say h = record { now = g .now; say = h; keep = g .keep; reader = g .reader; heading = g .heading; line = g .line; tally = g .tally; box = g .box }
+
+  pub ok-keep : {k : Keep} {i t : Bytes} → KeepOk k → Box k i t → SessionOk i t (withKeep k s)
+  ok-keep h b = record { now = g .now; say = g .say; keep = h; reader = g .reader; heading = g .heading; line = g .line; tally = g .tally; box = b }
+
+  pub ok-reader : {r : Reader} → ReaderOk r → SessionOk inbox store (withReading (withReader r (s .reading)) s)
+  ok-reader h = record { now = g .now; say = g .say; keep = g .keep; reader = h; heading = g .heading; line = g .line; tally = g .tally; box = g .box }
+
+  pub ok-line : {l : Line} → LineOk l → SessionOk inbox store (withLine l s)
+  ok-line h = record { now = g .now; say = g .say; keep = g .keep; reader = g .reader; heading = g .heading; line = h; tally = g .tally; box = g .box }
+
+-- ---------------------------------------------------------------- what a line comes to
+
+-- Refused or not: a refused line leaves the session as it was.
+pub record JudgedOk (inbox store : Bytes) (j : Judged) : Type 0 where
+  pub next : SessionOk inbox store (j .next)
+  pub state : j .marks .state < byteValues
+  pub sent : pieceBlock < j .next .say .then → 0 < j .next .keep .sending .count
+  pub quiet : eqb (j .speaks) notOurTurn ≡ false → j .next .keep .sending .count ≡ 0
+  pub awaited : eqb (j .speaks) notOurTurn ≡ true → AwaitedIn inbox store (j .next)
+
+-- ---------------------------------------------------------------- its parts
 
 -- messages kept and store used are the same
 pub box-as : (k j : Keep) (inbox store : Bytes) → j .kept ≡ k .kept → j .used ≡ k .used → Box k inbox store → Box j inbox store
@@ -49,9 +99,9 @@ box-as k j inbox store e f b =
     }
 
 pub none-ok : FiveOk noFive
-none-ok = record { few = omega arith; size = refl; octets = octets-zeros 5 }
+none-ok = record { few = omega arith; size = refl; octets = octets-zeros blockLimit }
 
-pub in-phase : (p : ℕ) (w : Await) → p < 256 → AwaitOk w → AwaitOk (inPhase p w)
+pub in-phase : (p : ℕ) (w : Await) → p < byteValues → AwaitOk w → AwaitOk (inPhase p w)
 in-phase p w h g = record { phase = h; current = g .current; proposals = g .proposals; ours = g .ours; sum = g .sum; block = g .block; octets = g .octets }
 
 pub to-turn : (ff : Bool) (w : Await) → AwaitOk w → AwaitOk (toTurn ff w)
@@ -60,20 +110,20 @@ to-turn ff w g = record { phase = omega arith; current = g .current; proposals =
 pub to-answer : (f : Five) (w : Await) → FiveOk f → AwaitOk w → AwaitOk (toAnswer f w)
 to-answer f w h g = record { phase = omega arith; current = g .current; proposals = g .proposals; ours = h; sum = g .sum; block = g .block; octets = g .octets }
 
-pub to-transfer : (i : ℕ) (w : Await) → i < 256 → AwaitOk w → AwaitOk (toTransfer i w)
+pub to-transfer : (i : ℕ) (w : Await) → i < byteValues → AwaitOk w → AwaitOk (toTransfer i w)
 to-transfer i w h g = record { phase = omega arith; current = h; proposals = g .proposals; ours = g .ours; sum = g .sum; block = g .block; octets = g .octets }
 
-pub says-then : (n : ℕ) (y : Say) → n < 256 → SayOk y → SayOk (saysThen n y)
+pub says-then : (n : ℕ) (y : Say) → n < byteValues → SayOk y → SayOk (saysThen n y)
 says-then n y h g = record { first = g .first; then = h; pos = g .pos; signs = g .signs }
 
-pub sends-ok : (f : Five) (flags : Bytes) (k : Keep) → TermsOk (k .terms) → FiveOk f → length flags ≡ 64 → Octets flags → KeepOk (sends f flags k)
-sends-ok f flags k t h l o = record { terms = t; sending = h; flags = l; octets = o }
+pub sends-ok : (f : Five) (flags : Bytes) (k : Keep) → KeepOk k → FiveOk f → length flags ≡ deferredLen → Octets flags → KeepOk (sends f flags k)
+sends-ok f flags k g h l o = record { terms = g .terms; sending = h; flags = l; octets = o }
 
 pub reader-ok : (w : Await) (i : ℕ) → ReaderOk (readerFor w i)
 unfolding readerFor
 reader-ok w i = go (eqb (byteAt (entryAt proposalSize (w .block) i) 0) 0)
   where
-    go : (c : Bool) → ReaderOk (reader (cond c 0 3) 0 0 0 0 0 0)
+    go : (c : Bool) → ReaderOk (reader (cond c titlePlace startPlace) 0 0 0 0 0 0)
     go true = record { place = omega arith; len = omega arith; head = omega arith; off = omega arith; left = omega arith; sum = omega arith; body = omega arith }
     go false = record { place = omega arith; len = omega arith; head = omega arith; off = omega arith; left = omega arith; sum = omega arith; body = omega arith }
 
@@ -81,25 +131,26 @@ pub reader-body : (w : Await) (i : ℕ) → readerFor w i .body ≡ 0
 unfolding readerFor
 reader-body w i = refl
 
--- the partner's turn is awaited, or nothing any more: nothing is to be shown
-pub free : (w : Await) (y : Say) (k : Keep) (r : Reader) (inbox store : Bytes) → ((w .phase ≡ 3 → ⊥) → w .phase ≤ 5 → ⊥) → (w .phase ≡ 5 → ⊥)
-    → (6 < w .phase → Last (y .first) (y .then)) → Awaited w y k r inbox store
-free w y k r inbox store h n l = record { quiet = λ a b. absurd (h a b); under = λ e. absurd (n e); closed = l }
+-- at the end of the partner's turn nothing is being sent any more
+pub settled-ok : {inbox store : Bytes} {s : Session} → SessionOk inbox store s → SessionOk inbox store (withKeep (settledKeep (s .keep)) s)
+settled-ok {inbox} {store} {s} g =
+    ok-keep g (sends-ok noFive (s .keep .deferred) (s .keep) (g .keep) none-ok (g .keep .flags) (g .keep .octets)) (box-as (s .keep) (settledKeep (s .keep)) inbox store refl refl (g .box))
 
--- nothing is being sent, no transfer is awaited, and the session is not closed
-pub calm : (w : Await) (y : Say) (k : Keep) (r : Reader) (inbox store : Bytes) → k .sending .count ≡ 0 → (w .phase ≡ 5 → ⊥) → w .phase ≤ 6
-    → Awaited w y k r inbox store
-calm w y k r inbox store z n l = record { quiet = λ a b. z; under = λ e. absurd (n e); closed = λ c. absurd (omega arith) }
+module _ (s : Session) (inbox store : Bytes) where
+  -- the partner's turn is awaited, or nothing any more: nothing is to be shown
+  pub free : ((s .now .phase ≡ phaseTurn → ⊥) → s .now .phase ≤ phaseTransfer → ⊥) → (s .now .phase ≡ phaseTransfer → ⊥) → (phaseLeaving < s .now .phase → Last (s .say .first) (s .say .then)) → AwaitedIn inbox store s
+  free h n l = record { quiet = λ a b. absurd (h a b); under = λ e. absurd (n e); closed = l }
 
--- whatever of our signs is said, or given, the same is awaited
-pub still-awaited : (w : Await) (y : Say) (k : Keep) (r : Reader) (inbox store : Bytes) (first then pos : ℕ) → (6 < w .phase → Last first then)
-    → Awaited w y k r inbox store → Awaited w (record { first = first; then = then; pos = pos; signs = y .signs }) k r inbox store
-still-awaited w y k r inbox store first then pos l h =
-    record {
-      quiet = h .quiet;
-      under = λ e. let u = h .under e in record { current = u .current; signs = u .signs; plus = u .plus; places = u .places; short = u .short; room = u .room };
-      closed = l;
-    }
+  -- nothing is being sent, no transfer is awaited, and the session is not closed
+  pub calm : s .keep .sending .count ≡ 0 → (s .now .phase ≡ phaseTransfer → ⊥) → s .now .phase ≤ phaseLeaving → AwaitedIn inbox store s
+  calm z n l = record { quiet = λ a b. z; under = λ e. absurd (n e); closed = λ c. absurd (omega arith) }
 
-pub no-refusal : {A : Type 0} (c : Bool) → c ≡ false → c ≡ true → A
-no-refusal c f e = absurd (no-both c e f)
+  -- whatever of our signs is said, or given, the same is awaited
+  pub still-awaited : (first then pos : ℕ) → (phaseLeaving < s .now .phase → Last first then) → AwaitedIn inbox store s
+      → AwaitedIn inbox store (withSay (record { first = first; then = then; pos = pos; signs = s .say .signs }) s)
+  still-awaited first then pos l h =
+      record {
+        quiet = h .quiet;
+        under = λ e. let u = h .under e in record { current = u .current; signs = u .signs; plus = u .plus; places = u .places; short = u .short; room = u .room };
+        closed = l;
+      }

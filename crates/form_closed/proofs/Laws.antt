@@ -9,9 +9,10 @@ use lib.Dec.{eqb, leb}
 use lib.ListN.{length, getD, set, take, drop, replicate, length-drop, length-set}
 use lib.Seq.{length-take-le, drop-drop, getD-drop, getD-take}
 use borrow.Author.Tests.{eq-eqb, eqb-true, ltb-true, lt-ltb}
-use Rattle.grammar.specs.Bytes.{Bytes, every}
-use Rattle.grammar.specs.Answers.{Sign, accept, decline, defer, writeSign}
+use Rattle.grammar.specs.Bytes.{Bytes, every, byteValues, fourByteValues}
+use Rattle.grammar.specs.Answers.{Sign, accept, decline, defer, writeSign, plusSign}
 use Rattle.grammar.specs.Transfers.{partOf}
+use Rattle.grammar.specs.Turns.{blockLimit}
 use Rattle.grammar.proofs.Basics.{and2, both, all-append, all-replicate, octet}
 use Rattle.buffer.specs.Put.{putBytes, cut}
 use Rattle.buffer.specs.declared.Cursor.{Cursor}
@@ -24,6 +25,7 @@ use Rattle.session_memory.proofs.Laws.{five-length}
 use Rattle.line_effect.specs.Judge.{plusFrom, nextAccepted, picked, flagged}
 use Rattle.form_test.specs.Form.{usedFrom, usedBy, pluses}
 use Rattle.marking.specs.States.{setState, markAll}
+use Rattle.phase.specs.Phase.{noProposal}
 use Rattle.marking.proofs.States.{state-all}
 use Rattle.form_closed.specs.Facts.{Octets, FiveOk}
 
@@ -32,11 +34,11 @@ use Rattle.form_closed.specs.Facts.{Octets, FiveOk}
 pub octets-nil : Octets []
 octets-nil = record { each = refl }
 
-pub octets-cons : {x : ℕ} {l : Bytes} → x < 256 → Octets l → Octets (x ∷ l)
-octets-cons {x} {l} h o = record { each = both (octet x) (every octet l) (lt-ltb x 256 h) (o .each) }
+pub octets-cons : {x : ℕ} {l : Bytes} → x < byteValues → Octets l → Octets (x ∷ l)
+octets-cons {x} {l} h o = record { each = both (octet x) (every octet l) (lt-ltb x byteValues h) (o .each) }
 
-pub octets-first : {x : ℕ} {l : Bytes} → Octets (x ∷ l) → x < 256
-octets-first {x} {l} o = ltb-true x 256 ((and2 (octet x) (every octet l) (o .each)) .0)
+pub octets-first : {x : ℕ} {l : Bytes} → Octets (x ∷ l) → x < byteValues
+octets-first {x} {l} o = ltb-true x byteValues ((and2 (octet x) (every octet l) (o .each)) .0)
 
 pub octets-rest : {x : ℕ} {l : Bytes} → Octets (x ∷ l) → Octets l
 octets-rest {x} {l} o = record { each = (and2 (octet x) (every octet l) (o .each)) .1 }
@@ -54,7 +56,7 @@ octets-drop zero l o = o
 octets-drop (suc n) [] o = octets-nil
 octets-drop (suc n) (x ∷ l) o = octets-drop n l (octets-rest o)
 
-pub octets-set : (l : Bytes) (i v : ℕ) → v < 256 → Octets l → Octets (set l i v)
+pub octets-set : (l : Bytes) (i v : ℕ) → v < byteValues → Octets l → Octets (set l i v)
 octets-set [] i v h o = octets-nil
 octets-set (x ∷ l) zero v h o = octets-cons h (octets-rest o)
 octets-set (x ∷ l) (suc i) v h o = octets-cons (octets-first o) (octets-set l i v h (octets-rest o))
@@ -84,16 +86,16 @@ pub octets-le4 : (x : ℕ) → Octets (le4 x)
 octets-le4 x = octets-cons (omega arith) (octets-cons (omega arith) (octets-cons (omega arith) (octets-cons (omega arith) octets-nil)))
 
 pub octets-le8 : (x : ℕ) → Octets (le8 x)
-octets-le8 x = octets-append (le4 x) (le4 (x / 4294967296)) (octets-le4 x) (octets-le4 (x / 4294967296))
+octets-le8 x = octets-append (le4 x) (le4 (x / fourByteValues)) (octets-le4 x) (octets-le4 (x / fourByteValues))
 
 pub octets-field : (n : ℕ) (w : Bytes) → Octets w → Octets (fieldOut n w)
 octets-field n w o = octets-cons (omega arith) (octets-take n (w ++ replicate n 0) (octets-append w (replicate n 0) o (octets-zeros n)))
 
 -- ---------------------------------------------------------------- marks and flags
 
-pub mark-octets : (p : ℕ) (is : List ℕ) (v : ℕ) (table : Bytes) → v < 256 → Octets table → Octets (markAll p is v table)
+pub mark-octets : (p : ℕ) (is : List ℕ) (v : ℕ) (table : Bytes) → v < byteValues → Octets table → Octets (markAll p is v table)
 mark-octets p [] v table h o = o
-mark-octets p (i ∷ is) v table h o = mark-octets p is v (setState p table i v) h (record { each = state-all octet p table i v (lt-ltb v 256 h) (o .each) })
+mark-octets p (i ∷ is) v table h o = mark-octets p is v (setState p table i v) h (record { each = state-all octet p table i v (lt-ltb v byteValues h) (o .each) })
 
 pub flag-octets : (is : List ℕ) (flags : Bytes) → Octets flags → Octets (flagged is flags)
 flag-octets [] flags o = o
@@ -123,12 +125,12 @@ picked-few c (i ∷ is) (s ∷ ss) = go (eqb s c) (picked-few c is ss)
 
 -- ---------------------------------------------------------------- up to five numbers
 
-pub five-of : (xs : List ℕ) → length xs ≤ 5 → Octets xs → FiveOk (fiveOf xs)
+pub five-of : (xs : List ℕ) → length xs ≤ blockLimit → Octets xs → FiveOk (fiveOf xs)
 five-of xs h o =
     record {
       few = h;
       size = five-length xs h;
-      octets = octets-append xs (replicate (5 - length xs) 0) o (octets-zeros (5 - length xs));
+      octets = octets-append xs (replicate (blockLimit - length xs) 0) o (octets-zeros (blockLimit - length xs));
     }
 
 pub held-length : (f : Five) → FiveOk f → length (held f) ≡ f .count
@@ -144,16 +146,16 @@ pub record Found (i : ℕ) (xs : List ℕ) (p : ℕ) : Type 0 where
   pub on : ℕ
   pub place : p ≡ i + on
   pub within : on < length xs
-  pub plus : getD xs on 0 ≡ 43
+  pub plus : getD xs on 0 ≡ plusSign
   pub same : pluses xs ≡ pluses (drop on xs)
 
-pub plus-found : (i : ℕ) (xs : List ℕ) → eqb (plusFrom i xs) 5 ≡ false → Found i xs (plusFrom i xs)
+pub plus-found : (i : ℕ) (xs : List ℕ) → eqb (plusFrom i xs) noProposal ≡ false → Found i xs (plusFrom i xs)
 plus-found i [] e = let z : true ≡ false = e in let y : _≡_ {A = ℕ} 0 1 = cc in absurd (omega arith)
-plus-found i (x ∷ xs) e = go (eqb x 43) refl (λ q. plus-found (suc i) xs q) e
+plus-found i (x ∷ xs) e = go (eqb x plusSign) refl (λ q. plus-found (suc i) xs q) e
   where
-    go : (t : Bool) → eqb x 43 ≡ t → (eqb (plusFrom (suc i) xs) 5 ≡ false → Found (suc i) xs (plusFrom (suc i) xs))
-        → eqb (cond t i (plusFrom (suc i) xs)) 5 ≡ false → Found i (x ∷ xs) (cond t i (plusFrom (suc i) xs))
-    go true q ih e = record { on = 0; place = omega arith; within = omega arith; plus = eqb-true x 43 q; same = refl }
+    go : (t : Bool) → eqb x plusSign ≡ t → (eqb (plusFrom (suc i) xs) noProposal ≡ false → Found (suc i) xs (plusFrom (suc i) xs))
+        → eqb (cond t i (plusFrom (suc i) xs)) noProposal ≡ false → Found i (x ∷ xs) (cond t i (plusFrom (suc i) xs))
+    go true q ih e = record { on = 0; place = omega arith; within = omega arith; plus = eqb-true x plusSign q; same = refl }
     go false q ih e =
         let f = ih e in
         record { on = suc (f .on); place = omega (arith, f .place); within = omega (arith, f .within); plus = f .plus; same = rw q (f .same) }
@@ -162,10 +164,10 @@ plus-found i (x ∷ xs) e = go (eqb x 43) refl (λ q. plus-found (suc i) xs q) e
 pub record Next (signs : Five) (i p : ℕ) : Type 0 where
   pub on : i ≤ p
   pub within : p < signs .count
-  pub plus : getD (signs .items) p 0 ≡ 43
+  pub plus : getD (signs .items) p 0 ≡ plusSign
   pub same : pluses (drop i (held signs)) ≡ pluses (drop p (held signs))
 
-pub next-found : (signs : Five) (i : ℕ) → FiveOk signs → i ≤ signs .count → eqb (nextAccepted signs i) 5 ≡ false → Next signs i (nextAccepted signs i)
+pub next-found : (signs : Five) (i : ℕ) → FiveOk signs → i ≤ signs .count → eqb (nextAccepted signs i) noProposal ≡ false → Next signs i (nextAccepted signs i)
 unfolding nextAccepted
 next-found signs i h k e =
     let f = plus-found i (drop i (held signs)) e in
@@ -183,9 +185,9 @@ next-found signs i h k e =
     }
 
 -- a plus counts
-pub plus-here : (xs : List ℕ) (i : ℕ) → i < length xs → getD xs i 0 ≡ 43 → pluses (drop i xs) ≡ suc (pluses (drop (suc i) xs))
+pub plus-here : (xs : List ℕ) (i : ℕ) → i < length xs → getD xs i 0 ≡ plusSign → pluses (drop i xs) ≡ suc (pluses (drop (suc i) xs))
 plus-here [] i h e = absurd (omega arith)
-plus-here (x ∷ xs) zero h e = rw (eq-eqb x 43 e)
+plus-here (x ∷ xs) zero h e = rw (eq-eqb x plusSign e)
 plus-here (x ∷ xs) (suc i) h e = plus-here xs i (omega arith) e
 
 pub signs-octets : (ss : List Sign) → Octets (map writeSign ss)

@@ -6,12 +6,14 @@ use Prim.Native.Nat.{ℕ, _≤_, _<_}
 use native.Mathlib.Omega.{arith}
 use lib.Dec.{eqb}
 use lib.ListN.{length, take, drop, length-append, length-take, length-drop, length-set}
-use Rattle.grammar.specs.Bytes.{Bytes}
+use Rattle.grammar.specs.Bytes.{Bytes, byteValues, twoByteValues}
 use Rattle.grammar.specs.Transfers.{blockSize}
+use Rattle.grammar.specs.Fields.{bodyLimit}
 use Rattle.grammar.proofs.Basics.{by-cond}
 use Rattle.transfer_step.specs.declared.Reader.{Reader}
 use Rattle.transfer_step.specs.declared.Stepped.{Stepped}
 use Rattle.transfer_step.specs.Step.{stepOf}
+use Rattle.transfer_step.specs.Names.{toHeading, toBody}
 use Rattle.transfer_step.proofs.Ways.{by-ways}
 use Rattle.transfer_read.specs.Feed.{headingPut, storePut}
 use Rattle.form_closed.specs.Facts.{Octets, ReaderOk, HeadingOk}
@@ -19,9 +21,9 @@ use Rattle.form_closed.proofs.Laws.{octets-append, octets-take, octets-
 
 -- ---------------------------------------------------------------- the reader after a byte of a transfer
 
-module _ (room : ℕ) (r : Reader) (b : ℕ) (R : ReaderOk r) (M : room ≤ 65535) (O : b < 256) where
-  block-size : blockSize b < 65536
-  block-size = by-cond (λ (n : ℕ). n < 65536) (eqb b 0) (omega arith) (omega arith)
+module _ (room : ℕ) (r : Reader) (b : ℕ) (R : ReaderOk r) (M : room ≤ bodyLimit) (O : b < byteValues) where
+  block-size : blockSize b < twoByteValues
+  block-size = by-cond (λ (n : ℕ). n < twoByteValues) (eqb b 0) (omega arith) (omega arith)
 
   pub step-stays : ReaderOk (stepOf room r b .reader)
   step-stays =
@@ -41,10 +43,10 @@ module _ (room : ℕ) (r : Reader) (b : ℕ) (R : ReaderOk r) (M : room ≤ 6553
 
 -- ---------------------------------------------------------------- heading and store after a byte of a transfer
 
-pub heading-ok : (put : ℕ) (r : Reader) (b : ℕ) (h : Bytes) → b < 256 → HeadingOk h → HeadingOk (headingPut put r b h)
+pub heading-ok : (put : ℕ) (r : Reader) (b : ℕ) (h : Bytes) → b < byteValues → HeadingOk h → HeadingOk (headingPut put r b h)
 unfolding headingPut
 heading-ok put r b h o g =
-    by-cond HeadingOk (eqb put 1)
+    by-cond HeadingOk (eqb put toHeading)
     (record { size = length-set h (r .head) b ∙ g .size; octets = octets-set h (r .head) b o (g .octets) })
     g
 
@@ -55,15 +57,15 @@ module _ (used put : ℕ) (r : Reader) (b : ℕ) (store : Bytes) where
 
   put-length-same : length (storePut put r b (drop used store)) ≡ length (drop used store)
   unfolding storePut
-  put-length-same = by-cond (λ (l : Bytes). length l ≡ length (drop used store)) (eqb put 2) (length-set (drop used store) (r .body) b) refl
+  put-length-same = by-cond (λ (l : Bytes). length l ≡ length (drop used store)) (eqb put toBody) (length-set (drop used store) (r .body) b) refl
 
-  put-octets : b < 256 → Octets store → Octets (storePut put r b (drop used store))
+  put-octets : b < byteValues → Octets store → Octets (storePut put r b (drop used store))
   unfolding storePut
   put-octets h o =
-      by-cond Octets (eqb put 2) (octets-set (drop used store) (r .body) b h (octets-drop used store o)) (octets-drop used store o)
+      by-cond Octets (eqb put toBody) (octets-set (drop used store) (r .body) b h (octets-drop used store o)) (octets-drop used store o)
 
   pub stored-length : used ≤ length store → length stored ≡ length store
   stored-length h = simp (length-append, put-length-same, length-take, length-drop) (omega arith)
 
-  pub stored-octets : b < 256 → Octets store → Octets stored
+  pub stored-octets : b < byteValues → Octets store → Octets stored
   stored-octets h o = octets-append (take used store) (storePut put r b (drop used store)) (octets-take used store o) (put-octets h o)

@@ -8,7 +8,7 @@ use lib.Dec.{eqb}
 use lib.ListN.{length}
 use lib.Seq.{getD-take}
 use borrow.Author.Tests.{eq-eqb, eqb-true}
-use Rattle.grammar.specs.Bytes.{Bytes}
+use Rattle.grammar.specs.Bytes.{Bytes, wordValues}
 use Rattle.grammar.proofs.Basics.{and2, both}
 use Rattle.buffer.specs.Put.{putBytes}
 use Rattle.places.specs.Places.{arraysAt, numbersStart, sessionLen, sizeStore}
@@ -64,11 +64,11 @@ module _ (F : Fixed) (sm table inbox store : Bytes) (I : InForm F sm table inbox
       let e₃ = and2 (sameSizes (loadSizes sm) (lentSizes table (F .titles) (F .names) (F .bodies) (F .known) inbox store)) _ (e₂ .1) in
       (record { size = eqb-true (length sm) sessionLen (e₁ .0); mark = e₂ .0; sizes = e₃ .0 }, e₃ .1)
 
-  store-fits : length store < 18446744073709551616
+  store-fits : length store < wordValues
   unfolding loadSizes
   store-fits =
       let e = sizes-store (loadSizes sm) (lentSizes table (F .titles) (F .names) (F .bodies) (F .known) inbox store) (parted .0 .sizes) in
-      subst (λ (n : ℕ). n < 18446744073709551616) e (le8-small sm (octets sm (I .smOctets .each)) sizeStore)
+      subst (λ (n : ℕ). n < wordValues) e (le8-small sm (octets sm (I .smOctets .each)) sizeStore)
 
   pub good : Good F (length table) (length inbox) (length store) (cs (loadOf sm) table inbox store)
   good = form-in F sm table inbox store (I .smOctets) (I .tableOctets) (I .inboxOctets) (I .storeOctets) store-fits (parted .1)

@@ -1,29 +1,29 @@
 -- What is counted keeps to its bytes, whatever it was: each event's numbers are taken modulo 256, and a table has 64 records at most.
-use Prim.Native.Nat.{ℕ, _+_, _-_, _%_, _<_, _≤_}
-use mathlib.Core.Path.{_≡_, refl}
-use mathlib.Core.Bool.{Bool, true, false, cond}
+use Prim.Native.Nat.{ℕ, _%_, _<_}
 use native.Mathlib.Omega.{arith}
 use native.Mathlib.Nat.{mod-lt}
 use lib.Dec.{eqb}
-use Rattle.grammar.specs.Bytes.{Bytes}
+use Rattle.grammar.specs.Bytes.{Bytes, byteValues}
+use Rattle.grammar.proofs.Basics.{by-cond}
 use Rattle.sheet.specs.declared.Sheet.{Sheet}
 use Rattle.sheet.specs.Sheet.{noSheet, proposedBy, forwardedBy, declinedBy, deferredBy}
 use Rattle.session_memory.specs.declared.Tally.{Tally}
 use Rattle.session_memory.specs.Session.{Await, Session}
 use Rattle.session_memory.specs.Setters.{withTally}
-use Rattle.tally.specs.Tally.{waitingIn, sizesIn, counted}
+use Rattle.tally.specs.Tally.{sizesIn, counted}
 use Rattle.tally.proofs.Laws.{waiting-few}
 use Rattle.line_effect.specs.declared.Marks.{Marks}
 use Rattle.line_effect.specs.Judged.{Judged}
-use Rattle.waiting.specs.Waiting.{waitingOf}
-use Rattle.receive_defined.specs.Tallied.{sheetMarked, proposesOf, recountedOf, talliedOf}
+use Rattle.waiting.specs.Waiting.{waitingOf, firstText, thenText}
+use Rattle.receive_defined.specs.Tallied.{sheetMarked, proposesOf, talliedOf}
 use Rattle.receive_defined.specs.Receiving.{cs}
+use Rattle.phase.specs.Phase.{stateForwarded, stateDeclined}
 use Rattle.form_closed.specs.Fixed.{Fixed}
 use Rattle.form_closed.specs.Facts.{SheetOk, TallyOk, Good}
 
 -- ---------------------------------------------------------------- the sheet
 
-byte : (n : ℕ) → n % 256 < 256
+byte : (n : ℕ) → n % byteValues < byteValues
 byte n = mod-lt n (omega arith)
 
 module _ (h : Sheet) (n : ℕ) (o : SheetOk h) where
@@ -40,12 +40,9 @@ module _ (h : Sheet) (n : ℕ) (o : SheetOk h) where
   deferred-ok = record { proposed = o .proposed; forwarded = o .forwarded; declined = o .declined; deferred = byte _; unsettled = byte _ }
 
 marked-ok : (h : Sheet) (m : Marks) → SheetOk h → SheetOk (sheetMarked h m)
-marked-ok h m o = go (eqb (m .state) 1) (eqb (m .state) 2)
-  where
-    go : (a b : Bool) → SheetOk (cond a (forwardedBy h (m .places .count)) (cond b (deferredBy (declinedBy h (m .places .count)) (m .deferred)) h))
-    go true b = forwarded-ok h (m .places .count) o
-    go false true = deferred-ok (declinedBy h (m .places .count)) (m .deferred) (declined-ok h (m .places .count) o)
-    go false false = o
+marked-ok h m o =
+    by-cond SheetOk (eqb (m .state) stateForwarded) (forwarded-ok h (m .places .count) o)
+    (by-cond SheetOk (eqb (m .state) stateDeclined) (deferred-ok (declinedBy h (m .places .count)) (m .deferred) (declined-ok h (m .places .count) o)) o)
 
 -- ---------------------------------------------------------------- the tally
 
@@ -57,23 +54,16 @@ counted-ok p table h o = record { waiting = omega (arith, waiting-few p table); 
 pub open-counted : (p : ℕ) (table : Bytes) → TallyOk (counted p table noSheet)
 open-counted p table = counted-ok p table noSheet (record { proposed = omega arith; forwarded = omega arith; declined = omega arith; deferred = omega arith; unsettled = omega arith })
 
-pub tallied-ok : (t : Tally) (j : Judged) (w : Await) (table : Bytes) → TallyOk t → TallyOk (talliedOf t j w table)
+pub tallied-ok : (j : Judged) (w : Await) (table : Bytes) → TallyOk (j .next .tally) → TallyOk (talliedOf j w table)
 unfolding talliedOf
-tallied-ok t j w table o = go (eqb (j .marks .places .count) 0)
+tallied-ok j w table o = by-cond TallyOk (eqb (j .marks .places .count) 0) (record { waiting = o .waiting; sizes = o .sizes; sheet = good }) (counted-ok (j .next .keep .terms .partner) table _ good)
   where
-    sheet : Sheet
-    sheet = proposedBy (sheetMarked (t .sheet) (j .marks)) (proposesOf (j .speaks) w)
-
-    good : SheetOk sheet
-    good = proposed-ok (sheetMarked (t .sheet) (j .marks)) (proposesOf (j .speaks) w) (marked-ok (t .sheet) (j .marks) (o .sheet))
-
-    go : (a : Bool) → TallyOk (cond a (record { waiting = t .waiting; sizes = t .sizes; sheet = sheet }) (counted (j .keep .terms .partner) table sheet))
-    go true = record { waiting = o .waiting; sizes = o .sizes; sheet = good }
-    go false = counted-ok (j .keep .terms .partner) table sheet good
+    good : SheetOk (proposedBy (sheetMarked (j .next .tally .sheet) (j .marks)) (proposesOf (j .speaks) w))
+    good = proposed-ok (sheetMarked (j .next .tally .sheet) (j .marks)) (proposesOf (j .speaks) w) (marked-ok (j .next .tally .sheet) (j .marks) (o .sheet))
 
 -- no other fact looks at what is counted
 pub with-tally : (F : Fixed) (nt ni ns : ℕ) (s : Session) (table inbox store : Bytes) {t : Tally} → TallyOk t → Good F nt ni ns (cs s table inbox store) → Good F nt ni ns (cs (withTally t s) table inbox store)
-unfolding waitingOf
+unfolding waitingOf firstText thenText
 with-tally F nt ni ns s table inbox store o g =
     record {
       now = g .now;

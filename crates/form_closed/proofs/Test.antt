@@ -7,10 +7,13 @@ use native.Mathlib.Omega.{arith}
 use lib.Dec.{eqb, ltb, leb}
 use lib.ListN.{length, getD, drop, replicate}
 use borrow.Author.Tests.{eq-eqb, eqb-true, eqb-false, ltb-true, ltb-false, lt-ltb, leb-true, le-leb}
-use Rattle.grammar.specs.Bytes.{Bytes}
+use Rattle.grammar.specs.Bytes.{Bytes, byteValues, wordValues}
 use Rattle.grammar.specs.Transfers.{partOf}
+use Rattle.grammar.specs.Fields.{bodyLimit}
+use Rattle.grammar.specs.Turns.{blockLimit}
+use Rattle.grammar.specs.Answers.{plusSign}
 use Rattle.grammar.proofs.Basics.{and2, both, or-second}
-use Rattle.places.specs.Places.{arraysAt, blockAt, blockLen, blockSumAt, currentAt, deferredAt, deferredLen, firstAt, headingAt, headingLen, lengthAt, levelAt, lineAt, lineLen, offsetAt, oursAt, partners, phaseAt, placeAt, sendingAt, signsAt, sumAt, thenAt, tallyWaitingAt, tallyProposedAt, tallyForwardedAt, tallyDeclinedAt, tallyDeferredAt, tallyUnsettledAt}
+use Rattle.places.specs.Places.{arraysAt, blockAt, blockLen, blockSumAt, currentAt, deferredAt, deferredLen, firstAt, headingAt, headingLen, lengthAt, lineAt, lineLen, offsetAt, oursAt, partners, phaseAt, placeAt, sendingAt, signsAt, sumAt, thenAt, tallyWaitingAt, tallyProposedAt, tallyForwardedAt, tallyDeclinedAt, tallyDeferredAt, tallyUnsettledAt}
 use Rattle.layout.specs.Layout.{byteAt, le2, le4, le8}
 use Rattle.layout.proofs.Laws.{octets}
 use Rattle.session_memory.specs.State.{at, flag, held, fiveAt, arrayAt, fiveOut, loadAwait, loadSay, loadKeep, loadReading, loadLine, loadOf, smallOut, numbersOut, tailOut, arraysOut, numberPart, loadTally}
@@ -22,6 +25,8 @@ use Rattle.waiting.specs.Waiting.{waitingOf}
 use Rattle.pending.specs.Pending.{waits}
 use Rattle.form_test.specs.Form.{countsOk, usedBy, inboxOk, waitingOk, pluses, transferOk, isLast, closedOk, phaseOk, stateOk}
 use Rattle.receive_defined.specs.Receiving.{Cs, cs}
+use Rattle.phase.specs.Phase.{phaseTurn, phaseTransfer, phaseLeaving, pieceNone}
+use Rattle.mail.specs.Mail.{placeLimit}
 use Rattle.form_closed.specs.Fixed.{Fixed}
 use Rattle.form_closed.specs.Facts.{Octets, FiveOk, Box, Under, Last, Awaited, Good}
 use Rattle.form_closed.proofs.Laws.{octets-nil, octets-cons, octets-append, octets-zeros, octets-part, octets-put, octets-le2, octets-le4, octets-le8}
@@ -32,11 +37,11 @@ module _ (s : Session) (inbox store : Bytes) where
   box-in : inboxOk s inbox store ≡ true → Box (s .keep) inbox store
   unfolding inboxOk
   box-in e =
-      let e₁ = and2 (leb (placeCount inbox) 64) _ e in
+      let e₁ = and2 (leb (placeCount inbox) placeLimit) _ e in
       let e₂ = and2 (leb (s .keep .kept) (placeCount inbox)) _ (e₁ .1) in
       let e₃ = and2 (eqb (usedBy inbox (s .keep .kept)) (s .keep .used)) _ (e₂ .1) in
       record {
-        limit = leb-true (placeCount inbox) 64 (e₁ .0);
+        limit = leb-true (placeCount inbox) placeLimit (e₁ .0);
         placed = leb-true (s .keep .kept) (placeCount inbox) (e₂ .0);
         used = eqb-true (usedBy inbox (s .keep .kept)) (s .keep .used) (e₃ .0);
         within = leb-true (s .keep .used) (length store) (e₃ .1);
@@ -45,7 +50,7 @@ module _ (s : Session) (inbox store : Bytes) where
   box-out : Box (s .keep) inbox store → inboxOk s inbox store ≡ true
   unfolding inboxOk
   box-out b =
-      both (leb (placeCount inbox) 64) _ (le-leb (placeCount inbox) 64 (b .limit))
+      both (leb (placeCount inbox) placeLimit) _ (le-leb (placeCount inbox) placeLimit (b .limit))
       (both (leb (s .keep .kept) (placeCount inbox)) _ (le-leb (s .keep .kept) (placeCount inbox) (b .placed))
       (both (eqb (usedBy inbox (s .keep .kept)) (s .keep .used)) _ (eq-eqb (usedBy inbox (s .keep .kept)) (s .keep .used) (b .used))
       (le-leb (s .keep .used) (length store) (b .within))))
@@ -58,15 +63,15 @@ module _ (s : Session) (inbox store : Bytes) where
   under-in e =
       let e₁ = and2 (ltb (s .now .current) (s .now .proposals)) _ e in
       let e₂ = and2 (eqb (s .say .signs .count) (s .now .proposals)) _ (e₁ .1) in
-      let e₃ = and2 (eqb (getD (s .say .signs .items) (s .now .current) 0) 43) _ (e₂ .1) in
+      let e₃ = and2 (eqb (getD (s .say .signs .items) (s .now .current) 0) plusSign) _ (e₂ .1) in
       let e₄ = and2 (leb (s .keep .kept + pluses (drop (s .now .current) (held (s .say .signs)))) (placeCount inbox)) _ (e₃ .1) in
-      let e₅ = and2 (leb (s .reading .reader .body) 65535) _ (e₄ .1) in
+      let e₅ = and2 (leb (s .reading .reader .body) bodyLimit) _ (e₄ .1) in
       record {
         current = ltb-true (s .now .current) (s .now .proposals) (e₁ .0);
         signs = eqb-true (s .say .signs .count) (s .now .proposals) (e₂ .0);
-        plus = eqb-true (getD (s .say .signs .items) (s .now .current) 0) 43 (e₃ .0);
+        plus = eqb-true (getD (s .say .signs .items) (s .now .current) 0) plusSign (e₃ .0);
         places = leb-true (s .keep .kept + pluses (drop (s .now .current) (held (s .say .signs)))) (placeCount inbox) (e₄ .0);
-        short = leb-true (s .reading .reader .body) 65535 (e₅ .0);
+        short = leb-true (s .reading .reader .body) bodyLimit (e₅ .0);
         room = leb-true (s .keep .used + s .reading .reader .body) (length store) (e₅ .1);
       }
 
@@ -75,63 +80,63 @@ module _ (s : Session) (inbox store : Bytes) where
   under-out u =
       both (ltb (s .now .current) (s .now .proposals)) _ (lt-ltb (s .now .current) (s .now .proposals) (u .current))
       (both (eqb (s .say .signs .count) (s .now .proposals)) _ (eq-eqb (s .say .signs .count) (s .now .proposals) (u .signs))
-      (both (eqb (getD (s .say .signs .items) (s .now .current) 0) 43) _ (eq-eqb (getD (s .say .signs .items) (s .now .current) 0) 43 (u .plus))
+      (both (eqb (getD (s .say .signs .items) (s .now .current) 0) plusSign) _ (eq-eqb (getD (s .say .signs .items) (s .now .current) 0) plusSign (u .plus))
       (both (leb (s .keep .kept + pluses (drop (s .now .current) (held (s .say .signs)))) (placeCount inbox)) _
       (le-leb (s .keep .kept + pluses (drop (s .now .current) (held (s .say .signs)))) (placeCount inbox) (u .places))
-      (both (leb (s .reading .reader .body) 65535) _ (le-leb (s .reading .reader .body) 65535 (u .short))
+      (both (leb (s .reading .reader .body) bodyLimit) _ (le-leb (s .reading .reader .body) bodyLimit (u .short))
       (le-leb (s .keep .used + s .reading .reader .body) (length store) (u .room))))))
 
   abbrev AwaitedS : Type 0
   AwaitedS = Awaited (s .now) (s .say) (s .keep) (s .reading .reader) inbox store
 
-  closed-in : closedOk s ≡ true → 6 < s .now .phase → Last (s .say .first) (s .say .then)
+  closed-in : closedOk s ≡ true → phaseLeaving < s .now .phase → Last (s .say .first) (s .say .then)
   unfolding closedOk
   closed-in e l =
-      let f : eqb (s .say .then) 0 && isLast (s .say .first) ≡ true = ap (λ (c : Bool). cond c (eqb (s .say .then) 0 && isLast (s .say .first)) true) (sym (lt-ltb 6 (s .now .phase) l)) ∙ e in
-      let d = and2 (eqb (s .say .then) 0) _ f in
-      (eqb-true (s .say .then) 0 (d .0), d .1)
+      let f : eqb (s .say .then) pieceNone && isLast (s .say .first) ≡ true = ap (λ (c : Bool). cond c (eqb (s .say .then) pieceNone && isLast (s .say .first)) true) (sym (lt-ltb phaseLeaving (s .now .phase) l)) ∙ e in
+      let d = and2 (eqb (s .say .then) pieceNone) _ f in
+      (eqb-true (s .say .then) pieceNone (d .0), d .1)
 
-  closed-out : (6 < s .now .phase → Last (s .say .first) (s .say .then)) → closedOk s ≡ true
+  closed-out : (phaseLeaving < s .now .phase → Last (s .say .first) (s .say .then)) → closedOk s ≡ true
   unfolding closedOk
-  closed-out h = go (ltb 6 (s .now .phase)) refl
+  closed-out h = go (ltb phaseLeaving (s .now .phase)) refl
     where
-      go : (c : Bool) → ltb 6 (s .now .phase) ≡ c → cond c (eqb (s .say .then) 0 && isLast (s .say .first)) true ≡ true
-      go true e = let l = h (ltb-true 6 (s .now .phase) e) in both (eqb (s .say .then) 0) _ (eq-eqb (s .say .then) 0 (l .0)) (l .1)
+      go : (c : Bool) → ltb phaseLeaving (s .now .phase) ≡ c → cond c (eqb (s .say .then) pieceNone && isLast (s .say .first)) true ≡ true
+      go true e = let l = h (ltb-true phaseLeaving (s .now .phase) e) in both (eqb (s .say .then) pieceNone) _ (eq-eqb (s .say .then) pieceNone (l .0)) (l .1)
       go false e = refl
 
   awaited-in : phaseOk s inbox store ≡ true → AwaitedS
   unfolding phaseOk
-  awaited-in e = go (eqb (s .now .phase) 3) (ltb 5 (s .now .phase)) (eqb (s .now .phase) 5) refl refl refl e
+  awaited-in e = go (eqb (s .now .phase) phaseTurn) (ltb phaseTransfer (s .now .phase)) (eqb (s .now .phase) phaseTransfer) refl refl refl e
     where
-      go : (a b c : Bool) → eqb (s .now .phase) 3 ≡ a → ltb 5 (s .now .phase) ≡ b → eqb (s .now .phase) 5 ≡ c
+      go : (a b c : Bool) → eqb (s .now .phase) phaseTurn ≡ a → ltb phaseTransfer (s .now .phase) ≡ b → eqb (s .now .phase) phaseTransfer ≡ c
           → cond a true (cond b (closedOk s) (eqb (s .keep .sending .count) 0 && cond c (transferOk s inbox store) true)) ≡ true → AwaitedS
-      go true b c p q r e = let z = eqb-true (s .now .phase) 3 p in record { quiet = λ n l. absurd (n z); under = λ f. absurd (omega arith); closed = λ l. absurd (omega arith) }
-      go false true c p q r e = let z = ltb-true 5 (s .now .phase) q in record { quiet = λ n l. absurd (omega arith); under = λ f. absurd (omega arith); closed = closed-in e }
+      go true b c p q r e = let z = eqb-true (s .now .phase) phaseTurn p in record { quiet = λ n l. absurd (n z); under = λ f. absurd (omega arith); closed = λ l. absurd (omega arith) }
+      go false true c p q r e = let z = ltb-true phaseTransfer (s .now .phase) q in record { quiet = λ n l. absurd (omega arith); under = λ f. absurd (omega arith); closed = closed-in e }
       go false false true p q r e =
           let d = and2 (eqb (s .keep .sending .count) 0) _ e in
-          let w = ltb-false 5 (s .now .phase) q in
+          let w = ltb-false phaseTransfer (s .now .phase) q in
           record { quiet = λ n l. eqb-true (s .keep .sending .count) 0 (d .0); under = λ f. under-in (d .1); closed = λ l. absurd (omega arith) }
       go false false false p q r e =
           let d = and2 (eqb (s .keep .sending .count) 0) _ e in
-          let z = eqb-false (s .now .phase) 5 r in
-          let w = ltb-false 5 (s .now .phase) q in
+          let z = eqb-false (s .now .phase) phaseTransfer r in
+          let w = ltb-false phaseTransfer (s .now .phase) q in
           record { quiet = λ n l. eqb-true (s .keep .sending .count) 0 (d .0); under = λ f. absurd (z f); closed = λ l. absurd (omega arith) }
 
   awaited-out : AwaitedS → phaseOk s inbox store ≡ true
   unfolding phaseOk
-  awaited-out h = go (eqb (s .now .phase) 3) (ltb 5 (s .now .phase)) (eqb (s .now .phase) 5) refl refl refl
+  awaited-out h = go (eqb (s .now .phase) phaseTurn) (ltb phaseTransfer (s .now .phase)) (eqb (s .now .phase) phaseTransfer) refl refl refl
     where
-      last : (c : Bool) → eqb (s .now .phase) 5 ≡ c → cond c (transferOk s inbox store) true ≡ true
-      last true r = under-out (h .under (eqb-true (s .now .phase) 5 r))
+      last : (c : Bool) → eqb (s .now .phase) phaseTransfer ≡ c → cond c (transferOk s inbox store) true ≡ true
+      last true r = under-out (h .under (eqb-true (s .now .phase) phaseTransfer r))
       last false r = refl
 
-      go : (a b c : Bool) → eqb (s .now .phase) 3 ≡ a → ltb 5 (s .now .phase) ≡ b → eqb (s .now .phase) 5 ≡ c
+      go : (a b c : Bool) → eqb (s .now .phase) phaseTurn ≡ a → ltb phaseTransfer (s .now .phase) ≡ b → eqb (s .now .phase) phaseTransfer ≡ c
           → cond a true (cond b (closedOk s) (eqb (s .keep .sending .count) 0 && cond c (transferOk s inbox store) true)) ≡ true
       go true b c p q r = refl
       go false true c p q r = closed-out (h .closed)
       go false false c p q r =
           both (eqb (s .keep .sending .count) 0) _
-          (eq-eqb (s .keep .sending .count) 0 (h .quiet (eqb-false (s .now .phase) 3 p) (ltb-false 5 (s .now .phase) q)))
+          (eq-eqb (s .keep .sending .count) 0 (h .quiet (eqb-false (s .now .phase) phaseTurn p) (ltb-false phaseTransfer (s .now .phase) q)))
           (last c r)
 
 -- ---------------------------------------------------------------- a state that is loaded
@@ -139,10 +144,10 @@ module _ (s : Session) (inbox store : Bytes) where
 array-octets : (n : ℕ) (sm : Bytes) (a : ℕ) → Octets sm → Octets (arrayAt n sm a)
 array-octets n sm a o = octets-put (replicate n 0) (at 0) (partOf sm a n) (octets-zeros n) (octets-part sm a n o)
 
-five-in : (sm : Bytes) (a : ℕ) → Octets sm → byteAt sm a ≤ 5 → length (fiveAt sm a .items) ≡ 5 → FiveOk (fiveAt sm a)
-five-in sm a o h e = record { few = h; size = e; octets = array-octets 5 sm (a + 1) o }
+five-in : (sm : Bytes) (a : ℕ) → Octets sm → byteAt sm a ≤ blockLimit → length (fiveAt sm a .items) ≡ blockLimit → FiveOk (fiveAt sm a)
+five-in sm a o h e = record { few = h; size = e; octets = array-octets blockLimit sm (a + 1) o }
 
-pub form-in : (F : Fixed) (sm table inbox store : Bytes) → Octets sm → Octets table → Octets inbox → Octets store → length store < 18446744073709551616
+pub form-in : (F : Fixed) (sm table inbox store : Bytes) → Octets sm → Octets table → Octets inbox → Octets store → length store < wordValues
     → stateOk (loadOf sm) table (F .titles) (F .names) (F .bodies) inbox store ≡ true
     → Good F (length table) (length inbox) (length store) (cs (loadOf sm) table inbox store)
 unfolding loadOf loadAwait loadSay loadKeep loadReading loadLine stateOk countsOk waitingOk loadTally
@@ -153,40 +158,40 @@ form-in F sm table inbox store o ot oi os fits e =
     let e₁ = and2 (countsOk s) _ e in
     let e₂ = and2 (inboxOk s inbox store) _ (e₁ .1) in
     let e₃ = and2 (phaseOk s inbox store) _ (e₂ .1) in
-    let n₁ = and2 (leb (s .line .len) 256) _ (e₁ .0) in
-    let n₂ = and2 (leb (s .now .ours .count) 5) _ (n₁ .1) in
-    let n₃ = and2 (leb (s .say .signs .count) 5) _ (n₂ .1) in
-    let n₄ = and2 (leb (s .keep .sending .count) 5) _ (n₃ .1) in
-    let n₅ = and2 (leb (s .now .proposals) 5) _ (n₄ .1) in
-    let n₆ = and2 (leb (s .reading .reader .head) 80) _ (n₅ .1) in
+    let n₁ = and2 (leb (s .line .len) lineLen) _ (e₁ .0) in
+    let n₂ = and2 (leb (s .now .ours .count) blockLimit) _ (n₁ .1) in
+    let n₃ = and2 (leb (s .say .signs .count) blockLimit) _ (n₂ .1) in
+    let n₄ = and2 (leb (s .keep .sending .count) blockLimit) _ (n₃ .1) in
+    let n₅ = and2 (leb (s .now .proposals) blockLimit) _ (n₄ .1) in
+    let n₆ = and2 (leb (s .reading .reader .head) headingLen) _ (n₅ .1) in
     record {
       now = record {
         phase = b phaseAt;
         current = b currentAt;
-        proposals = leb-true (s .now .proposals) 5 (n₅ .0);
-        ours = five-in sm oursAt o (leb-true (s .now .ours .count) 5 (n₂ .0)) (h .now .ours);
+        proposals = leb-true (s .now .proposals) blockLimit (n₅ .0);
+        ours = five-in sm oursAt o (leb-true (s .now .ours .count) blockLimit (n₂ .0)) (h .now .ours);
         sum = b blockSumAt;
         block = h .now .block;
         octets = array-octets blockLen sm (arraysAt + blockAt) o;
       };
-      say = record { first = b firstAt; then = b thenAt; pos = h .say .pos; signs = five-in sm signsAt o (leb-true (s .say .signs .count) 5 (n₃ .0)) (h .say .signs) };
+      say = record { first = b firstAt; then = b thenAt; pos = h .say .pos; signs = five-in sm signsAt o (leb-true (s .say .signs .count) blockLimit (n₃ .0)) (h .say .signs) };
       keep = record {
-        terms = record { level = b levelAt; partner = ltb-true (s .keep .terms .partner) partners (n₆ .1) };
-        sending = five-in sm sendingAt o (leb-true (s .keep .sending .count) 5 (n₄ .0)) (h .keep .sending);
+        terms = let p = ltb-true (s .keep .terms .partner) partners (n₆ .1) in search (b, p);
+        sending = five-in sm sendingAt o (leb-true (s .keep .sending .count) blockLimit (n₄ .0)) (h .keep .sending);
         flags = h .keep .deferred;
         octets = array-octets deferredLen sm (arraysAt + deferredAt) o;
       };
       reader = record {
         place = b placeAt;
         len = b lengthAt;
-        head = leb-true (s .reading .reader .head) 80 (n₆ .0);
+        head = leb-true (s .reading .reader .head) headingLen (n₆ .0);
         off = b offsetAt;
         left = h .reading .left;
         sum = b sumAt;
         body = h .reading .body;
       };
       heading = record { size = h .reading .heading; octets = array-octets headingLen sm (arraysAt + headingAt) o };
-      line = record { len = leb-true (s .line .len) 256 (n₁ .0); size = h .line .bytes; octets = array-octets lineLen sm (arraysAt + lineAt) o };
+      line = record { len = leb-true (s .line .len) lineLen (n₁ .0); size = h .line .bytes; octets = array-octets lineLen sm (arraysAt + lineAt) o };
       tally = record {
         waiting = b tallyWaitingAt;
         sizes = h .tally .sizes;
@@ -200,11 +205,11 @@ form-in F sm table inbox store o ot oi os fits e =
 
 -- ---------------------------------------------------------------- a state that is saved
 
-flag-octet : (b : Bool) → flag b < 256
+flag-octet : (b : Bool) → flag b < byteValues
 flag-octet true = omega arith
 flag-octet false = omega arith
 
-getD-octet : (l : Bytes) (i : ℕ) → Octets l → getD l i 0 < 256
+getD-octet : (l : Bytes) (i : ℕ) → Octets l → getD l i 0 < byteValues
 getD-octet l i o = octets l (o .each) i
 
 five-octets : (f : Five) → FiveOk f → Octets (fiveOut f)
@@ -219,12 +224,12 @@ module _ (F : Fixed) (nt ni ns : ℕ) (c : Cs) (g : Good F nt ni ns c) where
   form-out =
       let s : Session = c .session in
       both (countsOk s) _
-      (both (leb (s .line .len) 256) _ (le-leb (s .line .len) 256 (g .line .len))
-      (both (leb (s .now .ours .count) 5) _ (le-leb (s .now .ours .count) 5 (g .now .ours .few))
-      (both (leb (s .say .signs .count) 5) _ (le-leb (s .say .signs .count) 5 (g .say .signs .few))
-      (both (leb (s .keep .sending .count) 5) _ (le-leb (s .keep .sending .count) 5 (g .keep .sending .few))
-      (both (leb (s .now .proposals) 5) _ (le-leb (s .now .proposals) 5 (g .now .proposals))
-      (both (leb (s .reading .reader .head) 80) _ (le-leb (s .reading .reader .head) 80 (g .reader .head)) (lt-ltb (s .keep .terms .partner) partners (g .keep .terms .partner))))))))
+      (both (leb (s .line .len) lineLen) _ (le-leb (s .line .len) lineLen (g .line .len))
+      (both (leb (s .now .ours .count) blockLimit) _ (le-leb (s .now .ours .count) blockLimit (g .now .ours .few))
+      (both (leb (s .say .signs .count) blockLimit) _ (le-leb (s .say .signs .count) blockLimit (g .say .signs .few))
+      (both (leb (s .keep .sending .count) blockLimit) _ (le-leb (s .keep .sending .count) blockLimit (g .keep .sending .few))
+      (both (leb (s .now .proposals) blockLimit) _ (le-leb (s .now .proposals) blockLimit (g .now .proposals))
+      (both (leb (s .reading .reader .head) headingLen) _ (le-leb (s .reading .reader .head) headingLen (g .reader .head)) (lt-ltb (s .keep .terms .partner) partners (g .keep .terms .partner))))))))
       (both (inboxOk s (c .inbox) (c .store)) _ (box-out s (c .inbox) (c .store) (g .box))
       (both (phaseOk s (c .inbox) (c .store)) _ (awaited-out s (c .inbox) (c .store) (g .awaited))
       (go (waits (s .say)) refl)))
@@ -245,7 +250,7 @@ module _ (F : Fixed) (nt ni ns : ℕ) (c : Cs) (g : Good F nt ni ns c) where
         tally = record { sizes = g .tally .sizes };
       }
 
-  kept-octet : c .session .keep .kept < 256
+  kept-octet : c .session .keep .kept < byteValues
   kept-octet = omega (arith, g .box .placed, g .box .limit)
 
   small-octets : Octets (smallOut (c .session))
@@ -279,10 +284,8 @@ module _ (F : Fixed) (nt ni ns : ℕ) (c : Cs) (g : Good F nt ni ns c) where
   tail-octets : Octets (tailOut (c .session))
   unfolding tailOut
   tail-octets =
-      let h = g .tally .sheet in
-      octets-cons (g .now .sum) (octets-cons (g .keep .terms .level) (octets-cons (omega (arith, g .keep .terms .partner)) (octets-cons (g .tally .waiting)
-      (octets-append (le4 (c .session .tally .sizes)) _ (octets-le4 (c .session .tally .sizes))
-      (octets-cons (h .proposed) (octets-cons (h .forwarded) (octets-cons (h .declined) (octets-cons (h .deferred) (octets-cons (h .unsettled) octets-nil)))))))))
+      let p : c .session .keep .terms .partner < byteValues = omega (arith, g .keep .terms .partner) in
+      search (octets-cons, octets-nil, octets-append, octets-le4, p, g .now, g .keep .terms, g .tally, g .tally .sheet) depth 16
 
   pub part-octets : Octets (numberPart (c .session))
   part-octets =

@@ -14,8 +14,8 @@ use Rattle.mail.specs.Mail.{Record, turnText}
 use Rattle.layout.specs.Layout.{entryAt, recordSize, recordOf}
 use Rattle.our_line.specs.Lines.{fsText}
 use Rattle.session_memory.specs.State.{held}
-use Rattle.session_memory.specs.declared.Five.{Five}
 use Rattle.session_memory.specs.Session.{Session}
+use Rattle.phase.specs.Phase.{pieceNone, pieceSidAndPrompt, pieceSid, pieceProtocolError, pieceChecksumError, pieceFF, pieceFQ, pieceBlock}
 use Rattle.waiting.specs.Waiting.{proposalAt, firstText, blockText, sendingText, thenText, waitingOf}
 use Rattle.pending.specs.Pending.{waits}
 use Rattle.form_closed.specs.Facts.{FiveOk}
@@ -25,12 +25,12 @@ use Rattle.grammar.specs.Transfers.{writeTransfer}
 use Rattle.session_memory.specs.declared.Say.{Say}
 
 -- nothing waits
-pub waits-none : (y : Say) → waits y ≡ false → (y .first ≡ 0) × (y .then ≡ 0)
+pub waits-none : (y : Say) → waits y ≡ false → (y .first ≡ pieceNone) × (y .then ≡ pieceNone)
 unfolding waits
-waits-none y = two (y .first) (y .then) (eqb (y .first) 0) (eqb (y .then) 0) refl refl
+waits-none y = two (y .first) (y .then) (eqb (y .first) pieceNone) (eqb (y .then) pieceNone) refl refl
   where
-    two : (p q : ℕ) (a b : Bool) → eqb p 0 ≡ a → eqb q 0 ≡ b → cond a (not b) true ≡ false → (p ≡ 0) × (q ≡ 0)
-    two p q true true e f g = (eqb-true p 0 e, eqb-true q 0 f)
+    two : (p q : ℕ) (a b : Bool) → eqb p pieceNone ≡ a → eqb q pieceNone ≡ b → cond a (not b) true ≡ false → (p ≡ pieceNone) × (q ≡ pieceNone)
+    two p q true true e f g = (eqb-true p pieceNone e, eqb-true q pieceNone f)
     two p q true false e f g = absurd (let z : _≡_ {A = ℕ} 0 1 = cc in omega arith)
     two p q false b e f g = absurd (let z : _≡_ {A = ℕ} 0 1 = cc in omega arith)
 
@@ -44,13 +44,13 @@ some-transfer plain h x = simp length-append (omega arith)
 some-transfer message h x = omega arith
 some-transfer file h x = omega arith
 
-first-some : (first : ℕ) (signs : Five) → eqb first 0 ≡ false → 0 < length (firstText first signs)
+first-some : (s : Session) → eqb (s .say .first) pieceNone ≡ false → 0 < length (firstText s)
 unfolding firstText fsText
-first-some first signs e = go (eqb first 0) (eqb first 1) (eqb first 2) (eqb first 4) (eqb first 5) e
+first-some s e = go (eqb (s .say .first) pieceNone) (eqb (s .say .first) pieceSidAndPrompt) (eqb (s .say .first) pieceSid) (eqb (s .say .first) pieceProtocolError) (eqb (s .say .first) pieceChecksumError) e
   where
     go : (a b c d f : Bool) → a ≡ false
         → 0 < length (cond a [] (cond b (withCr (fixedText ourSid) ++ withCr (fixedText ourPrompt)) (cond c (withCr (fixedText ourSid))
-        (cond d (withCr (fixedText protocolError)) (cond f (withCr (fixedText checksumError)) (fsText (held signs)))))))
+        (cond d (withCr (fixedText protocolError)) (cond f (withCr (fixedText checksumError)) (fsText (held (s .say .signs))))))))
     go true b c d f e = let z : _≡_ {A = ℕ} 0 1 = cc in absurd (omega arith)
     go false true c d f e = omega arith
     go false false true d f e = omega arith
@@ -65,39 +65,33 @@ sending-some table ti na bo (i ∷ is) h =
     let r : Record = recordOf ti na bo (entryAt recordSize table i) in
     simp length-append (omega (arith, some-transfer (r .form) (mail.headingFor (r .form) r) (r .body)))
 
-then-some : (then : ℕ) (ours sending : Five) (table ti na bo : Bytes) → eqb then 0 ≡ false → (3 < then → 0 < length (held sending))
-    → 0 < length (thenText then ours sending table ti na bo)
+then-some : (s : Session) (table ti na bo : Bytes) → eqb (s .say .then) pieceNone ≡ false → (pieceBlock < s .say .then → 0 < length (held (s .keep .sending)))
+    → 0 < length (thenText s table ti na bo)
 unfolding thenText blockText
-then-some then ours sending table ti na bo e h = go (eqb then 0) (eqb then 1) (eqb then 2) (eqb then 3) refl refl refl refl
+then-some s table ti na bo e h = go (eqb (s .say .then) pieceNone) (eqb (s .say .then) pieceFF) (eqb (s .say .then) pieceFQ) (eqb (s .say .then) pieceBlock) refl refl refl refl
   where
-    go : (a b c d : Bool) → eqb then 0 ≡ a → eqb then 1 ≡ b → eqb then 2 ≡ c → eqb then 3 ≡ d
-        → 0 < length (cond a [] (cond b (withCr (fixedText ourFF)) (cond c (withCr (fixedText ourFQ)) (cond d (blockText table (held ours)) (sendingText table ti na bo (held sending))))))
+    go : (a b c d : Bool) → eqb (s .say .then) pieceNone ≡ a → eqb (s .say .then) pieceFF ≡ b → eqb (s .say .then) pieceFQ ≡ c → eqb (s .say .then) pieceBlock ≡ d
+        → 0 < length (cond a [] (cond b (withCr (fixedText ourFF)) (cond c (withCr (fixedText ourFQ)) (cond d (blockText table (held (s .now .ours))) (sendingText table ti na bo (held (s .keep .sending)))))))
     go true b c d p q r t = let z : _≡_ {A = ℕ} 0 1 = cc in absurd (omega arith)
     go false true c d p q r t = omega arith
     go false false true d p q r t = omega arith
-    go false false false true p q r t = some-turn (map (proposalAt table) (held ours))
+    go false false false true p q r t = some-turn (map (proposalAt table) (held (s .now .ours)))
     go false false false false p q r t =
-        let n₀ = eqb-false then 0 p in
-        let n₁ = eqb-false then 1 q in
-        let n₂ = eqb-false then 2 r in
-        let n₃ = eqb-false then 3 t in
-        sending-some table ti na bo (held sending) (h (omega arith))
+        let n₀ = eqb-false (s .say .then) pieceNone p in
+        let n₁ = eqb-false (s .say .then) pieceFF q in
+        let n₂ = eqb-false (s .say .then) pieceFQ r in
+        let n₃ = eqb-false (s .say .then) pieceBlock t in
+        sending-some table ti na bo (held (s .keep .sending)) (h (omega arith))
 
 -- THE LAW
-pub waiting-some : (s : Session) (table ti na bo : Bytes) → FiveOk (s .keep .sending) → (3 < s .say .then → 0 < s .keep .sending .count) → waits (s .say) ≡ true
+pub waiting-some : (s : Session) (table ti na bo : Bytes) → FiveOk (s .keep .sending) → (pieceBlock < s .say .then → 0 < s .keep .sending .count) → waits (s .say) ≡ true
     → 0 < length (waitingOf s table ti na bo)
 unfolding waits waitingOf
-waiting-some s table ti na bo f h e = go (eqb (s .say .first) 0) refl e
+waiting-some s table ti na bo f h e = go (eqb (s .say .first) pieceNone) refl e
   where
-    x : Bytes
-    x = firstText (s .say .first) (s .say .signs)
-
-    y : Bytes
-    y = thenText (s .say .then) (s .now .ours) (s .keep .sending) table ti na bo
-
-    go : (a : Bool) → eqb (s .say .first) 0 ≡ a → cond a (not (eqb (s .say .then) 0)) true ≡ true → 0 < length (x ++ y)
+    go : (a : Bool) → eqb (s .say .first) pieceNone ≡ a → cond a (not (eqb (s .say .then) pieceNone)) true ≡ true → 0 < length (firstText s ++ thenText s table ti na bo)
     go true q e =
-        let n : eqb (s .say .then) 0 ≡ false = not-true (eqb (s .say .then) 0) e in
-        let k = then-some (s .say .then) (s .now .ours) (s .keep .sending) table ti na bo n (λ l. let z = held-length (s .keep .sending) f in omega (arith, h l)) in
+        let n : eqb (s .say .then) pieceNone ≡ false = not-true (eqb (s .say .then) pieceNone) e in
+        let k = then-some s table ti na bo n (λ l. let z = held-length (s .keep .sending) f in omega (arith, h l)) in
         simp length-append (omega (arith, k))
-    go false q e = simp length-append (omega (arith, first-some (s .say .first) (s .say .signs) q))
+    go false q e = simp length-append (omega (arith, first-some s q))

@@ -4,7 +4,7 @@ use mathlib.Core.Path.{_≡_}
 use mathlib.Core.Bool.{true}
 use Prim.Native.Nat.{ℕ, _+_, _≤_, _<_}
 use lib.ListN.{length, getD, drop}
-use Rattle.grammar.specs.Bytes.{Bytes, every, isByte, byteValues, wordValues}
+use Rattle.grammar.specs.Bytes.{Bytes, every, isByte, byteValues, wordValues, twoByteValues, fourByteValues}
 use Rattle.transfer_step.specs.declared.Reader.{Reader}
 use Rattle.session_memory.specs.State.{held}
 use Rattle.session_memory.specs.Session.{Await}
@@ -27,13 +27,6 @@ use Rattle.grammar.specs.Answers.{plusSign}
 use Rattle.phase.specs.Phase.{phaseTurn, phaseTransfer, phaseLeaving, pieceNone}
 use Rattle.places.specs.Places.{deferredLen, headingLen, lineLen, blockLen, partners}
 use Rattle.mail.specs.Mail.{placeLimit}
-
--- A number that is saved in two bytes is below this, and one in four.
-abbrev pub twoByteValues : ℕ
-twoByteValues = 65536
-
-abbrev pub fourByteValues : ℕ
-fourByteValues = 4294967296
 
 -- Every number of the list is a byte.
 pub record Octets (l : Bytes) : Type 0 where

@@ -10,21 +10,24 @@ use lib.Dec.{eqb, ltb, leb}
 use lib.ListN.{length, getD, take, drop, length-take, drop-of-length-le, List·getD-eq-default}
 use lib.Seq.{drop-cons, getD-take, getD-drop}
 use borrow.Author.Tests.{eq-eqb, ne-eqb, eqb-true, eqb-false, le-leb, lt-leb, leb-true, leb-false, not-true, not-false}
-use Rattle.grammar.specs.Bytes.{Bytes}
+use Rattle.grammar.specs.Bytes.{Bytes, byteValues}
 use Rattle.layout.specs.Layout.{byteAt, le2At, le4At, entryAt, entrySize, bodyLength}
 use Rattle.layout.proofs.Places.{part-in}
 use Rattle.session_memory.specs.State.{sessionSize, held, fiveAt, loadOf, loadSizes}
 use Rattle.session_memory.proofs.Laws.{array-length}
 use Rattle.session_memory.specs.declared.Five.{Five}
 use Rattle.session_memory.specs.Session.{Session}
-use Rattle.places.specs.Places.{markAt, signsAt, entryLen}
+use Rattle.places.specs.Places.{markAt, signsAt, entryLen, entryBodyLength}
 use Rattle.waiting.specs.Waiting.{waitingOf}
 use Rattle.waiting.specs.Pieces.{joined, piecesOf}
 use Rattle.waiting.proofs.Pieces.{item-read, pieces-joined}
 use Rattle.give_place.specs.Located.{At, Located}
 use Rattle.give_place.specs.declared.Place.{Place}
 use Rattle.pending.specs.Pending.{waits}
-use Rattle.form_test.specs.Form.{markOk, sameSizes, countsOk, usedFrom, usedBy, inboxOk, waitingOk, pluses, phaseOk, stateOk, lentSizes, formOf, Next}
+use Rattle.form_test.specs.Form.{markOk, sameSizes, countsOk, usedFrom, usedBy, inboxOk, waitingOk, pluses, phaseOk, stateOk, lentSizes, formOf, Next, roundLength, mark, markNumber}
+use Rattle.grammar.specs.Fields.{bodyLimit}
+use Rattle.grammar.specs.Answers.{plusSign}
+use Rattle.grammar.specs.Turns.{blockLimit}
 
 -- ---------------------------------------------------------------- store bytes of the messages kept
 
@@ -47,9 +50,9 @@ pairs a b c d e f g h = omega arith
 pub round-used : (inbox : Bytes) (i a b c d e f g h : ℕ) → a ≡ bodyLength (entryAt entrySize inbox i)
     → b ≡ bodyLength (entryAt entrySize inbox (i + 1)) → c ≡ bodyLength (entryAt entrySize inbox (i + 2)) → d ≡ bodyLength (entryAt entrySize inbox (i + 3))
     → e ≡ bodyLength (entryAt entrySize inbox (i + 4)) → f ≡ bodyLength (entryAt entrySize inbox (i + 5)) → g ≡ bodyLength (entryAt entrySize inbox (i + 6))
-    → h ≡ bodyLength (entryAt entrySize inbox (i + 7)) → a + b + (c + d) + (e + f + (g + h)) ≡ usedFrom inbox i 8
+    → h ≡ bodyLength (entryAt entrySize inbox (i + 7)) → a + b + (c + d) + (e + f + (g + h)) ≡ usedFrom inbox i roundLength
 round-used inbox i a b c d e f g h A B C D E F G H =
-    let z : usedFrom inbox i 8 ≡ bodyLength (entryAt entrySize inbox i) + usedFrom inbox (i + 1) 7 = rw (add-one i) in
+    let z : usedFrom inbox i roundLength ≡ bodyLength (entryAt entrySize inbox i) + usedFrom inbox (i + 1) 7 = rw (add-one i) in
     let y : usedFrom inbox (i + 1) 7 ≡ bodyLength (entryAt entrySize inbox (i + 1)) + usedFrom inbox (i + 2) 6 = used-next inbox i 1 6 in
     let x : usedFrom inbox (i + 2) 6 ≡ bodyLength (entryAt entrySize inbox (i + 2)) + usedFrom inbox (i + 3) 5 = used-next inbox i 2 5 in
     let w : usedFrom inbox (i + 3) 5 ≡ bodyLength (entryAt entrySize inbox (i + 3)) + usedFrom inbox (i + 4) 4 = used-next inbox i 3 4 in
@@ -60,10 +63,10 @@ round-used inbox i a b c d e f g h A B C D E F G H =
     rw (z, y, x, w, v, u, t, s, ← A, ← B, ← C, ← D, ← E, ← F, ← G, ← H) (pairs a b c d e f g h)
 
 -- a turn of the loop of rounds: k rounds use total, the next one r
-pub rounds-used : (inbox : Bytes) (k total r : ℕ) → total ≡ usedFrom inbox 0 (8 * k) → r ≡ usedFrom inbox (8 * k) 8 → total + r ≡ usedFrom inbox 0 (8 * (k + 1))
+pub rounds-used : (inbox : Bytes) (k total r : ℕ) → total ≡ usedFrom inbox 0 (roundLength * k) → r ≡ usedFrom inbox (roundLength * k) roundLength → total + r ≡ usedFrom inbox 0 (roundLength * (k + 1))
 rounds-used inbox k total r e f =
-    let n : 8 * (k + 1) ≡ 8 * k + 8 = omega arith in
-    rw (n, used-append inbox 0 (8 * k) 8, zero-add (8 * k), e, f)
+    let n : roundLength * (k + 1) ≡ roundLength * k + roundLength = omega arith in
+    rw (n, used-append inbox 0 (roundLength * k) roundLength, zero-add (roundLength * k), e, f)
 
 -- a turn of the loop of messages: k of them and those before use total, the next one b
 pub added-used : (inbox : Bytes) (before i k total b : ℕ) → total ≡ before + usedFrom inbox i k → b ≡ bodyLength (entryAt entrySize inbox (i + k))
@@ -73,35 +76,35 @@ added-used inbox before i k total b e f =
     rw (used-append inbox i k 1, e, f) (omega arith)
 
 -- the rounds and the last messages
-pub all-used : (inbox : Bytes) (k n total r : ℕ) → n / 8 ≤ k → k ≤ n / 8 → total ≡ usedFrom inbox 0 (8 * k) → r ≡ total + usedFrom inbox (n - n % 8) (n % 8)
+pub all-used : (inbox : Bytes) (k n total r : ℕ) → n / roundLength ≤ k → k ≤ n / roundLength → total ≡ usedFrom inbox 0 (roundLength * k) → r ≡ total + usedFrom inbox (n - n % roundLength) (n % roundLength)
     → r ≡ usedBy inbox n
 unfolding usedBy
 all-used inbox k n total r h l e f =
-    let m : 8 * k ≡ n - n % 8 = omega arith in
-    let p : n - n % 8 + n % 8 ≡ n = omega arith in
-    let q : usedFrom inbox 0 (n - n % 8 + n % 8) ≡ usedFrom inbox 0 (n - n % 8) + usedFrom inbox (0 + (n - n % 8)) (n % 8) = used-append inbox 0 (n - n % 8) (n % 8) in
-    f ∙ rw (e, m) (sym (rw (p, zero-add (n - n % 8)) at q))
+    let m : roundLength * k ≡ n - n % roundLength = omega arith in
+    let p : n - n % roundLength + n % roundLength ≡ n = omega arith in
+    let q : usedFrom inbox 0 (n - n % roundLength + n % roundLength) ≡ usedFrom inbox 0 (n - n % roundLength) + usedFrom inbox (0 + (n - n % roundLength)) (n % roundLength) = used-append inbox 0 (n - n % roundLength) (n % roundLength) in
+    f ∙ rw (e, m) (sym (rw (p, zero-add (n - n % roundLength)) at q))
 
 -- ---------------------------------------------------------------- signs `+`
 
-plus-step : (x : ℕ) (xs : List ℕ) → pluses (x ∷ xs) ≡ cond (eqb x 43) 1 0 + pluses xs
-plus-step x xs = go (eqb x 43)
+plus-step : (x : ℕ) (xs : List ℕ) → pluses (x ∷ xs) ≡ cond (eqb x plusSign) 1 0 + pluses xs
+plus-step x xs = go (eqb x plusSign)
   where
     go : (b : Bool) → cond b (suc (pluses xs)) (pluses xs) ≡ cond b 1 0 + pluses xs
     go true = omega arith
     go false = omega arith
 
-module _ (f : Five) (h : length (f .items) ≡ 5) (i n m : ℕ) (e : n + pluses (drop i (held f)) ≡ m) where
-  pluses-step : i < f .count → i < 5 → pluses (drop i (held f)) ≡ cond (eqb (getD (f .items) i 0) 43) 1 0 + pluses (drop (i + 1) (held f))
+module _ (f : Five) (h : length (f .items) ≡ blockLimit) (i n m : ℕ) (e : n + pluses (drop i (held f)) ≡ m) where
+  pluses-step : i < f .count → i < blockLimit → pluses (drop i (held f)) ≡ cond (eqb (getD (f .items) i 0) plusSign) 1 0 + pluses (drop (i + 1) (held f))
   pluses-step k l =
       let z : i < length (held f) = rw (length-take (f .count) (f .items)) (omega arith) in
       ap pluses (drop-cons (held f) i 0 z)
       ∙ plus-step (getD (held f) i 0) (drop (suc i) (held f))
-      ∙ ap (λ (x : ℕ). cond (eqb x 43) 1 0 + pluses (drop (suc i) (held f))) (getD-take (f .count) (f .items) i 0 k)
-      ∙ ap (λ (j : ℕ). cond (eqb (getD (f .items) i 0) 43) 1 0 + pluses (drop j (held f))) (sym (add-one i))
+      ∙ ap (λ (x : ℕ). cond (eqb x plusSign) 1 0 + pluses (drop (suc i) (held f))) (getD-take (f .count) (f .items) i 0 k)
+      ∙ ap (λ (j : ℕ). cond (eqb (getD (f .items) i 0) plusSign) 1 0 + pluses (drop j (held f))) (sym (add-one i))
 
   -- a turn of the loop: sign i counts k
-  pub pluses-more : {k : ℕ} → i < f .count → i < 5 → k ≡ cond (eqb (getD (f .items) i 0) 43) 1 0 → n + k + pluses (drop (i + 1) (held f)) ≡ m
+  pub pluses-more : {k : ℕ} → i < f .count → i < blockLimit → k ≡ cond (eqb (getD (f .items) i 0) plusSign) 1 0 → n + k + pluses (drop (i + 1) (held f)) ≡ m
   pluses-more {k} g l q =
       let s : pluses (drop i (held f)) ≡ k + pluses (drop (i + 1) (held f)) = pluses-step g l ∙ ap (λ (j : ℕ). j + pluses (drop (i + 1) (held f))) (sym q) in
       omega arith
@@ -113,7 +116,7 @@ module _ (f : Five) (h : length (f .items) ≡ 5) (i n m : ℕ) (e : n + pluses 
   pub pluses-end : f .count ≤ i → n ≡ m
   pluses-end k = none-left (rw (length-take (f .count) (f .items)) (omega arith))
 
-  pub pluses-all : 5 ≤ i → n ≡ m
+  pub pluses-all : blockLimit ≤ i → n ≡ m
   pluses-all k = none-left (rw (length-take (f .count) (f .items)) (omega arith))
 
 -- ---------------------------------------------------------------- the body under way
@@ -135,37 +138,37 @@ read-gt {x} {y} k q h = lt-leb y k (omega arith)
 
 -- the same for the places of the transfers still owed, o of them, and of the messages kept, k of them
 pub owed-is : {k o p : ℕ} (kept n : ℕ) → k ≡ kept → o ≡ p → entryLen * (k + o) ≤ n → leb (kept + p) (n / entryLen) ≡ true
-owed-is {k} {o} {p} kept n r q h = le-leb (kept + p) (n / 155) (omega arith)
+owed-is {k} {o} {p} kept n r q h = le-leb (kept + p) (n / entryLen) (omega arith)
 
 pub owed-not : {k o p : ℕ} (kept n : ℕ) → k ≡ kept → o ≡ p → n < entryLen * (k + o) → leb (kept + p) (n / entryLen) ≡ false
-owed-not {k} {o} {p} kept n r q h = lt-leb (kept + p) (n / 155) (omega arith)
+owed-not {k} {o} {p} kept n r q h = lt-leb (kept + p) (n / entryLen) (omega arith)
 
 pub kept-is : {k : ℕ} (kept n : ℕ) → k ≡ kept → entryLen * k ≤ n → leb kept (n / entryLen) ≡ true
-kept-is {k} kept n r h = le-leb kept (n / 155) (omega arith)
+kept-is {k} kept n r h = le-leb kept (n / entryLen) (omega arith)
 
 pub kept-not : {k : ℕ} (kept n : ℕ) → k ≡ kept → n < entryLen * k → leb kept (n / entryLen) ≡ false
-kept-not {k} kept n r h = lt-leb kept (n / 155) (omega arith)
+kept-not {k} kept n r h = lt-leb kept (n / entryLen) (omega arith)
 
 -- a sign where it stands in session memory
-pub sign-read : (sm : Bytes) (i : ℕ) → length sm ≡ sessionSize → i < 5 → byteAt sm (signsAt + 1 + i) ≡ getD (fiveAt sm signsAt .items) i 0
+pub sign-read : (sm : Bytes) (i : ℕ) → length sm ≡ sessionSize → i < blockLimit → byteAt sm (signsAt + 1 + i) ≡ getD (fiveAt sm signsAt .items) i 0
 sign-read sm i n h =
     let e : signsAt + (i + 1) ≡ signsAt + 1 + i = omega arith in
     let f : i + 1 - 1 ≡ i = omega arith in
     ap (byteAt sm) (sym e) ∙ item-read sm signsAt (omega arith) (i + 1) (omega arith) (omega arith) ∙ ap (λ (j : ℕ). getD (fiveAt sm signsAt .items) j 0) f
 
 module _ (sm : Bytes) (n : length sm ≡ sessionSize) (i : ℕ) where
-  pub sign-is : i < 5 → {at : ℕ} → at ≡ i → byteAt sm (signsAt + 1 + at) ≡ 43 → eqb (getD (fiveAt sm signsAt .items) i 0) 43 ≡ true
-  sign-is h q e = eq-eqb (getD (fiveAt sm signsAt .items) i 0) 43 (sym (sign-read sm i n h) ∙ ap (λ (j : ℕ). byteAt sm (signsAt + 1 + j)) (sym q) ∙ e)
+  pub sign-is : i < blockLimit → {at : ℕ} → at ≡ i → byteAt sm (signsAt + 1 + at) ≡ plusSign → eqb (getD (fiveAt sm signsAt .items) i 0) plusSign ≡ true
+  sign-is h q e = eq-eqb (getD (fiveAt sm signsAt .items) i 0) plusSign (sym (sign-read sm i n h) ∙ ap (λ (j : ℕ). byteAt sm (signsAt + 1 + j)) (sym q) ∙ e)
 
-  pub sign-not : i < 5 → {at : ℕ} → at ≡ i → (byteAt sm (signsAt + 1 + at) ≡ 43 → ⊥) → eqb (getD (fiveAt sm signsAt .items) i 0) 43 ≡ false
+  pub sign-not : i < blockLimit → {at : ℕ} → at ≡ i → (byteAt sm (signsAt + 1 + at) ≡ plusSign → ⊥) → eqb (getD (fiveAt sm signsAt .items) i 0) plusSign ≡ false
   sign-not h q m =
-      ne-eqb (getD (fiveAt sm signsAt .items) i 0) 43 (λ e. m (ap (λ (j : ℕ). byteAt sm (signsAt + 1 + j)) q ∙ sign-read sm i n h ∙ e))
+      ne-eqb (getD (fiveAt sm signsAt .items) i 0) plusSign (λ e. m (ap (λ (j : ℕ). byteAt sm (signsAt + 1 + j)) q ∙ sign-read sm i n h ∙ e))
 
   -- past the five there is no sign
-  pub sign-none : 5 ≤ i → eqb (getD (fiveAt sm signsAt .items) i 0) 43 ≡ false
+  pub sign-none : blockLimit ≤ i → eqb (getD (fiveAt sm signsAt .items) i 0) plusSign ≡ false
   sign-none h =
-      let e : getD (fiveAt sm signsAt .items) i 0 ≡ 0 = List·getD-eq-default (fiveAt sm signsAt .items) 0 {n = i} (omega (arith, array-length 5 sm (signsAt + 1))) in
-      ap (λ (x : ℕ). eqb x 43) e
+      let e : getD (fiveAt sm signsAt .items) i 0 ≡ 0 = List·getD-eq-default (fiveAt sm signsAt .items) 0 {n = i} (omega (arith, array-length blockLimit sm (signsAt + 1))) in
+      ap (λ (x : ℕ). eqb x plusSign) e
 
 -- two numbers that were read
 pub both-are : {x y u v : ℕ} → x ≡ u → y ≡ v → x ≡ y → eqb u v ≡ true
@@ -174,27 +177,27 @@ both-are {x} {y} {u} {v} p q e = eq-eqb u v (sym p ∙ e ∙ q)
 pub both-not : {x y u v : ℕ} → x ≡ u → y ≡ v → (x ≡ y → ⊥) → eqb u v ≡ false
 both-not {x} {y} {u} {v} p q n = ne-eqb u v (λ e. n (p ∙ e ∙ sym q))
 
-pub body-read : {u v b w : ℕ} (n : ℕ) → u ≡ v → b ≡ w → leb b 65535 && leb (u + b) n ≡ leb w 65535 && leb (v + w) n
+pub body-read : {u v b w : ℕ} (n : ℕ) → u ≡ v → b ≡ w → leb b bodyLimit && leb (u + b) n ≡ leb w bodyLimit && leb (v + w) n
 body-read n e f = rw (e, f)
 
 -- the length of a body where it stands in the inbox
-pub length-read : (inbox : Bytes) (i at : ℕ) → at ≡ entryLen * i + 153 → entryLen * (i + 1) ≤ length inbox → {x : ℕ} → x ≡ le2At inbox at
+pub length-read : (inbox : Bytes) (i at : ℕ) → at ≡ entryLen * i + entryBodyLength → entryLen * (i + 1) ≤ length inbox → {x : ℕ} → x ≡ le2At inbox at
     → x ≡ bodyLength (entryAt entrySize inbox i)
 length-read inbox i at e h q =
-    let t : Bytes = take 155 (drop (i * 155) inbox) in
-    let b : (j : ℕ) → j < 155 → byteAt t j ≡ byteAt inbox (i * 155 + j) =
-    λ j g. getD-take 155 (drop (i * 155) inbox) j 0 g ∙ getD-drop (i * 155) inbox j 0 in
-    let f : at ≡ i * 155 + 153 = omega arith in
-    let g : at + 1 ≡ i * 155 + 154 = omega arith in
-    let w : bodyLength (entryAt entrySize inbox i) ≡ byteAt inbox (i * 155 + 153) + 256 * byteAt inbox (i * 155 + 154) =
-    ap bodyLength (part-in inbox (i * 155) 155 (omega arith)) ∙ ap (λ (x : ℕ). x + 256 * byteAt t 154) (b 153 (omega arith))
-    ∙ ap (λ (x : ℕ). byteAt inbox (i * 155 + 153) + 256 * x) (b 154 (omega arith)) in
-    q ∙ ap (λ (j : ℕ). byteAt inbox j + 256 * byteAt inbox (at + 1)) f ∙ ap (λ (j : ℕ). byteAt inbox (i * 155 + 153) + 256 * byteAt inbox j) g ∙ sym w
+    let t : Bytes = take entryLen (drop (i * entryLen) inbox) in
+    let b : (j : ℕ) → j < entryLen → byteAt t j ≡ byteAt inbox (i * entryLen + j) =
+    λ j g. getD-take entryLen (drop (i * entryLen) inbox) j 0 g ∙ getD-drop (i * entryLen) inbox j 0 in
+    let f : at ≡ i * entryLen + entryBodyLength = omega arith in
+    let g : at + 1 ≡ i * entryLen + (entryBodyLength + 1) = omega arith in
+    let w : bodyLength (entryAt entrySize inbox i) ≡ byteAt inbox (i * entryLen + entryBodyLength) + byteValues * byteAt inbox (i * entryLen + (entryBodyLength + 1)) =
+    ap bodyLength (part-in inbox (i * entryLen) entryLen (omega arith)) ∙ ap (λ (x : ℕ). x + byteValues * byteAt t (entryBodyLength + 1)) (b entryBodyLength (omega arith))
+    ∙ ap (λ (x : ℕ). byteAt inbox (i * entryLen + entryBodyLength) + byteValues * x) (b (entryBodyLength + 1) (omega arith)) in
+    q ∙ ap (λ (j : ℕ). byteAt inbox j + byteValues * byteAt inbox (at + 1)) f ∙ ap (λ (j : ℕ). byteAt inbox (i * entryLen + entryBodyLength) + byteValues * byteAt inbox j) g ∙ sym w
 
 -- ---------------------------------------------------------------- the mark
 
-module _ (sm : Bytes) (small : (i : ℕ) → byteAt sm i < 256) where
-  mark-bytes : le4At sm markAt ≡ 825249094 → (byteAt sm 0 ≡ 70) × (byteAt sm 1 ≡ 77) × (byteAt sm 2 ≡ 48) × (byteAt sm 3 ≡ 49)
+module _ (sm : Bytes) (small : (i : ℕ) → byteAt sm i < byteValues) where
+  mark-bytes : le4At sm markAt ≡ markNumber → (byteAt sm 0 ≡ byteAt mark 0) × (byteAt sm 1 ≡ byteAt mark 1) × (byteAt sm 2 ≡ byteAt mark 2) × (byteAt sm 3 ≡ byteAt mark 3)
   mark-bytes e =
       let h₀ = small 0 in
       let h₁ = small 1 in
@@ -202,16 +205,16 @@ module _ (sm : Bytes) (small : (i : ℕ) → byteAt sm i < 256) where
       let h₃ = small 3 in
       (omega arith, omega arith, omega arith, omega arith)
 
-  pub mark-read : {x : ℕ} → x ≡ le4At sm markAt → eqb x 825249094 ≡ markOk sm
-  mark-read {x} q = go (eqb (byteAt sm 0) 70) (eqb (byteAt sm 1) 77) (eqb (byteAt sm 2) 48) (eqb (byteAt sm 3) 49) refl refl refl refl
+  pub mark-read : {x : ℕ} → x ≡ le4At sm markAt → eqb x markNumber ≡ markOk sm
+  mark-read {x} q = go (eqb (byteAt sm 0) (byteAt mark 0)) (eqb (byteAt sm 1) (byteAt mark 1)) (eqb (byteAt sm 2) (byteAt mark 2)) (eqb (byteAt sm 3) (byteAt mark 3)) refl refl refl refl
     where
-      go : (a b c d : Bool) → eqb (byteAt sm 0) 70 ≡ a → eqb (byteAt sm 1) 77 ≡ b → eqb (byteAt sm 2) 48 ≡ c → eqb (byteAt sm 3) 49 ≡ d → eqb x 825249094 ≡ markOk sm
-      go false b c d e f g h = ne-eqb x 825249094 (λ o. eqb-false (byteAt sm 0) 70 e (mark-bytes (sym q ∙ o) .0)) ∙ sym (rw e)
-      go true false c d e f g h = ne-eqb x 825249094 (λ o. eqb-false (byteAt sm 1) 77 f (mark-bytes (sym q ∙ o) .1)) ∙ sym (rw (e, f))
-      go true true false d e f g h = ne-eqb x 825249094 (λ o. eqb-false (byteAt sm 2) 48 g (mark-bytes (sym q ∙ o) .2)) ∙ sym (rw (e, f, g))
-      go true true true false e f g h = ne-eqb x 825249094 (λ o. eqb-false (byteAt sm 3) 49 h (mark-bytes (sym q ∙ o) .3)) ∙ sym (rw (e, f, g, h))
+      go : (a b c d : Bool) → eqb (byteAt sm 0) (byteAt mark 0) ≡ a → eqb (byteAt sm 1) (byteAt mark 1) ≡ b → eqb (byteAt sm 2) (byteAt mark 2) ≡ c → eqb (byteAt sm 3) (byteAt mark 3) ≡ d → eqb x markNumber ≡ markOk sm
+      go false b c d e f g h = ne-eqb x markNumber (λ o. eqb-false (byteAt sm 0) (byteAt mark 0) e (mark-bytes (sym q ∙ o) .0)) ∙ sym (rw e)
+      go true false c d e f g h = ne-eqb x markNumber (λ o. eqb-false (byteAt sm 1) (byteAt mark 1) f (mark-bytes (sym q ∙ o) .1)) ∙ sym (rw (e, f))
+      go true true false d e f g h = ne-eqb x markNumber (λ o. eqb-false (byteAt sm 2) (byteAt mark 2) g (mark-bytes (sym q ∙ o) .2)) ∙ sym (rw (e, f, g))
+      go true true true false e f g h = ne-eqb x markNumber (λ o. eqb-false (byteAt sm 3) (byteAt mark 3) h (mark-bytes (sym q ∙ o) .3)) ∙ sym (rw (e, f, g, h))
       go true true true true e f g h =
-          eq-eqb x 825249094 (omega (arith, q, eqb-true (byteAt sm 0) 70 e, eqb-true (byteAt sm 1) 77 f, eqb-true (byteAt sm 2) 48 g, eqb-true (byteAt sm 3) 49 h)) ∙ sym (rw (e, f, g, h))
+          eq-eqb x markNumber (omega (arith, q, eqb-true (byteAt sm 0) (byteAt mark 0) e, eqb-true (byteAt sm 1) (byteAt mark 1) f, eqb-true (byteAt sm 2) (byteAt mark 2) g, eqb-true (byteAt sm 3) (byteAt mark 3) h)) ∙ sym (rw (e, f, g, h))
 
 -- ---------------------------------------------------------------- what waits
 

@@ -22,10 +22,18 @@ use Rattle.places.specs.Places.{lineLen, headingLen, partners}
 use Rattle.grammar.specs.Turns.{blockLimit}
 use Rattle.grammar.specs.Answers.{plusSign}
 use Rattle.grammar.specs.Fields.{bodyLimit}
+use Rattle.grammar.specs.Ascii.{text}
+use Rattle.mail.specs.Mail.{placeLimit}
 
--- The mark that open leaves.
+-- The mark that open leaves, and the number that it makes, little end first.
+abbrev pub mark : Bytes
+mark = text "FM01"
+
+abbrev pub markNumber : ℕ
+markNumber = 825249094
+
 abbrev pub markOk : Bytes → Bool
-markOk sm = eqb (byteAt sm 0) 70 && (eqb (byteAt sm 1) 77 && (eqb (byteAt sm 2) 48 && eqb (byteAt sm 3) 49))
+markOk sm = eqb (byteAt sm 0) (byteAt mark 0) && (eqb (byteAt sm 1) (byteAt mark 1) && (eqb (byteAt sm 2) (byteAt mark 2) && eqb (byteAt sm 3) (byteAt mark 3)))
 
 unfoldable pub sameSizes : Sizes → Sizes → Bool
 sameSizes a b =
@@ -38,6 +46,10 @@ countsOk s =
     leb (s .line .len) lineLen && (leb (s .now .ours .count) blockLimit && (leb (s .say .signs .count) blockLimit && (leb (s .keep .sending .count) blockLimit
     && (leb (s .now .proposals) blockLimit && (leb (s .reading .reader .head) headingLen && ltb (s .keep .terms .partner) partners)))))
 
+-- So many messages' lengths are added a turn of the code's loop.
+abbrev pub roundLength : ℕ
+roundLength = 8
+
 -- How many store bytes the first n messages of the inbox use, from message i on.
 abbrev pub usedFrom : Bytes → ℕ → ℕ → ℕ
 usedFrom inbox i zero = 0
@@ -46,14 +58,10 @@ usedFrom inbox i (suc n) = bodyLength (entryAt entrySize inbox i) + usedFrom inb
 unfoldable pub usedBy : Bytes → ℕ → ℕ
 usedBy inbox n = usedFrom inbox 0 n
 
--- "up to 64 messages"
-abbrev pub messageLimit : ℕ
-messageLimit = 64
-
 -- The messages kept have their places, and their bodies' bytes are those that the session counts.
 unfoldable pub inboxOk : Session → Bytes → Bytes → Bool
 inboxOk s inbox store =
-    leb (placeCount inbox) messageLimit && (leb (s .keep .kept) (placeCount inbox)
+    leb (placeCount inbox) placeLimit && (leb (s .keep .kept) (placeCount inbox)
     && (eqb (usedBy inbox (s .keep .kept)) (s .keep .used) && leb (s .keep .used) (length store)))
 
 -- Where something waits, not all of it is given.

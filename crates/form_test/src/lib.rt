@@ -6,14 +6,17 @@ use number_at::two;
 use number_at::wide;
 ghost use mathlib.Core.Path.{_≡_};
 ghost use mathlib.Core.Bool.{true, false, cond, _&&_};
-ghost use Prim.Native.Nat.{_+_, _*_, _<_, _≤_};
+ghost use Prim.Native.Nat.{_+_, _*_, _<_, _≤_, _-_};
 ghost use lib.Dec.{eqb, leb};
 ghost use lib.ListN.{length, drop};
 ghost use Rattle.layout.specs.Layout.{entryAt, entrySize, bodyLength};
 ghost use Rattle.places.specs.Places.{entryLen};
 ghost use Rattle.session_memory.specs.State.{sessionSize, held, loadOf, loadSizes};
 ghost use Rattle.pending.specs.Pending.{waits};
-ghost use Rattle.form_test.specs.Form.{markOk, sameSizes, countsOk, usedFrom, usedBy, inboxOk, waitingOk, pluses, transferOk, isLast, closedOk, phaseOk, lentSizes, formOf, Next};
+ghost use Rattle.form_test.specs.Form.{markOk, sameSizes, countsOk, usedFrom, usedBy, inboxOk, waitingOk, pluses, transferOk, isLast, closedOk, phaseOk, lentSizes, formOf, Next, roundLength};
+ghost use Rattle.grammar.specs.Bytes.{byteValues};
+ghost use Rattle.grammar.specs.Fields.{bodyLimit};
+ghost use Rattle.grammar.specs.Answers.{plusSign};
 
 // The mark FM01 as a number, little end first.
 const FM01: u32 = 825249094;
@@ -24,15 +27,15 @@ const ENTRY: usize = places::ENTRY as usize;
 const BODY_LENGTH: usize = places::ENTRY_BODY_LEN as usize;
 
 // "up to 64 messages"
-const MESSAGES: usize = 64;
+const MESSAGES: usize = entries::MESSAGES_MAX as usize;
 
 // So many messages' lengths are added a turn of the loop, which takes a fifth fewer instructions than one by one.
 const ROUND: u8 = 8;
 
 // The longest line and the longest body.
-const LINE_MAX: u16 = 256;
+const LINE_MAX: u16 = places::LINE_ROOM as u16;
 
-const BODY_MAX: u32 = 65535;
+const BODY_MAX: u32 = places::BODY_MAX as u32;
 
 // Whether the memory passes, and where the next byte to give is.
 pub struct Tested {
@@ -72,15 +75,15 @@ fn counts_ok(sm: &[u8]) -> bool
 // How many store bytes message i of the inbox uses.
 fn body_length(inbox: &[u8], i: u8) -> usize
     requires { ⌜ entryLen * (i + 1) ≤ length (now inbox) ⌝ }
-    ensures { λ r. ⌜ (r ≡ bodyLength (entryAt entrySize (now (inbox .entry)) i)) × (r ≤ 65535) ⌝ }
+    ensures { λ r. ⌜ (r ≡ bodyLength (entryAt entrySize (now (inbox .entry)) i)) × (r ≤ bodyLimit) ⌝ }
 {
     two(inbox, ENTRY * wide(i) + BODY_LENGTH) as usize
 }
 
 // How many a round of messages uses, from message i on.
 fn round_uses(inbox: &[u8], i: u8) -> usize
-    requires { ⌜ (i + 7 < 256) × (entryLen * (i + 8) ≤ length (now inbox)) ⌝ }
-    ensures { λ r. ⌜ (r ≡ usedFrom (now (inbox .entry)) i 8) × (r ≤ 65535 * 8) ⌝ }
+    requires { ⌜ (i + (roundLength - 1) < byteValues) × (entryLen * (i + roundLength) ≤ length (now inbox)) ⌝ }
+    ensures { λ r. ⌜ (r ≡ usedFrom (now (inbox .entry)) i roundLength) × (r ≤ bodyLimit * roundLength) ⌝ }
 {
     let a = body_length(inbox, i) + body_length(inbox, i + 1);
     let b = body_length(inbox, i + 2) + body_length(inbox, i + 3);
@@ -91,7 +94,7 @@ fn round_uses(inbox: &[u8], i: u8) -> usize
 
 // How many n messages use, from message i on, added to what those before them use.
 fn added_uses(before: usize, inbox: &[u8], i: u8, n: u8) -> usize
-    requires { ⌜ (before ≤ 65535 * i) × (i + n < 256) × (entryLen * (i + n) ≤ length (now inbox)) ⌝ }
+    requires { ⌜ (before ≤ bodyLimit * i) × (i + n < byteValues) × (entryLen * (i + n) ≤ length (now inbox)) ⌝ }
     ensures { λ r. ⌜ r ≡ before + usedFrom (now (inbox .entry)) i n ⌝ }
 {
     let mut total = before;
@@ -139,7 +142,7 @@ fn inbox_ok(sm: &[u8], inbox: &[u8], store: &[u8]) -> bool
 
 // 1 for the sign `+`, 0 for any other byte.
 fn plus(sign: u8) -> u8
-    ensures { λ r. ⌜ (r ≡ cond (eqb sign 43) 1 0) × (r ≤ 1) ⌝ }
+    ensures { λ r. ⌜ (r ≡ cond (eqb sign plusSign) 1 0) × (r ≤ 1) ⌝ }
 {
     if sign == b'+' {
         return 1;
@@ -155,7 +158,7 @@ fn pluses_from(sm: &[u8], from: u8) -> u8
     let count = sm[places::SIGNS];
     let mut n = 0u8;
     let mut i = from;
-    while i < 5 {
+    while i < phase::BLOCK_LIMIT {
         if count <= i {
             return n;
         }
@@ -167,7 +170,7 @@ fn pluses_from(sm: &[u8], from: u8) -> u8
 
 // The bytes received so far of the body under way are few enough, and lie in the store after those kept.
 fn body_ok(used: usize, body: u32, store: usize) -> bool
-    ensures { λ r. ⌜ r ≡ leb body 65535 && leb (used + body) store ⌝ }
+    ensures { λ r. ⌜ r ≡ leb body bodyLimit && leb (used + body) store ⌝ }
 {
     if BODY_MAX < body {
         return false;

@@ -1,6 +1,7 @@
 // The call open.
 use give::Reply;
 ghost use mathlib.Core.Path.{_≡_};
+ghost use Rattle.open.specs.Lending.{lending};
 ghost use Rattle.open.specs.Opening.{openOf};
 
 // Opens a session. role: 0 called, 1 caller; partner: 0 to 7.
@@ -17,7 +18,7 @@ pub extern "C" fn fringemole_open(
     inbox: &[u8],
     store: &[u8],
 ) -> Reply
-    ensures { λ r. ⌜ record { reply = r; sm = now (session .exit) } ≡ openOf role partner (now (session .entry)) (now (table .entry)) (now (titles .entry)) (now (names .entry)) (now (bodies .entry)) (now (known .entry)) (now (inbox .entry)) (now (store .entry)) ⌝ }
+    ensures { λ r. ⌜ record { reply = r; sm = now (session .exit) } ≡ openOf (lending role partner (now (session .entry)) (now (table .entry)) (now (titles .entry)) (now (names .entry)) (now (bodies .entry)) (now (known .entry)) (now (inbox .entry)) (now (store .entry))) ⌝ }
 {
     open::open(
         role,

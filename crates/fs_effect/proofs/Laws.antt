@@ -12,13 +12,14 @@ use lib.Seq.{drop-cons, append-snoc}
 use borrow.Author.Tests.{eq-eqb, ne-eqb, eqb-true, eqb-false}
 use Rattle.grammar.specs.Bytes.{Bytes}
 use Rattle.grammar.specs.Answers.{Sign, accept, decline, defer, signOf, writeSign}
+use Rattle.phase.specs.Phase.{blockLimit, notOurTurn, stateDeclined}
 use Rattle.fs_line.specs.Answers.{answerNumber, answerSigns}
-use Rattle.transfer_step.specs.declared.Reader.{Reader}
 use Rattle.session_memory.specs.State.{held, fiveOf, noFive}
 use Rattle.session_memory.specs.declared.Five.{Five}
 use Rattle.session_memory.specs.Session.{Await}
 use Rattle.session_memory.specs.declared.Say.{Say}
-use Rattle.session_memory.specs.Session.{Keep}
+use Rattle.session_memory.specs.Session.{Session}
+use Rattle.session_memory.specs.Setters.{withNow, withSay, withKeep}
 use Rattle.five.specs.Filled.{Filled}
 use Rattle.five.proofs.Laws.{five-held, five-filled, five-next, five-count}
 use Rattle.line_effect.specs.Judged.{Judged}
@@ -95,7 +96,7 @@ module _ (f : Five) (ss : List ℕ) (a : Answered) (i n : ℕ) (e : n ≡ length
   sort-end h =
       (pick-end (writeSign accept) f ss (a .accepted) i n e (p .0) h, pick-end (writeSign decline) f ss (a .declined) i n e (p .1) h, pick-end (writeSign defer) f ss (a .deferred) i n e (p .2) h)
 
-  module _ (h : i < n) (l : i < length ss) (m : n ≤ 5) where
+  module _ (h : i < n) (l : i < length ss) (m : n ≤ blockLimit) where
     room : (c : ℕ) (g : Five) → Picking c f ss g i → Room g
     room c g o = (o .filled, omega (arith, o .few))
 
@@ -130,38 +131,38 @@ module _ (f : Five) (ss : List ℕ) (a : Answered) (i n : ℕ) (e : n ≡ length
 
 -- ---------------------------------------------------------------- the FS line
 
-module _ (w : Await) (y : Say) (k : Keep) (rd : Reader) where
+module _ (s : Session) where
   -- the FS line
   abbrev answerBy : ℕ → Bytes → Judged
-  answerBy n ss = cond (eqb n 0) (answerTaken ss w y k rd) (refusal n w y k rd)
+  answerBy n ss = cond (eqb n 0) (answerTaken ss s) (refusal n s)
 
-  module _ (ln : Bytes) (j : Judged) (n : ℕ) (e : n ≡ answerNumber (k .terms .level) (w .ours .count) ln) where
-    answer-by : (ss : Bytes) → ss ≡ answerSigns (k .terms .level) (w .ours .count) ln → j ≡ answerBy n ss → j ≡ answerLine ln w y k rd
+  module _ (ln : Bytes) (j : Judged) (n : ℕ) (e : n ≡ answerNumber (s .keep .terms .level) (s .now .ours .count) ln) where
+    answer-by : (ss : Bytes) → ss ≡ answerSigns (s .keep .terms .level) (s .now .ours .count) ln → j ≡ answerBy n ss → j ≡ answerLine ln s
     unfolding answerLine
-    answer-by ss q f = f ∙ ap (λ (m : ℕ). answerBy m ss) e ∙ ap (answerBy (answerNumber (k .terms .level) (w .ours .count) ln)) q
+    answer-by ss q f = f ∙ ap (λ (m : ℕ). answerBy m ss) e ∙ ap (answerBy (answerNumber (s .keep .terms .level) (s .now .ours .count) ln)) q
 
-    pub answer-no : (n ≡ 0 → ⊥) → j ≡ refusal n w y k rd → j ≡ answerLine ln w y k rd
-    answer-no z f = answer-by (answerSigns (k .terms .level) (w .ours .count) ln) refl (rw (ne-eqb _ _ z) f)
+    pub answer-no : (n ≡ 0 → ⊥) → j ≡ refusal n s → j ≡ answerLine ln s
+    answer-no z f = answer-by (answerSigns (s .keep .terms .level) (s .now .ours .count) ln) refl (rw (ne-eqb _ _ z) f)
 
-    pub answer-yes : n ≡ 0 → (ss : Bytes) → ss ≡ answerSigns (k .terms .level) (w .ours .count) ln → j ≡ answerTaken ss w y k rd → j ≡ answerLine ln w y k rd
+    pub answer-yes : n ≡ 0 → (ss : Bytes) → ss ≡ answerSigns (s .keep .terms .level) (s .now .ours .count) ln → j ≡ answerTaken ss s → j ≡ answerLine ln s
     answer-yes z ss q f = answer-by ss q (rw (eq-eqb _ _ z) f)
 
 -- the signs of a right FS line
-module _ (ss : Bytes) (w : Await) (y : Say) (k : Keep) (rd : Reader) where
+module _ (ss : Bytes) (s : Session) where
   abbrev taking : Five → ℕ → Five → Bytes → Await → Say → Judged
-  taking declined deferred sending flags v z = judged 0 0 (record { state = 2; places = declined; deferred = deferred }) v z (sends sending flags k) rd
+  taking declined deferred sending flags v z = judged 0 notOurTurn (record { state = stateDeclined; places = declined; deferred = deferred }) (withNow v (withSay z (withKeep (sends sending flags (s .keep)) s)))
 
   -- those declined, deferred and accepted
   abbrev signed : Sign → List ℕ
-  signed s = picked (writeSign s) (held (w .ours)) ss
+  signed q = picked (writeSign q) (held (s .now .ours)) ss
 
-  pub taken : (d s u : Five) (flags : Bytes) (v : Await) (z : Say) → d ≡ fiveOf (signed decline) → s ≡ fiveOf (signed accept)
-      → u ≡ fiveOf (signed defer) → flags ≡ flagged (held u) (k .deferred) → v ≡ toTurn false w → z ≡ transfersAfter s y
-      → taking d (u .count) s flags v z ≡ answerTaken ss w y k rd
-  taken d s u flags v z a b c e f g =
+  pub taken : (d g u : Five) (flags : Bytes) (v : Await) (z : Say) → d ≡ fiveOf (signed decline) → g ≡ fiveOf (signed accept)
+      → u ≡ fiveOf (signed defer) → flags ≡ flagged (held u) (s .keep .deferred) → v ≡ toTurn false (s .now) → z ≡ transfersAfter g (s .say)
+      → taking d (u .count) g flags v z ≡ answerTaken ss s
+  taken d g u flags v z a b c e f q =
       let n : ℕ = length (signed defer) in
-      let x : Bytes = flagged (signed defer) (k .deferred) in
-      ap (λ (p : Five). taking p (u .count) s flags v z) a ∙ ap (λ (p : Five). taking (fiveOf (signed decline)) (p .count) s flags v z) c
-      ∙ ap (λ (p : Bytes). taking (fiveOf (signed decline)) n s p v z) (e ∙ ap (λ (l : List ℕ). flagged l (k .deferred)) (five-held u (signed defer) c))
-      ∙ ap (λ (p : Await). taking (fiveOf (signed decline)) n s x p z) f ∙ ap (λ (p : Say). taking (fiveOf (signed decline)) n s x (toTurn false w) p) g
-      ∙ ap (λ (p : Five). taking (fiveOf (signed decline)) n p x (toTurn false w) (transfersAfter p y)) b
+      let x : Bytes = flagged (signed defer) (s .keep .deferred) in
+      ap (λ (p : Five). taking p (u .count) g flags v z) a ∙ ap (λ (p : Five). taking (fiveOf (signed decline)) (p .count) g flags v z) c
+      ∙ ap (λ (p : Bytes). taking (fiveOf (signed decline)) n g p v z) (e ∙ ap (λ (l : List ℕ). flagged l (s .keep .deferred)) (five-held u (signed defer) c))
+      ∙ ap (λ (p : Await). taking (fiveOf (signed decline)) n g x p z) f ∙ ap (λ (p : Say). taking (fiveOf (signed decline)) n g x (toTurn false (s .now)) p) q
+      ∙ ap (λ (p : Five). taking (fiveOf (signed decline)) n p x (toTurn false (s .now)) (transfersAfter p (s .say))) b

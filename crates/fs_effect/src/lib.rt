@@ -12,13 +12,15 @@ use session_memory::Five;
 use session_memory::Say;
 ghost use mathlib.Core.Path.{_≡_};
 ghost use lib.ListN.{set};
-ghost use Rattle.grammar.specs.Bytes.{Bytes};
 ghost use Rattle.grammar.specs.Answers.{accept, decline, defer, writeSign};
-ghost use Rattle.numbers.specs.Whole.{awaitOf, keepOf};
+ghost use Rattle.numbers.specs.Whole.{Arrays, withDeferred, sessionOf};
 ghost use Rattle.session_memory.specs.State.{held, fiveOf};
 ghost use Rattle.fs_effect.specs.Signs.{Room, answeredBy};
 ghost use Rattle.line_effect.specs.Judge.{picked, flagged, transfersAfter, answerTaken, answerLine};
 ghost use Rattle.line_effect.specs.Verdict.{judgedOf};
+
+// The most proposals of a block, as a length.
+const BLOCK_LIMIT: usize = phase::BLOCK_LIMIT as usize;
 
 // The places of our records by the partner's answers to them, in order.
 struct Answered {
@@ -57,7 +59,7 @@ fn answered_by(a: Answered, sign: u8, place: u8) -> Answered
 }
 
 // All places by their signs.
-fn by_signs(ours: Five, signs: [u8; 5]) -> Answered
+fn by_signs(ours: Five, signs: [u8; BLOCK_LIMIT]) -> Answered
     ensures { λ r. ⌜ (r .accepted ≡ fiveOf (picked (writeSign accept) (held ours) signs)) × (r .declined ≡ fiveOf (picked (writeSign decline) (held ours) signs)) × (r .deferred ≡ fiveOf (picked (writeSign defer) (held ours) signs)) ⌝ }
 {
     let n = count_of(ours);
@@ -111,8 +113,8 @@ fn transfers_after(sending: Five, say: Say) -> Say
 }
 
 // The signs of a right FS line: accepted records are sent, declined ones marked, deferred ones flagged.
-fn answer_taken(signs: [u8; 5], s: Numbers, deferred: &mut [u8]) -> Verdict
-    ensures { λ r. ⌜ ((block : Bytes) → judgedOf r block (now (deferred .exit)) ≡ answerTaken signs (awaitOf (s .now) block) (s .say) (keepOf (s .keep) (now (deferred .entry))) (s .reader)) ⌝ }
+fn answer_taken(signs: [u8; BLOCK_LIMIT], s: Numbers, deferred: &mut [u8]) -> Verdict
+    ensures { λ r. ⌜ ((a : Arrays) → judgedOf r (withDeferred (now (deferred .exit)) a) ≡ answerTaken signs (sessionOf s (withDeferred (now (deferred .entry)) a))) ⌝ }
 {
     let awaited = s.now;
     let ours = awaited.ours;
@@ -142,7 +144,7 @@ fn answer_taken(signs: [u8; 5], s: Numbers, deferred: &mut [u8]) -> Verdict
 
 // The FS line on our proposals; deferred are the flags of deferred records.
 pub fn answer_line(line: &[u8], s: Numbers, deferred: &mut [u8]) -> Verdict
-    ensures { λ r. ⌜ ((block : Bytes) → judgedOf r block (now (deferred .exit)) ≡ answerLine (now (line .entry)) (awaitOf (s .now) block) (s .say) (keepOf (s .keep) (now (deferred .entry))) (s .reader)) ⌝ }
+    ensures { λ r. ⌜ ((a : Arrays) → judgedOf r (withDeferred (now (deferred .exit)) a) ≡ answerLine (now (line .entry)) (sessionOf s (withDeferred (now (deferred .entry)) a))) ⌝ }
 {
     let ours = s.now.ours;
     let r = fs_line::read_fs(line, ours.count as usize, s.keep.terms.level);

@@ -12,16 +12,17 @@ use lib.ListN.{length, getD, set, take, drop, replicate, length-map, length-appe
 use lib.Seq.{take-at, append-snoc, set-at, drop-cons, drop-drop}
 use borrow.Author.Tests.{eq-eqb, ne-eqb, lt-ltb, le-ltb, lt-leb, le-leb, ltb-false, eqb-true}
 use Rattle.grammar.specs.Bytes.{Bytes, SP, every, isSome}
-use Rattle.grammar.specs.Ascii.{text}
+use Rattle.grammar.specs.Ascii.{text, char}
 use Rattle.grammar.specs.Fields.{upper, after, digit, readFrom}
 use Rattle.grammar.specs.Refusals.{badAnswer, lineNotAllowed}
 use Rattle.grammar.specs.Turns.{blockLimit}
-use Rattle.grammar.specs.Answers.{Sign, accept, decline, defer, signOf, orElse, letterSign, signByte, isOffset, offsetDigits, digitCount, offsetSign, followed, offsetRead, orOffset, signAt, consO, consNext, readSigns, signsRead, readFs, writeSign, fsNumber, level0, level1}
+use Rattle.grammar.specs.Answers.{Sign, accept, decline, defer, signOf, orElse, letterSign, signByte, isOffset, offsetDigits, digitCount, offsetSign, followed, offsetRead, orOffset, signAt, consO, consNext, readSigns, signsRead, readFs, writeSign, fsNumber, level0, level1, plusSign, minusSign, equalSign}
 use Rattle.grammar.proofs.Basics.{to-end}
 use Rattle.grammar.proofs.OurLines.{signs-back}
 use Rattle.byte.proofs.Laws.{any2, none2, all-get, digit-is}
-use Rattle.fs_line.specs.Answers.{answered, answerNumber, answerSigns, signBytes, zeroed, signsBy}
+use Rattle.fs_line.specs.Answers.{answered, answerNumber, answerSigns, signBytes, zeroed, signsBy, fsLength}
 use Rattle.fs_line.specs.declared.Answers.{Answers}
+use Rattle.grammar.specs.Bids.{toSmall}
 
 true-false : true ≡ false → ⊥
 true-false e = let z : _≡_ {A = ℕ} 1 0 = ap (λ (c : Bool). cond {A = ℕ} c 1 0) e in omega (arith, z)
@@ -30,7 +31,7 @@ true-false e = let z : _≡_ {A = ℕ} 1 0 = ap (λ (c : Bool). cond {A = ℕ} c
 
 pub fs-short : (l : Bytes) → length l < 2 → false ≡ isSome (after (text "FS") l)
 fs-short [] h = refl
-fs-short (a ∷ []) h = go (eqb (upper a) 70)
+fs-short (a ∷ []) h = go (eqb (upper a) (char "F"))
   where
     go : (t : Bool) → false ≡ isSome (cond {A = Option Bytes} t none none)
     go true = refl
@@ -38,10 +39,10 @@ fs-short (a ∷ []) h = go (eqb (upper a) 70)
 fs-short (a ∷ b ∷ l) h = let z : ⊥ = omega arith in absurd z
 
 -- where there are two bytes, they decide
-pub fs-two : (l : Bytes) → 2 ≤ length l → isSome (after (text "FS") l) ≡ (eqb (upper (getD l 0 0)) 70 && eqb (upper (getD l 1 0)) 83)
+pub fs-two : (l : Bytes) → 2 ≤ length l → isSome (after (text "FS") l) ≡ (eqb (upper (getD l 0 0)) (char "F") && eqb (upper (getD l 1 0)) (char "S"))
 fs-two [] h = let z : ⊥ = omega arith in absurd z
 fs-two (a ∷ []) h = let z : ⊥ = omega arith in absurd z
-fs-two (a ∷ b ∷ l) h = go (eqb (upper a) 70) (eqb (upper b) 83)
+fs-two (a ∷ b ∷ l) h = go (eqb (upper a) (char "F")) (eqb (upper b) (char "S"))
   where
     go : (s t : Bool) → isSome (cond s (cond t (some l) none) none) ≡ (s && t)
     go true true = refl
@@ -60,36 +61,36 @@ SignFrom b none = Unit {0}
 SignFrom b (some s) = writeSign s ≡ b
 
 sign-from : (b : ℕ) → SignFrom b (signOf b)
-sign-from b = go (eqb b 43) (eqb b 45) (eqb b 61) refl refl refl
+sign-from b = go (eqb b plusSign) (eqb b minusSign) (eqb b equalSign) refl refl refl
   where
-    go : (p q r : Bool) → eqb b 43 ≡ p → eqb b 45 ≡ q → eqb b 61 ≡ r → SignFrom b (cond p (some accept) (cond q (some decline) (cond r (some defer) none)))
-    go true q r e f g = sym (eqb-true b 43 e)
-    go false true r e f g = sym (eqb-true b 45 f)
-    go false false true e f g = sym (eqb-true b 61 g)
+    go : (p q r : Bool) → eqb b plusSign ≡ p → eqb b minusSign ≡ q → eqb b equalSign ≡ r → SignFrom b (cond p (some accept) (cond q (some decline) (cond r (some defer) none)))
+    go true q r e f g = sym (eqb-true b plusSign e)
+    go false true r e f g = sym (eqb-true b minusSign f)
+    go false false true e f g = sym (eqb-true b equalSign g)
     go false false false e f g = tt
 
 -- a letter, as a capital: Y and H accept, N and R decline, L and E defer
-pub letter-accepts : (u : ℕ) → (u ≡ 72) ⊎ (u ≡ 89) → some accept ≡ letterSign u
+pub letter-accepts : (u : ℕ) → (u ≡ char "H") ⊎ (u ≡ char "Y") → some accept ≡ letterSign u
 letter-accepts u (inl e) = ap letterSign (sym e)
 letter-accepts u (inr e) = ap letterSign (sym e)
 
-pub letter-declines : (u : ℕ) → (u ≡ 78) ⊎ (u ≡ 82) → some decline ≡ letterSign u
+pub letter-declines : (u : ℕ) → (u ≡ char "N") ⊎ (u ≡ char "R") → some decline ≡ letterSign u
 letter-declines u (inl e) = ap letterSign (sym e)
 letter-declines u (inr e) = ap letterSign (sym e)
 
-pub letter-defers : (u : ℕ) → (u ≡ 69) ⊎ (u ≡ 76) → some defer ≡ letterSign u
+pub letter-defers : (u : ℕ) → (u ≡ char "E") ⊎ (u ≡ char "L") → some defer ≡ letterSign u
 letter-defers u (inl e) = ap letterSign (sym e)
 letter-defers u (inr e) = ap letterSign (sym e)
 
-pub letter-other : (u : ℕ) → ((u ≡ 72) ⊎ (u ≡ 89) → ⊥) → ((u ≡ 78) ⊎ (u ≡ 82) → ⊥) → ((u ≡ 69) ⊎ (u ≡ 76) → ⊥) → none ≡ letterSign u
+pub letter-other : (u : ℕ) → ((u ≡ char "H") ⊎ (u ≡ char "Y") → ⊥) → ((u ≡ char "N") ⊎ (u ≡ char "R") → ⊥) → ((u ≡ char "E") ⊎ (u ≡ char "L") → ⊥) → none ≡ letterSign u
 letter-other u a b c =
     rw (
-      ne-eqb u 89 (λ e. a (inr e)),
-      ne-eqb u 72 (λ e. a (inl e)),
-      ne-eqb u 78 (λ e. b (inl e)),
-      ne-eqb u 82 (λ e. b (inr e)),
-      ne-eqb u 76 (λ e. c (inr e)),
-      ne-eqb u 69 (λ e. c (inl e)),
+      ne-eqb u (char "Y") (λ e. a (inr e)),
+      ne-eqb u (char "H") (λ e. a (inl e)),
+      ne-eqb u (char "N") (λ e. b (inl e)),
+      ne-eqb u (char "R") (λ e. b (inr e)),
+      ne-eqb u (char "L") (λ e. c (inr e)),
+      ne-eqb u (char "E") (λ e. c (inl e)),
     )
 
 or-first : (o p : Option Sign) → isSome o ≡ true → o ≡ orElse o p
@@ -117,11 +118,11 @@ module _ (v b : ℕ) where
 
 -- the byte in front of an offset, u as a capital
 module _ (b u : ℕ) (e : u ≡ upper b) where
-  pub offset-begins : (u ≡ 33) ⊎ (u ≡ 65) → true ≡ isOffset b
-  offset-begins h = sym (any2 h) ∙ ap (λ (x : ℕ). eqb x 33 || eqb x 65) e
+  pub offset-begins : (u ≡ char "!") ⊎ (u ≡ char "A") → true ≡ isOffset b
+  offset-begins h = sym (any2 h) ∙ ap (λ (x : ℕ). eqb x (char "!") || eqb x (char "A")) e
 
-  pub offset-not : ((u ≡ 33) ⊎ (u ≡ 65) → ⊥) → false ≡ isOffset b
-  offset-not h = sym (none2 h) ∙ ap (λ (x : ℕ). eqb x 33 || eqb x 65) e
+  pub offset-not : ((u ≡ char "!") ⊎ (u ≡ char "A") → ⊥) → false ≡ isOffset b
+  offset-not h = sym (none2 h) ∙ ap (λ (x : ℕ). eqb x (char "!") || eqb x (char "A")) e
 
 -- ---------------------------------------------------------------- the digits of an offset
 
@@ -156,22 +157,22 @@ counted-digits (x ∷ s) = go (digit x) refl (counted-digits s)
 grows : (a : ℕ) (s : Bytes) → 0 < a → 0 < readFrom a s
 unfolding readFrom
 grows a [] h = h
-grows a (x ∷ s) h = grows (a * 10 + (x - 48)) s (omega arith)
+grows a (x ∷ s) h = grows (a * 10 + (x - char "0")) s (omega arith)
 
 -- the first i digits are 0
 module _ (s : Bytes) (i : ℕ) (a : readFrom 0 s ≡ readFrom 0 (drop i s)) where
-  pub zero-more : i < length s → getD s i 0 ≡ 48 → readFrom 0 s ≡ readFrom 0 (drop (i + 1) s)
+  pub zero-more : i < length s → getD s i 0 ≡ char "0" → readFrom 0 s ≡ readFrom 0 (drop (i + 1) s)
   unfolding readFrom
   zero-more h e = a ∙ rw (drop-cons s i 0 h, e, add-one i)
 
-  pub zero-stop : i < length s → every digit s ≡ true → (getD s i 0 ≡ 48 → ⊥) → false ≡ eqb (readFrom 0 s) 0
+  pub zero-stop : i < length s → every digit s ≡ true → (getD s i 0 ≡ char "0" → ⊥) → false ≡ eqb (readFrom 0 s) 0
   unfolding readFrom
   zero-stop h d e =
       let x : ℕ = getD s i 0 in
       let low = digit-is (getD s i 0) (all-get digit s i d h) .0 in
-      let more : 0 < 0 * 10 + (getD s i 0 - 48) = omega (arith, low, e) in
-      let k : readFrom 0 (drop i s) ≡ readFrom (0 * 10 + (getD s i 0 - 48)) (drop (suc i) s) = rw (drop-cons s i 0 h) in
-      let g = grows (0 * 10 + (getD s i 0 - 48)) (drop (suc i) s) more in
+      let more : 0 < 0 * 10 + (getD s i 0 - char "0") = omega (arith, low, e) in
+      let k : readFrom 0 (drop i s) ≡ readFrom (0 * 10 + (getD s i 0 - char "0")) (drop (suc i) s) = rw (drop-cons s i 0 h) in
+      let g = grows (0 * 10 + (getD s i 0 - char "0")) (drop (suc i) s) more in
       sym (ne-eqb (readFrom 0 s) 0 (λ z. omega (arith, a ∙ k, g, z)))
 
   pub zero-end : length s ≤ i → true ≡ eqb (readFrom 0 s) 0
@@ -296,10 +297,10 @@ behind-more l b (some g) (some ss) e f = ap (λ (x : Bytes). some x) (ap (λ (x 
 pub record Read (v n : ℕ) (s signs : Bytes) (at i : ℕ) : Type 0 where
   pub bytes : Bytes
   pub many : length bytes ≡ i
-  pub held : signs ≡ bytes ++ replicate (5 - i) 0
+  pub held : signs ≡ bytes ++ replicate (blockLimit - i) 0
   pub said : behind [] (readSigns v n s) ≡ behind bytes (readSigns v (n - i) (drop at s))
 
-pub read-start : (v n : ℕ) (s : Bytes) → Read v n s (replicate 5 0) 0 0
+pub read-start : (v n : ℕ) (s : Bytes) → Read v n s (replicate blockLimit 0) 0 0
 read-start v n s = let z : n ≡ n - 0 = omega arith in record { bytes = []; many = refl; held = refl; said = ap (λ (k : ℕ). behind [] (readSigns v k s)) z }
 
 module _ (v n : ℕ) (s signs : Bytes) (at i : ℕ) (p : Read v n s signs at i) where
@@ -320,14 +321,14 @@ module _ (v n : ℕ) (s signs : Bytes) (at i : ℕ) (p : Read v n s signs at i) 
         go none f = refl
         go (some g) f = absurd (true-false f)
 
-    pub read-more : n ≤ 5 → isSign b ≡ true → Read v n s (set signs i b) (at + j) (i + 1)
+    pub read-more : n ≤ blockLimit → isSign b ≡ true → Read v n s (set signs i b) (at + j) (i + 1)
     read-more m f =
         record {
           bytes = p .bytes ++ (b ∷ []);
           many = rw (length-append (p .bytes) (b ∷ []), p .many);
           held =
-              let z : 5 - i ≡ suc (5 - (i + 1)) = omega arith in
-              rw (p .held, z, set-at (p .bytes) 0 (replicate (5 - (i + 1)) 0) b i (p .many)) (sym (append-snoc (p .bytes) b (replicate (5 - (i + 1)) 0)));
+              let z : blockLimit - i ≡ suc (blockLimit - (i + 1)) = omega arith in
+              rw (p .held, z, set-at (p .bytes) 0 (replicate (blockLimit - (i + 1)) 0) b i (p .many)) (sym (append-snoc (p .bytes) b (replicate (blockLimit - (i + 1)) 0)));
           said =
               p .said ∙ ap (behind (p .bytes)) next-read ∙ go (signOf b) f (sign-from b)
               ∙ ap (λ (r : Bytes). behind (p .bytes ++ (b ∷ [])) (readSigns v (n - (i + 1)) r)) (drop-drop j at s);
@@ -350,36 +351,36 @@ module _ (v n : ℕ) (s signs : Bytes) (at i : ℕ) (p : Read v n s signs at i) 
     read-end l k =
         let e : behind [] (readSigns v n s) ≡ some (p .bytes ++ []) = p .said ∙ ap (behind (p .bytes)) (none-left ∙ ap (readSigns v 0) (drop-of-length-le s {i = at} k)) in
         let r = behind-some (readSigns v n s) (p .bytes) (e ∙ ap (λ (x : Bytes). some x) (append-nil (p .bytes))) in
-        (rw (r .0), p .held ∙ ap (λ (k : ℕ). p .bytes ++ replicate (5 - k) 0) (sym (p .many)) ∙ sym (ap zeroed (r .1)))
+        (rw (r .0), p .held ∙ ap (λ (k : ℕ). p .bytes ++ replicate (blockLimit - k) 0) (sym (p .many)) ∙ sym (ap zeroed (r .1)))
 
 -- ---------------------------------------------------------------- the whole line
 
 -- a capital is no space
 upper-sp : (b : ℕ) → eqb (upper b) SP ≡ eqb b SP
-upper-sp b = go (ltb b 97) (ltb b 123) refl
+upper-sp b = go (ltb b (char "a")) (ltb b (char "z" + 1)) refl
   where
-    go : (p q : Bool) → ltb b 97 ≡ p → eqb (cond p b (cond q (b - 32) b)) SP ≡ eqb b SP
+    go : (p q : Bool) → ltb b (char "a") ≡ p → eqb (cond p b (cond q (b - toSmall) b)) SP ≡ eqb b SP
     go true q e = refl
     go false false e = refl
-    go false true e = let h = ltb-false b 97 e in ne-eqb (b - 32) SP (λ k. omega arith) ∙ sym (ne-eqb b SP (λ k. omega arith))
+    go false true e = let h = ltb-false b (char "a") e in ne-eqb (b - toSmall) SP (λ k. omega arith) ∙ sym (ne-eqb b SP (λ k. omega arith))
 
 -- FS, a space and the signs, by places
 pub fs-after : (v n : ℕ) (l : Bytes)
-    → readFs v n l ≡ cond (ltb (length l) 3) none (cond (isSome (after (text "FS") l)) (cond (eqb (getD l 2 0) SP) (readSigns v n (drop 3 l)) none) none)
+    → readFs v n l ≡ cond (ltb (length l) fsLength) none (cond (isSome (after (text "FS") l)) (cond (eqb (getD l 2 0) SP) (readSigns v n (drop fsLength l)) none) none)
 unfolding readFs
 fs-after v n [] = refl
-fs-after v n (a ∷ []) = go (eqb (upper a) 70)
+fs-after v n (a ∷ []) = go (eqb (upper a) (char "F"))
   where
     go : (p : Bool) → signsRead v n (cond p none none) ≡ none
     go true = refl
     go false = refl
-fs-after v n (a ∷ b ∷ []) = go (eqb (upper a) 70) (eqb (upper b) 83)
+fs-after v n (a ∷ b ∷ []) = go (eqb (upper a) (char "F")) (eqb (upper b) (char "S"))
   where
     go : (p q : Bool) → signsRead v n (cond p (cond q none none) none) ≡ none
     go true true = refl
     go true false = refl
     go false q = refl
-fs-after v n (a ∷ b ∷ c ∷ l) = rw (le-ltb (length (a ∷ b ∷ c ∷ l)) 3 (omega arith), upper-sp c) (go (eqb (upper a) 70) (eqb (upper b) 83) (eqb c SP))
+fs-after v n (a ∷ b ∷ c ∷ l) = rw (le-ltb (length (a ∷ b ∷ c ∷ l)) fsLength (omega arith), upper-sp c) (go (eqb (upper a) (char "F")) (eqb (upper b) (char "S")) (eqb c SP))
   where
     go : (p q r : Bool) → signsRead v n (cond p (cond q (cond r (some l) none) none) none)
         ≡ cond (isSome (cond p (cond q (some (c ∷ l)) none) none)) (cond r (readSigns v n l) none) none
@@ -390,7 +391,7 @@ fs-after v n (a ∷ b ∷ c ∷ l) = rw (le-ltb (length (a ∷ b ∷ c ∷ l)) 3
 
 module _ (v n : ℕ) (l : Bytes) where
   fs-none : isSome (after (text "FS") l) ≡ false → readFs v n l ≡ none
-  fs-none e = rw (fs-after v n l, e) (go (ltb (length l) 3))
+  fs-none e = rw (fs-after v n l, e) (go (ltb (length l) fsLength))
     where
       go : (t : Bool) → _≡_ {A = Option (List Sign)} (cond t none none) none
       go true = refl
@@ -419,21 +420,21 @@ module _ (v n : ℕ) (l : Bytes) where
   over-five h = rw (lt-ltb blockLimit n h)
 
   module _ (k : n ≤ blockLimit) where
-    pub too-short : length l < 3 → answered v n l ≡ none
+    pub too-short : length l < fsLength → answered v n l ≡ none
     unfolding answered
     too-short h = rw (le-ltb blockLimit n k, fs-after v n l, lt-ltb _ _ h)
 
-    module _ (h : 3 ≤ length l) (e : isSome (after (text "FS") l) ≡ true) where
+    module _ (h : fsLength ≤ length l) (e : isSome (after (text "FS") l) ≡ true) where
       pub no-space : (getD l 2 0 ≡ SP → ⊥) → answered v n l ≡ none
       unfolding answered
       no-space q = rw (le-ltb blockLimit n k, fs-after v n l, le-ltb _ _ h, e, ne-eqb _ _ q)
 
       -- FS and a space: the signs decide
       pub fs-signs : getD l 2 0 ≡ SP
-          → (answerNumber v n l ≡ cond (isSome (readSigns v n (drop 3 l))) 0 badAnswer) × (answerSigns v n l ≡ zeroed (signBytes (readSigns v n (drop 3 l))))
+          → (answerNumber v n l ≡ cond (isSome (readSigns v n (drop fsLength l))) 0 badAnswer) × (answerSigns v n l ≡ zeroed (signBytes (readSigns v n (drop fsLength l))))
       unfolding answerNumber answerSigns answered
       fs-signs q =
-          let r : readFs v n l ≡ readSigns v n (drop 3 l) = rw (fs-after v n l, le-ltb _ _ h, e, eq-eqb _ _ q) in
+          let r : readFs v n l ≡ readSigns v n (drop fsLength l) = rw (fs-after v n l, le-ltb _ _ h, e, eq-eqb _ _ q) in
           rw (le-ltb blockLimit n k, r, e) (refl, refl)
 
 -- ---------------------------------------------------------------- for callers
@@ -495,7 +496,7 @@ signs-by v n l a k e f = go (readFs v n l) (fs-counted v n l) (e ∙ answer-numb
         → a .signs ≡ zeroed (signBytes o) → signsBy n a ≡ o
     go none m e f = rw (ne-eqb (a .number) 0 (λ q. refusal (isSome (after (text "FS") l)) (sym e ∙ q)))
     go (some ss) m e f =
-        rw (eq-eqb (a .number) 0 e, f, take-at (map writeSign ss) (replicate (5 - length (map writeSign ss)) 0) n (length-map ss writeSign ∙ m), ← m)
+        rw (eq-eqb (a .number) 0 e, f, take-at (map writeSign ss) (replicate (blockLimit - length (map writeSign ss)) 0) n (length-map ss writeSign ∙ m), ← m)
         (signs-back level0 ss)
 
 -- a sign of the answer, by its place
@@ -504,7 +505,7 @@ unfolding answerSigns answered
 sign-at v n l ss i k e h =
     let m = fs-length v n l ss e in
     let q : i < length (map writeSign ss) = rw (length-map ss writeSign) (omega arith) in
-    rw (le-ltb blockLimit n k, e, List·getD-append (map writeSign ss) (replicate (5 - length (map writeSign ss)) 0) 0 i q) (go ss i (omega arith))
+    rw (le-ltb blockLimit n k, e, List·getD-append (map writeSign ss) (replicate (blockLimit - length (map writeSign ss)) 0) 0 i q) (go ss i (omega arith))
   where
     go : (ss : List Sign) (i : ℕ) → i < length ss → signOf (getD (map writeSign ss) i 0) ≡ some (getD ss i accept)
     go [] i h = let z : ⊥ = omega arith in absurd z

@@ -15,6 +15,10 @@ use Rattle.grammar.specs.Answers.{Sign, accept, decline, defer, signOf, writeSi
 use Rattle.fs_line.specs.declared.Answers.{Answers}
 use Rattle.fs_line.specs.declared.Sign as code
 
+-- "FS, one space"
+abbrev pub fsLength : ℕ
+fsLength = 3
+
 -- "`+` accept, `-` decline, `=` defer": the grammar's name for each case; any other byte is no sign
 abbrev pub signIs : code.Sign → Option Sign
 signIs code.Sign.Accept = some accept

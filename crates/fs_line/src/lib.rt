@@ -16,13 +16,16 @@ ghost use Rattle.grammar.specs.Answers.{signOf, letterSign, signByte, isOffset,
 ghost use Rattle.fs_line.specs.Answers.{signIs, signNumber, byteNumber, signBytes, zeroed, answerNumber, answerSigns};
 
 // 01's number of a line that is not allowed where FS is awaited.
-const LINE_NOT_ALLOWED: u8 = 5;
+const LINE_NOT_ALLOWED: u8 = refusal::LINE_NOT_ALLOWED;
 
 // 01's number of an FS line that is wrong in form or count.
-const BAD_ANSWER: u8 = 7;
+const BAD_ANSWER: u8 = refusal::BAD_ANSWER;
 
 // The most proposals of a block.
-const BLOCK_LIMIT: usize = 5;
+const BLOCK_LIMIT: usize = phase::BLOCK_LIMIT as usize;
+
+// `FS` and the space after it.
+const FS_LENGTH: usize = 3;
 
 // The signs that session memory keeps, whatever stood on the line, and no sign.
 const ACCEPT: u8 = b'+';
@@ -50,7 +53,7 @@ pub enum Sign {
 // What an FS line says: 0 and its signs as `+`, `-` and `=`, whatever stood on the line, one for each proposal and zeros after them; or 01's number and zeros.
 pub struct Answers {
     pub number: u8,
-    pub signs: [u8; 5],
+    pub signs: [u8; BLOCK_LIMIT],
 }
 
 // The sign that a byte is.
@@ -229,7 +232,7 @@ fn refused(number: u8) -> Answers
 {
     Answers {
         number: number,
-        signs: [0u8; 5],
+        signs: [0u8; BLOCK_LIMIT],
     }
 }
 
@@ -238,7 +241,7 @@ fn read_signs(s: &[u8], n: usize, level: u8) -> Answers
     requires { ⌜ n ≤ blockLimit ⌝ }
     ensures { λ r. ⌜ (r .number ≡ cond (isSome (readSigns level n (now (s .entry)))) 0 badAnswer) × (r .signs ≡ zeroed (signBytes (readSigns level n (now (s .entry))))) ⌝ }
 {
-    let mut signs = [0u8; 5];
+    let mut signs = [0u8; BLOCK_LIMIT];
     let mut at = 0;
     let mut i = 0;
     while i < n {
@@ -269,11 +272,11 @@ pub fn read_fs(line: &[u8], n: usize, level: u8) -> Answers
     if BLOCK_LIMIT < n {
         return refused(BAD_ANSWER);
     }
-    if line.len() < 3 {
+    if line.len() < FS_LENGTH {
         return refused(BAD_ANSWER);
     }
     if line[2] != b' ' {
         return refused(BAD_ANSWER);
     }
-    read_signs(&line[3..], n, level)
+    read_signs(&line[FS_LENGTH..], n, level)
 }

@@ -7,12 +7,13 @@ use native.Mathlib.Omega.{arith}
 use lib.Dec.{eqb, ltb}
 use lib.ListN.{length, take, drop, length-drop}
 use borrow.Author.Tests.{eqb-true, lt-ltb, le-ltb, ltb-true, ltb-false, not-true, not-false}
-use Rattle.grammar.specs.Bytes.{Bytes}
-use Rattle.grammar.specs.Refusals.{badMemory}
+use Rattle.grammar.specs.Bytes.{Bytes, byteValues}
+use Rattle.grammar.specs.Refusals.{badMemory, noPlace}
 use Rattle.grammar.proofs.Basics.{and2}
 use Rattle.layout.specs.Layout.{byteAt, le8At}
 use Rattle.places.specs.Places.{sessionLen, firstAt, thenAt, posAt, oursAt, sendingAt, signsAt}
 use Rattle.places.specs.Places as places
+use Rattle.phase.specs.Phase.{blockLimit}
 use Rattle.buffer.specs.Put.{Puts, cut, wrote, putBytes}
 use Rattle.buffer.specs.declared.Cursor.{Cursor}
 use Rattle.buffer.proofs.Laws.{cursor, cursor-at, cut-length}
@@ -27,7 +28,7 @@ use Rattle.numbers_in_place.proofs.Arrays.{saved-numbers}
 use Rattle.waiting.specs.Waiting.{waitingOf}
 use Rattle.waiting.specs.Pieces.{joined, piecesOf}
 use Rattle.waiting.proofs.Pieces.{pieces-joined}
-use Rattle.waiting.proofs.Short.{record-short, waiting-short}
+use Rattle.waiting.proofs.Short.{record-short, waiting-short, waitingBound}
 use Rattle.pending.specs.Pending.{waits, silentOf}
 use Rattle.give_place.specs.Located.{At}
 use Rattle.give_place.specs.declared.Place.{Place}
@@ -114,10 +115,10 @@ module _ (sm table titles names bodies : Bytes) (p : Place) where
         )
 
   -- all that waits is short
-  pub short : ((i : ℕ) → byteAt table i < 256) → length (joined (piecesOf s table titles names bodies)) ≤ 2000020
+  pub short : ((i : ℕ) → byteAt table i < byteValues) → length (joined (piecesOf s table titles names bodies)) ≤ waitingBound
   unfolding loadOf loadAwait loadSay loadKeep
   short o =
-      let k = waiting-short table titles names bodies (record-short table titles names bodies o) s (array-length 5 sm (oursAt + 1)) (array-length 5 sm (signsAt + 1)) (array-length 5 sm (sendingAt + 1)) in
+      let k = waiting-short table titles names bodies (record-short table titles names bodies o) s (array-length blockLimit sm (oursAt + 1)) (array-length blockLimit sm (signsAt + 1)) (array-length blockLimit sm (sendingAt + 1)) in
       omega (arith, ap length (pieces-joined s table titles names bodies))
 
 -- ---------------------------------------------------------------- for `keep`
@@ -164,7 +165,7 @@ handed-out s w sm buf place {h} t x q =
 
 module _ (sm table titles names bodies known inbox store buf : Bytes) (place : ℕ) {b : Bool} (f : b ≡ formOf sm table titles names bodies known inbox store) where
   -- the memory fails the form test
-  pub give-bad : {r : Reply} → r ≡ reply badMemory 255 0 → not b ≡ true → given r sm buf ≡ giveOf sm table titles names bodies known inbox store buf place
+  pub give-bad : {r : Reply} → r ≡ reply badMemory noPlace 0 → not b ≡ true → given r sm buf ≡ giveOf sm table titles names bodies known inbox store buf place
   unfolding giveOf
   give-bad t q = rw (sym f ∙ not-true b q, t)
 

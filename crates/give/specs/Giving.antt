@@ -5,7 +5,7 @@ use Prim.Native.Nat.{ℕ, _+_, _-_}
 use lib.Dec.{ltb}
 use lib.ListN.{length}
 use Rattle.grammar.specs.Bytes.{Bytes}
-use Rattle.grammar.specs.Refusals.{badMemory}
+use Rattle.grammar.specs.Refusals.{badMemory, noPlace}
 use Rattle.buffer.specs.Put.{putBytes, cut}
 use Rattle.session_memory.specs.State.{loadOf, saveOf}
 use Rattle.session_memory.specs.Setters.{withPos, withSay}
@@ -61,4 +61,4 @@ giveOf sm table titles names bodies known inbox store buf place =
     (handing (loadOf sm) (waitingOf (loadOf sm) table titles names bodies) sm buf place)
     (record { reply = reply 0 0 0; sm = sm; buf = buf }))
     (record { reply = reply 0 0 0; sm = sm; buf = buf }))
-    (record { reply = reply badMemory 255 0; sm = sm; buf = buf })
+    (record { reply = reply badMemory noPlace 0; sm = sm; buf = buf })

@@ -5,7 +5,7 @@ use number_at::eight;
 use numbers_in_place::put_say;
 ghost use mathlib.Core.Path.{_≡_};
 ghost use lib.ListN.{length};
-ghost use Rattle.grammar.specs.Refusals.{badMemory};
+ghost use Rattle.grammar.specs.Refusals.{badMemory, noPlace};
 ghost use Rattle.places.specs.Places.{sessionLen};
 ghost use Rattle.session_memory.specs.State.{loadOf, saveOf};
 ghost use Rattle.waiting.specs.Waiting.{waitingOf};
@@ -29,7 +29,7 @@ struct Handout {
 }
 
 // No record is bad.
-pub const NO_PLACE: u8 = 255;
+pub const NO_PLACE: u8 = refusal::NO_PLACE;
 
 // Answer 0 with this count.
 fn given(count: usize) -> Reply
@@ -44,7 +44,7 @@ fn given(count: usize) -> Reply
 
 // Answer 1: the memory fails the form test.
 fn bad() -> Reply
-    ensures { λ r. ⌜ r ≡ reply badMemory 255 0 ⌝ }
+    ensures { λ r. ⌜ r ≡ reply badMemory noPlace 0 ⌝ }
 {
     Reply {
         answer: refusal::BAD_MEMORY,

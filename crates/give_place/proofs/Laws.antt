@@ -18,6 +18,8 @@ use Rattle.session_memory.specs.State.{held, fiveAt, loadOf}
 use Rattle.session_memory.specs.declared.Five.{Five}
 use Rattle.session_memory.specs.Session.{Session}
 use Rattle.session_memory.proofs.Laws.{array-length}
+use Rattle.phase.specs.Phase.{blockLimit, pieceNone, pieceSidAndPrompt, pieceSid, pieceProtocolError, pieceChecksumError, pieceBlock}
+use Rattle.text_length.specs.Lengths.{fixedLength, besideSigns}
 use Rattle.waiting.specs.Waiting.{firstText}
 use Rattle.waiting.specs.Pieces.{joined, blockPieces, piecesOf}
 use Rattle.waiting.proofs.Pieces.{pieces-more, pieces-end, block-end, piece-first, piece-FF, piece-FQ}
@@ -28,37 +30,37 @@ use Rattle.give_place.specs.Located.{At, Located}
 -- ---------------------------------------------------------------- lengths
 
 -- an FS line
-fs-length : (signs : Five) → length (signs .items) ≡ 5 → {n : ℕ} → n ≡ min 5 (signs .count) → 4 + n ≡ length (fsText (held signs))
+fs-length : (signs : Five) → length (signs .items) ≡ blockLimit → {n : ℕ} → n ≡ min blockLimit (signs .count) → besideSigns + n ≡ length (fsText (held signs))
 unfolding fsText
 fs-length signs h q = simp (length-append, length-take) (omega arith)
 
-pub signs-length : (k : ℕ) (signs : Five) → length (signs .items) ≡ 5 → (k ≡ 0 → ⊥) → (k ≡ 1 → ⊥) → (k ≡ 2 → ⊥) → (k ≡ 4 → ⊥) → (k ≡ 5 → ⊥) → {n : ℕ} → n ≡ min 5 (signs .count)
-    → 4 + n ≡ length (firstText k signs)
-signs-length k signs h h₀ h₁ h₂ h₄ h₅ q = fs-length signs h q ∙ ap length (first-signs k signs h₀ h₁ h₂ h₄ h₅ {x = held signs} refl)
+pub signs-length : (s : Session) → length (s .say .signs .items) ≡ blockLimit → (s .say .first ≡ pieceNone → ⊥) → (s .say .first ≡ pieceSidAndPrompt → ⊥) → (s .say .first ≡ pieceSid → ⊥)
+    → (s .say .first ≡ pieceProtocolError → ⊥) → (s .say .first ≡ pieceChecksumError → ⊥) → {n : ℕ} → n ≡ min blockLimit (s .say .signs .count) → besideSigns + n ≡ length (firstText s)
+signs-length s h h₀ h₁ h₂ h₄ h₅ q = fs-length (s .say .signs) h q ∙ ap length (first-signs s h₀ h₁ h₂ h₄ h₅ {x = held (s .say .signs)} refl)
 
 -- a piece of our block
-module _ (sm table : Bytes) (k : ℕ) (p : 1 ≤ k) {n : ℕ} (q : n ≡ min 5 (byteAt sm oursAt)) where
-  pub end-length : n < k → k - 1 < length (blockPieces table (held (fiveAt sm oursAt))) → 3 ≡ length (getD (blockPieces table (held (fiveAt sm oursAt))) (k - 1) [])
-  end-length g b = ap length (sym (block-end table (fiveAt sm oursAt) (array-length 5 sm (oursAt + 1)) k p q g b))
+module _ (sm table : Bytes) (k : ℕ) (p : 1 ≤ k) {n : ℕ} (q : n ≡ min blockLimit (byteAt sm oursAt)) where
+  pub end-length : n < k → k - 1 < length (blockPieces table (held (fiveAt sm oursAt))) → fixedLength ≡ length (getD (blockPieces table (held (fiveAt sm oursAt))) (k - 1) [])
+  end-length g b = ap length (sym (block-end table (fiveAt sm oursAt) (array-length blockLimit sm (oursAt + 1)) k p q g b))
 
-  pub proposed-length : oursAt + 6 ≤ length sm → k ≤ n → {l : ℕ} → l ≡ length (withCr (proposalLine (proposalOf (recordOf [] [] [] (entryAt recordLen table (byteAt sm (oursAt + k)))))))
+  pub proposed-length : oursAt + (1 + blockLimit) ≤ length sm → k ≤ n → {l : ℕ} → l ≡ length (withCr (proposalLine (proposalOf (recordOf [] [] [] (entryAt recordLen table (byteAt sm (oursAt + k)))))))
       → l ≡ length (getD (blockPieces table (held (fiveAt sm oursAt))) (k - 1) [])
   proposed-length b h e = e ∙ ap length (block-text sm table k b p q h {r = entryAt recordLen table (byteAt sm (oursAt + k))} refl)
 
 -- a fixed line
 module _ (s : Session) (table titles names bodies : Bytes) (k : ℕ) (p : k ≡ 0 → ⊥) (b : k < length (piecesOf s table titles names bodies)) where
-  pub fixed-length : s .say .then < 3 → 3 ≡ length (getD (piecesOf s table titles names bodies) k [])
+  pub fixed-length : s .say .then < pieceBlock → fixedLength ≡ length (getD (piecesOf s table titles names bodies) k [])
   fixed-length h = go (s .say .then) refl
     where
-      go : (n : ℕ) → s .say .then ≡ n → 3 ≡ length (getD (piecesOf s table titles names bodies) k [])
+      go : (n : ℕ) → s .say .then ≡ n → fixedLength ≡ length (getD (piecesOf s table titles names bodies) k [])
       go zero e = absurd (said s table titles names bodies k p b e)
       go (suc zero) e = ap length (piece-FF s table titles names bodies k p b e)
       go (suc (suc zero)) e = ap length (piece-FQ s table titles names bodies k p b e)
       go (suc (suc (suc n))) e = absurd (omega arith)
 
 -- a transfer
-pub sent-length : (sm table titles names bodies : Bytes) (k : ℕ) → sendingAt + 6 ≤ length sm → (k ≡ 0 → ⊥) → k < length (piecesOf (loadOf sm) table titles names bodies)
-    → 3 ≤ loadOf sm .say .then → (loadOf sm .say .then ≡ 3 → ⊥) → {l : ℕ}
+pub sent-length : (sm table titles names bodies : Bytes) (k : ℕ) → sendingAt + (1 + blockLimit) ≤ length sm → (k ≡ 0 → ⊥) → k < length (piecesOf (loadOf sm) table titles names bodies)
+    → pieceBlock ≤ loadOf sm .say .then → (loadOf sm .say .then ≡ pieceBlock → ⊥) → {l : ℕ}
     → l ≡ length (transferOf (recordOf titles names bodies (entryAt recordLen table (byteAt sm (sendingAt + k))))) → l ≡ length (getD (piecesOf (loadOf sm) table titles names bodies) k [])
 sent-length sm table titles names bodies k b p c g m e =
     e ∙ ap length (sent-text sm table titles names bodies k b p c (λ o. omega arith) (λ o. omega arith) m)
@@ -123,7 +125,7 @@ module _ (ps : List Bytes) (pos p k : ℕ) (a : From ps pos p k) where
   from-end h = (sym (a .test ∙ past-all ps k p h), λ t. absurd (true≢false (sym t)))
 
 -- the first piece
-module _ (s : Session) (table titles names bodies : Bytes) {m : ℕ} (q : m ≡ length (firstText (s .say .first) (s .say .signs))) where
+module _ (s : Session) (table titles names bodies : Bytes) {m : ℕ} (q : m ≡ length (firstText s)) where
   first-is : m ≡ length (getD (piecesOf s table titles names bodies) 0 [])
   first-is = q ∙ ap length (sym (piece-first s table titles names bodies))
 

@@ -21,7 +21,7 @@ pub struct Place {
 // The first piece.
 fn first_length(sm: &[u8]) -> usize
     requires { ⌜ length (now sm) ≡ sessionSize ⌝ }
-    ensures { λ r. ⌜ r ≡ length (firstText (loadOf (now (sm .entry)) .say .first) (loadOf (now (sm .entry)) .say .signs)) ⌝ }
+    ensures { λ r. ⌜ r ≡ length (firstText (loadOf (now (sm .entry)))) ⌝ }
 {
     let first = sm[places::FIRST];
     if first == phase::PIECE_NONE {

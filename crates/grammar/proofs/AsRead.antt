@@ -9,22 +9,23 @@ use native.Mathlib.Nat.{mul-le-mul-right, mul-assoc, pow-succ', pow-le-pow-right
 use lib.Dec.{eqb, ltb}
 use lib.ListN.{length, length-set, set}
 use borrow.Author.Tests.{ltb-true}
-use Rattle.grammar.specs.Bytes.{Bytes, CR, CTRLZ, every, before, byteValues, null, same, splitAt}
-use Rattle.grammar.specs.Ascii.{text}
-use Rattle.grammar.specs.Fields.{Form, after, bodyFair, digit, file, hexDigit, hexPair, isAt, isBid, isCall, isHeading, isSize, message, plain, readFrom, sized, starts, twoHex, upper, words}
-use Rattle.grammar.specs.Sid.{authorByte, authorRead, dataByte, dataRead, hasFeature, isLetter, letterPlace, noFeatures, readFeatures, readLevels, readSid, sidEnd, sidRead, splitLast, withFeature}
+use Rattle.grammar.specs.Bytes.{Bytes, CR, CTRLZ, every, before, byteValues, null, same, splitAt, NUL, SOH}
+use Rattle.grammar.specs.Ascii.{text, char}
+use Rattle.grammar.specs.Fields.{Form, after, bodyFair, digit, file, hexDigit, hexPair, isAt, isBid, isCall, isHeading, isSize, message, plain, readFrom, sized, starts, twoHex, upper, words, digitsEnd, sizeDigits, hexEnd, hexAbove, hexBase}
+use Rattle.grammar.specs.Sid.{authorByte, authorRead, dataByte, dataRead, hasFeature, isLetter, letterPlace, noFeatures, readFeatures, readLevels, readSid, sidEnd, sidRead, splitLast, withFeature, dollarPlace, featurePlaces, levelValues}
 use Rattle.grammar.specs.Turns.{Proposal, fieldsRead, formOf, inMode, isType, readProposal, sevenRead, typeOf, TurnLine, saysFF, saysFQ, endsBlock, notAllowed, proposes, endsSummed, orNotAllowed, readSummedEnd, readTurnLine, summedOr, twoHexRead}
+use Rattle.grammar.specs.Answers.{offsetDigits}
 use Rattle.grammar.specs.Transfers.{Parsed, blocks, blocksRead, bodyRead, headRead, isHeader, lenRead, offRead, parse, readFramed, spacesCR, titleRead, zeroDigit}
 use Rattle.grammar.proofs.Basics.{and2, field-is}
 
 -- ---------------------------------------------------------------- a proposal as read
 
-digit-most : (x : ℕ) → digit x ≡ true → x ≤ 57
-digit-most x e = go (ltb x 48) e
+digit-most : (x : ℕ) → digit x ≡ true → x ≤ char "9"
+digit-most x e = go (ltb x (char "0")) e
   where
-    go : (c : Bool) → cond c false (ltb x 58) ≡ true → x ≤ 57
+    go : (c : Bool) → cond c false (ltb x digitsEnd) ≡ true → x ≤ char "9"
     go true k = let z : _≡_ {A = ℕ} 0 1 = cc in omega arith
-    go false k = let z = ltb-true x 58 k in omega arith
+    go false k = let z = ltb-true x digitsEnd k in omega arith
 
 -- so many digits make a number below that power of ten
 read-bound : (a : ℕ) (w : Bytes) → every digit w ≡ true → readFrom a w < (a + 1) * 10 ^ length w
@@ -33,17 +34,17 @@ read-bound a [] e = omega arith
 read-bound a (x ∷ w) e =
     let p = and2 (digit x) (every digit w) e in
     let d = digit-most x (p .0) in
-    let h = read-bound (a * 10 + (x - 48)) w (p .1) in
-    let k : (a * 10 + (x - 48) + 1) * 10 ^ length w ≤ ((a + 1) * 10) * 10 ^ length w = mul-le-mul-right (10 ^ length w) (omega arith) in
+    let h = read-bound (a * 10 + (x - char "0")) w (p .1) in
+    let k : (a * 10 + (x - char "0") + 1) * 10 ^ length w ≤ ((a + 1) * 10) * 10 ^ length w = mul-le-mul-right (10 ^ length w) (omega arith) in
     let m : ((a + 1) * 10) * 10 ^ length w ≡ (a + 1) * 10 ^ length (x ∷ w) = mul-assoc (a + 1) 10 (10 ^ length w) ∙ ap (λ (n : ℕ). (a + 1) * n) (sym (pow-succ' 10 (length w))) in
     omega (arith, h, k, m)
 
-pub size-bound : (w : Bytes) → isSize w ≡ true → readFrom 0 w < 10 ^ 9
+pub size-bound : (w : Bytes) → isSize w ≡ true → readFrom 0 w < 10 ^ sizeDigits
 unfolding isSize
 size-bound w e =
-    let f = field-is digit 9 w e in
+    let f = field-is digit sizeDigits w e in
     let h = read-bound 0 w (f .class) in
-    let k : 10 ^ length w ≤ 10 ^ 9 = pow-le-pow-right (omega arith) (f .most) in
+    let k : 10 ^ length w ≤ 10 ^ sizeDigits = pow-le-pow-right (omega arith) (f .most) in
     omega (arith, h, k)
 
 pub record Proper (md : Bool) (p : Proposal) : Type 0 where
@@ -53,7 +54,7 @@ pub record Proper (md : Bool) (p : Proposal) : Type 0 where
   pub at : isAt (p .at) ≡ true
   pub to : isCall (p .to) ≡ true
   pub bid : isBid (p .bid) ≡ true
-  pub size : p .size < 10 ^ 9
+  pub size : p .size < 10 ^ sizeDigits
 
 abbrev pub ProperIf : Bool → Option Proposal → Type 0
 ProperIf md none = Unit {0}
@@ -68,12 +69,12 @@ TypeIf none = Unit {0}
 TypeIf (some t) = isType t ≡ true
 
 form-if : (md : Bool) (w : Bytes) → FormIf md (formOf md w)
-form-if false w = go (same w (70 ∷ 66 ∷ []))
+form-if false w = go (same w (text "FB"))
   where
     go : (c : Bool) → FormIf false (cond c (some plain) none)
     go true = refl
     go false = tt
-form-if true w = go (same w (70 ∷ 65 ∷ [])) (same w (70 ∷ 66 ∷ []))
+form-if true w = go (same w (text "FA")) (same w (text "FB"))
   where
     go : (c d : Bool) → FormIf true (cond c (some message) (cond d (some file) none))
     go true d = refl
@@ -81,9 +82,9 @@ form-if true w = go (same w (70 ∷ 65 ∷ [])) (same w (70 ∷ 66 ∷ []))
     go false false = tt
 
 type-if : (w : Bytes) → TypeIf (typeOf w)
-type-if w = go (same w (80 ∷ [])) (same w (66 ∷ []))
+type-if w = go (same w (text "P")) (same w (text "B"))
   where
-    go : (c d : Bool) → TypeIf (cond c (some 80) (cond d (some 66) none))
+    go : (c d : Bool) → TypeIf (cond c (some (char "P")) (cond d (some (char "B")) none))
     go true d = refl
     go false true = refl
     go false false = tt
@@ -129,16 +130,16 @@ Below n none = Unit {0}
 Below n (some a) = a < n
 
 -- a hexadecimal digit
-hex-if : (b : ℕ) → Below 16 (hexDigit b)
+hex-if : (b : ℕ) → Below hexBase (hexDigit b)
 unfolding hexDigit
-hex-if b = go (ltb (upper b) 48) (ltb (upper b) 58) (ltb (upper b) 65) (ltb (upper b) 71) refl refl
+hex-if b = go (ltb (upper b) (char "0")) (ltb (upper b) digitsEnd) (ltb (upper b) (char "A")) (ltb (upper b) hexEnd) refl refl
   where
-    go : (c d e f : Bool) → ltb (upper b) 58 ≡ d → ltb (upper b) 71 ≡ f
-        → Below 16 (cond c none (cond d (some (upper b - 48)) (cond e none (cond f (some (upper b - 55)) none))))
+    go : (c d e f : Bool) → ltb (upper b) digitsEnd ≡ d → ltb (upper b) hexEnd ≡ f
+        → Below hexBase (cond c none (cond d (some (upper b - char "0")) (cond e none (cond f (some (upper b - hexAbove)) none))))
     go true d e f x y = tt
-    go false true e f x y = let k = ltb-true (upper b) 58 x in omega arith
+    go false true e f x y = let k = ltb-true (upper b) digitsEnd x in omega arith
     go false false true f x y = tt
-    go false false false true x y = let k = ltb-true (upper b) 71 y in omega arith
+    go false false false true x y = let k = ltb-true (upper b) hexEnd y in omega arith
     go false false false false x y = tt
 
 -- two of them are a byte
@@ -148,7 +149,7 @@ two-hex-if [] = tt
 two-hex-if (a ∷ []) = tt
 two-hex-if (a ∷ b ∷ []) = go (hexDigit a) (hexDigit b) (hex-if a) (hex-if b)
   where
-    go : (x y : Option ℕ) → Below 16 x → Below 16 y → Below byteValues (hexPair x y)
+    go : (x y : Option ℕ) → Below hexBase x → Below hexBase y → Below byteValues (hexPair x y)
     go none y h k = tt
     go (some x) none h k = tt
     go (some x) (some y) h k = omega arith
@@ -190,30 +191,30 @@ turn-read-ok md ln =
 
 abbrev pub Levels : Option (List ℕ) → Type 0
 Levels none = Unit {0}
-Levels (some fs) = length fs ≡ 27
+Levels (some fs) = length fs ≡ featurePlaces
 
 levels-if : (c : Bool) (a b : Option (List ℕ)) → Levels a → Levels b → Levels (cond c a b)
 levels-if true a b h k = h
 levels-if false a b h k = k
 
-with-27 : (i n : ℕ) (fs : List ℕ) → length fs ≡ 27 → length (withFeature i n fs) ≡ 27
-with-27 i n fs h = go (ltb n 10)
+with-27 : (i n : ℕ) (fs : List ℕ) → length fs ≡ featurePlaces → length (withFeature i n fs) ≡ featurePlaces
+with-27 i n fs h = go (ltb n levelValues)
   where
-    go : (c : Bool) → length (cond c (set fs i (n + 1)) fs) ≡ 27
+    go : (c : Bool) → length (cond c (set fs i (n + 1)) fs) ≡ featurePlaces
     go true = length-set fs i (n + 1) ∙ h
     go false = h
 
-end-27 : (fs : List ℕ) (r : Bytes) → length fs ≡ 27 → Levels (sidEnd fs r)
-end-27 fs r h = levels-if (same r (93 ∷ [])) (some fs) _ h (levels-if (same r (36 ∷ 93 ∷ [])) (some (withFeature 26 0 fs)) none (with-27 26 0 fs h) tt)
+end-27 : (fs : List ℕ) (r : Bytes) → length fs ≡ featurePlaces → Levels (sidEnd fs r)
+end-27 fs r h = levels-if (same r (text "]")) (some fs) _ h (levels-if (same r (text "$]")) (some (withFeature dollarPlace 0 fs)) none (with-27 dollarPlace 0 fs h) tt)
 
-levels-27 : (fs : List ℕ) (r : Bytes) → length fs ≡ 27 → Levels (readLevels fs r)
+levels-27 : (fs : List ℕ) (r : Bytes) → length fs ≡ featurePlaces → Levels (readLevels fs r)
 levels-27 fs [] h = tt
 levels-27 fs (x ∷ []) h = end-27 fs (x ∷ []) h
 levels-27 fs (x ∷ d ∷ r) h =
     levels-if (isLetter x) _ _
     (levels-if (hasFeature (letterPlace x) fs) none _ tt
-    (levels-if (digit d) (readLevels (withFeature (letterPlace x) (d - 48) fs) r) (readLevels (withFeature (letterPlace x) 0 fs) (d ∷ r))
-    (levels-27 (withFeature (letterPlace x) (d - 48) fs) r (with-27 (letterPlace x) (d - 48) fs h))
+    (levels-if (digit d) (readLevels (withFeature (letterPlace x) (d - char "0") fs) r) (readLevels (withFeature (letterPlace x) 0 fs) (d ∷ r))
+    (levels-27 (withFeature (letterPlace x) (d - char "0") fs) r (with-27 (letterPlace x) (d - char "0") fs h))
     (levels-27 (withFeature (letterPlace x) 0 fs) (d ∷ r) (with-27 (letterPlace x) 0 fs h))))
     (end-27 fs (x ∷ d ∷ r) h)
 
@@ -231,12 +232,12 @@ author-27 (some p) = levels-if (every authorByte (p .0) && not (null (p .0))) (d
 
 sid-if : (o : Option Bytes) → Levels (sidRead o)
 sid-if none = tt
-sid-if (some r) = author-27 (splitAt 45 r)
+sid-if (some r) = author-27 (splitAt (char "-") r)
 
 -- a SID that is read has 27 levels
 pub sid-27 : (ln : Bytes) → Levels (readSid ln)
 unfolding readSid
-sid-27 ln = sid-if (after (91 ∷ []) ln)
+sid-27 ln = sid-if (after (text "[") ln)
 
 -- ---------------------------------------------------------------- transfers as read
 
@@ -292,20 +293,20 @@ off-if len h none = tt
 off-if len h (some p) = go (isHeader len h (p .0)) refl
   where
     go : (c : Bool) → isHeader len h (p .0) ≡ c → HeadIf (cond c (blocksRead h (blocks 0 (p .1))) none)
-    go true e = data-if h (blocks 0 (p .1)) ((and2 (isHeading h) ((every zeroDigit (p .0) && sized 6 (p .0)) && eqb len (length h + length (p .0) + 2)) e) .0)
+    go true e = data-if h (blocks 0 (p .1)) ((and2 (isHeading h) ((every zeroDigit (p .0) && sized offsetDigits (p .0)) && eqb len (length h + length (p .0) + 2)) e) .0)
     go false e = tt
 
 head-if : (len : ℕ) (o : Option (Bytes × Bytes)) → HeadIf (headRead len o)
 head-if len none = tt
-head-if len (some p) = off-if len (p .0) (splitAt 0 (p .1))
+head-if len (some p) = off-if len (p .0) (splitAt NUL (p .1))
 
 framed-if : (q : Bytes) → HeadIf (readFramed q)
 framed-if [] = tt
-framed-if (a ∷ r) = go (eqb a 1) r
+framed-if (a ∷ r) = go (eqb a SOH) r
   where
     go : (c : Bool) (r : Bytes) → HeadIf (cond c (lenRead r) none)
     go true [] = tt
-    go true (len ∷ r) = head-if len (splitAt 0 r)
+    go true (len ∷ r) = head-if len (splitAt NUL r)
     go false r = tt
 
 fair-message : (o : Option Parsed) → HeadIf o → FairIf message o

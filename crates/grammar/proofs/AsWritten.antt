@@ -3,16 +3,17 @@
 use mathlib.Core.Path.{_≡_, refl, ap, _∙_}
 use mathlib.Core.Bool.{Bool, true, false, cond, not, _&&_}
 use mathlib.Core.List.{List, [], _∷_, _++_, append-assoc}
-use Prim.Native.Nat.{ℕ, zero, suc, _+_, _/_, _%_, _^_, _≤_, _<_}
+use Prim.Native.Nat.{ℕ, zero, suc, _+_, _-_, _/_, _%_, _^_, _≤_, _<_}
 use native.Mathlib.Omega.{arith}
 use lib.Dec.{eqb, ltb, leb}
 use lib.ListN.{length, take, drop, length-append, length-take, length-drop, take-append-drop}
 use borrow.Author.Tests.{eq-eqb, ne-eqb, eqb-true, eqb-false, ltb-true, ltb-false}
-use Rattle.grammar.specs.Bytes.{Bytes, SP}
-use Rattle.grammar.specs.Fields.{Form, bidByte, callByte, decimal, digit, file, headingByte, isBody, isHeading, message, plain, readFrom, writeNum}
+use Rattle.grammar.specs.Bytes.{Bytes, SP, byteValues, NUL, STX, EOT}
+use Rattle.grammar.specs.Ascii.{char}
+use Rattle.grammar.specs.Fields.{Form, bidByte, callByte, decimal, digit, file, headingByte, isBody, isHeading, message, plain, readFrom, writeNum, callMax, atMax, bidMax, headingMax, decimalDigits}
 use Rattle.grammar.specs.Turns.{Proposal, formLetter, proposable, proposalLine, sp}
-use Rattle.grammar.specs.Transfers.{blocksOut, checksum, sendable, byteSum, writeFramed, writeTransfer}
-use Rattle.grammar.specs.AsWritten.{betweenSpaces, noLeadingZero, lettersFor, ProposalWritten, InBlocks, joined, blockNumber, blocksText, FramedWritten, TransferWritten}
+use Rattle.grammar.specs.Transfers.{blocksOut, checksum, sendable, byteSum, writeFramed, writeTransfer, dataMax, besideLeast}
+use Rattle.grammar.specs.AsWritten.{betweenSpaces, noLeadingZero, lettersFor, ProposalWritten, InBlocks, joined, blockNumber, blocksText, FramedWritten, TransferWritten, wholeBlock}
 use Rattle.grammar.proofs.Basics.{and2, Lacks, all-lacks, field-is}
 use Rattle.grammar.proofs.Fields.{num-field, num-back, size-ok, atByte, at-field, Word, field-word, type-word, letters-word, Ours, ours, call-field, bid-field}
 
@@ -42,19 +43,19 @@ seven-fields a b c d e f g ha hb hc hd he hf hg =
     (rw (between-sp f g (word-lacks f hf))
     (rw (between-last g (word-lacks g hg))))))))
 
-letters-are : (f : Form) → 70 ∷ formLetter f ∷ [] ≡ lettersFor f
+letters-are : (f : Form) → char "F" ∷ formLetter f ∷ [] ≡ lettersFor f
 letters-are plain = refl
 letters-are message = refl
 letters-are file = refl
 
 -- a digit after others keeps them free of a leading zero
-shortest-snoc : (w : Bytes) (d : ℕ) → 1 ≤ length w → noLeadingZero w ≡ true → (w ≡ 48 ∷ [] → ⊥) → noLeadingZero (w ++ (d ∷ [])) ≡ true
+shortest-snoc : (w : Bytes) (d : ℕ) → 1 ≤ length w → noLeadingZero w ≡ true → (w ≡ char "0" ∷ [] → ⊥) → noLeadingZero (w ++ (d ∷ [])) ≡ true
 shortest-snoc [] d l h k = let z : ⊥ = omega arith in absurd z
-shortest-snoc (x ∷ []) d l h k = rw (ne-eqb x 48 (λ e. k (ap (λ (y : ℕ). y ∷ []) e)))
+shortest-snoc (x ∷ []) d l h k = rw (ne-eqb x (char "0") (λ e. k (ap (λ (y : ℕ). y ∷ []) e)))
 shortest-snoc (x ∷ y ∷ w) d l h k = h
 
 -- only the number 0 begins with the digit 0
-not-zero : (w : Bytes) (n : ℕ) → readFrom 0 w ≡ n → 1 ≤ n → w ≡ 48 ∷ [] → ⊥
+not-zero : (w : Bytes) (n : ℕ) → readFrom 0 w ≡ n → 1 ≤ n → w ≡ char "0" ∷ [] → ⊥
 unfolding readFrom
 not-zero w n r l q = let z = ap (readFrom 0) q in omega arith
 
@@ -62,18 +63,18 @@ shortest : (f n : ℕ) → n < 10 ^ suc f → noLeadingZero (writeNum (suc f) n)
 unfolding writeNum
 shortest zero n h = go (ltb n 10) refl
   where
-    go : (c : Bool) → ltb n 10 ≡ c → noLeadingZero (cond c ((48 + n) ∷ []) ([] ++ ((48 + n % 10) ∷ []))) ≡ true
+    go : (c : Bool) → ltb n 10 ≡ c → noLeadingZero (cond c ((char "0" + n) ∷ []) ([] ++ ((char "0" + n % 10) ∷ []))) ≡ true
     go true e = refl
     go false e = refl
 shortest (suc f) n h = go (ltb n 10) refl (shortest f (n / 10) (omega arith))
   where
     go : (c : Bool) → ltb n 10 ≡ c → noLeadingZero (writeNum (suc f) (n / 10)) ≡ true
-        → noLeadingZero (cond c ((48 + n) ∷ []) (writeNum (suc f) (n / 10) ++ ((48 + n % 10) ∷ []))) ≡ true
+        → noLeadingZero (cond c ((char "0" + n) ∷ []) (writeNum (suc f) (n / 10) ++ ((char "0" + n % 10) ∷ []))) ≡ true
     go true e ih = refl
     go false e ih =
         let l = ltb-false n 10 e in
         let m : n / 10 < 10 ^ suc f = omega arith in
-        shortest-snoc (writeNum (suc f) (n / 10)) (48 + n % 10) ((num-field f (n / 10)) .least) ih
+        shortest-snoc (writeNum (suc f) (n / 10)) (char "0" + n % 10) ((num-field f (n / 10)) .least) ih
         (λ q. not-zero (writeNum (suc f) (n / 10)) (n / 10) (num-back (suc f) (n / 10) m) (omega arith) q)
 
 -- "We write one space and no leading zeros."
@@ -84,17 +85,17 @@ proposal-written p e =
     record {
       digits = decimal (p .size);
       fields =
-          seven-fields (70 ∷ formLetter (p .form) ∷ []) (p .type ∷ []) (p .from) (p .at) (p .to) (p .bid) (decimal (p .size))
+          seven-fields (char "F" ∷ formLetter (p .form) ∷ []) (p .type ∷ []) (p .from) (p .at) (p .to) (p .bid) (decimal (p .size))
           (letters-word (p .form)) (type-word (p .type) (h .type))
-          (field-word callByte 6 (p .from) refl (call-field (p .from) (h .from)))
-          (field-word atByte 38 (p .at) refl (at-field (p .at) (h .at)))
-          (field-word callByte 6 (p .to) refl (call-field (p .to) (h .to)))
-          (field-word bidByte 12 (p .bid) refl (bid-field (p .bid) (h .bid)))
-          (field-word digit 10 (decimal (p .size)) refl (num-field 9 (p .size)))
+          (field-word callByte callMax (p .from) refl (call-field (p .from) (h .from)))
+          (field-word atByte atMax (p .at) refl (at-field (p .at) (h .at)))
+          (field-word callByte callMax (p .to) refl (call-field (p .to) (h .to)))
+          (field-word bidByte bidMax (p .bid) refl (bid-field (p .bid) (h .bid)))
+          (field-word digit decimalDigits (decimal (p .size)) refl (num-field (decimalDigits - 1) (p .size)))
           ∙ ap (λ (w : Bytes). w ∷ (p .type ∷ []) ∷ p .from ∷ p .at ∷ p .to ∷ p .bid ∷ decimal (p .size) ∷ []) (letters-are (p .form));
       decimal = size-ok (p .size) (h .size);
-      size = num-back 10 (p .size) (let l = h .size in omega arith);
-      shortest = shortest 9 (p .size) (let l = h .size in omega arith);
+      size = num-back decimalDigits (p .size) (let l = h .size in omega arith);
+      shortest = shortest (decimalDigits - 1) (p .size) (let l = h .size in omega arith);
     }
 
 -- ---------------------------------------------------------------- a transfer
@@ -103,35 +104,35 @@ proposal-written p e =
 abbrev cutFrom : ℕ → Bytes → List Bytes
 cutFrom zero x = []
 cutFrom (suc f) [] = []
-cutFrom (suc f) (y ∷ x) = take 256 (y ∷ x) ∷ cutFrom f (drop 256 (y ∷ x))
+cutFrom (suc f) (y ∷ x) = take dataMax (y ∷ x) ∷ cutFrom f (drop dataMax (y ∷ x))
 
-number-is : (d : Bytes) → length d ≤ 256 → length d % 256 ≡ blockNumber d
-number-is d h = go (eqb (length d) 256) refl
+number-is : (d : Bytes) → length d ≤ wholeBlock → length d % byteValues ≡ blockNumber d
+number-is d h = go (eqb (length d) wholeBlock) refl
   where
-    go : (c : Bool) → eqb (length d) 256 ≡ c → length d % 256 ≡ cond c 0 (length d)
-    go true e = let z = eqb-true (length d) 256 e in omega arith
-    go false e = let z = eqb-false (length d) 256 e in omega arith
+    go : (c : Bool) → eqb (length d) wholeBlock ≡ c → length d % byteValues ≡ cond c 0 (length d)
+    go true e = let z = eqb-true (length d) wholeBlock e in omega arith
+    go false e = let z = eqb-false (length d) wholeBlock e in omega arith
 
-block-text : (d w v : Bytes) → length d ≤ 256 → w ≡ v → 2 ∷ (length d % 256) ∷ (d ++ w) ≡ 2 ∷ blockNumber d ∷ (d ++ v)
+block-text : (d w v : Bytes) → length d ≤ wholeBlock → w ≡ v → STX ∷ (length d % byteValues) ∷ (d ++ w) ≡ STX ∷ blockNumber d ∷ (d ++ v)
 block-text d w v h e = rw (number-is d h) (rw e)
 
 blocks-text : (f : ℕ) (x : Bytes) → blocksOut f x ≡ blocksText (cutFrom f x)
 blocks-text zero x = refl
 blocks-text (suc f) [] = refl
 blocks-text (suc f) (y ∷ x) =
-    let l = length-take 256 (y ∷ x) in
-    block-text (take 256 (y ∷ x)) (blocksOut f (drop 256 (y ∷ x))) (blocksText (cutFrom f (drop 256 (y ∷ x)))) (omega arith) (blocks-text f (drop 256 (y ∷ x)))
+    let l = length-take dataMax (y ∷ x) in
+    block-text (take dataMax (y ∷ x)) (blocksOut f (drop dataMax (y ∷ x))) (blocksText (cutFrom f (drop dataMax (y ∷ x)))) (omega arith) (blocks-text f (drop dataMax (y ∷ x)))
 
 blocks-join : (f : ℕ) (x : Bytes) → length x ≤ f → joined (cutFrom f x) ≡ x
 blocks-join zero [] h = refl
 blocks-join zero (y ∷ x) h = let z : ⊥ = omega arith in absurd z
 blocks-join (suc f) [] h = refl
 blocks-join (suc f) (y ∷ x) h =
-    let m = length-drop 256 (y ∷ x) in
-    ap (λ (w : Bytes). take 256 (y ∷ x) ++ w) (blocks-join f (drop 256 (y ∷ x)) (omega arith)) ∙ take-append-drop 256 (y ∷ x)
+    let m = length-drop dataMax (y ∷ x) in
+    ap (λ (w : Bytes). take dataMax (y ∷ x) ++ w) (blocks-join f (drop dataMax (y ∷ x)) (omega arith)) ∙ take-append-drop dataMax (y ∷ x)
 
 -- a block before others: they are there only where it has 256 bytes
-block-first : (d r : Bytes) (f : ℕ) → 1 ≤ length d → length d ≤ 256 → (1 ≤ length r → length d ≡ 256) → InBlocks (cutFrom f r) → InBlocks (d ∷ cutFrom f r)
+block-first : (d r : Bytes) (f : ℕ) → 1 ≤ length d → length d ≤ wholeBlock → (1 ≤ length r → length d ≡ wholeBlock) → InBlocks (cutFrom f r) → InBlocks (d ∷ cutFrom f r)
 block-first d r zero l m full h = (l, m)
 block-first d [] (suc f) l m full h = (l, m)
 block-first d (y ∷ r) (suc f) l m full h = (full (omega arith), h)
@@ -140,18 +141,18 @@ blocks-cut : (f : ℕ) (x : Bytes) → InBlocks (cutFrom f x)
 blocks-cut zero x = tt
 blocks-cut (suc f) [] = tt
 blocks-cut (suc f) (y ∷ x) =
-    let l = length-take 256 (y ∷ x) in
-    let m = length-drop 256 (y ∷ x) in
-    block-first (take 256 (y ∷ x)) (drop 256 (y ∷ x)) f (omega arith) (omega arith) (λ k. omega arith) (blocks-cut f (drop 256 (y ∷ x)))
+    let l = length-take dataMax (y ∷ x) in
+    let m = length-drop dataMax (y ∷ x) in
+    block-first (take dataMax (y ∷ x)) (drop dataMax (y ∷ x)) f (omega arith) (omega arith) (λ k. omega arith) (blocks-cut f (drop dataMax (y ∷ x)))
 
 framed-written : (h x : Bytes) → isHeading h ≡ true → FramedWritten h x (writeFramed h x)
 framed-written h x k =
-    let m = (field-is headingByte 80 h k) .most in
-    let l : (length h + 3) % 256 ≡ length h + 1 + 2 = omega arith in
+    let m = (field-is headingByte headingMax h k) .most in
+    let l : (length h + besideLeast) % byteValues ≡ length h + 1 + 2 = omega arith in
     record {
       blocks = cutFrom (length x) x;
       checksum = checksum x;
-      bytes = rw l (rw (append-assoc h (0 ∷ 48 ∷ 0 ∷ []) (blocksOut (length x) x ++ 4 ∷ checksum x ∷ [])) (rw (blocks-text (length x) x)));
+      bytes = rw l (rw (append-assoc h (NUL ∷ char "0" ∷ NUL ∷ []) (blocksOut (length x) x ++ EOT ∷ checksum x ∷ [])) (rw (blocks-text (length x) x)));
       cut = blocks-cut (length x) x;
       whole = blocks-join (length x) x (omega arith);
       zero = omega arith;

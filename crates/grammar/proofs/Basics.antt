@@ -9,7 +9,7 @@ use lib.Dec.{eqb, leb, ltb}
 use lib.ListN.{length, take, drop, length-append, length-drop, replicate}
 use lib.Seq.{take-all}
 use borrow.Author.Tests.{eq-eqb, le-leb, lt-ltb, le-ltb, leb-true, ltb-true, ltb-false, eqb-true, eqb-false, not-true, not-false}
-use Rattle.grammar.specs.Bytes.{Bytes, every, same, splitAt}
+use Rattle.grammar.specs.Bytes.{Bytes, every, same, splitAt, byteValues}
 use Rattle.grammar.specs.Fields.{field, sized}
 
 pub and2 : (a b : Bool) → a && b ≡ true → (a ≡ true) × (b ≡ true)
@@ -96,7 +96,7 @@ to-end l i = take-all (length l - i) (drop i l) (simp length-drop (omega arith))
 
 -- the class of all bytes
 abbrev pub octet : ℕ → Bool
-octet b = ltb b 256
+octet b = ltb b byteValues
 
 pub all-append : (c : ℕ → Bool) (s t : Bytes) → every c s ≡ true → every c t ≡ true → every c (s ++ t) ≡ true
 all-append c [] t e f = f

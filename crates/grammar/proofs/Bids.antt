@@ -8,8 +8,9 @@ use lib.Dec.{eqb, ltb}
 use lib.ListN.{length, getD}
 use borrow.Author.Tests.{eq-eqb, ne-eqb, eqb-true, lt-ltb, le-ltb, ltb-true, ltb-false}
 use Rattle.grammar.specs.Bytes.{Bytes, same}
-use Rattle.grammar.specs.Fields.{upper, sameBid}
-use Rattle.grammar.specs.Bids.{AsOne, sameByte, capitalFirst, smallFirst, OneBid}
+use Rattle.grammar.specs.Ascii.{char}
+use Rattle.grammar.specs.Fields.{upper, sameBid, smallEnd, toCapital}
+use Rattle.grammar.specs.Bids.{AsOne, sameByte, capitalFirst, smallFirst, OneBid, capitalA, capitalZ, toSmall}
 use Rattle.grammar.proofs.Basics.{and2, both, not-so, no-both, same-itself}
 
 -- ---------------------------------------------------------------- an equality
@@ -72,28 +73,28 @@ bid-length (x ∷ v) (y ∷ w) n = go (eqb (upper x) (upper y)) (bid-length v w 
 
 -- ---------------------------------------------------------------- in words
 
-upper-low : (a : ℕ) → a < 97 → upper a ≡ a
-upper-low a h = rw (lt-ltb a 97 h)
+upper-low : (a : ℕ) → a < char "a" → upper a ≡ a
+upper-low a h = rw (lt-ltb a (char "a") h)
 
-upper-small : (a : ℕ) → 97 ≤ a → a < 123 → upper a ≡ a - 32
-upper-small a h k = rw (le-ltb a 97 h) (rw (lt-ltb a 123 k))
+upper-small : (a : ℕ) → char "a" ≤ a → a < smallEnd → upper a ≡ a - toCapital
+upper-small a h k = rw (le-ltb a (char "a") h) (rw (lt-ltb a smallEnd k))
 
-upper-high : (a : ℕ) → 123 ≤ a → upper a ≡ a
-upper-high a h = rw (le-ltb a 97 (omega arith)) (rw (le-ltb a 123 h))
+upper-high : (a : ℕ) → smallEnd ≤ a → upper a ≡ a
+upper-high a h = rw (le-ltb a (char "a") (omega arith)) (rw (le-ltb a smallEnd h))
 
 -- a byte is below the small letters, one of them, or above them
 data Kind (a : ℕ) : Type 0 where
-  low : a < 97 → Kind a
-  small : 97 ≤ a → a < 123 → Kind a
-  high : 123 ≤ a → Kind a
+  low : a < char "a" → Kind a
+  small : char "a" ≤ a → a < smallEnd → Kind a
+  high : smallEnd ≤ a → Kind a
 
 kind : (a : ℕ) → Kind a
-kind a = go (ltb a 97) (ltb a 123) refl refl
+kind a = go (ltb a (char "a")) (ltb a smallEnd) refl refl
   where
-    go : (c d : Bool) → ltb a 97 ≡ c → ltb a 123 ≡ d → Kind a
-    go true d e f = low (ltb-true a 97 e)
-    go false true e f = small (ltb-false a 97 e) (ltb-true a 123 f)
-    go false false e f = high (ltb-false a 123 f)
+    go : (c d : Bool) → ltb a (char "a") ≡ c → ltb a smallEnd ≡ d → Kind a
+    go true d e f = low (ltb-true a (char "a") e)
+    go false true e f = small (ltb-false a (char "a") e) (ltb-true a smallEnd f)
+    go false false e f = high (ltb-false a smallEnd f)
 
 pub as-one : (a b : ℕ) → upper a ≡ upper b → AsOne a b
 as-one a b e = go (kind a) (kind b)
@@ -101,28 +102,28 @@ as-one a b e = go (kind a) (kind b)
     go : Kind a → Kind b → AsOne a b
     go (low h) (low k) = sameByte (sym (upper-low a h) ∙ e ∙ upper-low b k)
     go (low h) (small k l) =
-        let z : a ≡ b - 32 = sym (upper-low a h) ∙ e ∙ upper-small b k l in
+        let z : a ≡ b - toCapital = sym (upper-low a h) ∙ e ∙ upper-small b k l in
         capitalFirst (omega arith) (omega arith) (omega arith)
     go (low h) (high k) = let z : a ≡ b = sym (upper-low a h) ∙ e ∙ upper-high b k in sameByte z
     go (small h g) (low k) =
-        let z : a - 32 ≡ b = sym (upper-small a h g) ∙ e ∙ upper-low b k in
+        let z : a - toCapital ≡ b = sym (upper-small a h g) ∙ e ∙ upper-low b k in
         smallFirst (omega arith) (omega arith) (omega arith)
     go (small h g) (small k l) =
-        let z : a - 32 ≡ b - 32 = sym (upper-small a h g) ∙ e ∙ upper-small b k l in
+        let z : a - toCapital ≡ b - toCapital = sym (upper-small a h g) ∙ e ∙ upper-small b k l in
         sameByte (omega arith)
     go (small h g) (high k) =
-        let z : a - 32 ≡ b = sym (upper-small a h g) ∙ e ∙ upper-high b k in
+        let z : a - toCapital ≡ b = sym (upper-small a h g) ∙ e ∙ upper-high b k in
         absurd (omega arith)
     go (high h) (low k) = sameByte (sym (upper-high a h) ∙ e ∙ upper-low b k)
     go (high h) (small k l) =
-        let z : a ≡ b - 32 = sym (upper-high a h) ∙ e ∙ upper-small b k l in
+        let z : a ≡ b - toCapital = sym (upper-high a h) ∙ e ∙ upper-small b k l in
         absurd (omega arith)
     go (high h) (high k) = sameByte (sym (upper-high a h) ∙ e ∙ upper-high b k)
 
 -- a capital and its small letter
-letter : (a b : ℕ) → 65 ≤ a → a ≤ 90 → b ≡ a + 32 → upper a ≡ upper b
+letter : (a b : ℕ) → capitalA ≤ a → a ≤ capitalZ → b ≡ a + toSmall → upper a ≡ upper b
 letter a b h k e =
-    let z : b - 32 ≡ a = omega arith in
+    let z : b - toCapital ≡ a = omega arith in
     upper-low a (omega arith) ∙ sym z ∙ sym (upper-small b (omega arith) (omega arith))
 
 pub one-upper : (a b : ℕ) → AsOne a b → upper a ≡ upper b

@@ -8,27 +8,29 @@ use Prim.Native.Nat.{ℕ, zero, suc, _+_, _-_, _%_, _≤_, min}
 use native.Mathlib.Omega.{arith}
 use lib.ListN.{length, length-append, replicate, length-replicate}
 use borrow.Author.Tests.{eq-eqb, lt-ltb}
-use Rattle.grammar.specs.Bytes.{Bytes, CR, CTRLZ, every, splitAt}
-use Rattle.grammar.specs.Fields.{headingByte, isHeading}
-use Rattle.grammar.specs.Transfers.{blocks, checksum, byteSum, sumRight, zeroDigit}
-use Rattle.grammar.specs.Scan.{Scan, atLen, atSize, atStart, atSum, bodyOf, inBody, inData, inHead, inMark, inOff, inTitle}
+use Rattle.grammar.specs.Bytes.{Bytes, CR, CTRLZ, every, splitAt, byteValues, NUL, SOH, EOT}
+use Rattle.grammar.specs.Ascii.{char}
+use Rattle.grammar.specs.Fields.{headingByte, isHeading, headingMax}
+use Rattle.grammar.specs.Answers.{offsetDigits}
+use Rattle.grammar.specs.Transfers.{blocks, checksum, byteSum, sumRight, zeroDigit, besideLeast}
+use Rattle.grammar.specs.Scan.{Scan, atLen, atSize, atStart, atSum, bodyOf, inBody, inData, inHead, inMark, inOff, inTitle, lenLeast}
 use Rattle.grammar.proofs.Basics.{both, all-append, all-replicate, field-of, Lacks, all-lacks, split-mid, octet, snoc-length}
 use Rattle.grammar.proofs.Rest.{onto-nil, rest, Ok, RightAt}
 use Rattle.grammar.proofs.Headers.{header-of}
 
 -- bytes that make the transfer whole, wherever it stands
 abbrev pub complete : Scan → Bytes
-complete (inTitle []) = 65 ∷ CR ∷ CTRLZ ∷ CR ∷ []
+complete (inTitle []) = char "A" ∷ CR ∷ CTRLZ ∷ CR ∷ []
 complete (inTitle (x ∷ t)) = CR ∷ CTRLZ ∷ CR ∷ []
 complete (inBody t x) = CTRLZ ∷ CR ∷ []
 complete (inMark t x) = CR ∷ []
-complete atStart = 1 ∷ 4 ∷ 65 ∷ 0 ∷ 48 ∷ 0 ∷ 4 ∷ 0 ∷ []
-complete atLen = 4 ∷ 65 ∷ 0 ∷ 48 ∷ 0 ∷ 4 ∷ 0 ∷ []
+complete atStart = SOH ∷ lenLeast ∷ char "A" ∷ NUL ∷ char "0" ∷ NUL ∷ EOT ∷ 0 ∷ []
+complete atLen = lenLeast ∷ char "A" ∷ NUL ∷ char "0" ∷ NUL ∷ EOT ∷ 0 ∷ []
 complete (inHead len h) =
-    replicate (min 80 (len - 3) - length h) 65 ++ 0 ∷ (replicate (len - 2 - min 80 (len - 3)) 48 ++ 0 ∷ 4 ∷ 0 ∷ [])
-complete (inOff len h o) = replicate (len - 2 - length h - length o) 48 ++ 0 ∷ 4 ∷ 0 ∷ []
-complete (inData h x k) = replicate k 0 ++ 4 ∷ checksum x ∷ []
-complete (atSize h x) = 1 ∷ 0 ∷ 4 ∷ checksum x ∷ []
+    replicate (min headingMax (len - besideLeast) - length h) (char "A") ++ NUL ∷ (replicate (len - 2 - min headingMax (len - besideLeast)) (char "0") ++ NUL ∷ EOT ∷ 0 ∷ [])
+complete (inOff len h o) = replicate (len - 2 - length h - length o) (char "0") ++ NUL ∷ EOT ∷ 0 ∷ []
+complete (inData h x k) = replicate k 0 ++ EOT ∷ checksum x ∷ []
+complete (atSize h x) = 1 ∷ 0 ∷ EOT ∷ checksum x ∷ []
 complete (atSum h x) = checksum x ∷ []
 
 -- body bytes that must still come, after those that came
@@ -53,43 +55,43 @@ sum-zeros [] (suc k) = rw (sum-zeros [] k)
 sum-zeros (y ∷ x) k = rw (sum-zeros x k)
 
 sum-closed : (x : Bytes) (k : ℕ) → sumRight (x ++ replicate k 0) (checksum x) ≡ true
-sum-closed x k = rw (sum-zeros x k) (eq-eqb ((byteSum x + checksum x) % 256) 0 (omega arith))
+sum-closed x k = rw (sum-zeros x k) (eq-eqb ((byteSum x + checksum x) % byteValues) 0 (omega arith))
 
-blocks-zeros : (k c : ℕ) → blocks k (replicate k 0 ++ 4 ∷ c ∷ []) ≡ some (replicate k 0, c)
+blocks-zeros : (k c : ℕ) → blocks k (replicate k 0 ++ EOT ∷ c ∷ []) ≡ some (replicate k 0, c)
 blocks-zeros zero c = refl
 blocks-zeros (suc k) c = rw (blocks-zeros k c)
 
-lacks-digits : (n : ℕ) → Lacks 0 (replicate n 48)
-lacks-digits n = all-lacks zeroDigit 0 (replicate n 48) refl (all-replicate zeroDigit n 48 refl)
+lacks-digits : (n : ℕ) → Lacks NUL (replicate n (char "0"))
+lacks-digits n = all-lacks zeroDigit NUL (replicate n (char "0")) refl (all-replicate zeroDigit n (char "0") refl)
 
-lacks-pad : (n : ℕ) → Lacks 0 (replicate n 65)
-lacks-pad n = all-lacks headingByte 0 (replicate n 65) refl (all-replicate headingByte n 65 refl)
+lacks-pad : (n : ℕ) → Lacks NUL (replicate n (char "A"))
+lacks-pad n = all-lacks headingByte NUL (replicate n (char "A")) refl (all-replicate headingByte n (char "A") refl)
 
 -- n digits more, and an empty body
-done-off : (len n : ℕ) (h o : Bytes) → isHeading h ≡ true → every zeroDigit o ≡ true → 1 ≤ length o + n → length o + n ≤ 6 → len ≡ length h + (length o + n) + 2
-    → RightAt 0 (rest (inOff len h o) (replicate n 48 ++ 0 ∷ 4 ∷ 0 ∷ []))
+done-off : (len n : ℕ) (h o : Bytes) → isHeading h ≡ true → every zeroDigit o ≡ true → 1 ≤ length o + n → length o + n ≤ offsetDigits → len ≡ length h + (length o + n) + 2
+    → RightAt 0 (rest (inOff len h o) (replicate n (char "0") ++ NUL ∷ EOT ∷ 0 ∷ []))
 done-off len n h o e f a b c =
-    let l : length (o ++ replicate n 48) ≡ length o + n = simp (length-append, length-replicate) in
-    rw (split-mid 0 (replicate n 48) (4 ∷ 0 ∷ []) (lacks-digits n))
-    (rw (header-of len h (o ++ replicate n 48) e
-    (field-of zeroDigit 6 (o ++ replicate n 48) (all-append zeroDigit o (replicate n 48) f (all-replicate zeroDigit n 48 refl)) (omega arith) (omega arith))
+    let l : length (o ++ replicate n (char "0")) ≡ length o + n = simp (length-append, length-replicate) in
+    rw (split-mid NUL (replicate n (char "0")) (EOT ∷ 0 ∷ []) (lacks-digits n))
+    (rw (header-of len h (o ++ replicate n (char "0")) e
+    (field-of zeroDigit offsetDigits (o ++ replicate n (char "0")) (all-append zeroDigit o (replicate n (char "0")) f (all-replicate zeroDigit n (char "0") refl)) (omega arith) (omega arith))
     (omega arith))
     (refl, refl))
 
 -- n bytes of heading more, then m digits
-done-head : (len n m : ℕ) (h : Bytes) → every headingByte h ≡ true → 1 ≤ length h + n → length h + n ≤ 80 → 1 ≤ m → m ≤ 6 → len ≡ (length h + n) + m + 2
-    → RightAt 0 (rest (inHead len h) (replicate n 65 ++ 0 ∷ (replicate m 48 ++ 0 ∷ 4 ∷ 0 ∷ [])))
+done-head : (len n m : ℕ) (h : Bytes) → every headingByte h ≡ true → 1 ≤ length h + n → length h + n ≤ headingMax → 1 ≤ m → m ≤ offsetDigits → len ≡ (length h + n) + m + 2
+    → RightAt 0 (rest (inHead len h) (replicate n (char "A") ++ NUL ∷ (replicate m (char "0") ++ NUL ∷ EOT ∷ 0 ∷ [])))
 done-head len n m h e a b c d s =
-    let l : length (h ++ replicate n 65) ≡ length h + n = simp (length-append, length-replicate) in
-    rw (split-mid 0 (replicate n 65) (replicate m 48 ++ 0 ∷ 4 ∷ 0 ∷ []) (lacks-pad n))
-    (rw (sym (onto-nil (splitAt 0 (replicate m 48 ++ 0 ∷ 4 ∷ 0 ∷ []))))
-    (done-off len m (h ++ replicate n 65) []
-    (field-of headingByte 80 (h ++ replicate n 65) (all-append headingByte h (replicate n 65) e (all-replicate headingByte n 65 refl)) (omega arith) (omega arith))
+    let l : length (h ++ replicate n (char "A")) ≡ length h + n = simp (length-append, length-replicate) in
+    rw (split-mid NUL (replicate n (char "A")) (replicate m (char "0") ++ NUL ∷ EOT ∷ 0 ∷ []) (lacks-pad n))
+    (rw (sym (onto-nil (splitAt NUL (replicate m (char "0") ++ NUL ∷ EOT ∷ 0 ∷ []))))
+    (done-off len m (h ++ replicate n (char "A")) []
+    (field-of headingByte headingMax (h ++ replicate n (char "A")) (all-append headingByte h (replicate n (char "A")) e (all-replicate headingByte n (char "A") refl)) (omega arith) (omega arith))
     refl (omega arith) (omega arith) (omega arith)))
 
 pub completes : (sc : Scan) → Ok sc → RightAt (length (bodyOf sc) + pending sc) (rest sc (complete sc))
 completes (inTitle []) k = (refl, refl)
-completes (inTitle (x ∷ t)) k = rw (append-nil t) (rw (field-of headingByte 80 (x ∷ t) (k .0) (omega arith) (k .1)) (refl, refl))
+completes (inTitle (x ∷ t)) k = rw (append-nil t) (rw (field-of headingByte headingMax (x ∷ t) (k .0) (omega arith) (k .1)) (refl, refl))
 completes (inBody t x) k = (refl, nil-length x)
 completes (inMark t x) k = (refl, omega arith)
 completes atStart k = (refl, refl)
@@ -99,7 +101,7 @@ completes (inHead len h) k =
     let b = k .2 in
     let c = k .3 in
     let d = k .4 in
-    done-head len (min 80 (len - 3) - length h) (len - 2 - min 80 (len - 3)) h (k .0) (omega arith) (omega arith) (omega arith) (omega arith) (omega arith)
+    done-head len (min headingMax (len - besideLeast) - length h) (len - 2 - min headingMax (len - besideLeast)) h (k .0) (omega arith) (omega arith) (omega arith) (omega arith) (omega arith)
 completes (inOff len h o) k =
     let a = k .2 in
     let b = k .3 in
@@ -117,12 +119,12 @@ complete-octets (inMark t x) = refl
 complete-octets atStart = refl
 complete-octets atLen = refl
 complete-octets (inHead len h) =
-    all-append octet (replicate (min 80 (len - 3) - length h) 65) (0 ∷ (replicate (len - 2 - min 80 (len - 3)) 48 ++ 0 ∷ 4 ∷ 0 ∷ []))
-    (all-replicate octet (min 80 (len - 3) - length h) 65 refl)
-    (all-append octet (replicate (len - 2 - min 80 (len - 3)) 48) (0 ∷ 4 ∷ 0 ∷ []) (all-replicate octet (len - 2 - min 80 (len - 3)) 48 refl) refl)
+    all-append octet (replicate (min headingMax (len - besideLeast) - length h) (char "A")) (NUL ∷ (replicate (len - 2 - min headingMax (len - besideLeast)) (char "0") ++ NUL ∷ EOT ∷ 0 ∷ []))
+    (all-replicate octet (min headingMax (len - besideLeast) - length h) (char "A") refl)
+    (all-append octet (replicate (len - 2 - min headingMax (len - besideLeast)) (char "0")) (NUL ∷ EOT ∷ 0 ∷ []) (all-replicate octet (len - 2 - min headingMax (len - besideLeast)) (char "0") refl) refl)
 complete-octets (inOff len h o) =
-    all-append octet (replicate (len - 2 - length h - length o) 48) (0 ∷ 4 ∷ 0 ∷ []) (all-replicate octet (len - 2 - length h - length o) 48 refl) refl
+    all-append octet (replicate (len - 2 - length h - length o) (char "0")) (NUL ∷ EOT ∷ 0 ∷ []) (all-replicate octet (len - 2 - length h - length o) (char "0") refl) refl
 complete-octets (inData h x k) =
-    all-append octet (replicate k 0) (4 ∷ checksum x ∷ []) (all-replicate octet k 0 refl) (both (octet (checksum x)) true (lt-ltb (checksum x) 256 (omega arith)) refl)
-complete-octets (atSize h x) = both (octet (checksum x)) true (lt-ltb (checksum x) 256 (omega arith)) refl
-complete-octets (atSum h x) = both (octet (checksum x)) true (lt-ltb (checksum x) 256 (omega arith)) refl
+    all-append octet (replicate k 0) (EOT ∷ checksum x ∷ []) (all-replicate octet k 0 refl) (both (octet (checksum x)) true (lt-ltb (checksum x) byteValues (omega arith)) refl)
+complete-octets (atSize h x) = both (octet (checksum x)) true (lt-ltb (checksum x) byteValues (omega arith)) refl
+complete-octets (atSum h x) = both (octet (checksum x)) true (lt-ltb (checksum x) byteValues (omega arith)) refl

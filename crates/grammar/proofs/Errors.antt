@@ -8,6 +8,7 @@ use Prim.Native.Nat.{ℕ}
 use lib.Dec.{eqb}
 use Rattle.grammar.specs.Bytes.{Bytes}
 use Rattle.grammar.specs.Ascii.{text}
+use Rattle.grammar.specs.Refusals.{badChecksum}
 use Rattle.grammar.specs.Fields.{words}
 use Rattle.grammar.specs.Lines.{isComment, isPrompt}
 use Rattle.grammar.specs.Sid.{readSid}
@@ -40,7 +41,7 @@ error-said n = go (isSilent n)
   where
     go : (c : Bool) → ErrorSaid (cond c [] (withCr (fixedText (errorLine n))))
     go true = nothing
-    go false = aLine (errorLine n) (which (eqb n 9))
+    go false = aLine (errorLine n) (which (eqb n badChecksum))
       where
         which : (d : Bool) → ErrorLine (cond d checksumError protocolError)
         which true = isChecksum

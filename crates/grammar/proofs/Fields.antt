@@ -9,8 +9,9 @@ use lib.Dec.{eqb, ltb, leb}
 use lib.ListN.{length, length-append}
 use borrow.Author.Tests.{ltb-true, lt-ltb, le-ltb, leb-true, ne-eqb, eqb-true}
 use Rattle.grammar.specs.Bytes.{Bytes, SP, every}
-use Rattle.grammar.specs.Fields.{Form, afterDot, allCalls, bidByte, callByte, decimal, digit, field, file, isAt, isBid, isCall, isSize, message, parts, plain, readFrom, toFirst, upper, words, writeNum}
-use Rattle.grammar.specs.Turns.{Proposal, formLetter, formOf, inMode, isType, proposable, proposalLine, readProposal, sp, typeOf}
+use Rattle.grammar.specs.Ascii.{char}
+use Rattle.grammar.specs.Fields.{Form, afterDot, allCalls, bidByte, callByte, decimal, digit, field, file, isAt, isBid, isCall, isSize, message, parts, plain, readFrom, toFirst, upper, words, writeNum, callMax, atMax, afterDotMax, bidMax, digitsEnd, sizeDigits, decimalDigits}
+use Rattle.grammar.specs.Turns.{Proposal, formLetter, formOf, inMode, isType, proposable, proposalLine, readProposal, sp, typeOf, sizeValues}
 use Rattle.grammar.proofs.Basics.{and2, both, all-append, Field, field-is, field-of, Lacks, all-lacks, or-left, or-right, or-second}
 
 -- ---------------------------------------------------------------- words
@@ -48,41 +49,41 @@ field-word c n w e f = word-of w (f .least) (all-lacks c SP w e (f .class))
 
 -- ---------------------------------------------------------------- numbers
 
-read-snoc : (a : ℕ) (xs : Bytes) (d : ℕ) → readFrom a (xs ++ (d ∷ [])) ≡ readFrom a xs * 10 + (d - 48)
+read-snoc : (a : ℕ) (xs : Bytes) (d : ℕ) → readFrom a (xs ++ (d ∷ [])) ≡ readFrom a xs * 10 + (d - char "0")
 unfolding readFrom
 read-snoc a [] d = refl
-read-snoc a (x ∷ xs) d = read-snoc (a * 10 + (x - 48)) xs d
+read-snoc a (x ∷ xs) d = read-snoc (a * 10 + (x - char "0")) xs d
 
 pub num-back : (f n : ℕ) → n < 10 ^ f → readFrom 0 (writeNum f n) ≡ n
 unfolding writeNum readFrom
 num-back zero n h = omega arith
 num-back (suc f) n h = go (ltb n 10) (num-back f (n / 10) (omega arith))
   where
-    go : (c : Bool) → readFrom 0 (writeNum f (n / 10)) ≡ n / 10 → readFrom 0 (cond c ((48 + n) ∷ []) (writeNum f (n / 10) ++ ((48 + n % 10) ∷ []))) ≡ n
+    go : (c : Bool) → readFrom 0 (writeNum f (n / 10)) ≡ n / 10 → readFrom 0 (cond c ((char "0" + n) ∷ []) (writeNum f (n / 10) ++ ((char "0" + n % 10) ∷ []))) ≡ n
     go true k = omega arith
-    go false k = read-snoc 0 (writeNum f (n / 10)) (48 + n % 10) ∙ rw k (omega arith)
+    go false k = read-snoc 0 (writeNum f (n / 10)) (char "0" + n % 10) ∙ rw k (omega arith)
 
-digit-of : (d : ℕ) → d < 10 → digit (48 + d) ≡ true
-digit-of d h = rw (le-ltb (48 + d) 48 (omega arith)) (lt-ltb (48 + d) 58 (omega arith))
+digit-of : (d : ℕ) → d < 10 → digit (char "0" + d) ≡ true
+digit-of d h = rw (le-ltb (char "0" + d) (char "0") (omega arith)) (lt-ltb (char "0" + d) digitsEnd (omega arith))
 
 -- what we write is a field of 1 to f digits
 pub num-field : (f n : ℕ) → Field digit (suc f) (writeNum (suc f) n)
 unfolding writeNum
 num-field zero n = go (ltb n 10) refl
   where
-    go : (c : Bool) → ltb n 10 ≡ c → Field digit 1 (cond c ((48 + n) ∷ []) ([] ++ ((48 + n % 10) ∷ [])))
-    go true e = record { class = both (digit (48 + n)) true (digit-of n (ltb-true n 10 e)) refl; least = omega arith; most = omega arith }
-    go false e = record { class = both (digit (48 + n % 10)) true (digit-of (n % 10) (omega arith)) refl; least = omega arith; most = omega arith }
+    go : (c : Bool) → ltb n 10 ≡ c → Field digit 1 (cond c ((char "0" + n) ∷ []) ([] ++ ((char "0" + n % 10) ∷ [])))
+    go true e = record { class = both (digit (char "0" + n)) true (digit-of n (ltb-true n 10 e)) refl; least = omega arith; most = omega arith }
+    go false e = record { class = both (digit (char "0" + n % 10)) true (digit-of (n % 10) (omega arith)) refl; least = omega arith; most = omega arith }
 num-field (suc f) n = go (ltb n 10) refl (num-field f (n / 10))
   where
     go : (c : Bool) → ltb n 10 ≡ c → Field digit (suc f) (writeNum (suc f) (n / 10))
-        → Field digit (suc (suc f)) (cond c ((48 + n) ∷ []) (writeNum (suc f) (n / 10) ++ ((48 + n % 10) ∷ [])))
-    go true e k = record { class = both (digit (48 + n)) true (digit-of n (ltb-true n 10 e)) refl; least = omega arith; most = omega arith }
+        → Field digit (suc (suc f)) (cond c ((char "0" + n) ∷ []) (writeNum (suc f) (n / 10) ++ ((char "0" + n % 10) ∷ [])))
+    go true e k = record { class = both (digit (char "0" + n)) true (digit-of n (ltb-true n 10 e)) refl; least = omega arith; most = omega arith }
     go false e k =
         let m = k .most in
-        let l = length-append (writeNum (suc f) (n / 10)) ((48 + n % 10) ∷ []) in
+        let l = length-append (writeNum (suc f) (n / 10)) ((char "0" + n % 10) ∷ []) in
         record {
-          class = all-append digit (writeNum (suc f) (n / 10)) ((48 + n % 10) ∷ []) (k .class) (both (digit (48 + n % 10)) true (digit-of (n % 10) (omega arith)) refl);
+          class = all-append digit (writeNum (suc f) (n / 10)) ((char "0" + n % 10) ∷ []) (k .class) (both (digit (char "0" + n % 10)) true (digit-of (n % 10) (omega arith)) refl);
           least = omega arith;
           most = omega arith;
         }
@@ -98,7 +99,7 @@ num-fuel (suc f) (suc g) n l h = rw (num-fuel f g (n / 10) (omega arith) (omega 
 
 -- bytes of a name, and points
 abbrev pub atByte : ℕ → Bool
-atByte b = callByte b || eqb b 46
+atByte b = callByte b || eqb b (char ".")
 
 abbrev allIn : List Bytes → Bool
 allIn [] = true
@@ -108,8 +109,8 @@ calls-in : (ws : List Bytes) → allCalls ws ≡ true → allIn ws ≡ true
 unfolding isCall
 calls-in [] e = refl
 calls-in (w ∷ ws) e =
-    let p = and2 (field callByte 6 w) (allCalls ws) e in
-    both (every callByte w) (allIn ws) ((field-is callByte 6 w (p .0)) .class) (calls-in ws (p .1))
+    let p = and2 (field callByte callMax w) (allCalls ws) e in
+    both (every callByte w) (allIn ws) ((field-is callByte callMax w (p .0)) .class) (calls-in ws (p .1))
 
 first-in : (x : ℕ) (ws : List Bytes) → allIn (toFirst x ws) ≡ true → (callByte x ≡ true) × (allIn ws ≡ true)
 first-in x [] e = ((and2 (callByte x) true ((and2 (callByte x && true) true e) .0)) .0, refl)
@@ -120,33 +121,33 @@ first-in x (w ∷ ws) e =
 
 at-class : (w : Bytes) → allIn (parts w) ≡ true → every atByte w ≡ true
 at-class [] e = refl
-at-class (x ∷ w) e = go (eqb x 46) refl (λ k. at-class w k) e
+at-class (x ∷ w) e = go (eqb x (char ".")) refl (λ k. at-class w k) e
   where
-    go : (c : Bool) → eqb x 46 ≡ c → (allIn (parts w) ≡ true → every atByte w ≡ true)
-        → allIn (cond c ([] ∷ parts w) (toFirst x (parts w))) ≡ true → (callByte x || eqb x 46) && every atByte w ≡ true
-    go true p ih k = both (callByte x || eqb x 46) (every atByte w) (or-right (callByte x) (eqb x 46) p) (ih k)
+    go : (c : Bool) → eqb x (char ".") ≡ c → (allIn (parts w) ≡ true → every atByte w ≡ true)
+        → allIn (cond c ([] ∷ parts w) (toFirst x (parts w))) ≡ true → (callByte x || eqb x (char ".")) && every atByte w ≡ true
+    go true p ih k = both (callByte x || eqb x (char ".")) (every atByte w) (or-right (callByte x) (eqb x (char ".")) p) (ih k)
     go false p ih k =
         let f = first-in x (parts w) k in
-        both (callByte x || eqb x 46) (every atByte w) (or-left (callByte x) (eqb x 46) (f .0)) (ih (f .1))
+        both (callByte x || eqb x (char ".")) (every atByte w) (or-left (callByte x) (eqb x (char ".")) (f .0)) (ih (f .1))
 
 at-some : (w : Bytes) → allCalls (parts w) ≡ true → 1 ≤ length w
 unfolding isCall
 at-some [] e = let z : _≡_ {A = ℕ} 0 1 = cc in omega arith
 at-some (x ∷ w) e = omega arith
 
-pub at-field : (w : Bytes) → isAt w ≡ true → Field atByte 38 w
+pub at-field : (w : Bytes) → isAt w ≡ true → Field atByte atMax w
 unfolding isAt
 at-field w e =
-    let p = and2 (allCalls (parts w)) (leb (length w) 38 && leb (length (afterDot w)) 31) e in
-    let q = and2 (leb (length w) 38) (leb (length (afterDot w)) 31) (p .1) in
-    record { class = at-class w (calls-in (parts w) (p .0)); least = at-some w (p .0); most = leb-true (length w) 38 (q .0) }
+    let p = and2 (allCalls (parts w)) (leb (length w) atMax && leb (length (afterDot w)) afterDotMax) e in
+    let q = and2 (leb (length w) atMax) (leb (length (afterDot w)) afterDotMax) (p .1) in
+    record { class = at-class w (calls-in (parts w) (p .0)); least = at-some w (p .0); most = leb-true (length w) atMax (q .0) }
 
 -- ---------------------------------------------------------------- a proposal
 
 -- what holds of a proposal of ours
 pub record Ours (p : Proposal) : Type 0 where
   pub type : isType (p .type) ≡ true
-  pub size : p .size < 10 ^ 9
+  pub size : p .size < 10 ^ sizeDigits
   pub from : isCall (p .from) ≡ true
   pub at : isAt (p .at) ≡ true
   pub to : isCall (p .to) ≡ true
@@ -154,43 +155,43 @@ pub record Ours (p : Proposal) : Type 0 where
 
 pub ours : (p : Proposal) → proposable p ≡ true → Ours p
 ours p e =
-    let a = and2 (isType (p .type) && ltb (p .size) 1000000) ((isCall (p .from) && isAt (p .at)) && (isCall (p .to) && isBid (p .bid))) e in
-    let b = and2 (isType (p .type)) (ltb (p .size) 1000000) (a .0) in
+    let a = and2 (isType (p .type) && ltb (p .size) sizeValues) ((isCall (p .from) && isAt (p .at)) && (isCall (p .to) && isBid (p .bid))) e in
+    let b = and2 (isType (p .type)) (ltb (p .size) sizeValues) (a .0) in
     let c = and2 (isCall (p .from) && isAt (p .at)) (isCall (p .to) && isBid (p .bid)) (a .1) in
     let d = and2 (isCall (p .from)) (isAt (p .at)) (c .0) in
     let f = and2 (isCall (p .to)) (isBid (p .bid)) (c .1) in
-    record { type = b .0; size = let l = ltb-true (p .size) 1000000 (b .1) in omega arith; from = d .0; at = d .1; to = f .0; bid = f .1 }
+    record { type = b .0; size = let l = ltb-true (p .size) sizeValues (b .1) in omega arith; from = d .0; at = d .1; to = f .0; bid = f .1 }
 
-pub call-field : (w : Bytes) → isCall w ≡ true → Field callByte 6 w
+pub call-field : (w : Bytes) → isCall w ≡ true → Field callByte callMax w
 unfolding isCall
-call-field w e = field-is callByte 6 w e
+call-field w e = field-is callByte callMax w e
 
-pub bid-field : (w : Bytes) → isBid w ≡ true → Field bidByte 12 w
+pub bid-field : (w : Bytes) → isBid w ≡ true → Field bidByte bidMax w
 unfolding isBid
-bid-field w e = field-is bidByte 12 w e
+bid-field w e = field-is bidByte bidMax w e
 
 -- "size (1 to 9 digits)"
-pub size-ok : (n : ℕ) → n < 10 ^ 9 → isSize (decimal n) ≡ true
+pub size-ok : (n : ℕ) → n < 10 ^ sizeDigits → isSize (decimal n) ≡ true
 unfolding isSize
 size-ok n h =
-    let f = num-field 8 n in
-    rw (num-fuel 8 9 n (omega arith) h) (field-of digit 9 (writeNum 9 n) (f .class) (f .least) (f .most))
+    let f = num-field (sizeDigits - 1) n in
+    rw (num-fuel (sizeDigits - 1) (decimalDigits - 1) n (omega arith) h) (field-of digit sizeDigits (writeNum sizeDigits n) (f .class) (f .least) (f .most))
 
 pub type-word : (t : ℕ) → isType t ≡ true → Word (t ∷ [])
-type-word t e = go (eqb t 80) refl
+type-word t e = go (eqb t (char "P")) refl
   where
-    go : (c : Bool) → eqb t 80 ≡ c → Word (t ∷ [])
-    go true p = let z = eqb-true t 80 p in (ne-eqb t SP (λ y. omega arith), tt)
-    go false p = let z = eqb-true t 66 (or-second (eqb t 80) (eqb t 66) p e) in (ne-eqb t SP (λ y. omega arith), tt)
+    go : (c : Bool) → eqb t (char "P") ≡ c → Word (t ∷ [])
+    go true p = let z = eqb-true t (char "P") p in (ne-eqb t SP (λ y. omega arith), tt)
+    go false p = let z = eqb-true t (char "B") (or-second (eqb t (char "P")) (eqb t (char "B")) p e) in (ne-eqb t SP (λ y. omega arith), tt)
 
 type-back : (t : ℕ) → isType t ≡ true → typeOf (map upper (t ∷ [])) ≡ some t
-type-back t e = go (eqb t 80) refl
+type-back t e = go (eqb t (char "P")) refl
   where
-    go : (c : Bool) → eqb t 80 ≡ c → typeOf (map upper (t ∷ [])) ≡ some t
-    go true p = let z = eqb-true t 80 p in subst (λ (s : ℕ). typeOf (map upper (s ∷ [])) ≡ some s) (sym z) refl
-    go false p = let z = eqb-true t 66 (or-second (eqb t 80) (eqb t 66) p e) in subst (λ (s : ℕ). typeOf (map upper (s ∷ [])) ≡ some s) (sym z) refl
+    go : (c : Bool) → eqb t (char "P") ≡ c → typeOf (map upper (t ∷ [])) ≡ some t
+    go true p = let z = eqb-true t (char "P") p in subst (λ (s : ℕ). typeOf (map upper (s ∷ [])) ≡ some s) (sym z) refl
+    go false p = let z = eqb-true t (char "B") (or-second (eqb t (char "P")) (eqb t (char "B")) p e) in subst (λ (s : ℕ). typeOf (map upper (s ∷ [])) ≡ some s) (sym z) refl
 
-form-back : (md : Bool) (f : Form) → inMode md f ≡ true → formOf md (map upper (70 ∷ formLetter f ∷ [])) ≡ some f
+form-back : (md : Bool) (f : Form) → inMode md f ≡ true → formOf md (map upper (char "F" ∷ formLetter f ∷ [])) ≡ some f
 form-back false plain e = refl
 form-back false message e = cc
 form-back false file e = cc
@@ -198,7 +199,7 @@ form-back true plain e = cc
 form-back true message e = refl
 form-back true file e = refl
 
-pub letters-word : (f : Form) → Word (70 ∷ formLetter f ∷ [])
+pub letters-word : (f : Form) → Word (char "F" ∷ formLetter f ∷ [])
 letters-word plain = (refl, (refl, tt))
 letters-word message = (refl, (refl, tt))
 letters-word file = (refl, (refl, tt))
@@ -210,14 +211,14 @@ all-fields p h = rw (h .from) (rw (h .at) (rw (h .to) (rw (h .bid) (size-ok (p .
 pub proposal-back : (md : Bool) (p : Proposal) → Ours p → inMode md (p .form) ≡ true → readProposal md (proposalLine p) ≡ some p
 unfolding readProposal proposalLine
 proposal-back md p h e =
-    rw (words-sp (70 ∷ formLetter (p .form) ∷ []) _ (letters-word (p .form)))
+    rw (words-sp (char "F" ∷ formLetter (p .form) ∷ []) _ (letters-word (p .form)))
     (rw (words-sp (p .type ∷ []) _ (type-word (p .type) (h .type)))
-    (rw (words-sp (p .from) _ (field-word callByte 6 (p .from) refl (call-field (p .from) (h .from))))
-    (rw (words-sp (p .at) _ (field-word atByte 38 (p .at) refl (at-field (p .at) (h .at))))
-    (rw (words-sp (p .to) _ (field-word callByte 6 (p .to) refl (call-field (p .to) (h .to))))
-    (rw (words-sp (p .bid) _ (field-word bidByte 12 (p .bid) refl (bid-field (p .bid) (h .bid))))
-    (rw (words-last (decimal (p .size)) (field-word digit 10 (decimal (p .size)) refl (num-field 9 (p .size))))
+    (rw (words-sp (p .from) _ (field-word callByte callMax (p .from) refl (call-field (p .from) (h .from))))
+    (rw (words-sp (p .at) _ (field-word atByte atMax (p .at) refl (at-field (p .at) (h .at))))
+    (rw (words-sp (p .to) _ (field-word callByte callMax (p .to) refl (call-field (p .to) (h .to))))
+    (rw (words-sp (p .bid) _ (field-word bidByte bidMax (p .bid) refl (bid-field (p .bid) (h .bid))))
+    (rw (words-last (decimal (p .size)) (field-word digit decimalDigits (decimal (p .size)) refl (num-field (decimalDigits - 1) (p .size))))
     (rw (form-back md (p .form) e)
     (rw (type-back (p .type) (h .type))
     (rw (all-fields p h)
-    (rw (num-back 10 (p .size) (let l = h .size in omega arith))))))))))))
+    (rw (num-back decimalDigits (p .size) (let l = h .size in omega arith))))))))))))

@@ -3,35 +3,36 @@ use mathlib.Core.Path.{_≡_, refl, ap, _∙_}
 use mathlib.Core.Bool.{Bool, true, false, cond, not, _&&_}
 use mathlib.Core.Option.{none, some}
 use mathlib.Core.List.{List, [], _∷_, _++_, map}
-use Prim.Native.Nat.{ℕ, _+_, _≤_}
+use Prim.Native.Nat.{ℕ, _+_, _-_, _≤_}
 use native.Mathlib.Omega.{arith}
 use lib.Dec.{eqb, ltb}
 use lib.ListN.{length, length-append, length-map}
 use borrow.Author.Tests.{ne-eqb, eqb-true, ltb-true}
 use Rattle.grammar.specs.Bytes.{Bytes, CR, SP, every, same}
-use Rattle.grammar.specs.Fields.{Form, bidByte, callByte, digit, file, message, plain, upper, writeNum}
-use Rattle.grammar.specs.Lines.{isComment, isPrompt, trim}
+use Rattle.grammar.specs.Ascii.{char, text}
+use Rattle.grammar.specs.Fields.{Form, bidByte, callByte, digit, file, message, plain, upper, writeNum, callMax, atMax, bidMax, decimalDigits}
+use Rattle.grammar.specs.Lines.{isComment, isPrompt, trim, lineLimit}
 use Rattle.grammar.specs.Sid.{readSid, sidNumber}
-use Rattle.grammar.specs.Turns.{Proposal, endsBlock, fixedText, formLetter, inMode, isType, notAllowed, ourBlock, ourEnd, ourFF, ourFQ, ourPrompt, ourSid, protocolError, checksumError, proposable, proposalLine, proposes, readProposal, readSummedEnd, readTurnLine, saysFF, saysFQ, sp}
-use Rattle.grammar.specs.Answers.{OurLine, Sign, accept, decline, defer, fixedLine, fsLine, ourAnswer, ourProposal, readFs, readSigns, signAt, writeSign, written, Level}
+use Rattle.grammar.specs.Turns.{Proposal, endsBlock, fixedText, formLetter, inMode, isType, notAllowed, ourBlock, ourEnd, ourFF, ourFQ, ourPrompt, ourSid, protocolError, checksumError, proposable, proposalLine, proposes, readProposal, readSummedEnd, readTurnLine, saysFF, saysFQ, sp, blockLimit, announcedLimit}
+use Rattle.grammar.specs.Answers.{OurLine, Sign, accept, decline, defer, fixedLine, fsLine, ourAnswer, ourProposal, readFs, readSigns, signAt, writeSign, written, Level, plusSign, minusSign, equalSign}
 use Rattle.grammar.proofs.Basics.{Field, Lacks, lacks-append, all-lacks, or-second}
 use Rattle.grammar.proofs.Fields.{num-field, atByte, at-field, call-field, bid-field, Ours, ours, proposal-back}
 
 -- ---------------------------------------------------------------- read back
 
 -- a line of F, A or B, and more is neither FF nor FQ nor F>
-not-short : (f : Form) (c x : ℕ) (r : Bytes) → same (map upper (70 ∷ formLetter f ∷ x ∷ r)) (70 ∷ c ∷ []) ≡ false
-not-short plain c x r = go (eqb 66 c)
+not-short : (f : Form) (c x : ℕ) (r : Bytes) → same (map upper (char "F" ∷ formLetter f ∷ x ∷ r)) (char "F" ∷ c ∷ []) ≡ false
+not-short plain c x r = go (eqb (char "B") c)
   where
     go : (b : Bool) → b && false ≡ false
     go true = refl
     go false = refl
-not-short message c x r = go (eqb 65 c)
+not-short message c x r = go (eqb (char "A") c)
   where
     go : (b : Bool) → b && false ≡ false
     go true = refl
     go false = refl
-not-short file c x r = go (eqb 66 c)
+not-short file c x r = go (eqb (char "B") c)
   where
     go : (b : Bool) → b && false ≡ false
     go true = refl
@@ -39,25 +40,25 @@ not-short file c x r = go (eqb 66 c)
 
 -- what follows the letters
 unfoldable tailOf : Proposal → Bytes
-tailOf p = sp (p .type ∷ []) (sp (p .from) (sp (p .at) (sp (p .to) (sp (p .bid) (writeNum 10 (p .size))))))
+tailOf p = sp (p .type ∷ []) (sp (p .from) (sp (p .at) (sp (p .to) (sp (p .bid) (writeNum decimalDigits (p .size))))))
 
-proposal-starts : (p : Proposal) → proposalLine p ≡ 70 ∷ formLetter (p .form) ∷ SP ∷ tailOf p
+proposal-starts : (p : Proposal) → proposalLine p ≡ char "F" ∷ formLetter (p .form) ∷ SP ∷ tailOf p
 unfolding proposalLine tailOf
 proposal-starts p = refl
 
 -- nor F> with a checksum
-not-summed : (f : Form) (r : Bytes) → readSummedEnd (70 ∷ formLetter f ∷ r) ≡ none
+not-summed : (f : Form) (r : Bytes) → readSummedEnd (char "F" ∷ formLetter f ∷ r) ≡ none
 unfolding readSummedEnd
 not-summed plain r = refl
 not-summed message r = refl
 not-summed file r = refl
 
-kind-of : (md : Bool) (p : Proposal) (ln : Bytes) → ln ≡ 70 ∷ formLetter (p .form) ∷ SP ∷ tailOf p → readProposal md ln ≡ some p → readTurnLine md ln ≡ proposes p
+kind-of : (md : Bool) (p : Proposal) (ln : Bytes) → ln ≡ char "F" ∷ formLetter (p .form) ∷ SP ∷ tailOf p → readProposal md ln ≡ some p → readTurnLine md ln ≡ proposes p
 unfolding readTurnLine
 kind-of md p ln q k =
-    rw (ap (λ (w : Bytes). same (map upper w) (70 ∷ 70 ∷ [])) q ∙ not-short (p .form) 70 SP (tailOf p))
-    (rw (ap (λ (w : Bytes). same (map upper w) (70 ∷ 81 ∷ [])) q ∙ not-short (p .form) 81 SP (tailOf p))
-    (rw (ap (λ (w : Bytes). same (map upper w) (70 ∷ 62 ∷ [])) q ∙ not-short (p .form) 62 SP (tailOf p))
+    rw (ap (λ (w : Bytes). same (map upper w) (text "FF")) q ∙ not-short (p .form) (char "F") SP (tailOf p))
+    (rw (ap (λ (w : Bytes). same (map upper w) (text "FQ")) q ∙ not-short (p .form) (char "Q") SP (tailOf p))
+    (rw (ap (λ (w : Bytes). same (map upper w) (text "F>")) q ∙ not-short (p .form) (char ">") SP (tailOf p))
     (rw (ap readSummedEnd q ∙ not-summed (p .form) (SP ∷ tailOf p)) (rw k))))
 
 pub proposal-read : (md : Bool) (p : Proposal) → proposable p ≡ true → inMode md (p .form) ≡ true → readTurnLine md (proposalLine p) ≡ proposes p
@@ -110,18 +111,18 @@ field-lacks : (c : ℕ → Bool) (n : ℕ) (w : Bytes) → c CR ≡ false → Fi
 field-lacks c n w e f = all-lacks c CR w e (f .class)
 
 type-lacks : (t : ℕ) → isType t ≡ true → Lacks CR (t ∷ [])
-type-lacks t e = go (eqb t 80) refl
+type-lacks t e = go (eqb t (char "P")) refl
   where
-    go : (c : Bool) → eqb t 80 ≡ c → Lacks CR (t ∷ [])
-    go true p = let z = eqb-true t 80 p in (ne-eqb t CR (λ y. omega arith), tt)
-    go false p = let z = eqb-true t 66 (or-second (eqb t 80) (eqb t 66) p e) in (ne-eqb t CR (λ y. omega arith), tt)
+    go : (c : Bool) → eqb t (char "P") ≡ c → Lacks CR (t ∷ [])
+    go true p = let z = eqb-true t (char "P") p in (ne-eqb t CR (λ y. omega arith), tt)
+    go false p = let z = eqb-true t (char "B") (or-second (eqb t (char "P")) (eqb t (char "B")) p e) in (ne-eqb t CR (λ y. omega arith), tt)
 
-letters-lack : (f : Form) → Lacks CR (70 ∷ formLetter f ∷ [])
+letters-lack : (f : Form) → Lacks CR (char "F" ∷ formLetter f ∷ [])
 letters-lack plain = (refl, (refl, tt))
 letters-lack message = (refl, (refl, tt))
 letters-lack file = (refl, (refl, tt))
 
-signs-lack : (c : ℕ) → eqb 43 c ≡ false → eqb 45 c ≡ false → eqb 61 c ≡ false → (ss : List Sign) → Lacks c (map writeSign ss)
+signs-lack : (c : ℕ) → eqb plusSign c ≡ false → eqb minusSign c ≡ false → eqb equalSign c ≡ false → (ss : List Sign) → Lacks c (map writeSign ss)
 signs-lack c x y z [] = tt
 signs-lack c x y z (accept ∷ ss) = (x, signs-lack c x y z ss)
 signs-lack c x y z (decline ∷ ss) = (y, signs-lack c x y z ss)
@@ -140,23 +141,25 @@ seven-lacks a b c d e f g ha hb hc hd he hf hg =
 prop-lacks : (p : Proposal) → Ours p → Lacks CR (proposalLine p)
 unfolding proposalLine
 prop-lacks p h =
-    seven-lacks (70 ∷ formLetter (p .form) ∷ []) (p .type ∷ []) (p .from) (p .at) (p .to) (p .bid) (writeNum 10 (p .size))
+    seven-lacks (char "F" ∷ formLetter (p .form) ∷ []) (p .type ∷ []) (p .from) (p .at) (p .to) (p .bid) (writeNum decimalDigits (p .size))
     (letters-lack (p .form)) (type-lacks (p .type) (h .type))
-    (field-lacks callByte 6 (p .from) refl (call-field (p .from) (h .from)))
-    (field-lacks atByte 38 (p .at) refl (at-field (p .at) (h .at)))
-    (field-lacks callByte 6 (p .to) refl (call-field (p .to) (h .to)))
-    (field-lacks bidByte 12 (p .bid) refl (bid-field (p .bid) (h .bid)))
-    (field-lacks digit 10 (writeNum 10 (p .size)) refl (num-field 9 (p .size)))
+    (field-lacks callByte callMax (p .from) refl (call-field (p .from) (h .from)))
+    (field-lacks atByte atMax (p .at) refl (at-field (p .at) (h .at)))
+    (field-lacks callByte callMax (p .to) refl (call-field (p .to) (h .to)))
+    (field-lacks bidByte bidMax (p .bid) refl (bid-field (p .bid) (h .bid)))
+    (field-lacks digit decimalDigits (writeNum decimalDigits (p .size)) refl (num-field (decimalDigits - 1) (p .size)))
 
--- 81 bytes at most
-prop-short : (p : Proposal) → Ours p → length (proposalLine p) ≤ 81
+abbrev proposalMax : ℕ
+proposalMax = 81
+
+prop-short : (p : Proposal) → Ours p → length (proposalLine p) ≤ proposalMax
 unfolding proposalLine
 prop-short p h =
     let a = (call-field (p .from) (h .from)) .most in
     let b = (at-field (p .at) (h .at)) .most in
     let c = (call-field (p .to) (h .to)) .most in
     let d = (bid-field (p .bid) (h .bid)) .most in
-    let e = (num-field 9 (p .size)) .most in
+    let e = (num-field (decimalDigits - 1) (p .size)) .most in
     simp length-append (omega arith)
 
 trim-lacks : (w : Bytes) → Lacks SP w → trim w ≡ w
@@ -178,13 +181,13 @@ trim-sp u w h = let m = h .0 in (simp length-append (omega arith), trim-join u (
 prop-trim : (p : Proposal) → trim (proposalLine p) ≡ proposalLine p
 unfolding proposalLine
 prop-trim p =
-    (trim-sp (70 ∷ formLetter (p .form) ∷ []) _
+    (trim-sp (char "F" ∷ formLetter (p .form) ∷ []) _
     (trim-sp (p .type ∷ []) _
     (trim-sp (p .from) _
     (trim-sp (p .at) _
     (trim-sp (p .to) _
-    (trim-sp (p .bid) (writeNum 10 (p .size))
-    ((num-field 9 (p .size)) .least, trim-lacks (writeNum 10 (p .size)) (all-lacks digit SP (writeNum 10 (p .size)) refl ((num-field 9 (p .size)) .class))))))))) .1
+    (trim-sp (p .bid) (writeNum decimalDigits (p .size))
+    ((num-field (decimalDigits - 1) (p .size)) .least, trim-lacks (writeNum decimalDigits (p .size)) (all-lacks digit SP (writeNum decimalDigits (p .size)) refl ((num-field (decimalDigits - 1) (p .size)) .class))))))))) .1
 
 prop-note : (p : Proposal) → isComment (proposalLine p) ≡ false
 unfolding proposalLine isComment
@@ -194,29 +197,29 @@ prop-note p = refl
 abbrev pub Mine : OurLine → Type 0
 Mine (fixedLine l) = Unit {0}
 Mine (ourProposal p) = proposable p ≡ true
-Mine (ourAnswer ss) = (1 ≤ length ss) × (length ss ≤ 5)
+Mine (ourAnswer ss) = (1 ≤ length ss) × (length ss ≤ blockLimit)
 
 pub record GoodLine (w : Bytes) : Type 0 where
   pub whole : Lacks CR w
-  pub short : length w ≤ 256
+  pub short : length w ≤ lineLimit
   pub kept : trim w ≡ w
   pub heard : isComment w ≡ false
 
-fs-good : (ss : List Sign) → 1 ≤ length ss → length ss ≤ 5 → GoodLine (fsLine ss)
+fs-good : (ss : List Sign) → 1 ≤ length ss → length ss ≤ blockLimit → GoodLine (fsLine ss)
 unfolding fsLine isComment
 fs-good ss h k =
     let l = length-map ss writeSign in
     record {
       whole = (refl, (refl, (refl, signs-lack CR refl refl refl ss)));
       short = omega arith;
-      kept = trim-join (70 ∷ 83 ∷ 32 ∷ []) (map writeSign ss) (omega arith) (trim-lacks (map writeSign ss) (signs-lack SP refl refl refl ss));
+      kept = trim-join (text "FS ") (map writeSign ss) (omega arith) (trim-lacks (map writeSign ss) (signs-lack SP refl refl refl ss));
       heard = refl;
     }
 
 abbrev notCR : ℕ → Bool
 notCR b = not (eqb b CR)
 
-closed-good : (w : Bytes) → every notCR w ≡ true → length w ≤ 256 → trim w ≡ w → isComment w ≡ false → GoodLine w
+closed-good : (w : Bytes) → every notCR w ≡ true → length w ≤ lineLimit → trim w ≡ w → isComment w ≡ false → GoodLine w
 closed-good w a b c d = record { whole = all-lacks notCR CR w refl a; short = b; kept = c; heard = d }
 
 -- THE LAW of our lines
@@ -237,16 +240,16 @@ good-line (ourAnswer ss) h = fs-good ss (h .0) (h .1)
 
 -- ---------------------------------------------------------------- a turn of ours
 
-block-bound {ℓ} : {A : Type ℓ} (size : A → ℕ) (n s : ℕ) (xs : List A) → n ≤ 5 → n + length (ourBlock size n s xs) ≤ 5
+block-bound {ℓ} : {A : Type ℓ} (size : A → ℕ) (n s : ℕ) (xs : List A) → n ≤ blockLimit → n + length (ourBlock size n s xs) ≤ blockLimit
 block-bound size n s [] h = omega arith
-block-bound size n s (x ∷ xs) h = go (ltb n 5) refl (ltb s 10240) (λ k. block-bound size (n + 1) (s + size x) xs k)
+block-bound size n s (x ∷ xs) h = go (ltb n blockLimit) refl (ltb s announcedLimit) (λ k. block-bound size (n + 1) (s + size x) xs k)
   where
-    go : (c : Bool) → ltb n 5 ≡ c → (d : Bool) → (n + 1 ≤ 5 → n + 1 + length (ourBlock size (n + 1) (s + size x) xs) ≤ 5)
-        → n + length (cond (c && d) (x ∷ ourBlock size (n + 1) (s + size x) xs) []) ≤ 5
-    go true e true ih = let m = ltb-true n 5 e in let k = ih (omega arith) in omega arith
+    go : (c : Bool) → ltb n blockLimit ≡ c → (d : Bool) → (n + 1 ≤ blockLimit → n + 1 + length (ourBlock size (n + 1) (s + size x) xs) ≤ blockLimit)
+        → n + length (cond (c && d) (x ∷ ourBlock size (n + 1) (s + size x) xs) []) ≤ blockLimit
+    go true e true ih = let m = ltb-true n blockLimit e in let k = ih (omega arith) in omega arith
     go true e false ih = omega arith
     go false e d ih = omega arith
 
 -- "fewer than five are in": at most five proposals
-pub block-at-most-five {ℓ} : {A : Type ℓ} (size : A → ℕ) (xs : List A) → length (ourBlock size 0 0 xs) ≤ 5
+pub block-at-most-five {ℓ} : {A : Type ℓ} (size : A → ℕ) (xs : List A) → length (ourBlock size 0 0 xs) ≤ blockLimit
 block-at-most-five size xs = let h = block-bound size 0 0 xs (omega arith) in omega arith

@@ -9,7 +9,7 @@ use lib.Dec.{eqb, ltb}
 use lib.ListN.{length}
 use borrow.Author.Tests.{lt-ltb, ltb-true, ltb-false, eqb-true}
 use Rattle.grammar.specs.Bytes.{Bytes, CR, CTRLZ, SP, splitAt}
-use Rattle.grammar.specs.Fields.{headingByte, isHeading}
+use Rattle.grammar.specs.Fields.{headingByte, isHeading, headingMax}
 use Rattle.grammar.specs.Transfers.{bodyRead, spacesCR}
 use Rattle.grammar.specs.Scan.{goes, got, inBody, inMark, inTitle, malformed, noRoom, scanByte}
 use Rattle.grammar.proofs.Basics.{and2, both, not-so, no-both, nonzero, all-append, field-is, field-of, snoc-length, mid-length}
@@ -17,17 +17,17 @@ use Rattle.grammar.proofs.Rest.{onto, onto-nil, onto-before, rest, Ok, 
 use Rattle.grammar.proofs.Headers.{mid-head, title-none}
 
 pub step-title : (room : ℕ) (t : Bytes) (b : ℕ) → Ok (inTitle t) → StepOk room (scanByte room (inTitle t) b) (inTitle t) b
-step-title room t b k = go (eqb b CR) refl (eqb (length t) 0) refl (headingByte b && ltb (length t) 80) refl
+step-title room t b k = go (eqb b CR) refl (eqb (length t) 0) refl (headingByte b && ltb (length t) headingMax) refl
   where
-    go : (e : Bool) → eqb b CR ≡ e → (v : Bool) → eqb (length t) 0 ≡ v → (f : Bool) → headingByte b && ltb (length t) 80 ≡ f
+    go : (e : Bool) → eqb b CR ≡ e → (v : Bool) → eqb (length t) 0 ≡ v → (f : Bool) → headingByte b && ltb (length t) headingMax ≡ f
         → StepOk room (cond e (cond v malformed (goes (inBody t []))) (cond f (goes (inTitle (t ++ (b ∷ [])))) malformed)) (inTitle t) b
     go true p true q f u =
-        λ r. rw p (rw (append-nil t) (rw (not-so (isHeading t) (λ e. let l = (field-is headingByte 80 t e) .least in let m = eqb-true (length t) 0 q in omega arith))))
+        λ r. rw p (rw (append-nil t) (rw (not-so (isHeading t) (λ e. let l = (field-is headingByte headingMax t e) .least in let m = eqb-true (length t) 0 q in omega arith))))
     go true p false q f u =
-        (λ r. rw p (rw (append-nil t) (rw (field-of headingByte 80 t (k .0) (nonzero t q) (k .1)) (rw (onto-nil (splitAt CTRLZ r))))), tt, omega arith)
+        (λ r. rw p (rw (append-nil t) (rw (field-of headingByte headingMax t (k .0) (nonzero t q) (k .1)) (rw (onto-nil (splitAt CTRLZ r))))), tt, omega arith)
     go false p v q true u =
-        let w = and2 (headingByte b) (ltb (length t) 80) u in
-        let m = ltb-true (length t) 80 (w .1) in
+        let w = and2 (headingByte b) (ltb (length t) headingMax) u in
+        let m = ltb-true (length t) headingMax (w .1) in
         let l = snoc-length t b in (
           λ r. rw p (rw (onto-before t b (splitAt CR r))),
           (all-append headingByte t (b ∷ []) (k .0) (both (headingByte b) true (w .0) refl), omega arith),
@@ -38,7 +38,7 @@ step-title room t b k = go (eqb b CR) refl (eqb (length t) 0) refl (headingByte 
         (title-none (t ++ (b ∷ [])) (splitAt CR r)
         (λ s. not-so (isHeading ((t ++ (b ∷ [])) ++ s))
         (λ e. let w = mid-head t s b e in
-        no-both (headingByte b && ltb (length t) 80) (both (headingByte b) (ltb (length t) 80) (w .0) (lt-ltb (length t) 80 (w .1))) u))))
+        no-both (headingByte b && ltb (length t) headingMax) (both (headingByte b) (ltb (length t) headingMax) (w .0) (lt-ltb (length t) headingMax (w .1))) u))))
 
 -- a body that goes on is longer than what is held
 body-longer : (room : ℕ) (t x : Bytes) (b : ℕ) (o : Option (Bytes × Bytes)) → room ≤ length x → Longer room (bodyRead t (onto (x ++ (b ∷ [])) o))

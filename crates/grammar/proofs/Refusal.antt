@@ -9,10 +9,11 @@ use native.Mathlib.Omega.{arith}
 use lib.Dec.{eqb, leb, ltb}
 use lib.ListN.{length}
 use borrow.Author.Tests.{le-leb}
-use Rattle.grammar.specs.Bytes.{Bytes, CR, CTRLZ, SP, every, splitAt}
-use Rattle.grammar.specs.Fields.{Form, file, headingByte, message, plain}
-use Rattle.grammar.specs.Transfers.{Content, Parsed, parse, readTransfer, sumRight, valid}
-use Rattle.grammar.specs.Scan.{Scan, Scanned, atLen, atSize, atStart, atSum, bodyOf, goes, got, inBody, inData, inHead, inMark, inOff, inTitle, malformed, noRoom, onward, scan, scanByte, scanFrom, scanOn, wrongSum, isBodyByte}
+use Rattle.grammar.specs.Bytes.{Bytes, CR, CTRLZ, SP, every, splitAt, STX, EOT}
+use Rattle.grammar.specs.Ascii.{char}
+use Rattle.grammar.specs.Fields.{Form, file, headingByte, message, plain, headingMax, bodyLimit}
+use Rattle.grammar.specs.Transfers.{Content, Parsed, parse, readTransfer, sumRight, valid, besideLeast}
+use Rattle.grammar.specs.Scan.{Scan, Scanned, atLen, atSize, atStart, atSum, bodyOf, goes, got, inBody, inData, inHead, inMark, inOff, inTitle, malformed, noRoom, onward, scan, scanByte, scanFrom, scanOn, wrongSum, isBodyByte, besideMost, lenLeast, lenMost}
 use Rattle.grammar.proofs.Basics.{snoc-cons, octet}
 use Rattle.grammar.proofs.Rest.{rest, Ok, Right, RightAt, Wrong, Longer, StepOk, rest-nil, onto-nil}
 use Rattle.grammar.proofs.Completes.{complete, completes, complete-octets, pending}
@@ -129,14 +130,14 @@ wrong-none : (o : Option Parsed) → Wrong o → valid o ≡ none
 wrong-none none w = refl
 wrong-none (some p) w = rw w
 
-pub read-as : (room : ℕ) (f : Form) (q : Bytes) (sc : Scan) → room ≤ 65535 → Reach room f (goes sc) q → (b : ℕ)
+pub read-as : (room : ℕ) (f : Form) (q : Bytes) (sc : Scan) → room ≤ bodyLimit → Reach room f (goes sc) q → (b : ℕ)
     → readTransfer f (q ++ (b ∷ [])) ≡ contentOf (scanByte room sc b)
 unfolding readTransfer
 read-as room f q sc l h b = go (scanByte room sc b) (exact-at room f q sc h b)
   where
     go : (s : Scanned) → Verdict room f s (q ++ (b ∷ [])) → valid (parse f (q ++ (b ∷ []))) ≡ contentOf s
     go (goes sc′) k = rw (k .0)
-    go (got t x) k = let m = k .1 in rw (k .0) (rw (le-leb (length x) 65535 (omega arith)))
+    go (got t x) k = let m = k .1 in rw (k .0) (rw (le-leb (length x) bodyLimit (omega arith)))
     go malformed k = rw (ap (parse f) (sym (append-nil (q ++ (b ∷ [])))) ∙ k [])
     go wrongSum k = wrong-none (parse f (q ++ (b ∷ []))) (k .0)
     go noRoom k = rw (k .2)
@@ -146,14 +147,14 @@ abbrev pub Heeded : Option Content → Type 0
 Heeded none = ⊥
 Heeded (some h) = Unit {0}
 
-right-heeded : (n : ℕ) (o : Option Parsed) → n ≤ 65535 → RightAt n o → Heeded (valid o)
+right-heeded : (n : ℕ) (o : Option Parsed) → n ≤ bodyLimit → RightAt n o → Heeded (valid o)
 right-heeded n none l h = h
 right-heeded n (some p) l h =
     let m = h .1 in
-    rw (h .0) (rw (le-leb (length (p .body)) 65535 (omega arith)) tt)
+    rw (h .0) (rw (le-leb (length (p .body)) bodyLimit (omega arith)) tt)
 
 pub goes-valid : (room : ℕ) (f : Form) (q : Bytes) (sc sc′ : Scan) → scan room f q ≡ goes sc → (b : ℕ) → scanByte room sc b ≡ goes sc′
-    → length (bodyOf sc′) + pending sc′ ≤ 65535 → (r : Bytes) × (every octet r ≡ true) × Heeded (readTransfer f ((q ++ (b ∷ [])) ++ r))
+    → length (bodyOf sc′) + pending sc′ ≤ bodyLimit → (r : Bytes) × (every octet r ≡ true) × Heeded (readTransfer f ((q ++ (b ∷ [])) ++ r))
 unfolding readTransfer
 goes-valid room f q sc sc′ e b w l =
     let k = subst (λ (s : Scanned). Verdict room f s (q ++ (b ∷ []))) w (exact room f q sc e b) in
@@ -242,7 +243,7 @@ no-ten false a b e f = f
 -- "body byte without room": exactly there
 pub exact-10 : (room : ℕ) (sc : Scan) (b : ℕ) → isTen (scanByte room sc b) ≡ isBodyByte sc b && not (ltb (length (bodyOf sc)) room)
 exact-10 room (inTitle t) b =
-    no-ten (eqb b CR) _ _ (no-ten (eqb (length t) 0) malformed (goes (inBody t [])) refl refl) (no-ten (headingByte b && ltb (length t) 80) (goes (inTitle (t ++ (b ∷ [])))) malformed refl refl)
+    no-ten (eqb b CR) _ _ (no-ten (eqb (length t) 0) malformed (goes (inBody t [])) refl refl) (no-ten (headingByte b && ltb (length t) headingMax) (goes (inTitle (t ++ (b ∷ [])))) malformed refl refl)
 exact-10 room (inBody t x) b = go (eqb b CTRLZ) (ltb (length x) room)
   where
     go : (e f : Bool) → isTen (cond e (goes (inMark t x)) (cond f (goes (inBody t (x ++ (b ∷ [])))) noRoom)) ≡ not e && not f
@@ -251,14 +252,14 @@ exact-10 room (inBody t x) b = go (eqb b CTRLZ) (ltb (length x) room)
     go false false = refl
 exact-10 room (inMark t x) b = no-ten (eqb b CR) (got t x) _ refl (no-ten (eqb b SP) (goes (inMark t x)) malformed refl refl)
 exact-10 room atStart b = no-ten (eqb b 1) (goes atLen) malformed refl refl
-exact-10 room atLen b = no-ten (leb 4 b && leb b 88) (goes (inHead b [])) malformed refl refl
+exact-10 room atLen b = no-ten (leb lenLeast b && leb b lenMost) (goes (inHead b [])) malformed refl refl
 exact-10 room (inHead len h) b =
-    no-ten (eqb b 0) _ _ (no-ten (eqb (length h) 0 || ltb (length h + 8) len) malformed (goes (inOff len h [])) refl refl)
-    (no-ten (headingByte b && (ltb (length h) 80 && ltb (length h + 3) len)) (goes (inHead len (h ++ (b ∷ [])))) malformed refl refl)
+    no-ten (eqb b 0) _ _ (no-ten (eqb (length h) 0 || ltb (length h + besideMost) len) malformed (goes (inOff len h [])) refl refl)
+    (no-ten (headingByte b && (ltb (length h) headingMax && ltb (length h + besideLeast) len)) (goes (inHead len (h ++ (b ∷ [])))) malformed refl refl)
 exact-10 room (inOff len h o) b =
     no-ten (eqb b 0) _ _ (no-ten (eqb len (length h + length o + 2)) (goes (inData h [] 0)) malformed refl refl)
-    (no-ten (eqb b 48 && ltb (length h + length o + 2) len) (goes (inOff len h (o ++ (b ∷ [])))) malformed refl refl)
-exact-10 room (inData h x zero) b = no-ten (eqb b 2) (goes (atSize h x)) _ refl (no-ten (eqb b 4) (goes (atSum h x)) malformed refl refl)
+    (no-ten (eqb b (char "0") && ltb (length h + length o + 2) len) (goes (inOff len h (o ++ (b ∷ [])))) malformed refl refl)
+exact-10 room (inData h x zero) b = no-ten (eqb b STX) (goes (atSize h x)) _ refl (no-ten (eqb b EOT) (goes (atSum h x)) malformed refl refl)
 exact-10 room (inData h x (suc k)) b = go (ltb (length x) room)
   where
     go : (f : Bool) → isTen (cond f (goes (inData h (x ++ (b ∷ [])) k)) noRoom) ≡ not f

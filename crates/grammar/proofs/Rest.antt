@@ -7,9 +7,9 @@ use mathlib.Core.List.{[], _∷_, _++_}
 use Prim.Native.Nat.{ℕ, zero, suc, _+_, _≤_, _<_}
 use lib.ListN.{length}
 use Rattle.grammar.specs.Bytes.{Bytes, CR, CTRLZ, every, before, null, splitAt}
-use Rattle.grammar.specs.Fields.{headingByte, isHeading}
-use Rattle.grammar.specs.Transfers.{Parsed, blockSize, blocks, blocksRead, bodyRead, consData, headRead, lenRead, offRead, readFramed, spacesCR, titleRead, zeroDigit}
-use Rattle.grammar.specs.Scan.{Scan, Scanned, atLen, atSize, atStart, atSum, bodyOf, goes, got, inBody, inData, inHead, inMark, inOff, inTitle, malformed, noRoom, wrongSum}
+use Rattle.grammar.specs.Fields.{headingByte, isHeading, headingMax}
+use Rattle.grammar.specs.Transfers.{Parsed, blockSize, blocks, blocksRead, bodyRead, consData, headRead, lenRead, offRead, readFramed, spacesCR, titleRead, zeroDigit, besideLeast}
+use Rattle.grammar.specs.Scan.{Scan, Scanned, atLen, atSize, atStart, atSum, bodyOf, goes, got, inBody, inData, inHead, inMark, inOff, inTitle, malformed, noRoom, wrongSum, besideMost, lenLeast, lenMost}
 use Rattle.grammar.proofs.Basics.{snoc-cons, octet}
 
 -- ---------------------------------------------------------------- what is still to come
@@ -53,9 +53,9 @@ rest (atSum h x) r = lastRead h x r
 
 -- what holds of the parts read so far
 abbrev pub Ok : Scan → Type 0
-Ok (inTitle t) = (every headingByte t ≡ true) × (length t ≤ 80)
-Ok (inHead len h) = (every headingByte h ≡ true) × (length h ≤ 80) × (4 ≤ len) × (len ≤ 88) × (length h + 3 ≤ len)
-Ok (inOff len h o) = (isHeading h ≡ true) × (every zeroDigit o ≡ true) × (length h + 3 ≤ len) × (len ≤ length h + 8) × (length h + length o + 2 ≤ len)
+Ok (inTitle t) = (every headingByte t ≡ true) × (length t ≤ headingMax)
+Ok (inHead len h) = (every headingByte h ≡ true) × (length h ≤ headingMax) × (lenLeast ≤ len) × (len ≤ lenMost) × (length h + besideLeast ≤ len)
+Ok (inOff len h o) = (isHeading h ≡ true) × (every zeroDigit o ≡ true) × (length h + besideLeast ≤ len) × (len ≤ length h + besideMost) × (length h + length o + 2 ≤ len)
 Ok (inBody t x) = Unit {0}
 Ok (inMark t x) = Unit {0}
 Ok atStart = Unit {0}

@@ -10,9 +10,9 @@ use lib.Dec.{eqb, ltb, leb}
 use lib.ListN.{length, take, drop, take-append-drop}
 use borrow.Author.Tests.{eq-eqb, ne-eqb, eqb-true, eqb-false, le-leb, leb-true, le-ltb, ltb-false}
 use Rattle.grammar.specs.Bytes.{Bytes, SP, every}
-use Rattle.grammar.specs.Ascii.{text}
-use Rattle.grammar.specs.Fields.{upper, after, digit, readFrom, sized}
-use Rattle.grammar.specs.Answers.{Sign, accept, decline, defer, Level, level1, signOf, orElse, letterSign, signByte, isOffset, offsetDigits, digitCount, followed, offsetRead, orOffset, signAt, consO, consNext, readSigns, signsRead, readFs}
+use Rattle.grammar.specs.Ascii.{text, char}
+use Rattle.grammar.specs.Fields.{upper, after, digit, readFrom, sized, smallEnd, toCapital, digitsEnd}
+use Rattle.grammar.specs.Answers.{Sign, accept, decline, defer, Level, level1, signOf, orElse, letterSign, signByte, isOffset, offsetDigits, digitCount, followed, offsetRead, orOffset, signAt, consO, consNext, readSigns, signsRead, readFs, plusSign, minusSign, equalSign}
 use Rattle.grammar.specs.Signs.{Sign01, plus, minus, equal, Letter, yes, held, no, rejected, later, failed, Mark, bang, offset, Offset, Spells, of01, letter, whole, remainder, Says, nothing, more, FsForm}
 use Rattle.grammar.proofs.Basics.{and2, by-test, no-both, or-right, or-second}
 
@@ -20,17 +20,17 @@ use Rattle.grammar.proofs.Basics.{and2, by-test, no-both, or-right, or-
 
 -- a capital or its small letter is no digit, nor is `!`
 no-digit : (b u : ℕ) → upper b ≡ u → digit u ≡ false → digit b ≡ false
-no-digit b u e h = go (ltb b 97) refl (ltb b 123) refl e
+no-digit b u e h = go (ltb b (char "a")) refl (ltb b smallEnd) refl e
   where
-    go : (c : Bool) → ltb b 97 ≡ c → (d : Bool) → ltb b 123 ≡ d → cond c b (cond d (b - 32) b) ≡ u → digit b ≡ false
+    go : (c : Bool) → ltb b (char "a") ≡ c → (d : Bool) → ltb b smallEnd ≡ d → cond c b (cond d (b - toCapital) b) ≡ u → digit b ≡ false
     go true p d q k = ap digit k ∙ h
-    go false p true q k = let z = ltb-false b 97 p in rw (le-ltb b 48 (omega arith), le-ltb b 58 (omega arith))
+    go false p true q k = let z = ltb-false b (char "a") p in rw (le-ltb b (char "0") (omega arith), le-ltb b digitsEnd (omega arith))
     go false p false q k = ap digit k ∙ h
 
 -- and is none of 01's signs
-unsigned : (b u : ℕ) → upper b ≡ u → (u ≡ 43 → ⊥) → (u ≡ 45 → ⊥) → (u ≡ 61 → ⊥) → signOf b ≡ none
+unsigned : (b u : ℕ) → upper b ≡ u → (u ≡ plusSign → ⊥) → (u ≡ minusSign → ⊥) → (u ≡ equalSign → ⊥) → signOf b ≡ none
 unsigned b u e x y z =
-    rw (ne-eqb b 43 (λ q. x (sym e ∙ ap upper q)), ne-eqb b 45 (λ q. y (sym e ∙ ap upper q)), ne-eqb b 61 (λ q. z (sym e ∙ ap upper q)))
+    rw (ne-eqb b plusSign (λ q. x (sym e ∙ ap upper q)), ne-eqb b minusSign (λ q. y (sym e ∙ ap upper q)), ne-eqb b equalSign (λ q. z (sym e ∙ ap upper q)))
 
 count-is : (ds r : Bytes) → every digit ds ≡ true → digitCount r ≡ 0 → digitCount (ds ++ r) ≡ length ds
 unfolding digitCount
@@ -57,7 +57,7 @@ front-digits (x ∷ r) = go (digit x) refl (front-digits r)
 
 -- ---------------------------------------------------------------- a sign is read
 
-letter-is : (u : ℕ) (s : Sign) → Letter u s → (letterSign u ≡ some s) × (65 ≤ u)
+letter-is : (u : ℕ) (s : Sign) → Letter u s → (letterSign u ≡ some s) × (char "A" ≤ u)
 letter-is u s yes = (refl, omega arith)
 letter-is u s held = (refl, omega arith)
 letter-is u s no = (refl, omega arith)
@@ -65,29 +65,29 @@ letter-is u s rejected = (refl, omega arith)
 letter-is u s later = (refl, omega arith)
 letter-is u s failed = (refl, omega arith)
 
-mark-is : (u : ℕ) → Mark u → (letterSign u ≡ none) × (eqb u 33 || eqb u 65 ≡ true) × (signOf u ≡ none) × (digit u ≡ false)
+mark-is : (u : ℕ) → Mark u → (letterSign u ≡ none) × (eqb u (char "!") || eqb u (char "A") ≡ true) × (signOf u ≡ none) × (digit u ≡ false)
 mark-is u bang = (refl, refl, refl, refl)
 mark-is u offset = (refl, refl, refl, refl)
 
 -- by itself
-byte-read : (v : Level) (b u : ℕ) (o : Option Sign) → 1 ≤ v → upper b ≡ u → (u ≡ 43 → ⊥) → (u ≡ 45 → ⊥) → (u ≡ 61 → ⊥) → letterSign u ≡ o → signByte v b ≡ o
+byte-read : (v : Level) (b u : ℕ) (o : Option Sign) → 1 ≤ v → upper b ≡ u → (u ≡ plusSign → ⊥) → (u ≡ minusSign → ⊥) → (u ≡ equalSign → ⊥) → letterSign u ≡ o → signByte v b ≡ o
 byte-read v b u o k e x y z h = rw (unsigned b u e x y z, le-ltb v level1 k) (ap letterSign e ∙ h)
 
 offset-read : (ds r : Bytes) (s : Sign) → Offset ds → digitCount r ≡ 0 → cond (eqb (readFrom 0 ds) 0) accept defer ≡ s
     → offsetRead (digitCount (ds ++ r)) (ds ++ r) ≡ some (s, r)
 offset-read ds r s h k e =
-    rw (count-is ds r (h .digits) k, take-is ds r, drop-is ds r, le-leb 1 (length ds) (h .one), le-leb (length ds) 6 (h .six)) (ap (λ (x : Sign). some (x, r)) e)
+    rw (count-is ds r (h .digits) k, take-is ds r, drop-is ds r, le-leb 1 (length ds) (h .one), le-leb (length ds) offsetDigits (h .six)) (ap (λ (x : Sign). some (x, r)) e)
 
 mark-read : (v : Level) (b u : ℕ) (ds r : Bytes) (s : Sign) → 1 ≤ v → upper b ≡ u → Mark u → Offset ds → digitCount r ≡ 0
     → cond (eqb (readFrom 0 ds) 0) accept defer ≡ s → orOffset (signByte v b) v b (ds ++ r) ≡ some (s, r)
 mark-read v b u ds r s k e m h c q =
     let i = mark-is u m in
-    ap (λ (o : Option Sign). orOffset o v b (ds ++ r)) (byte-read v b u none k e (apart 43 refl m) (apart 45 refl m) (apart 61 refl m) (i .0))
+    ap (λ (o : Option Sign). orOffset o v b (ds ++ r)) (byte-read v b u none k e (apart plusSign refl m) (apart minusSign refl m) (apart equalSign refl m) (i .0))
     ∙ rw (le-ltb v level1 k, e, i .1) (offset-read ds r s h c q)
   where
-    apart : (n : ℕ) → eqb 33 n || eqb 65 n ≡ false → {x : ℕ} → Mark x → x ≡ n → ⊥
-    apart n f bang p = no-both (eqb 33 n || eqb 65 n) (ap (λ (t : Bool). t || eqb 65 n) (eq-eqb 33 n p)) f
-    apart n f offset p = no-both (eqb 33 n || eqb 65 n) (or-right (eqb 33 n) (eqb 65 n) (eq-eqb 65 n p)) f
+    apart : (n : ℕ) → eqb (char "!") n || eqb (char "A") n ≡ false → {x : ℕ} → Mark x → x ≡ n → ⊥
+    apart n f bang p = no-both (eqb (char "!") n || eqb (char "A") n) (ap (λ (t : Bool). t || eqb (char "A") n) (eq-eqb (char "!") n p)) f
+    apart n f offset p = no-both (eqb (char "!") n || eqb (char "A") n) (or-right (eqb (char "!") n) (eqb (char "A") n) (eq-eqb (char "A") n p)) f
 
 spelt-read : (v : Level) (s : Sign) (w : Bytes) → Spells v s w → (r : Bytes) → digitCount r ≡ 0 → signAt v (w ++ r) ≡ some (s, r)
 unfolding signAt
@@ -108,7 +108,7 @@ spelt-starts v x w (of01 b s minus) r = refl
 spelt-starts v x w (of01 b s equal) r = refl
 spelt-starts v x w (letter k b u s e l) r =
     let i = letter-is u s l in
-    rw (no-digit b u e (rw (le-ltb u 48 (omega (arith, i .1)), le-ltb u 58 (omega (arith, i .1)))))
+    rw (no-digit b u e (rw (le-ltb u (char "0") (omega (arith, i .1)), le-ltb u digitsEnd (omega (arith, i .1)))))
 spelt-starts v x w (whole k b u ds e m h z) r = rw (no-digit b u e ((mark-is u m) .3))
 spelt-starts v x w (remainder k b u ds e m h z) r = rw (no-digit b u e ((mark-is u m) .3))
 
@@ -140,9 +140,9 @@ Lettered (some s) u = Letter u s
 
 known : (b : ℕ) → Known (signOf b) b
 known b =
-    by-test (λ (o : Option Sign). Known o b) (eqb b 43) (λ e. subst (λ (n : ℕ). Sign01 n accept) (sym (eqb-true b 43 e)) plus)
-    (λ e. by-test (λ (o : Option Sign). Known o b) (eqb b 45) (λ f. subst (λ (n : ℕ). Sign01 n decline) (sym (eqb-true b 45 f)) minus)
-    (λ f. by-test (λ (o : Option Sign). Known o b) (eqb b 61) (λ g. subst (λ (n : ℕ). Sign01 n defer) (sym (eqb-true b 61 g)) equal) (λ g. tt)))
+    by-test (λ (o : Option Sign). Known o b) (eqb b plusSign) (λ e. subst (λ (n : ℕ). Sign01 n accept) (sym (eqb-true b plusSign e)) plus)
+    (λ e. by-test (λ (o : Option Sign). Known o b) (eqb b minusSign) (λ f. subst (λ (n : ℕ). Sign01 n decline) (sym (eqb-true b minusSign f)) minus)
+    (λ f. by-test (λ (o : Option Sign). Known o b) (eqb b equalSign) (λ g. subst (λ (n : ℕ). Sign01 n defer) (sym (eqb-true b equalSign g)) equal) (λ g. tt)))
 
 -- one test of a letter after the other
 tested : (u n : ℕ) (s : Sign) (o : Option Sign) → Letter n s → Lettered o u → Lettered (cond (eqb u n) (some s) o) u
@@ -150,15 +150,15 @@ tested u n s o l h = by-test (λ (p : Option Sign). Lettered p u) (eqb u n) (λ 
 
 lettered : (u : ℕ) → Lettered (letterSign u) u
 lettered u =
-    tested u 89 accept _ yes
-    (tested u 72 accept _ held (tested u 78 decline _ no (tested u 82 decline _ rejected (tested u 76 defer _ later (tested u 69 defer none failed tt)))))
+    tested u (char "Y") accept _ yes
+    (tested u (char "H") accept _ held (tested u (char "N") decline _ no (tested u (char "R") decline _ rejected (tested u (char "L") defer _ later (tested u (char "E") defer none failed tt)))))
 
-mark-of : (u : ℕ) → eqb u 33 || eqb u 65 ≡ true → Mark u
-mark-of u h = go (eqb u 33) refl
+mark-of : (u : ℕ) → eqb u (char "!") || eqb u (char "A") ≡ true → Mark u
+mark-of u h = go (eqb u (char "!")) refl
   where
-    go : (c : Bool) → eqb u 33 ≡ c → Mark u
-    go true e = subst Mark (sym (eqb-true u 33 e)) bang
-    go false e = subst Mark (sym (eqb-true u 65 (or-second (eqb u 33) (eqb u 65) e h))) offset
+    go : (c : Bool) → eqb u (char "!") ≡ c → Mark u
+    go true e = subst Mark (sym (eqb-true u (char "!") e)) bang
+    go false e = subst Mark (sym (eqb-true u (char "A") (or-second (eqb u (char "!")) (eqb u (char "A")) e h))) offset
 
 -- the sign in front, spelt by what stands before the rest
 abbrev Split : Level → Bytes → Option (Sign × Bytes) → Type 0
@@ -177,8 +177,8 @@ module _ (v : Level) (b : ℕ) (t : Bytes) where
 
       fits : sized offsetDigits ds ≡ true → Offset ds
       fits e =
-          let p = and2 (leb 1 (length ds)) (leb (length ds) 6) e in
-          record { digits = front-digits t; one = leb-true 1 (length ds) (p .0); six = leb-true (length ds) 6 (p .1) }
+          let p = and2 (leb 1 (length ds)) (leb (length ds) offsetDigits) e in
+          record { digits = front-digits t; one = leb-true 1 (length ds) (p .0); six = leb-true (length ds) offsetDigits (p .1) }
 
       go : (c : Bool) → sized offsetDigits ds ≡ c → (d : Bool) → eqb (readFrom 0 ds) 0 ≡ d
           → Split v (b ∷ t) (followed (cond c (some (cond d accept defer)) none) (drop (digitCount t) t))
@@ -223,18 +223,18 @@ told v (suc n) s = next (λ r. told v n r) (signAt v s) (split v s)
 
 -- a space is no letter's capital
 space-is : (c : ℕ) → upper c ≡ SP → c ≡ SP
-space-is c e = go (ltb c 97) refl (ltb c 123) refl e
+space-is c e = go (ltb c (char "a")) refl (ltb c smallEnd) refl e
   where
-    go : (a : Bool) → ltb c 97 ≡ a → (d : Bool) → ltb c 123 ≡ d → cond a c (cond d (c - 32) c) ≡ SP → c ≡ SP
+    go : (a : Bool) → ltb c (char "a") ≡ a → (d : Bool) → ltb c smallEnd ≡ d → cond a c (cond d (c - toCapital) c) ≡ SP → c ≡ SP
     go true p d q k = k
-    go false p true q k = let z = ltb-false c 97 p in omega arith
+    go false p true q k = let z = ltb-false c (char "a") p in omega arith
     go false p false q k = k
 
 abbrev Answers : Level → ℕ → Bytes → Option (List Sign) → Type 0
 Answers v n ln none = Unit {0}
 Answers v n ln (some ss) = FsForm v ln ss × (length ss ≡ n)
 
-line-form : (v : Level) (n a b c : ℕ) (r : Bytes) → upper a ≡ 70 → upper b ≡ 83 → upper c ≡ SP → Answers v n (a ∷ b ∷ c ∷ r) (readSigns v n r)
+line-form : (v : Level) (n a b c : ℕ) (r : Bytes) → upper a ≡ char "F" → upper b ≡ char "S" → upper c ≡ SP → Answers v n (a ∷ b ∷ c ∷ r) (readSigns v n r)
 line-form v n a b c r x y z = go (readSigns v n r) (told v n r)
   where
     go : (o : Option (List Sign)) → Told v n r o → Answers v n (a ∷ b ∷ c ∷ r) o
@@ -245,15 +245,15 @@ line-form v n a b c r x y z = go (readSigns v n r) (told v n r)
 answers : (v : Level) (n : ℕ) (ln : Bytes) → Answers v n ln (readFs v n ln)
 unfolding readFs
 answers v n [] = tt
-answers v n (a ∷ []) = by-test (λ (o : Option Bytes). Answers v n (a ∷ []) (signsRead v n o)) (eqb (upper a) 70) (λ e. tt) (λ e. tt)
+answers v n (a ∷ []) = by-test (λ (o : Option Bytes). Answers v n (a ∷ []) (signsRead v n o)) (eqb (upper a) (char "F")) (λ e. tt) (λ e. tt)
 answers v n (a ∷ b ∷ []) =
-    by-test (λ (o : Option Bytes). Answers v n (a ∷ b ∷ []) (signsRead v n o)) (eqb (upper a) 70)
-    (λ e. by-test (λ (o : Option Bytes). Answers v n (a ∷ b ∷ []) (signsRead v n o)) (eqb (upper b) 83) (λ f. tt) (λ f. tt)) (λ e. tt)
+    by-test (λ (o : Option Bytes). Answers v n (a ∷ b ∷ []) (signsRead v n o)) (eqb (upper a) (char "F"))
+    (λ e. by-test (λ (o : Option Bytes). Answers v n (a ∷ b ∷ []) (signsRead v n o)) (eqb (upper b) (char "S")) (λ f. tt) (λ f. tt)) (λ e. tt)
 answers v n (a ∷ b ∷ c ∷ r) =
-    by-test (λ (o : Option Bytes). Answers v n (a ∷ b ∷ c ∷ r) (signsRead v n o)) (eqb (upper a) 70)
-    (λ e. by-test (λ (o : Option Bytes). Answers v n (a ∷ b ∷ c ∷ r) (signsRead v n o)) (eqb (upper b) 83)
+    by-test (λ (o : Option Bytes). Answers v n (a ∷ b ∷ c ∷ r) (signsRead v n o)) (eqb (upper a) (char "F"))
+    (λ e. by-test (λ (o : Option Bytes). Answers v n (a ∷ b ∷ c ∷ r) (signsRead v n o)) (eqb (upper b) (char "S"))
     (λ f. by-test (λ (o : Option Bytes). Answers v n (a ∷ b ∷ c ∷ r) (signsRead v n o)) (eqb (upper c) SP)
-    (λ g. line-form v n a b c r (eqb-true (upper a) 70 e) (eqb-true (upper b) 83 f) (eqb-true (upper c) SP g)) (λ g. tt)) (λ f. tt)) (λ e. tt)
+    (λ g. line-form v n a b c r (eqb-true (upper a) (char "F") e) (eqb-true (upper b) (char "S") f) (eqb-true (upper c) SP g)) (λ g. tt)) (λ f. tt)) (λ e. tt)
 
 -- AND NO OTHER LINE
 pub fs-only : (v : Level) (n : ℕ) (ln : Bytes) (ss : List Sign) → readFs v n ln ≡ some ss → FsForm v ln ss × (length ss ≡ n)

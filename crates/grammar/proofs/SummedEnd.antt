@@ -7,8 +7,8 @@ use Prim.Native.Nat.{ℕ, _+_, _*_}
 use lib.Dec.{eqb}
 use borrow.Author.Tests.{eqb-true}
 use Rattle.grammar.specs.Bytes.{Bytes, SP, isSome, same}
-use Rattle.grammar.specs.Ascii.{text}
-use Rattle.grammar.specs.Fields.{upper, after, hexDigit, hexPair, twoHex}
+use Rattle.grammar.specs.Ascii.{text, char}
+use Rattle.grammar.specs.Fields.{upper, after, hexDigit, hexPair, twoHex, hexBase}
 use Rattle.grammar.specs.Turns.{Proposal, TurnLine, saysFF, saysFQ, endsBlock, notAllowed, proposes, endsSummed, orNotAllowed, readProposal, readSummedEnd, summedOr, twoHexRead, readTurnLine}
 use Rattle.grammar.proofs.Basics.{no-both}
 
@@ -21,12 +21,12 @@ pub record SummedForm (ln : Bytes) (h : ℕ) : Type 0 where
   pub low : ℕ
   pub one : hexDigit first ≡ some high
   pub two : hexDigit second ≡ some low
-  pub number : h ≡ high * 16 + low
+  pub number : h ≡ high * hexBase + low
 
 -- ---------------------------------------------------------------- such a line says so
 
-pub summed-read : (md : Bool) (f a b x y : ℕ) → upper f ≡ 70 → hexDigit a ≡ some x → hexDigit b ≡ some y
-    → readTurnLine md (f ∷ 62 ∷ SP ∷ a ∷ b ∷ []) ≡ endsSummed (x * 16 + y)
+pub summed-read : (md : Bool) (f a b x y : ℕ) → upper f ≡ char "F" → hexDigit a ≡ some x → hexDigit b ≡ some y
+    → readTurnLine md (f ∷ char ">" ∷ SP ∷ a ∷ b ∷ []) ≡ endsSummed (x * hexBase + y)
 unfolding readTurnLine readSummedEnd twoHex
 summed-read md f a b x y e h k = simp (e, h, k)
 

@@ -6,7 +6,7 @@ use Prim.Native.Nat.{ℕ, zero, suc}
 use lib.Dec.{eqb, ltb}
 use lib.ListN.{take, drop}
 use Rattle.grammar.specs.Bytes.{Bytes, isSome}
-use Rattle.grammar.specs.Ascii.{text}
+use Rattle.grammar.specs.Ascii.{text, char}
 use Rattle.grammar.specs.Refusals.{badAnswer, lineNotAllowed}
 use Rattle.grammar.specs.Fields.{after, upper, digit, sized, readFrom}
 use Rattle.grammar.specs.Turns.{FixedLine, fixedText, Proposal, proposalLine}
@@ -69,12 +69,12 @@ level1 = 1
 -- "`Y` as `+`, `N` as `-`, `L` as `=`, `H` as accepted though held over there, `R` as declined, and `E` as deferred": a letter as a capital
 abbrev pub letterSign : ℕ → Option Sign
 letterSign u =
-    cond (eqb u 89) (some accept)
-    (cond (eqb u 72) (some accept)
-    (cond (eqb u 78) (some decline)
-    (cond (eqb u 82) (some decline)
-    (cond (eqb u 76) (some defer)
-    (cond (eqb u 69) (some defer) none)))))
+    cond (eqb u (char "Y")) (some accept)
+    (cond (eqb u (char "H")) (some accept)
+    (cond (eqb u (char "N")) (some decline)
+    (cond (eqb u (char "R")) (some decline)
+    (cond (eqb u (char "L")) (some defer)
+    (cond (eqb u (char "E")) (some defer) none)))))
 
 -- A sign of one byte. "Level 0 stays as in 01. At level 1 we also read, in either case, .."
 abbrev pub signByte : Level → ℕ → Option Sign
@@ -82,7 +82,7 @@ signByte v b = orElse (signOf b) (cond (ltb v level1) none (letterSign (upper b)
 
 -- "`!` or `A`", in either case: the byte in front of an offset
 abbrev pub isOffset : ℕ → Bool
-isOffset b = eqb (upper b) 33 || eqb (upper b) 65
+isOffset b = eqb (upper b) (char "!") || eqb (upper b) (char "A")
 
 -- "with 1 to 6 digits"
 abbrev pub offsetDigits : ℕ

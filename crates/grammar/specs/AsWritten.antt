@@ -6,8 +6,8 @@ use mathlib.Core.List.{List, [], _∷_, _++_}
 use Prim.Native.Nat.{ℕ, _+_, _%_, _≤_, _<_}
 use lib.Dec.{eqb}
 use lib.ListN.{length}
-use Rattle.grammar.specs.Bytes.{Bytes, CR, SP, CTRLZ, byteValues}
-use Rattle.grammar.specs.Ascii.{text}
+use Rattle.grammar.specs.Bytes.{Bytes, CR, SP, CTRLZ, NUL, SOH, STX, EOT, byteValues}
+use Rattle.grammar.specs.Ascii.{text, char}
 use Rattle.grammar.specs.Fields.{Form, plain, message, file, toFirst, isSize, readFrom}
 use Rattle.grammar.specs.Turns.{Proposal}
 use Rattle.grammar.specs.Transfers.{byteSum}
@@ -23,7 +23,7 @@ betweenSpaces (x ∷ xs) = cond (eqb x SP) ([] ∷ betweenSpaces xs) (toFirst x 
 abbrev pub noLeadingZero : Bytes → Bool
 noLeadingZero [] = false
 noLeadingZero (x ∷ []) = true
-noLeadingZero (x ∷ y ∷ ys) = not (eqb x 48)
+noLeadingZero (x ∷ y ∷ ys) = not (eqb x (char "0"))
 
 -- "In plain mode the letter is FB; in framed mode FA is a packed message and FB a packed file."; "written as capitals"
 abbrev pub lettersFor : Form → Bytes
@@ -43,11 +43,15 @@ pub record ProposalWritten (p : Proposal) (ln : Bytes) : Type 0 where
 
 -- ---------------------------------------------------------------- a transfer
 
+-- "blocks of 256"
+abbrev pub wholeBlock : ℕ
+wholeBlock = 256
+
 -- "blocks of 256 and a shorter last one": the data of each block, in order
 abbrev pub InBlocks : List Bytes → Type 0
 InBlocks [] = Unit {0}
-InBlocks (d ∷ []) = (1 ≤ length d) × (length d ≤ 256)
-InBlocks (d ∷ e ∷ ds) = (length d ≡ 256) × InBlocks (e ∷ ds)
+InBlocks (d ∷ []) = (1 ≤ length d) × (length d ≤ wholeBlock)
+InBlocks (d ∷ e ∷ ds) = (length d ≡ wholeBlock) × InBlocks (e ∷ ds)
 
 abbrev pub joined : List Bytes → Bytes
 joined [] = []
@@ -55,24 +59,24 @@ joined (d ∷ ds) = d ++ joined ds
 
 -- "n = 00 means 256."
 abbrev pub blockNumber : Bytes → ℕ
-blockNumber d = cond (eqb (length d) 256) 0 (length d)
+blockNumber d = cond (eqb (length d) wholeBlock) 0 (length d)
 
 -- "blocks 02, n, data"
 abbrev pub blocksText : List Bytes → Bytes
 blocksText [] = []
-blocksText (d ∷ ds) = 2 ∷ blockNumber d ∷ (d ++ blocksText ds)
+blocksText (d ∷ ds) = STX ∷ blockNumber d ∷ (d ++ blocksText ds)
 
 -- The bytes w are the framed transfer of the heading h and the body x as we write it.
 pub record FramedWritten (h x w : Bytes) : Type 0 where
   pub blocks : List Bytes
   pub checksum : ℕ
   -- "Framed: 01, L, heading, 00, offset digits, 00; blocks 02, n, data; 04, checksum. L = heading + offset + 2."; "We write offset `0`"
-  pub bytes : w ≡ 1 ∷ (length h + 1 + 2) ∷ (h ++ (0 ∷ 48 ∷ 0 ∷ (blocksText blocks ++ 4 ∷ checksum ∷ [])))
+  pub bytes : w ≡ SOH ∷ (length h + 1 + 2) ∷ (h ++ (NUL ∷ char "0" ∷ NUL ∷ (blocksText blocks ++ EOT ∷ checksum ∷ [])))
   -- "blocks of 256 and a shorter last one; an empty body has no block"
   pub cut : InBlocks blocks
   pub whole : joined blocks ≡ x
   -- "The checksum makes the sum of all data bytes plus itself 0 modulo 256."
-  pub zero : (byteSum x + checksum) % 256 ≡ 0
+  pub zero : (byteSum x + checksum) % byteValues ≡ 0
   pub byte : checksum < byteValues
 
 -- "Plain: title, CR, body, 0x1A, CR."; no space between the last two

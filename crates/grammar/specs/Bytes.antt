@@ -2,7 +2,7 @@
 use mathlib.Core.Bool.{Bool, true, false, cond, _&&_}
 use mathlib.Core.Option.{Option, none, some}
 use mathlib.Core.List.{List, [], _∷_}
-use Prim.Native.Nat.{ℕ}
+use Prim.Native.Nat.{ℕ, _*_}
 use lib.Dec.{eqb, ltb}
 
 abbrev pub Bytes : Type 0
@@ -14,6 +14,16 @@ byteValues = 256
 
 abbrev pub isByte : ℕ → Bool
 isByte b = ltb b byteValues
+
+-- A number in two bytes is below this, one in three, one in four.
+abbrev pub twoByteValues : ℕ
+twoByteValues = byteValues * byteValues
+
+abbrev pub threeByteValues : ℕ
+threeByteValues = byteValues * twoByteValues
+
+abbrev pub fourByteValues : ℕ
+fourByteValues = byteValues * threeByteValues
 
 -- A number of 64 bits, such as a buffer's length, is below this.
 abbrev pub wordValues : ℕ
@@ -34,6 +44,19 @@ SP = 32
 -- The byte 0x1A that ends a plain body; operators call it Ctrl-Z.
 abbrev pub CTRLZ : ℕ
 CTRLZ = 26
+
+-- The marks of a framed transfer, "01, L, heading, 00, offset digits, 00; blocks 02, n, data; 04, checksum", by their names in ASCII.
+abbrev pub NUL : ℕ
+NUL = 0
+
+abbrev pub SOH : ℕ
+SOH = 1
+
+abbrev pub STX : ℕ
+STX = 2
+
+abbrev pub EOT : ℕ
+EOT = 4
 
 -- The empty list and a byte in front of a list, by name, for modules in which `[]` and `_∷_` belong to strings.
 abbrev pub nil : Bytes

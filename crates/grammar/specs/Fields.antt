@@ -5,7 +5,8 @@ use mathlib.Core.List.{List, [], _∷_, _++_, map}
 use Prim.Native.Nat.{ℕ, zero, suc, _+_, _*_, _-_, _/_, _%_}
 use lib.Dec.{eqb, ltb, leb}
 use lib.ListN.{length}
-use Rattle.grammar.specs.Bytes.{Bytes, SP, CTRLZ, every, same}
+use Rattle.grammar.specs.Bytes.{Bytes, byteValues, SP, CTRLZ, every, same}
+use Rattle.grammar.specs.Ascii.{char}
 
 -- "a form (0 plain text, 1 packed message, 2 packed file)"
 pub data Form : Type 0 where
@@ -18,7 +19,7 @@ formNumber file = 2
 
 -- The form that a number in a record stands for; open refuses every other number.
 abbrev pub formIs : ℕ → Form
-formIs n = cond (eqb n 1) message (cond (eqb n 2) file plain)
+formIs n = cond (eqb n (formNumber message)) message (cond (eqb n (formNumber file)) file plain)
 
 -- ---------------------------------------------------------------- 1 to n bytes of a class
 
@@ -31,13 +32,25 @@ field c n w = every c w && sized n w
 
 -- ---------------------------------------------------------------- from, to and at
 
+-- 0x21, the first byte after the space
+abbrev pub visibleFrom : ℕ
+visibleFrom = 33
+
+-- the byte after 0x7E
+abbrev pub visibleEnd : ℕ
+visibleEnd = 127
+
 -- "bytes in 0x21-0x7E without `@` and `.`"
 abbrev pub callByte : ℕ → Bool
-callByte b = cond (eqb b 46 || eqb b 64) false (cond (ltb b 33) false (ltb b 127))
+callByte b = cond (eqb b (char ".") || eqb b (char "@")) false (cond (ltb b visibleFrom) false (ltb b visibleEnd))
 
--- "from and to have 1 to 6 bytes": a callsign, or a word such as ALL in its place
+-- "from and to have 1 to 6 bytes"
+abbrev pub callMax : ℕ
+callMax = 6
+
+-- a callsign, or a word such as ALL in its place
 unfoldable pub isCall : Bytes → Bool
-isCall w = field callByte 6 w
+isCall w = field callByte callMax w
 
 abbrev pub toFirst : ℕ → List Bytes → List Bytes
 toFirst x [] = (x ∷ []) ∷ []
@@ -46,7 +59,7 @@ toFirst x (w ∷ ws) = (x ∷ w) ∷ ws
 -- "parts .. joined by `.`"
 abbrev pub parts : Bytes → List Bytes
 parts [] = [] ∷ []
-parts (x ∷ xs) = cond (eqb x 46) ([] ∷ parts xs) (toFirst x (parts xs))
+parts (x ∷ xs) = cond (eqb x (char ".")) ([] ∷ parts xs) (toFirst x (parts xs))
 
 abbrev pub allCalls : List Bytes → Bool
 allCalls [] = true
@@ -55,31 +68,44 @@ allCalls (w ∷ ws) = isCall w && allCalls ws
 -- "after the first `.`"
 abbrev pub afterDot : Bytes → Bytes
 afterDot [] = []
-afterDot (x ∷ xs) = cond (eqb x 46) xs (afterDot xs)
+afterDot (x ∷ xs) = cond (eqb x (char ".")) xs (afterDot xs)
 
--- "At is one to several parts of 1 to 6 such bytes joined by `.`, 38 bytes in all and 31 after the first `.` at most."
+-- "38 bytes in all and 31 after the first `.` at most"
+abbrev pub atMax : ℕ
+atMax = 38
+
+abbrev pub afterDotMax : ℕ
+afterDotMax = 31
+
+-- "At is one to several parts of 1 to 6 such bytes joined by `.`"
 unfoldable pub isAt : Bytes → Bool
-isAt w = allCalls (parts w) && (leb (length w) 38 && leb (length (afterDot w)) 31)
+isAt w = allCalls (parts w) && (leb (length w) atMax && leb (length (afterDot w)) afterDotMax)
 
 -- ---------------------------------------------------------------- BID
 
 -- "bytes in 0x21-0xFF"; "BID bytes from 0x80 are a house rule."
 abbrev pub bidByte : ℕ → Bool
-bidByte b = cond (ltb b 33) false (ltb b 256)
+bidByte b = cond (ltb b visibleFrom) false (ltb b byteValues)
 
 -- "A BID has 1 to 12 bytes in 0x21-0xFF."
+abbrev pub bidMax : ℕ
+bidMax = 12
+
 unfoldable pub isBid : Bytes → Bool
-isBid w = field bidByte 12 w
+isBid w = field bidByte bidMax w
 
 -- ---------------------------------------------------------------- heading and body
 
 -- "bytes in 0x20-0xFF"
 abbrev pub headingByte : ℕ → Bool
-headingByte b = cond (ltb b 32) false (ltb b 256)
+headingByte b = cond (ltb b SP) false (ltb b byteValues)
 
 -- "A title or name has 1 to 80 bytes in 0x20-0xFF." The heading of a transfer (01's term) is one of the two.
+abbrev pub headingMax : ℕ
+headingMax = 80
+
 abbrev pub isHeading : Bytes → Bool
-isHeading w = field headingByte 80 w
+isHeading w = field headingByte headingMax w
 
 abbrev pub notCtrlZ : ℕ → Bool
 notCtrlZ b = not (eqb b CTRLZ)
@@ -99,9 +125,17 @@ isBody f x = leb (length x) bodyLimit && bodyFair f x
 
 -- ---------------------------------------------------------------- letters, words and numbers of a line
 
+-- the byte after `z`
+abbrev pub smallEnd : ℕ
+smallEnd = 123
+
+-- A capital stands so much before its small letter.
+abbrev pub toCapital : ℕ
+toCapital = 32
+
 -- "Command, type and feature letters are taken in either case and written as capitals": a letter as a capital, any other byte as it is
 abbrev pub upper : ℕ → ℕ
-upper b = cond (ltb b 97) b (cond (ltb b 123) (b - 32) b)
+upper b = cond (ltb b (char "a")) b (cond (ltb b smallEnd) (b - toCapital) b)
 
 -- "Two BIDs are now equal when they agree after A-Z and a-z are taken as one. Bytes from 0x80 still compare exactly." It is a comparison and
 -- no more: nothing that is stored or sent is made of it.
@@ -129,34 +163,55 @@ unfoldable pub words : Bytes → List Bytes
 words [] = []
 words (x ∷ xs) = cond (eqb x SP) (words xs) (attach x (starts xs) (words xs))
 
+-- the byte after `9`
+abbrev pub digitsEnd : ℕ
+digitsEnd = 58
+
 abbrev pub digit : ℕ → Bool
-digit b = cond (ltb b 48) false (ltb b 58)
+digit b = cond (ltb b (char "0")) false (ltb b digitsEnd)
 
 -- "size (1 to 9 digits)"
+abbrev pub sizeDigits : ℕ
+sizeDigits = 9
+
 unfoldable pub isSize : Bytes → Bool
-isSize w = field digit 9 w
+isSize w = field digit sizeDigits w
 
 -- The number that decimal digits stand for, after those that gave a.
 unfoldable pub readFrom : ℕ → Bytes → ℕ
 readFrom a [] = a
-readFrom a (x ∷ xs) = readFrom (a * 10 + (x - 48)) xs
+readFrom a (x ∷ xs) = readFrom (a * 10 + (x - char "0")) xs
 
 -- The size that a word says, where it is one.
 abbrev pub readSize : Bytes → Option ℕ
 readSize w = cond (isSize w) (some (readFrom 0 w)) none
 
+-- the byte after `F`
+abbrev pub hexEnd : ℕ
+hexEnd = 71
+
+-- `A` stands for ten: what a letter's byte is above its value.
+abbrev pub hexAbove : ℕ
+hexAbove = 55
+
 -- The value of a hexadecimal digit: 0-9, or a capital A-F.
 abbrev pub hexCapital : ℕ → Option ℕ
-hexCapital u = cond (ltb u 48) none (cond (ltb u 58) (some (u - 48)) (cond (ltb u 65) none (cond (ltb u 71) (some (u - 55)) none)))
+hexCapital u =
+    cond (ltb u (char "0")) none
+    (cond (ltb u digitsEnd) (some (u - char "0"))
+    (cond (ltb u (char "A")) none (cond (ltb u hexEnd) (some (u - hexAbove)) none)))
 
 -- "hexadecimal digits in either case" (02, Q-5)
 unfoldable pub hexDigit : ℕ → Option ℕ
 hexDigit b = hexCapital (upper b)
 
+abbrev pub hexBase : ℕ
+hexBase = 16
+
 abbrev pub hexPair : Option ℕ → Option ℕ → Option ℕ
 hexPair none y = none
 hexPair (some a) none = none
-hexPair (some a) (some b) = some (a * 16 + b)
+hexPair (some a) (some b) = some (a * hexBase + b)
 
 -- "two hexadecimal digits" and nothing more: the number that they stand for
 unfoldable pub twoHex : Bytes → Option ℕ
@@ -168,8 +223,12 @@ twoHex (a ∷ b ∷ c ∷ cs) = none
 -- The decimal digits of n without leading zeros, f at most.
 unfoldable pub writeNum : ℕ → ℕ → Bytes
 writeNum zero n = []
-writeNum (suc f) n = cond (ltb n 10) ((48 + n) ∷ []) (writeNum f (n / 10) ++ ((48 + n % 10) ∷ []))
+writeNum (suc f) n = cond (ltb n 10) ((char "0" + n) ∷ []) (writeNum f (n / 10) ++ ((char "0" + n % 10) ∷ []))
 
--- "no leading zeros"; ten digits hold every 32-bit number
+-- ten digits hold every 32-bit number
+abbrev pub decimalDigits : ℕ
+decimalDigits = 10
+
+-- "no leading zeros"
 abbrev pub decimal : ℕ → Bytes
-decimal n = writeNum 10 n
+decimal n = writeNum decimalDigits n

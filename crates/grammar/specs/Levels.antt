@@ -5,13 +5,13 @@ use mathlib.Core.List.{List, [], _∷_, _++_}
 use Prim.Native.Nat.{ℕ, zero, suc}
 use Rattle.grammar.specs.Bytes.{Bytes, byteValues, isSome}
 use Rattle.grammar.specs.Ascii.{text}
-use Rattle.grammar.specs.Refusals.{badAnswer, notSid}
+use Rattle.grammar.specs.Refusals.{badAnswer, lineNotAllowed, notSid}
 use Rattle.grammar.specs.Answers.{Sign, accept, decline, defer, Level, level0, level1, readFs}
 use Rattle.grammar.specs.Examples.{Answer, Example, awaitedAt, inForce, isLevel, number, signs}
 
 -- ---------------------------------------------------------------- which bytes are signs
 
--- Of the bytes from 256 - n on, those that are one whole answer with r after them.
+-- Of the n bytes from b on, those that are one whole answer with r after them.
 abbrev pub answersWith : Level → Bytes → ℕ → ℕ → Bytes
 answersWith v r zero b = []
 answersWith v r (suc n) b = cond (isSome (readFs v 1 (text "FS " ++ (b ∷ r)))) (b ∷ answersWith v r n (suc b)) (answersWith v r n (suc b))
@@ -29,17 +29,21 @@ answersWithDigit v = answersWith v (text "0") byteValues 0
 abbrev pub fs : Level → ℕ → Bytes → Answer → Example
 fs v n w t = record { asked = awaitedAt v n (text "FS " ++ w); told = t }
 
+-- The highest level that a SID can say.
+abbrev pub level9 : Level
+level9 = 9
+
 -- A sign of 01: the same at every level.
 abbrev pub atBoth : Bytes → Sign → List Example
-atBoth w s = fs level0 1 w (signs (s ∷ [])) ∷ fs level1 1 w (signs (s ∷ [])) ∷ fs 9 1 w (signs (s ∷ [])) ∷ []
+atBoth w s = fs level0 1 w (signs (s ∷ [])) ∷ fs level1 1 w (signs (s ∷ [])) ∷ fs level9 1 w (signs (s ∷ [])) ∷ []
 
 -- A sign of level 1: 7 at level 0; every level above 1 counts as 1.
 abbrev pub fromOne : Bytes → Sign → List Example
-fromOne w s = fs level0 1 w (number badAnswer) ∷ fs level1 1 w (signs (s ∷ [])) ∷ fs 9 1 w (signs (s ∷ [])) ∷ []
+fromOne w s = fs level0 1 w (number badAnswer) ∷ fs level1 1 w (signs (s ∷ [])) ∷ fs level9 1 w (signs (s ∷ [])) ∷ []
 
 -- One answer at no level.
 abbrev pub atNone : Bytes → List Example
-atNone w = fs level0 1 w (number badAnswer) ∷ fs level1 1 w (number badAnswer) ∷ fs 9 1 w (number badAnswer) ∷ []
+atNone w = fs level0 1 w (number badAnswer) ∷ fs level1 1 w (number badAnswer) ∷ fs level9 1 w (number badAnswer) ∷ []
 
 abbrev pub signEdges : List Example
 signEdges =
@@ -77,7 +81,7 @@ lineEdges =
     record { asked = awaitedAt level1 1 (text "FS  Y"); told = number badAnswer } ∷
     record { asked = awaitedAt level1 1 (text "FSY"); told = number badAnswer } ∷
     record { asked = awaitedAt level1 0 (text "FS "); told = number badAnswer } ∷
-    record { asked = awaitedAt level1 1 (text "FF"); told = number 5 } ∷
+    record { asked = awaitedAt level1 1 (text "FF"); told = number lineNotAllowed } ∷
     []
 
 -- ---------------------------------------------------------------- the level in force

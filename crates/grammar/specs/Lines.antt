@@ -6,6 +6,7 @@ use Prim.Native.Nat.{ℕ}
 use lib.Dec.{eqb, ltb, leb}
 use lib.ListN.{length}
 use Rattle.grammar.specs.Bytes.{Bytes, CR, LF, SP, null, splitAt}
+use Rattle.grammar.specs.Ascii.{char}
 use Rattle.grammar.specs.Refusals.{lineTooLong}
 
 -- "a command line at most 256" (00), "a 257th byte of a line comes before CR" (01)
@@ -82,9 +83,9 @@ trim (x ∷ xs) = joinSp x (trim xs)
 -- "A line that begins with `;` is ignored wherever a line is awaited"
 unfoldable pub isComment : Bytes → Bool
 isComment [] = false
-isComment (x ∷ xs) = eqb x 59
+isComment (x ∷ xs) = eqb x (char ";")
 
 -- "A prompt is a line whose last byte is its only `>`."
 unfoldable pub isPrompt : Bytes → Bool
 isPrompt [] = false
-isPrompt (x ∷ xs) = cond (eqb x 62) (null xs) (isPrompt xs)
+isPrompt (x ∷ xs) = cond (eqb x (char ">")) (null xs) (isPrompt xs)

@@ -5,10 +5,11 @@ use mathlib.Core.List.{[], _∷_, _++_}
 use Prim.Native.Nat.{ℕ, zero, suc, _+_}
 use lib.Dec.{eqb, ltb, leb}
 use lib.ListN.{length}
-use Rattle.grammar.specs.Bytes.{Bytes, CR, SP, CTRLZ}
+use Rattle.grammar.specs.Bytes.{Bytes, CR, SP, CTRLZ, NUL, SOH, STX, EOT}
+use Rattle.grammar.specs.Ascii.{char}
 use Rattle.grammar.specs.Refusals.{badTransfer, badChecksum, storeFull}
-use Rattle.grammar.specs.Fields.{Form, plain, message, file, headingByte}
-use Rattle.grammar.specs.Transfers.{blockSize, sumRight}
+use Rattle.grammar.specs.Fields.{Form, plain, message, file, headingByte, headingMax}
+use Rattle.grammar.specs.Transfers.{blockSize, sumRight, besideLeast}
 
 -- Where the reading stands, with what it has read of heading and body.
 -- Plain: inTitle title; inBody, inMark (after 0x1A) title body.
@@ -37,25 +38,35 @@ scannedNumber malformed = badTransfer
 scannedNumber wrongSum = badChecksum
 scannedNumber noRoom = storeFull
 
+-- "L = heading + offset + 2": with six digits of offset, L is so much more than the heading at most; and L itself at least and at most.
+abbrev pub besideMost : ℕ
+besideMost = 8
+
+abbrev pub lenLeast : ℕ
+lenLeast = 4
+
+abbrev pub lenMost : ℕ
+lenMost = 88
+
 -- One byte; room is what the store has left for this body, 65,535 at most.
 abbrev pub scanByte : ℕ → Scan → ℕ → Scanned
 scanByte room (inTitle t) b =
     cond (eqb b CR)
     (cond (eqb (length t) 0) malformed (goes (inBody t [])))
-    (cond (headingByte b && ltb (length t) 80) (goes (inTitle (t ++ (b ∷ [])))) malformed)
+    (cond (headingByte b && ltb (length t) headingMax) (goes (inTitle (t ++ (b ∷ [])))) malformed)
 scanByte room (inBody t x) b = cond (eqb b CTRLZ) (goes (inMark t x)) (cond (ltb (length x) room) (goes (inBody t (x ++ (b ∷ [])))) noRoom)
 scanByte room (inMark t x) b = cond (eqb b CR) (got t x) (cond (eqb b SP) (goes (inMark t x)) malformed)
-scanByte room atStart b = cond (eqb b 1) (goes atLen) malformed
-scanByte room atLen b = cond (leb 4 b && leb b 88) (goes (inHead b [])) malformed
+scanByte room atStart b = cond (eqb b SOH) (goes atLen) malformed
+scanByte room atLen b = cond (leb lenLeast b && leb b lenMost) (goes (inHead b [])) malformed
 scanByte room (inHead len h) b =
-    cond (eqb b 0)
-    (cond (eqb (length h) 0 || ltb (length h + 8) len) malformed (goes (inOff len h [])))
-    (cond (headingByte b && (ltb (length h) 80 && ltb (length h + 3) len)) (goes (inHead len (h ++ (b ∷ [])))) malformed)
+    cond (eqb b NUL)
+    (cond (eqb (length h) 0 || ltb (length h + besideMost) len) malformed (goes (inOff len h [])))
+    (cond (headingByte b && (ltb (length h) headingMax && ltb (length h + besideLeast) len)) (goes (inHead len (h ++ (b ∷ [])))) malformed)
 scanByte room (inOff len h o) b =
-    cond (eqb b 0)
+    cond (eqb b NUL)
     (cond (eqb len (length h + length o + 2)) (goes (inData h [] 0)) malformed)
-    (cond (eqb b 48 && ltb (length h + length o + 2) len) (goes (inOff len h (o ++ (b ∷ [])))) malformed)
-scanByte room (inData h x zero) b = cond (eqb b 2) (goes (atSize h x)) (cond (eqb b 4) (goes (atSum h x)) malformed)
+    (cond (eqb b (char "0") && ltb (length h + length o + 2) len) (goes (inOff len h (o ++ (b ∷ [])))) malformed)
+scanByte room (inData h x zero) b = cond (eqb b STX) (goes (atSize h x)) (cond (eqb b EOT) (goes (atSum h x)) malformed)
 scanByte room (inData h x (suc k)) b = cond (ltb (length x) room) (goes (inData h (x ++ (b ∷ [])) k)) noRoom
 scanByte room (atSize h x) b = goes (inData h x (blockSize b))
 scanByte room (atSum h x) b = cond (sumRight x b) (got h x) wrongSum

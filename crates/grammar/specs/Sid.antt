@@ -5,23 +5,35 @@ use mathlib.Core.List.{List, [], _∷_}
 use Prim.Native.Nat.{ℕ, _+_, _-_}
 use lib.Dec.{eqb, ltb}
 use lib.ListN.{getD, set, replicate}
-use Rattle.grammar.specs.Bytes.{Bytes, null, every, same, splitAt}
-use Rattle.grammar.specs.Ascii.{text}
+use Rattle.grammar.specs.Bytes.{Bytes, SP, null, every, same, splitAt}
+use Rattle.grammar.specs.Ascii.{text, char}
 use Rattle.grammar.specs.Refusals.{notSid, noForwarding}
 use Rattle.grammar.specs.Fields.{upper, after, digit}
 
 -- ---------------------------------------------------------------- the feature set
 
+-- the byte after `Z`
+abbrev pub capitalsEnd : ℕ
+capitalsEnd = 91
+
 -- "Letters have fixed places A = 0 to Z = 25", in either case
 abbrev pub isLetter : ℕ → Bool
-isLetter b = cond (ltb (upper b) 65) false (ltb (upper b) 91)
+isLetter b = cond (ltb (upper b) (char "A")) false (ltb (upper b) capitalsEnd)
 
 abbrev pub letterPlace : ℕ → ℕ
-letterPlace b = upper b - 65
+letterPlace b = upper b - char "A"
 
--- 27 places: 0 where the feature is not there, else its level and 1 more
+-- "`$` = 26"
+abbrev pub dollarPlace : ℕ
+dollarPlace = 26
+
+-- the letters' places and that of `$`
+abbrev pub featurePlaces : ℕ
+featurePlaces = 27
+
+-- at each place: 0 where the feature is not there, else its level and 1 more
 abbrev pub noFeatures : List ℕ
-noFeatures = replicate 27 0
+noFeatures = replicate featurePlaces 0
 
 -- Two letters that a session looks for, by their places: F, that the partner forwards, and B, framed transfers.
 abbrev pub letterB : ℕ
@@ -33,23 +45,31 @@ letterF = 5
 abbrev pub hasFeature : ℕ → List ℕ → Bool
 hasFeature i fs = ltb 0 (getD fs i 0)
 
--- A level is a digit; what is none adds nothing, and so does a place from 27 on.
+-- A level is a digit, so it is below this.
+abbrev pub levelValues : ℕ
+levelValues = 10
+
+-- What is no level adds nothing, and so does a place that is none of these.
 abbrev pub withFeature : ℕ → ℕ → List ℕ → List ℕ
-withFeature i level fs = cond (ltb level 10) (set fs i (level + 1)) fs
+withFeature i level fs = cond (ltb level levelValues) (set fs i (level + 1)) fs
 
 -- ---------------------------------------------------------------- the line
 
+-- the byte after 0x7F
+abbrev pub asciiValues : ℕ
+asciiValues = 128
+
 -- "at least one byte in 0x20-0x7F without `[`, `]`, `-`"
 abbrev pub authorByte : ℕ → Bool
-authorByte b = cond (eqb b 45 || (eqb b 91 || eqb b 93)) false (cond (ltb b 32) false (ltb b 128))
+authorByte b = cond (eqb b (char "-") || (eqb b (char "[") || eqb b (char "]"))) false (cond (ltb b SP) false (ltb b asciiValues))
 
 -- "at least one such byte or hyphen"
 abbrev pub dataByte : ℕ → Bool
-dataByte b = authorByte b || eqb b 45
+dataByte b = authorByte b || eqb b (char "-")
 
 -- "features `$`? `]`": the end of the SID; "`$` = 26"
 abbrev pub sidEnd : List ℕ → Bytes → Option (List ℕ)
-sidEnd fs r = cond (same r (text "]")) (some fs) (cond (same r (text "$]")) (some (withFeature 26 0 fs)) none)
+sidEnd fs r = cond (same r (text "]")) (some fs) (cond (same r (text "$]")) (some (withFeature dollarPlace 0 fs)) none)
 
 -- "letters, each with at most one digit; no digit is level 0"; "House rule: a letter given twice is refused (3)."
 abbrev pub readLevels : List ℕ → Bytes → Option (List ℕ)
@@ -58,7 +78,7 @@ readLevels fs (x ∷ []) = sidEnd fs (x ∷ [])
 readLevels fs (x ∷ d ∷ r) =
     cond (isLetter x)
     (cond (hasFeature (letterPlace x) fs) none
-    (cond (digit d) (readLevels (withFeature (letterPlace x) (d - 48) fs) r) (readLevels (withFeature (letterPlace x) 0 fs) (d ∷ r))))
+    (cond (digit d) (readLevels (withFeature (letterPlace x) (d - char "0") fs) r) (readLevels (withFeature (letterPlace x) 0 fs) (d ∷ r))))
     (sidEnd fs (x ∷ d ∷ r))
 
 -- "Features are one or more letters"
@@ -68,7 +88,7 @@ readFeatures (x ∷ xs) = cond (isLetter x) (readLevels noFeatures (x ∷ xs)) n
 
 abbrev pub orLast : ℕ → Option (Bytes × Bytes) → Bytes → Option (Bytes × Bytes)
 orLast x (some p) xs = some (x ∷ p .0, p .1)
-orLast x none xs = cond (eqb x 45) (some ([], xs)) none
+orLast x none xs = cond (eqb x (char "-")) (some ([], xs)) none
 
 -- What stands before the last hyphen, and what after it.
 abbrev pub splitLast : Bytes → Option (Bytes × Bytes)
@@ -87,7 +107,7 @@ authorRead (some p) = cond (every authorByte (p .0) && not (null (p .0))) (dataR
 
 abbrev pub sidRead : Option Bytes → Option (List ℕ)
 sidRead none = none
-sidRead (some r) = authorRead (splitAt 45 r)
+sidRead (some r) = authorRead (splitAt (char "-") r)
 
 -- "SID = `[` author `-` (data `-`)? features `$`? `]`.": the features of a valid one
 unfoldable pub readSid : Bytes → Option (List ℕ)

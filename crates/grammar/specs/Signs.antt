@@ -6,34 +6,38 @@ use mathlib.Core.List.{List, [], _∷_, _++_}
 use Prim.Native.Nat.{ℕ, _≤_}
 use lib.ListN.{length}
 use Rattle.grammar.specs.Bytes.{Bytes, SP, every}
+use Rattle.grammar.specs.Ascii.{char}
 use Rattle.grammar.specs.Fields.{upper, digit, readFrom}
 use Rattle.grammar.specs.Answers.{Sign, accept, decline, defer, Level}
 
 -- "`+` accept, `-` decline, `=` defer"
 pub data Sign01 : ℕ → Sign → Type 0 where
-  plus : Sign01 43 accept
-  minus : Sign01 45 decline
-  equal : Sign01 61 defer
+  plus : Sign01 (char "+") accept
+  minus : Sign01 (char "-") decline
+  equal : Sign01 (char "=") defer
 
 -- "`Y` as `+`, `N` as `-`, `L` as `=`, `H` as accepted though held over there, `R` as declined, and `E` as deferred"; 002's words for them
 pub data Letter : ℕ → Sign → Type 0 where
-  yes : Letter 89 accept
-  held : Letter 72 accept
-  no : Letter 78 decline
-  rejected : Letter 82 decline
-  later : Letter 76 defer
-  failed : Letter 69 defer
+  yes : Letter (char "Y") accept
+  held : Letter (char "H") accept
+  no : Letter (char "N") decline
+  rejected : Letter (char "R") decline
+  later : Letter (char "L") defer
+  failed : Letter (char "E") defer
 
 -- "`!` or `A`"
 pub data Mark : ℕ → Type 0 where
-  bang : Mark 33
-  offset : Mark 65
+  bang : Mark (char "!")
+  offset : Mark (char "A")
 
 -- "with 1 to 6 digits"
+abbrev pub mostDigits : ℕ
+mostDigits = 6
+
 pub record Offset (ds : Bytes) : Type 0 where
   pub digits : every digit ds ≡ true
   pub one : 1 ≤ length ds
-  pub six : length ds ≤ 6
+  pub six : length ds ≤ mostDigits
 
 -- The bytes that say a sign at the level v. "Level 0 stays as in 01. At level 1 we also read, in either case, ..": u is the letter as a capital. "accepted
 -- if the number is 0; a greater one counts as deferred"
@@ -54,6 +58,6 @@ pub record FsForm (v : Level) (ln : Bytes) (ss : List Sign) : Type 0 where
   pub second : ℕ
   pub rest : Bytes
   pub line : ln ≡ first ∷ second ∷ SP ∷ rest
-  pub f : upper first ≡ 70
-  pub s : upper second ≡ 83
+  pub f : upper first ≡ char "F"
+  pub s : upper second ≡ char "S"
   pub says : Says v ss rest

@@ -5,8 +5,10 @@ use mathlib.Core.List.{[], _∷_, _++_}
 use Prim.Native.Nat.{ℕ, zero, suc, _+_, _-_, _%_}
 use lib.Dec.{eqb, leb}
 use lib.ListN.{length, take, drop}
-use Rattle.grammar.specs.Bytes.{Bytes, CR, SP, CTRLZ, null, every, splitAt}
-use Rattle.grammar.specs.Fields.{Form, plain, message, file, isHeading, sized, isBody, bodyLimit}
+use Rattle.grammar.specs.Bytes.{Bytes, byteValues, CR, SP, CTRLZ, NUL, SOH, STX, EOT, null, every, splitAt}
+use Rattle.grammar.specs.Ascii.{char}
+use Rattle.grammar.specs.Fields.{Form, plain, message, file, formNumber, isHeading, sized, isBody, bodyLimit}
+use Rattle.grammar.specs.Answers.{offsetDigits}
 
 -- A transfer right in form: its heading, its body, and whether its checksum is right.
 pub record Parsed : Type 0 where
@@ -35,9 +37,13 @@ readPlain p = titleRead (splitAt CR p)
 
 -- ---------------------------------------------------------------- framed: "01, L, heading, 00, offset digits, 00; blocks 02, n, data; 04, checksum"
 
+-- "blocks of 256": the data bytes of a block at most
+abbrev pub dataMax : ℕ
+dataMax = 256
+
 -- "n = 00 means 256."
 abbrev pub blockSize : ℕ → ℕ
-blockSize n = cond (eqb n 0) 256 n
+blockSize n = cond (eqb n 0) dataMax n
 
 abbrev pub byteSum : Bytes → ℕ
 byteSum [] = 0
@@ -45,7 +51,7 @@ byteSum (x ∷ xs) = x + byteSum xs
 
 -- "The checksum makes the sum of all data bytes plus itself 0 modulo 256."
 abbrev pub sumRight : Bytes → ℕ → Bool
-sumRight x c = eqb ((byteSum x + c) % 256) 0
+sumRight x c = eqb ((byteSum x + c) % byteValues) 0
 
 abbrev pub consData : ℕ → Option (Bytes × ℕ) → Option (Bytes × ℕ)
 consData x none = none
@@ -57,18 +63,18 @@ blocks (suc k) [] = none
 blocks (suc k) (x ∷ xs) = consData x (blocks k xs)
 blocks zero [] = none
 blocks zero (x ∷ []) = none
-blocks zero (x ∷ y ∷ ys) = cond (eqb x 2) (blocks (blockSize y) ys) (cond (eqb x 4 && null ys) (some ([], y)) none)
+blocks zero (x ∷ y ∷ ys) = cond (eqb x STX) (blocks (blockSize y) ys) (cond (eqb x EOT && null ys) (some ([], y)) none)
 
 abbrev pub blocksRead : Bytes → Option (Bytes × ℕ) → Option Parsed
 blocksRead h none = none
 blocksRead h (some p) = some (record { heading = h; body = p .0; right = sumRight (p .0) (p .1) })
 
 abbrev pub zeroDigit : ℕ → Bool
-zeroDigit b = eqb b 48
+zeroDigit b = eqb b (char "0")
 
 -- "L = heading + offset + 2. Offset has 1 to 6 digits, value 0."
 abbrev pub isHeader : ℕ → Bytes → Bytes → Bool
-isHeader len h o = isHeading h && ((every zeroDigit o && sized 6 o) && eqb len (length h + length o + 2))
+isHeader len h o = isHeading h && ((every zeroDigit o && sized offsetDigits o) && eqb len (length h + length o + 2))
 
 abbrev pub offRead : ℕ → Bytes → Option (Bytes × Bytes) → Option Parsed
 offRead len h none = none
@@ -76,15 +82,15 @@ offRead len h (some p) = cond (isHeader len h (p .0)) (blocksRead h (blocks 0 (p
 
 abbrev pub headRead : ℕ → Option (Bytes × Bytes) → Option Parsed
 headRead len none = none
-headRead len (some p) = offRead len (p .0) (splitAt 0 (p .1))
+headRead len (some p) = offRead len (p .0) (splitAt NUL (p .1))
 
 abbrev pub lenRead : Bytes → Option Parsed
 lenRead [] = none
-lenRead (len ∷ r) = headRead len (splitAt 0 r)
+lenRead (len ∷ r) = headRead len (splitAt NUL r)
 
 abbrev pub readFramed : Bytes → Option Parsed
 readFramed [] = none
-readFramed (a ∷ r) = cond (eqb a 1) (lenRead r) none
+readFramed (a ∷ r) = cond (eqb a SOH) (lenRead r) none
 
 -- ---------------------------------------------------------------- either form
 
@@ -110,7 +116,7 @@ readTransfer f p = valid (parse f p)
 -- ---------------------------------------------------------------- how we write a transfer
 
 abbrev pub checksum : Bytes → ℕ
-checksum x = (256 - byteSum x % 256) % 256
+checksum x = (byteValues - byteSum x % byteValues) % byteValues
 
 abbrev pub writePlain : Bytes → Bytes → Bytes
 writePlain t x = t ++ CR ∷ (x ++ CTRLZ ∷ CR ∷ [])
@@ -118,14 +124,18 @@ writePlain t x = t ++ CR ∷ (x ++ CTRLZ ∷ CR ∷ [])
 -- "blocks of 256 and a shorter last one; an empty body has no block"; f bounds how many
 abbrev pub blocksOut : ℕ → Bytes → Bytes
 blocksOut zero x = []
-blocksOut (suc f) x = cond (null x) [] (2 ∷ (length (take 256 x) % 256) ∷ (take 256 x ++ blocksOut f (drop 256 x)))
+blocksOut (suc f) x = cond (null x) [] (STX ∷ (length (take dataMax x) % byteValues) ∷ (take dataMax x ++ blocksOut f (drop dataMax x)))
 
--- "We write offset `0`": L is the heading's length and 3, one byte
+-- "L = heading + offset + 2", with an offset of one digit: what L is beside the heading at least
+abbrev pub besideLeast : ℕ
+besideLeast = 3
+
+-- "We write offset `0`": L is one byte
 abbrev pub headerOut : Bytes → Bytes
-headerOut h = 1 ∷ ((length h + 3) % 256) ∷ (h ++ 0 ∷ 48 ∷ 0 ∷ [])
+headerOut h = SOH ∷ ((length h + besideLeast) % byteValues) ∷ (h ++ NUL ∷ char "0" ∷ NUL ∷ [])
 
 abbrev pub writeFramed : Bytes → Bytes → Bytes
-writeFramed h x = headerOut h ++ (blocksOut (length x) x ++ 4 ∷ checksum x ∷ [])
+writeFramed h x = headerOut h ++ (blocksOut (length x) x ++ EOT ∷ checksum x ∷ [])
 
 unfoldable pub writeTransfer : Form → Bytes → Bytes → Bytes
 writeTransfer plain h x = writePlain h x
@@ -144,4 +154,4 @@ partOf s start len = cond (leb start (length s)) (cond (leb len (length s - star
 
 -- "The heading of a transfer is the title for a message or the file name for a file, shown where it lies in its store." (01's term)
 abbrev pub headingOf : Bytes → Bytes → ℕ → ℕ → ℕ → Bytes
-headingOf titles names form start len = cond (eqb form 2) (partOf names start len) (partOf titles start len)
+headingOf titles names form start len = cond (eqb form (formNumber file)) (partOf names start len) (partOf titles start len)

@@ -5,7 +5,7 @@ use mathlib.Core.List.{List, [], _∷_, _++_, map}
 use Prim.Native.Nat.{ℕ, _+_}
 use lib.Dec.{eqb, ltb}
 use Rattle.grammar.specs.Bytes.{Bytes, CR, SP, same}
-use Rattle.grammar.specs.Ascii.{text}
+use Rattle.grammar.specs.Ascii.{text, char}
 use Rattle.grammar.specs.Refusals.{lineNotAllowed}
 use Rattle.grammar.specs.Fields.{Form, plain, message, file, upper, after, starts, words, isCall, isAt, isBid, isSize, readFrom, twoHex, decimal}
 
@@ -28,7 +28,7 @@ formOf true w = cond (same w (text "FA")) (some message) (cond (same w (text "FB
 
 -- "a type (P or B)"
 abbrev pub typeOf : Bytes → Option ℕ
-typeOf w = cond (same w (text "P")) (some 80) (cond (same w (text "B")) (some 66) none)
+typeOf w = cond (same w (text "P")) (some (char "P")) (cond (same w (text "B")) (some (char "B")) none)
 
 abbrev pub fieldsRead : Option Form → Option ℕ → Bytes → Bytes → Bytes → Bytes → Bytes → Option Proposal
 fieldsRead none t fr at to bid sz = none
@@ -120,18 +120,22 @@ inMode true file = true
 
 -- What open checks of a record's fields: "a type (P or B), from, at, to, BID, announced size 0 to 999,999"
 abbrev pub isType : ℕ → Bool
-isType t = eqb t 80 || eqb t 66
+isType t = eqb t (char "P") || eqb t (char "B")
+
+-- "announced size 0 to 999,999": below this
+abbrev pub sizeValues : ℕ
+sizeValues = 1000000
 
 abbrev pub proposable : Proposal → Bool
 proposable p =
-    (isType (p .type) && ltb (p .size) 1000000) && ((isCall (p .from) && isAt (p .at)) && (isCall (p .to) && isBid (p .bid)))
+    (isType (p .type) && ltb (p .size) sizeValues) && ((isCall (p .from) && isAt (p .at)) && (isCall (p .to) && isBid (p .bid)))
 
 -- ---------------------------------------------------------------- written
 
 abbrev pub formLetter : Form → ℕ
-formLetter plain = 66
-formLetter message = 65
-formLetter file = 66
+formLetter plain = char "B"
+formLetter message = char "A"
+formLetter file = char "B"
 
 abbrev pub sp : Bytes → Bytes → Bytes
 sp w r = w ++ SP ∷ r
@@ -139,7 +143,7 @@ sp w r = w ++ SP ∷ r
 -- "We write one space and no leading zeros."
 unfoldable pub proposalLine : Proposal → Bytes
 proposalLine p =
-    sp (70 ∷ formLetter (p .form) ∷ []) (sp (p .type ∷ []) (sp (p .from) (sp (p .at) (sp (p .to) (sp (p .bid) (decimal (p .size)))))))
+    sp (char "F" ∷ formLetter (p .form) ∷ []) (sp (p .type ∷ []) (sp (p .from) (sp (p .at) (sp (p .to) (sp (p .bid) (decimal (p .size)))))))
 
 -- The lines that we write and that never differ. "Our SID becomes `[NOD-1-B1FH$]`" (02, Q-6); "Called: we send it, CR,
 -- `>`, CR"; "`*** Checksum error` for 9, `*** Protocol error` for the others" (02, Q-1)

@@ -18,7 +18,7 @@ pub fn put_message(s: Numbers, mem: &[u8], inbox: &mut [u8])
     let end = places::HEADING + at_most(places::HEADING_MAX as usize, reader.head as usize);
     let proposal = entry(
         places::PROPOSAL,
-        &mem[places::BLOCK..],
+        &mem[places::BLOCK..places::AFTER_BLOCK],
         s.now.current as u16,
     );
     let c = Cursor {

@@ -1,55 +1,51 @@
 -- A kept message, over plain values: our turn or the next transfer, then what it leaves.
 use mathlib.Core.Path.{_≡_, sym, ap, _∙_}
 use mathlib.Core.Bool.{Bool}
-use Prim.Native.Nat.{ℕ, _+_, _-_}
+use Prim.Native.Nat.{ℕ, _+_}
 use lib.Dec.{eqb}
-use lib.ListN.{length, take, drop}
+use lib.ListN.{take, drop}
 use borrow.Author.Tests.{eq-eqb, ne-eqb}
 use Rattle.grammar.specs.Bytes.{Bytes}
 use Rattle.phase.specs.Phase.{noProposal, ourTurn}
-use Rattle.places.specs.Places.{arraysLen, blockAt, proposalLen}
+use Rattle.places.specs.Places.{blockAt, blockLen, proposalLen}
 use Rattle.layout.specs.Layout.{byteAt, entryAt}
 use Rattle.transfer_step.specs.declared.Reader.{Reader}
 use Rattle.session_memory.specs.Session.{Await}
 use Rattle.session_memory.specs.Session.{Keep}
 use Rattle.session_memory.specs.Session.{Session}
+use Rattle.session_memory.specs.Setters.{withReader, withNow, withKeep, withReading}
 use Rattle.line_effect.specs.Judged.{Judged}
 use Rattle.line_effect.specs.declared.Marks.{Marks}
 use Rattle.line_effect.specs.Judge.{noMarks, judged, wentOn, toTransfer, nextAccepted, readerFor}
 use Rattle.region.specs.Region.{region}
 use Rattle.numbers.specs.declared.Numbers.{Numbers}
-use Rattle.numbers.specs.Whole.{blockIn, awaitOf, wholeOf}
+use Rattle.numbers.specs.Whole.{withBlock, arraysIn, awaitOf, wholeOf}
 use Rattle.receive_defined.specs.Receiving.{Settled, settleOf, keptKeep, nextJudged, isPlainAt, keepOf}
 
 module _ (s : Session) (i : ℕ) (k : Keep) (e : k ≡ keptKeep s) where
-  pub next-turn : (n : Marks) → n ≡ noMarks → i ≡ noProposal → judged 0 ourTurn n (s .now) (s .say) k (s .reading .reader) ≡ nextJudged s i
-  next-turn n d f =
-      rw (eq-eqb _ _ f)
-      (ap (λ (x : Marks). judged 0 ourTurn x (s .now) (s .say) k (s .reading .reader)) d ∙ ap (λ (x : Keep). judged 0 ourTurn noMarks (s .now) (s .say) x (s .reading .reader)) e)
+  pub next-turn : (n : Marks) → n ≡ noMarks → i ≡ noProposal → judged 0 ourTurn n (withKeep k s) ≡ nextJudged s i
+  next-turn n d f = rw (eq-eqb _ _ f) (ap (λ (x : Marks). judged 0 ourTurn x (withKeep k s)) d ∙ ap (λ (x : Keep). judged 0 ourTurn noMarks (withKeep x s)) e)
 
-  pub next-transfer : (w : Await) (r : Reader) → (i ≡ noProposal → ⊥) → w ≡ toTransfer i (s .now) → r ≡ readerFor (s .now) i → wentOn w (s .say) k r ≡ nextJudged s i
-  next-transfer w r n f g =
-      rw (ne-eqb _ _ n)
-      (ap (λ (x : Keep). wentOn w (s .say) x r) e ∙ ap (λ (x : Await). wentOn x (s .say) (keptKeep s) r) f ∙ ap (λ (x : Reader). wentOn (toTransfer i (s .now)) (s .say) (keptKeep s) x) g)
+  -- the transfer awaited and its reader
+  abbrev begun : Await → Reader → Keep → Judged
+  begun w r x = wentOn (withNow w (withKeep x (withReading (withReader r (s .reading)) s)))
 
--- the block to the end of the arrays
-pub block-rest : (m : Bytes) → length m ≡ arraysLen → take (length m - blockAt) (drop blockAt m) ≡ blockIn m
+  pub next-transfer : (w : Await) (r : Reader) → (i ≡ noProposal → ⊥) → w ≡ toTransfer i (s .now) → r ≡ readerFor (s .now) i → begun w r k ≡ nextJudged s i
+  next-transfer w r n f g = rw (ne-eqb _ _ n) (ap (begun w r) e ∙ ap (λ (x : Await). begun x r (keptKeep s)) f ∙ ap (λ (x : Reader). begun (toTransfer i (s .now)) x (keptKeep s)) g)
+
+pub reader-by : (s : Numbers) (m : Bytes) (i : ℕ) (r : Reader) → r ≡ readerFor (awaitOf (s .now) (withBlock (take blockLen (drop blockAt m)) (arraysIn m))) i
+    → r ≡ readerFor (awaitOf (s .now) (arraysIn m)) i
 unfolding region
-block-rest m n = ap (λ (k : ℕ). take (k - blockAt) (drop blockAt m)) n
+reader-by s m i r e = e
 
-pub reader-by : (s : Numbers) (m : Bytes) (i : ℕ) (r : Reader) → length m ≡ arraysLen → r ≡ readerFor (awaitOf (s .now) (take (length m - blockAt) (drop blockAt m))) i
-    → r ≡ readerFor (awaitOf (s .now) (blockIn m)) i
-reader-by s m i r n e = e ∙ ap (λ (l : Bytes). readerFor (awaitOf (s .now) l) i) (block-rest m n)
-
-pub plain-by : (s : Numbers) (m p : Bytes) (b : ℕ) → length m ≡ arraysLen → p ≡ entryAt proposalLen (take (length m - blockAt) (drop blockAt m)) (s .now .current) → b ≡ byteAt p 0
+pub plain-by : (s : Numbers) (m p : Bytes) (b : ℕ) → p ≡ entryAt proposalLen (take blockLen (drop blockAt m)) (s .now .current) → b ≡ byteAt p 0
     → eqb b 0 ≡ isPlainAt (wholeOf s m)
-unfolding wholeOf
-plain-by s m p b n e f =
-    ap (λ (x : ℕ). eqb x 0) (f ∙ ap (λ (l : Bytes). byteAt l 0) (e ∙ ap (λ (l : Bytes). entryAt proposalLen l (s .now .current)) (block-rest m n)))
+unfolding wholeOf region
+plain-by s m p b e f = ap (λ (x : ℕ). eqb x 0) (f ∙ ap (λ (l : Bytes). byteAt l 0) e)
 
 pub keep-by : (s : Session) (table : Bytes) (t : Settled) (i : ℕ) (j : Judged) (p : Bool)
-    → i ≡ nextAccepted (s .say .signs) (s .now .current + 1) → j ≡ nextJudged s i → p ≡ isPlainAt s → t ≡ settleOf s j p table → t ≡ keepOf s table
+    → i ≡ nextAccepted (s .say .signs) (s .now .current + 1) → j ≡ nextJudged s i → p ≡ isPlainAt s → t ≡ settleOf j p table → t ≡ keepOf s table
 unfolding keepOf
 keep-by s table t i j p e f g h =
-    h ∙ ap (λ (x : Judged). settleOf s x p table) f ∙ ap (λ (x : ℕ). settleOf s (nextJudged s x) p table) e
-    ∙ ap (λ (x : Bool). settleOf s (nextJudged s (nextAccepted (s .say .signs) (s .now .current + 1))) x table) g
+    h ∙ ap (λ (x : Judged). settleOf x p table) f ∙ ap (λ (x : ℕ). settleOf (nextJudged s x) p table) e
+    ∙ ap (λ (x : Bool). settleOf (nextJudged s (nextAccepted (s .say .signs) (s .now .current + 1))) x table) g

@@ -8,10 +8,9 @@ use numbers::Numbers;
 use settling::Left;
 ghost use mathlib.Core.Path.{_≡_};
 ghost use lib.ListN.{length};
-ghost use Rattle.grammar.specs.Bytes.{Bytes};
 ghost use Rattle.places.specs.Places.{arraysLen};
 ghost use Rattle.numbers.specs.Whole as whole;
-ghost use Rattle.numbers.specs.Whole.{sessionOf, wholeOf};
+ghost use Rattle.numbers.specs.Whole.{Arrays, sessionOf, wholeOf};
 ghost use Rattle.line_effect.specs.Verdict.{judgedIn};
 ghost use Rattle.receive_defined.specs.Receiving.{settled, keptKeep, nextJudged, isPlainAt, keepOf, keptInbox};
 ghost use Rattle.kept_message.specs.Keeping.{Keepable};
@@ -19,7 +18,7 @@ ghost use Rattle.kept_message.specs.Keeping.{Keepable};
 // One message more is kept, its body behind those kept before.
 fn kept_keep(s: Numbers) -> KeepNumbers
     requires { ⌜ Keepable s ⌝ }
-    ensures { λ r. ⌜ ((deferred heading line block : Bytes) → whole.keepOf r deferred ≡ keptKeep (sessionOf s deferred heading line block)) ⌝ }
+    ensures { λ r. ⌜ ((a : Arrays) → whole.keepOf r a ≡ keptKeep (sessionOf s a)) ⌝ }
 {
     let mut k = s.keep;
     k.kept = s.keep.kept + 1;
@@ -44,7 +43,7 @@ fn next_judged(s: Numbers, mem: &[u8], next: u8) -> Verdict
     }
     let awaited = s.now;
     t.now = next_awaited::to_transfer(awaited, next);
-    t.reader = next_awaited::reader_for(&mem[places::BLOCK..], next);
+    t.reader = next_awaited::reader_for(&mem[places::BLOCK..places::AFTER_BLOCK], next);
     line_effect::went(t)
 }
 
@@ -55,10 +54,10 @@ fn is_plain(s: Numbers, mem: &[u8]) -> bool
 {
     let proposal = entry(
         places::PROPOSAL,
-        &mem[places::BLOCK..],
+        &mem[places::BLOCK..places::AFTER_BLOCK],
         s.now.current as u16,
     );
-    byte_at(proposal, places::FORM as usize) == 0
+    byte_at(proposal, places::FORM as usize) == phase::FORM_PLAIN
 }
 
 // A whole transfer: the message is kept, then the next is awaited or it is our turn. mem: the state's arrays.
@@ -71,5 +70,5 @@ pub fn keep_message(s: Numbers, mem: &[u8], inbox: &mut [u8], table: &mut [u8]) 
     let v = next_judged(s, mem, next);
     let plain = is_plain(s, mem);
     put_message(s, mem, inbox);
-    settling::settle(s, v, plain, mem, table)
+    settling::settle(v, plain, mem, table)
 }

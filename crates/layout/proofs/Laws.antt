@@ -8,9 +8,9 @@ use native.Mathlib.Nat.{add-zero, div-div-eq-div-mul}
 use lib.ListN.{length, take, replicate, length-append, length-take, length-replicate}
 use lib.Seq.{length-take-le}
 use borrow.Author.Tests.{ltb-true}
-use Rattle.grammar.specs.Bytes.{Bytes, every}
+use Rattle.grammar.specs.Bytes.{Bytes, every, byteValues, wordValues, twoByteValues, threeByteValues, fourByteValues}
 use Rattle.grammar.specs.Fields.{Form, plain, message, file, formIs, formNumber}
-use Rattle.grammar.specs.Turns.{Proposal}
+use Rattle.grammar.specs.Turns.{Proposal, blockLimit}
 use Rattle.grammar.specs.Transfers.{partOf}
 use Rattle.grammar.proofs.Basics.{and2, octet}
 use Rattle.mail.specs.Mail.{Message}
@@ -24,49 +24,49 @@ use Rattle.layout.proofs.Places.{byte-later, le2-skip, le4-skip, le4-la
 
 -- ---------------------------------------------------------------- numbers
 
-digit : (x : ℕ) → x ≡ x % 256 + 256 * (x / 256)
+digit : (x : ℕ) → x ≡ x % byteValues + byteValues * (x / byteValues)
 digit x = omega arith
 
-joined : (x r₀ q₁ r₁ q₂ r₂ q₃ r₃ q₄ : ℕ) → x ≡ r₀ + 256 * q₁ → q₁ ≡ r₁ + 256 * q₂ → q₂ ≡ r₂ + 256 * q₃ → q₃ ≡ r₃ + 256 * q₄
-    → r₀ + 256 * r₁ + 65536 * r₂ + 16777216 * r₃ + 4294967296 * q₄ ≡ x
+joined : (x r₀ q₁ r₁ q₂ r₂ q₃ r₃ q₄ : ℕ) → x ≡ r₀ + byteValues * q₁ → q₁ ≡ r₁ + byteValues * q₂ → q₂ ≡ r₂ + byteValues * q₃ → q₃ ≡ r₃ + byteValues * q₄
+    → r₀ + byteValues * r₁ + twoByteValues * r₂ + threeByteValues * r₃ + fourByteValues * q₄ ≡ x
 joined x r₀ q₁ r₁ q₂ r₂ q₃ r₃ q₄ a b c d = omega arith
 
 -- the four lowest bytes of a number are the number modulo 2 ^ 32
-low4 : (x : ℕ) → x % 256 + 256 * (x / 256 % 256) + 65536 * (x / 65536 % 256) + 16777216 * (x / 16777216 % 256) + 4294967296 * (x / 4294967296) ≡ x
+low4 : (x : ℕ) → x % byteValues + byteValues * (x / byteValues % byteValues) + twoByteValues * (x / twoByteValues % byteValues) + threeByteValues * (x / threeByteValues % byteValues) + fourByteValues * (x / fourByteValues) ≡ x
 low4 x =
-    let e : x / 65536 ≡ x / 256 / 256 = sym (div-div-eq-div-mul x 256 256) in
-    let f : x / 16777216 ≡ x / 256 / 256 / 256 = sym (div-div-eq-div-mul (x / 256) 256 256 ∙ div-div-eq-div-mul x 256 65536) in
-    let g : x / 4294967296 ≡ x / 256 / 256 / 256 / 256 =
-    sym (div-div-eq-div-mul (x / 256 / 256) 256 256 ∙ div-div-eq-div-mul (x / 256) 256 65536 ∙ div-div-eq-div-mul x 256 16777216) in
+    let e : x / twoByteValues ≡ x / byteValues / byteValues = sym (div-div-eq-div-mul x byteValues byteValues) in
+    let f : x / threeByteValues ≡ x / byteValues / byteValues / byteValues = sym (div-div-eq-div-mul (x / byteValues) byteValues byteValues ∙ div-div-eq-div-mul x byteValues twoByteValues) in
+    let g : x / fourByteValues ≡ x / byteValues / byteValues / byteValues / byteValues =
+    sym (div-div-eq-div-mul (x / byteValues / byteValues) byteValues byteValues ∙ div-div-eq-div-mul (x / byteValues) byteValues twoByteValues ∙ div-div-eq-div-mul x byteValues threeByteValues) in
     rw (e, f, g)
-    (joined x (x % 256) (x / 256) (x / 256 % 256) (x / 256 / 256) (x / 256 / 256 % 256) (x / 256 / 256 / 256) (x / 256 / 256 / 256 % 256) (x / 256 / 256 / 256 / 256)
-    (digit x) (digit (x / 256)) (digit (x / 256 / 256)) (digit (x / 256 / 256 / 256)))
+    (joined x (x % byteValues) (x / byteValues) (x / byteValues % byteValues) (x / byteValues / byteValues) (x / byteValues / byteValues % byteValues) (x / byteValues / byteValues / byteValues) (x / byteValues / byteValues / byteValues % byteValues) (x / byteValues / byteValues / byteValues / byteValues)
+    (digit x) (digit (x / byteValues)) (digit (x / byteValues / byteValues)) (digit (x / byteValues / byteValues / byteValues)))
 
 -- a number that stands first
-pub le2-here : (x : ℕ) (r : Bytes) → x < 65536 → le2At (le2 x ++ r) 0 ≡ x
+pub le2-here : (x : ℕ) (r : Bytes) → x < twoByteValues → le2At (le2 x ++ r) 0 ≡ x
 le2-here x r h = omega arith
 
-pub le4-here : (x : ℕ) (r : Bytes) → x < 4294967296 → le4At (le4 x ++ r) 0 ≡ x
+pub le4-here : (x : ℕ) (r : Bytes) → x < fourByteValues → le4At (le4 x ++ r) 0 ≡ x
 le4-here x r h = omega (arith, low4 x)
 
-pub le8-here : (x : ℕ) (r : Bytes) → x < 18446744073709551616 → le8At (le8 x ++ r) 0 ≡ x
-le8-here x r h = let y = x / 4294967296 in omega (arith, low4 x, low4 (x / 4294967296))
+pub le8-here : (x : ℕ) (r : Bytes) → x < wordValues → le8At (le8 x ++ r) 0 ≡ x
+le8-here x r h = let y = x / fourByteValues in omega (arith, low4 x, low4 (x / fourByteValues))
 
 -- numbers of bytes are as small as their bytes allow
-module _ (s : Bytes) (small : (i : ℕ) → byteAt s i < 256) (i : ℕ) where
-  pub le2-small : le2At s i < 65536
+module _ (s : Bytes) (small : (i : ℕ) → byteAt s i < byteValues) (i : ℕ) where
+  pub le2-small : le2At s i < twoByteValues
   le2-small = omega (arith, small i, small (i + 1))
 
-  pub le4-small : le4At s i < 4294967296
+  pub le4-small : le4At s i < fourByteValues
   le4-small = omega (arith, small i, small (i + 1), small (i + 2), small (i + 3))
 
-pub le8-small : (s : Bytes) → ((i : ℕ) → byteAt s i < 256) → (i : ℕ) → le8At s i < 18446744073709551616
+pub le8-small : (s : Bytes) → ((i : ℕ) → byteAt s i < byteValues) → (i : ℕ) → le8At s i < wordValues
 le8-small s small i = omega (arith, le4-small s small i, le4-small s small (i + 4))
 
 -- memory of bytes holds bytes
-pub octets : (s : Bytes) → every octet s ≡ true → (i : ℕ) → byteAt s i < 256
+pub octets : (s : Bytes) → every octet s ≡ true → (i : ℕ) → byteAt s i < byteValues
 octets [] e i = omega arith
-octets (x ∷ s) e zero = ltb-true x 256 (and2 (octet x) (every octet s) e .0)
+octets (x ∷ s) e zero = ltb-true x byteValues (and2 (octet x) (every octet s) e .0)
 octets (x ∷ s) e (suc i) = octets s (and2 (octet x) (every octet s) e .1) i
 
 -- ---------------------------------------------------------------- fields
@@ -75,10 +75,10 @@ pub field-length : (n : ℕ) (w : Bytes) → length (fieldOut n w) ≡ n + 1
 field-length n w = simp (length-take, length-append, length-replicate) (omega arith)
 
 -- a field that stands first
-pub field-here : (n : ℕ) (w r : Bytes) → length w ≤ n → n ≤ 255 → fieldIn n 0 (fieldOut n w ++ r) ≡ w
+pub field-here : (n : ℕ) (w r : Bytes) → length w ≤ n → n ≤ byteValues - 1 → fieldIn n 0 (fieldOut n w ++ r) ≡ w
 field-here n w r h k =
     let z : Bytes = replicate (n - length w) 0 in
-    let e : length w % 256 ≡ length w = omega arith in
+    let e : length w % byteValues ≡ length w = omega arith in
     let f : min n (length w) ≡ length w = omega arith in
     rw (← field-padded n w h, append-assoc w z r, e, f)
     (part-skip (length w ∷ []) (w ++ (z ++ r)) 1 refl 0 (length w) ∙ part-here w (z ++ r) (length w) refl)
@@ -121,7 +121,7 @@ pub record Fits (p : Proposal) : Type 0 where
   pub at : length (p .at) ≤ atMax
   pub to : length (p .to) ≤ callMax
   pub bid : length (p .bid) ≤ bidMax
-  pub size : p .size < 4294967296
+  pub size : p .size < fourByteValues
 
 pub proposal-length : (form type : ℕ) (from at to bid : Bytes) (size : ℕ) → length (proposalOut form type from at to bid size) ≡ proposalLen
 proposal-length form type from at to bid size = length-append (fieldsOut form type from at to bid) (le4 size) ∙ (omega (arith, fields-length form type from at to bid))
@@ -142,9 +142,9 @@ proposal-first p r h =
     let from-long = field-length callMax (p .from) in
     let at-long = field-length atMax (p .at) in
     let to-long = field-length callMax (p .to) in
-    let to-at : (i m : ℕ) → fieldIn m (2 + (7 + i)) (s ++ a) ≡ fieldIn m i b = λ i m. field-skip s a 2 refl (7 + i) m ∙ field-skip (fieldOut callMax (p .from)) b 7 from-long i m in
-    let to-to : (i m : ℕ) → fieldIn m (2 + (7 + (39 + i))) (s ++ a) ≡ fieldIn m i c = λ i m. to-at (39 + i) m ∙ field-skip (fieldOut atMax (p .at)) c 39 at-long i m in
-    let to-bid : (i m : ℕ) → fieldIn m (2 + (7 + (39 + (7 + i)))) (s ++ a) ≡ fieldIn m i d = λ i m. to-to (7 + i) m ∙ field-skip (fieldOut callMax (p .to)) d 7 to-long i m in
+    let to-at : (i m : ℕ) → fieldIn m (fromAt + (1 + callMax + i)) (s ++ a) ≡ fieldIn m i b = λ i m. field-skip s a fromAt refl (1 + callMax + i) m ∙ field-skip (fieldOut callMax (p .from)) b (1 + callMax) from-long i m in
+    let to-to : (i m : ℕ) → fieldIn m (fromAt + (1 + callMax + (1 + atMax + i))) (s ++ a) ≡ fieldIn m i c = λ i m. to-at (1 + atMax + i) m ∙ field-skip (fieldOut atMax (p .at)) c (1 + atMax) at-long i m in
+    let to-bid : (i m : ℕ) → fieldIn m (fromAt + (1 + callMax + (1 + atMax + (1 + callMax + i)))) (s ++ a) ≡ fieldIn m i d = λ i m. to-to (1 + callMax + i) m ∙ field-skip (fieldOut callMax (p .to)) d (1 + callMax) to-long i m in
     ap (proposalAt 0) e
     ∙ same-proposal
     (same-fields (form-back (p .form)) refl
@@ -152,8 +152,8 @@ proposal-first p r h =
     (to-at 0 atMax ∙ field-here atMax (p .at) c (h .at) (omega arith))
     (to-to 0 callMax ∙ field-here callMax (p .to) d (h .to) (omega arith))
     (to-bid 0 bidMax ∙ field-here bidMax (p .bid) n (h .bid) (omega arith)))
-    (le4-skip s a 2 refl 66 ∙ le4-skip (fieldOut callMax (p .from)) b 7 from-long 59 ∙ le4-skip (fieldOut atMax (p .at)) c 39 at-long 20
-    ∙ le4-skip (fieldOut callMax (p .to)) d 7 to-long 13 ∙ le4-skip (fieldOut bidMax (p .bid)) n 13 (field-length bidMax (p .bid)) 0 ∙ le4-here (p .size) r (h .size))
+    (le4-skip s a fromAt refl (proposalSizeAt - fromAt) ∙ le4-skip (fieldOut callMax (p .from)) b (1 + callMax) from-long (proposalSizeAt - atAt) ∙ le4-skip (fieldOut atMax (p .at)) c (1 + atMax) at-long (proposalSizeAt - toAt)
+    ∙ le4-skip (fieldOut callMax (p .to)) d (1 + callMax) to-long (proposalSizeAt - bidAt) ∙ le4-skip (fieldOut bidMax (p .bid)) n (1 + bidMax) (field-length bidMax (p .bid)) 0 ∙ le4-here (p .size) r (h .size))
 
 -- WHAT IS WRITTEN IS READ BACK, from any place on
 pub proposal-at : (l : Bytes) (b : ℕ) → length l ≡ b → (p : Proposal) (r : Bytes) → Fits p → proposalAt b (l ++ (written p ++ r)) ≡ p
@@ -165,7 +165,7 @@ pub proposal-back : (p : Proposal) → Fits p → proposalOf (written p) ≡ p
 proposal-back p h = ap proposalOf (sym (append-nil (written p))) ∙ proposal-first p [] h
 
 -- the same where it stands as entry i of a block of five; the others are as before
-module _ (block : Bytes) (i : ℕ) (n : length block ≡ blockLen) (k : i < 5) where
+module _ (block : Bytes) (i : ℕ) (n : length block ≡ blockLen) (k : i < blockLimit) where
   pub block-back : (p : Proposal) → Fits p → proposalOf (entryAt proposalSize (putBytes block (cursor (i * proposalLen) 0) (written p)) i) ≡ p
   block-back p h =
       ap proposalOf (entry-written proposalLen block i (written p) (proposal-length (formNumber (p .form)) (p .type) (p .from) (p .at) (p .to) (p .bid) (p .size)) (omega arith))
@@ -204,17 +204,17 @@ module _ (c heading : Bytes) (start n : ℕ) (h : fieldsSize ≤ length c) where
       ∙ same-message body (fields-kept fieldsSize c rest h 0 (omega arith))
       (field-skip (take fieldsSize c) rest fieldsSize fields-long 0 headingMax ∙ field-here headingMax heading (le4 start ++ le2 n) k (omega arith))
 
-  pub start-back : start < 4294967296 → bodyStart (entryOut c heading start n) ≡ start
+  pub start-back : start < fourByteValues → bodyStart (entryOut c heading start n) ≡ start
   unfolding rest
   start-back k =
       ap (λ (l : Bytes). bodyStart (l ++ rest)) fields
-      ∙ le4-skip (take fieldsSize c) rest fieldsSize fields-long 81 ∙ le4-skip (fieldOut headingMax heading) (le4 start ++ le2 n) 81 (field-length headingMax heading) 0 ∙ le4-here start (le2 n) k
+      ∙ le4-skip (take fieldsSize c) rest fieldsSize fields-long (1 + headingMax) ∙ le4-skip (fieldOut headingMax heading) (le4 start ++ le2 n) (1 + headingMax) (field-length headingMax heading) 0 ∙ le4-here start (le2 n) k
 
-  pub length-back : n < 65536 → bodyLength (entryOut c heading start n) ≡ n
+  pub length-back : n < twoByteValues → bodyLength (entryOut c heading start n) ≡ n
   unfolding rest
   length-back k =
       ap (λ (l : Bytes). bodyLength (l ++ rest)) fields
-      ∙ le2-skip (take fieldsSize c) rest fieldsSize fields-long 85 ∙ le2-skip (fieldOut headingMax heading) (le4 start ++ le2 n) 81 (field-length headingMax heading) 4
+      ∙ le2-skip (take fieldsSize c) rest fieldsSize fields-long (1 + headingMax + 4) ∙ le2-skip (fieldOut headingMax heading) (le4 start ++ le2 n) (1 + headingMax) (field-length headingMax heading) 4
       ∙ le2-skip (le4 start) (le2 n) 4 refl 0 ∙ le2-here n [] k
 
 -- written as entry k of an inbox of m entries, it is read there, and the others are as before

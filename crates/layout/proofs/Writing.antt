@@ -5,7 +5,7 @@ use mathlib.Core.List.{[], _∷_, _++_}
 use native.Mathlib.Omega.{arith}
 use lib.ListN.{length, take, replicate}
 use lib.Seq.{take-append-le, take-append-add}
-use Rattle.grammar.specs.Bytes.{Bytes}
+use Rattle.grammar.specs.Bytes.{Bytes, byteValues}
 use Rattle.grammar.specs.Transfers.{partOf}
 use Rattle.buffer.specs.declared.Cursor.{Cursor}
 use Rattle.buffer.specs.Put.{Puts}
@@ -33,13 +33,13 @@ field-padded n w h =
     rw (← take-zeros (n - length w) n (omega arith))
     (sym (take-append-add w (replicate n 0) (n - length w)) ∙ ap (λ (i : ℕ). take i (w ++ replicate n 0)) e)
 
-module _ (d : Bytes) (c : Cursor) (n : ℕ) (w : Bytes) {r s : Cursor} {e f : Bytes} (a : Puts d c (length w % 256 ∷ []) r e) where
+module _ (d : Bytes) (c : Cursor) (n : ℕ) (w : Bytes) {r s : Cursor} {e f : Bytes} (a : Puts d c (length w % byteValues ∷ []) r e) where
   pub puts-full : n ≤ length w → Puts e r (take n w) s f → Puts d c (fieldOut n w) s f
   puts-full h b =
-      puts-then d c (length w % 256 ∷ []) (take n (w ++ replicate n 0)) a (puts-as e r (field-full n w h) b)
+      puts-then d c (length w % byteValues ∷ []) (take n (w ++ replicate n 0)) a (puts-as e r (field-full n w h) b)
 
   pub puts-padded : {t : Cursor} {g : Bytes} → length w ≤ n → Puts e r w s f → Puts f s (replicate (n - length w) 0) t g → Puts d c (fieldOut n w) t g
   puts-padded {t} {g} h b z =
-      puts-then d c (length w % 256 ∷ []) (take n (w ++ replicate n 0)) a
+      puts-then d c (length w % byteValues ∷ []) (take n (w ++ replicate n 0)) a
       (puts-as e r (field-padded n w h)
       (puts-then e r w (replicate (n - length w) 0) b z))

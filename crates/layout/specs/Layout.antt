@@ -3,7 +3,7 @@
 use mathlib.Core.List.{[], _∷_, _++_}
 use Prim.Native.Nat.{ℕ, _+_, _*_, _/_, _%_, min}
 use lib.ListN.{length, getD, take, replicate}
-use Rattle.grammar.specs.Bytes.{Bytes}
+use Rattle.grammar.specs.Bytes.{Bytes, byteValues, twoByteValues, threeByteValues, fourByteValues}
 use Rattle.grammar.specs.Fields.{Form, formIs}
 use Rattle.grammar.specs.Turns.{Proposal}
 use Rattle.grammar.specs.Transfers.{partOf}
@@ -31,22 +31,22 @@ abbrev pub byteAt : Bytes → ℕ → ℕ
 byteAt s at = getD s at 0
 
 abbrev pub le2At : Bytes → ℕ → ℕ
-le2At s at = byteAt s at + 256 * byteAt s (at + 1)
+le2At s at = byteAt s at + byteValues * byteAt s (at + 1)
 
 abbrev pub le4At : Bytes → ℕ → ℕ
-le4At s at = byteAt s at + 256 * byteAt s (at + 1) + 65536 * byteAt s (at + 2) + 16777216 * byteAt s (at + 3)
+le4At s at = byteAt s at + byteValues * byteAt s (at + 1) + twoByteValues * byteAt s (at + 2) + threeByteValues * byteAt s (at + 3)
 
 abbrev pub le8At : Bytes → ℕ → ℕ
-le8At s at = le4At s at + 4294967296 * le4At s (at + 4)
+le8At s at = le4At s at + fourByteValues * le4At s (at + 4)
 
 abbrev pub le2 : ℕ → Bytes
-le2 x = x % 256 ∷ x / 256 % 256 ∷ []
+le2 x = x % byteValues ∷ x / byteValues % byteValues ∷ []
 
 abbrev pub le4 : ℕ → Bytes
-le4 x = x % 256 ∷ x / 256 % 256 ∷ x / 65536 % 256 ∷ x / 16777216 % 256 ∷ []
+le4 x = x % byteValues ∷ x / byteValues % byteValues ∷ x / twoByteValues % byteValues ∷ x / threeByteValues % byteValues ∷ []
 
 abbrev pub le8 : ℕ → Bytes
-le8 x = le4 x ++ le4 (x / 4294967296)
+le8 x = le4 x ++ le4 (x / fourByteValues)
 
 -- A field of at most n bytes: its length stands at a place, its bytes after it.
 abbrev pub fieldIn : ℕ → ℕ → Bytes → Bytes
@@ -54,7 +54,7 @@ fieldIn n at s = partOf s (at + 1) (min n (byteAt s at))
 
 -- A field as it is written: its length, its bytes, zeros up to n.
 abbrev pub fieldOut : ℕ → Bytes → Bytes
-fieldOut n w = length w % 256 ∷ take n (w ++ replicate n 0)
+fieldOut n w = length w % byteValues ∷ take n (w ++ replicate n 0)
 
 -- ---------------------------------------------------------------- entries
 

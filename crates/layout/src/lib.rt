@@ -3,6 +3,15 @@ use part::part;
 ghost use mathlib.Core.Path.{_≡_};
 ghost use Rattle.layout.specs.Layout.{byteAt, fieldIn, entryAt};
 
+// How many values a byte has, and numbers of two, three and four bytes.
+pub const BYTE_VALUES: usize = 256;
+
+pub const TWO_BYTE_VALUES: usize = BYTE_VALUES * BYTE_VALUES;
+
+pub const THREE_BYTE_VALUES: usize = BYTE_VALUES * TWO_BYTE_VALUES;
+
+pub const FOUR_BYTE_VALUES: usize = BYTE_VALUES * THREE_BYTE_VALUES;
+
 // The sizes of entries.
 pub const RECORD: u8 = places::RECORD;
 

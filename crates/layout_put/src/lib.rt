@@ -1,5 +1,6 @@
 // The entries of a block of proposals and of the inbox, written.
 use buffer::Cursor;
+use layout::BYTE_VALUES;
 use number_write::bytes2;
 use number_write::bytes4;
 use part::part;
@@ -17,7 +18,7 @@ const FIELDS: usize = places::FIELDS as usize;
 fn put_field(buf: &mut [u8], c: Cursor, w: &[u8], n: u8) -> Cursor
     ensures { λ r. ⌜ Puts (now (buf .entry)) c (fieldOut n (now (w .entry))) r (now (buf .exit)) ⌝ }
 {
-    let c1 = buffer::put_byte(buf, c, (w.len() % 256) as u8);
+    let c1 = buffer::put_byte(buf, c, (w.len() % BYTE_VALUES) as u8);
     let m = n as usize;
     if m <= w.len() {
         return buffer::put(buf, c1, &w[..m]);

@@ -8,7 +8,7 @@ use lib.Dec.{eqb, ltb}
 use lib.ListN.{length, set, take, drop, replicate, length-drop, length-replicate, drop-of-length-le}
 use lib.Seq.{take-all, length-take-le}
 use borrow.Author.Tests.{ltb-true, ltb-false}
-use Rattle.grammar.specs.Bytes.{Bytes, CR}
+use Rattle.grammar.specs.Bytes.{Bytes, CR, byteValues}
 use Rattle.grammar.specs.Lines.{LineByte, dropped, ends, grows, overruns, lineByte, lineLimit, trim}
 use Rattle.grammar.specs.Transfers.{byteSum}
 use Rattle.grammar.proofs.TransferBack.{sum-wraps}
@@ -16,15 +16,14 @@ use Rattle.line.specs.declared.LineByte as code
 use Rattle.line.specs.Byte.{lineByteIs}
 use Rattle.buffer.specs.Put.{wrote}
 use Rattle.session_memory.specs.Session.{Session}
-use Rattle.places.specs.Places.{arraysLen, lineAt}
+use Rattle.places.specs.Places.{lineAt, lineLen, arraysLen}
 use Rattle.region.specs.Region.{region}
-use Rattle.region.proofs.Laws.{set-in, set-before, set-after}
 use Rattle.numbers.specs.declared.Numbers.{Numbers}
-use Rattle.numbers.specs.Whole.{deferredIn, headingIn, lineIn, blockIn, sessionOf, wholeOf}
-use Rattle.line_effect.specs.declared.Verdict.{Verdict}
+use Rattle.numbers.specs.Whole.{lineIn, sessionOf, wholeOf}
+use Rattle.numbers_in_place.proofs.Arrays.{line-set}
+use Rattle.line_effect.specs.Judged.{Judged}
 use Rattle.line_effect.specs.Judge.{lineSum, judgeOf}
-use Rattle.line_effect.specs.Verdict.{Judges}
-use Rattle.receive_defined.specs.Receiving.{Settled, longer, lineMoved, lineStepOf}
+use Rattle.receive_defined.specs.Receiving.{Settled, settleOf, longer, lineMoved, lineStepOf}
 
 module _ (s : Session) (b : ℕ) (u v : code.LineByte) (e : u ≡ v) (f : lineByteIs u ≡ lineByte false (s .line .len) b) where
   said : lineByteIs v ≡ lineByte false (s .line .len) b
@@ -41,27 +40,23 @@ growing ends = 0
 growing grows = 1
 growing overruns = 0
 
-pub grows-short : (n b : ℕ) (u : code.LineByte) → u ≡ code.LineByte.Grows → lineByteIs u ≡ lineByte false n b → n < 256
-grows-short n b u e f = go (eqb b 13) (ltb n 256) refl (sym (ap lineByteIs e) ∙ f)
+pub grows-short : (n b : ℕ) (u : code.LineByte) → u ≡ code.LineByte.Grows → lineByteIs u ≡ lineByte false n b → n < lineLen
+grows-short n b u e f = go (eqb b CR) (ltb n lineLimit) refl (sym (ap lineByteIs e) ∙ f)
   where
-    go : (x y : Bool) → ltb n 256 ≡ y → grows ≡ cond x ends (cond y grows overruns) → n < 256
-    go x true p q = ltb-true n 256 p
+    go : (x y : Bool) → ltb n lineLimit ≡ y → grows ≡ cond x ends (cond y grows overruns) → n < lineLen
+    go x true p q = ltb-true n lineLimit p
     go true false p q = let z : _≡_ {A = ℕ} 1 0 = ap growing q in omega (arith, z)
     go false false p q = let z : _≡_ {A = ℕ} 1 0 = ap growing q in omega (arith, z)
 
 -- ---------------------------------------------------------------- a byte more where the line stands
 
-line-set : (s : Numbers) (m : Bytes) (n b : ℕ) → n < 256 → wholeOf s (set m (144 + n) b) ≡ sessionOf s (deferredIn m) (headingIn m) (set (lineIn m) n b) (blockIn m)
-unfolding wholeOf
-line-set s m n b h =
-    rw (set-after 0 64 m (144 + n) b (omega arith), set-after 64 80 m (144 + n) b (omega arith), set-in 144 256 m n b h, set-before 400 360 m (144 + n) b (omega arith))
+-- the numbers with the line one byte longer
+abbrev oneMore : Numbers → Numbers
+oneMore s = record { now = s .now; say = s .say; keep = s .keep; reader = s .reader; line = record { «after_cr» = false; len = s .line .len + 1 }; tally = s .tally }
 
-pub longer-whole : (s : Numbers) (m : Bytes) (b : ℕ) → s .line .len < 256
-    → wholeOf (record { now = s .now; say = s .say; keep = s .keep; reader = s .reader; line = record { «after_cr» = false; len = s .line .len + 1 }; tally = s .tally }) (set m (144 + s .line .len) b)
-    ≡ longer (wholeOf s m) b
+pub longer-whole : (s : Numbers) (m : Bytes) (b : ℕ) → s .line .len < lineLen → wholeOf (oneMore s) (set m (lineAt + s .line .len) b) ≡ longer (wholeOf s m) b
 unfolding wholeOf
-longer-whole s m b h =
-    line-set (record { now = s .now; say = s .say; keep = s .keep; reader = s .reader; line = record { «after_cr» = false; len = s .line .len + 1 }; tally = s .tally }) m (s .line .len) b h
+longer-whole s m b h = ap (sessionOf (oneMore s)) (line-set m (s .line .len) b h)
 
 -- ---------------------------------------------------------------- the line up to its length
 
@@ -98,22 +93,19 @@ copied m e h f =
 
 -- ---------------------------------------------------------------- the line's end
 
-module _ (s : Numbers) (m e : Bytes) (v : Verdict) (table known inbox : Bytes) (store : ℕ) where
-  -- the line l, which is r, without the spaces at its end, and its sum
-  pub judged-as : (l r : Bytes) → l ≡ r → Judges s m v e (λ w y k d. judgeOf (trim l) (lineSum l) w y k d table known inbox store)
-      → Judges s m v e (λ w y k d. judgeOf (trim r) (lineSum r) w y k d table known inbox store)
-  judged-as l r q h = subst (λ (x : Bytes). Judges s m v e (λ w y k d. judgeOf (trim x) (lineSum x) w y k d table known inbox store)) q h
+-- a line judged without the spaces at its end, by what was handed on: these bytes and this sum
+module _ (j : Judged) (s : Session) (table known inbox : Bytes) (store : ℕ) where
+  pub judged-by : (l t : Bytes) (n : ℕ) → t ≡ trim l → n ≡ lineSum l → j ≡ judgeOf t n s table known inbox store → j ≡ judgeOf (trim l) (lineSum l) s table known inbox store
+  judged-by l t n q z h = h ∙ ap (λ (x : Bytes). judgeOf x n s table known inbox store) q ∙ ap (λ (x : ℕ). judgeOf (trim l) x s table known inbox store) z
 
-  -- the same by what was handed on: these bytes and this sum
-  pub judged-by : (l t : Bytes) (n : ℕ) → t ≡ trim l → n ≡ lineSum l → Judges s m v e (λ w y k d. judgeOf t n w y k d table known inbox store)
-      → Judges s m v e (λ w y k d. judgeOf (trim l) (lineSum l) w y k d table known inbox store)
-  judged-by l t n q z h =
-      subst (λ (x : ℕ). Judges s m v e (λ w y k d. judgeOf (trim l) x w y k d table known inbox store)) z
-      (subst (λ (x : Bytes). Judges s m v e (λ w y k d. judgeOf x n w y k d table known inbox store)) q h)
+  -- the line l is that of the state, and what it comes to is settled
+  pub ends-by : (l : Bytes) → l ≡ take (s .line .len) (s .line .bytes) → j ≡ judgeOf (trim l) (lineSum l) s table known inbox store → (r : Settled) → r ≡ settleOf j true table
+      → r ≡ lineMoved ends s CR table known inbox store
+  ends-by l q h r f = f ∙ ap (λ (x : Judged). settleOf x true table) (h ∙ ap (λ (x : Bytes). judgeOf (trim x) (lineSum x) s table known inbox store) q)
 
 -- ---------------------------------------------------------------- the sum of a line
 
 -- n: the sum of its bytes, r: with the CR
-pub sum-cr : (l : Bytes) (n r : ℕ) → n ≡ byteSum l % 256 → r ≡ (n + CR) % 256 → r ≡ lineSum l
+pub sum-cr : (l : Bytes) (n r : ℕ) → n ≡ byteSum l % byteValues → r ≡ (n + CR) % byteValues → r ≡ lineSum l
 unfolding lineSum
-sum-cr l n r e f = f ∙ ap (λ (x : ℕ). (x + CR) % 256) e ∙ sym (sum-wraps l CR)
+sum-cr l n r e f = f ∙ ap (λ (x : ℕ). (x + CR) % byteValues) e ∙ sym (sum-wraps l CR)

@@ -11,18 +11,18 @@ ghost use Rattle.grammar.specs.Lines.{lineLimit, trim, ends};
 ghost use Rattle.places.specs.Places.{arraysLen};
 ghost use Rattle.numbers.specs.Whole.{lineIn, wholeOf};
 ghost use Rattle.line_effect.specs.Judge.{lineSum, judgeOf};
-ghost use Rattle.line_effect.specs.Verdict.{Judges};
+ghost use Rattle.line_effect.specs.Verdict.{judgedIn};
 ghost use Rattle.receive_defined.specs.Receiving.{settled, longer, lineMoved, lineStepOf};
 
-// "a command line at most 256"
-const LINE_LIMIT: usize = 256;
+// The bytes of a line among the state's arrays.
+const LINE_ROOM: usize = places::LINE_ROOM;
 
 // The line's bytes out of the state's arrays, so that these can be lent on while the line is judged.
-fn line_of(mem: &[u8]) -> [u8; 256]
+fn line_of(mem: &[u8]) -> [u8; LINE_ROOM]
     requires { ⌜ length (now mem) ≡ arraysLen ⌝ }
     ensures { λ r. ⌜ r ≡ lineIn (now (mem .entry)) ⌝ }
 {
-    let mut line = [0u8; 256];
+    let mut line = [0u8; LINE_ROOM];
     buffer::put_whole(&mut line, 0, &mem[places::LINE..places::BLOCK]);
     line
 }
@@ -45,7 +45,7 @@ fn judged(
     store: usize,
 ) -> Verdict
     requires { ⌜ length (now mem) ≡ arraysLen ⌝ }
-    ensures { λ r. ⌜ Judges s (now (mem .entry)) r (now (mem .exit)) (λ w y k d. judgeOf (trim (now (line .entry))) (lineSum (now (line .entry))) w y k d (now (table .entry)) (now (known .entry)) (now (inbox .entry)) store) ⌝ }
+    ensures { λ r. ⌜ judgedIn r (now (mem .exit)) ≡ judgeOf (trim (now (line .entry))) (lineSum (now (line .entry))) (wholeOf s (now (mem .entry))) (now (table .entry)) (now (known .entry)) (now (inbox .entry)) store ⌝ }
 {
     let n = line::trimmed(line);
     let sum = line_sum(line);
@@ -65,9 +65,9 @@ fn ends(
     ensures { λ r. ⌜ settled (r .answer) (wholeOf (r .session) (now (mem .exit))) (now (table .exit)) ≡ lineMoved ends (wholeOf s (now (mem .entry))) CR (now (table .entry)) (now (known .entry)) (now (inbox .entry)) store ⌝ }
 {
     let line = line_of(mem);
-    let n = part::at_most(LINE_LIMIT, s.line.len as usize);
+    let n = part::at_most(line::LINE_LIMIT, s.line.len as usize);
     let v = judged(&line[..n], s, mem, table, known, inbox, store);
-    settling::settle(s, v, true, mem, table)
+    settling::settle(v, true, mem, table)
 }
 
 // One byte more in the line.

@@ -6,11 +6,11 @@ use mathlib.Core.List.{List, [], _∷_}
 use Prim.Native.Nat.{ℕ, zero, suc, _+_, _*_, _%_}
 use lib.Dec.{eqb, ltb, leb}
 use lib.ListN.{length, getD, set, drop}
-use Rattle.grammar.specs.Bytes.{Bytes}
+use Rattle.grammar.specs.Bytes.{Bytes, byteValues}
 use Rattle.grammar.specs.Refusals.{notSid, noForwarding, lineNotAllowed, proposalCount, wrongBlockSum}
 use Rattle.grammar.specs.Fields.{formNumber}
 use Rattle.grammar.specs.Lines.{isComment, isPrompt}
-use Rattle.grammar.specs.Sid.{readSid, hasFeature, framed, levelInForce}
+use Rattle.grammar.specs.Sid.{readSid, hasFeature, framed, levelInForce, letterF}
 use Rattle.grammar.specs.Turns.{Proposal, TurnLine, saysFF, saysFQ, endsBlock, notAllowed, proposes, endsSummed, readTurnLine, turnLineNumber, withCr}
 use Rattle.grammar.specs.Transfers.{byteSum}
 use Rattle.grammar.specs.Answers.{accept, decline, defer, writeSign}
@@ -20,11 +20,12 @@ use Rattle.layout.specs.Layout.{byteAt, entryAt, proposalSize, proposalOut}
 use Rattle.transfer_step.specs.declared.Reader.{Reader}
 use Rattle.transfer_step.specs.Step.{startOf}
 use Rattle.session_memory.specs.State.{at, held, fiveOf, noFive}
-use Rattle.session_memory.specs.Setters.{withPhase, withFf, withCurrent, withProposals, withOurs, withSum, withFirst, withThen, withSigns, withFramed, withLevel, withSending}
+use Rattle.session_memory.specs.Setters.{withPhase, withFf, withCurrent, withProposals, withOurs, withSum, withFirst, withThen, withSigns, withFramed, withLevel, withSending, withReader, withNow, withSay, withKeep, withReading}
 use Rattle.session_memory.specs.declared.Five.{Five}
 use Rattle.session_memory.specs.Session.{Await}
 use Rattle.session_memory.specs.declared.Say.{Say}
 use Rattle.session_memory.specs.Session.{Keep}
+use Rattle.session_memory.specs.Session.{Session}
 use Rattle.phase.specs.Phase.{phaseCalledSid, phaseCallerSid, phasePrompt, phaseTurn, phaseFs, phaseTransfer, phaseOver, pieceSid, pieceSigns, pieceTransfers, notOurTurn, ourTurn, ourTurnAfterFF, stateWaiting, stateForwarded, stateDeclined, blockLimit, noProposal}
 use Rattle.places.specs.Places.{formAt}
 use Rattle.our_answer.specs.Answers.{answersOf}
@@ -36,14 +37,14 @@ use Rattle.line_effect.specs.Judged.{Judged}
 abbrev pub noMarks : Marks
 noMarks = record { state = stateWaiting; places = noFive; deferred = 0 }
 
-abbrev pub judged : ℕ → ℕ → Marks → Await → Say → Keep → Reader → Judged
-judged answer speaks m w y k r = record { answer = answer; speaks = speaks; marks = m; now = w; say = y; keep = k; reader = r }
+abbrev pub judged : ℕ → ℕ → Marks → Session → Judged
+judged answer speaks m s = record { answer = answer; speaks = speaks; marks = m; next = s }
 
-abbrev pub refusal : ℕ → Await → Say → Keep → Reader → Judged
-refusal n w y k r = judged n notOurTurn noMarks w y k r
+abbrev pub refusal : ℕ → Session → Judged
+refusal n s = judged n notOurTurn noMarks s
 
-abbrev pub wentOn : Await → Say → Keep → Reader → Judged
-wentOn w y k r = judged 0 notOurTurn noMarks w y k r
+abbrev pub wentOn : Session → Judged
+wentOn s = judged 0 notOurTurn noMarks s
 
 abbrev pub inPhase : ℕ → Await → Await
 inPhase p w = withPhase p w
@@ -81,15 +82,16 @@ sends f flags k = withSending f flags k
 abbrev pub afterSid : Await → Await
 afterSid w = cond (eqb (w .phase) phaseCallerSid) (inPhase phasePrompt w) (toTurn false w)
 
-abbrev pub sidRead : Option (List ℕ) → Await → Say → Keep → Reader → Judged
-sidRead none w y k r = refusal notSid w y k r
-sidRead (some fs) w y k r = cond (hasFeature 5 fs) (wentOn (afterSid w) y (inMode (framed fs) (levelInForce fs) k) r) (refusal noForwarding w y k r)
+abbrev pub sidRead : Option (List ℕ) → Session → Judged
+sidRead none s = refusal notSid s
+sidRead (some fs) s =
+    cond (hasFeature letterF fs) (wentOn (withNow (afterSid (s .now)) (withKeep (inMode (framed fs) (levelInForce fs) (s .keep)) s))) (refusal noForwarding s)
 
-unfoldable pub sidLine : Bytes → Await → Say → Keep → Reader → Judged
-sidLine ln w y k r = sidRead (readSid ln) w y k r
+unfoldable pub sidLine : Bytes → Session → Judged
+sidLine ln s = sidRead (readSid ln) s
 
-unfoldable pub textLine : Bytes → Await → Say → Keep → Reader → Judged
-textLine ln w y k r = cond (isPrompt ln) (judged 0 ourTurn noMarks w (saysFirst pieceSid y) k r) (wentOn w y k r)
+unfoldable pub textLine : Bytes → Session → Judged
+textLine ln s = cond (isPrompt ln) (judged 0 ourTurn noMarks (withSay (saysFirst pieceSid (s .say)) s)) (wentOn s)
 
 -- ---------------------------------------------------------------- lines of a turn
 
@@ -111,59 +113,59 @@ nextAccepted signs i = plusFrom i (drop i (held signs))
 unfoldable pub readerFor : Await → ℕ → Reader
 readerFor w i = startOf (byteAt (entryAt proposalSize (w .block) i) formAt)
 
-abbrev pub answered : Five → ℕ → Await → Say → Keep → Reader → Judged
-answered signs i w y k r =
-    cond (eqb i noProposal)
-    (judged 0 ourTurn (turnMarks k) w (saysSigns signs y) (settledKeep k) r)
-    (judged 0 notOurTurn (turnMarks k) (toTransfer i w) (saysSigns signs y) (settledKeep k) (readerFor w i))
+-- The partner's turn is whole, and we speak next or not.
+abbrev pub wholeTurn : ℕ → Session → Judged
+wholeTurn speaks s = judged 0 speaks (turnMarks (s .keep)) (withKeep (settledKeep (s .keep)) s)
 
-unfoldable pub endLine : Await → Say → Keep → Reader → Bytes → Bytes → Bytes → ℕ → Judged
-endLine w y k r table known inbox store =
-    cond (eqb (w .proposals) 0) (refusal proposalCount w y k r)
-    (answered (answersOf w k table known inbox store) (nextAccepted (answersOf w k table known inbox store) 0) w y k r)
+-- The block is answered by these signs: the transfer of the proposal at place i is awaited, or it is our turn.
+abbrev pub answered : Five → ℕ → Session → Judged
+answered signs i s =
+    cond (eqb i noProposal) (wholeTurn ourTurn (withSay (saysSigns signs (s .say)) s))
+    (wholeTurn notOurTurn (withNow (toTransfer i (s .now)) (withSay (saysSigns signs (s .say)) (withReading (withReader (readerFor (s .now) i) (s .reading)) s))))
+
+unfoldable pub endLine : Session → Bytes → Bytes → Bytes → ℕ → Judged
+endLine s table known inbox store =
+    cond (eqb (s .now .proposals) 0) (refusal proposalCount s)
+    (answered (answersOf (s .now) (s .keep) table known inbox store) (nextAccepted (answersOf (s .now) (s .keep) table known inbox store) 0) s)
 
 -- "plus HH must be 0 modulo 256" (02, Q-5): 13, "tested after 5 and 6 and before any answer is formed"; h: HH
-unfoldable pub summedLine : ℕ → Await → Say → Keep → Reader → Bytes → Bytes → Bytes → ℕ → Judged
-summedLine h w y k r table known inbox store =
-    cond (eqb (w .proposals) 0) (refusal proposalCount w y k r)
-    (cond (eqb ((w .sum + h) % 256) 0) (endLine w y k r table known inbox store) (refusal wrongBlockSum w y k r))
+unfoldable pub summedLine : ℕ → Session → Bytes → Bytes → Bytes → ℕ → Judged
+summedLine h s table known inbox store =
+    cond (eqb (s .now .proposals) 0) (refusal proposalCount s)
+    (cond (eqb ((s .now .sum + h) % byteValues) 0) (endLine s table known inbox store) (refusal wrongBlockSum s))
 
 -- "The sum of all bytes .. as received, their CR included" (02, Q-5), of one line, modulo 256
 unfoldable pub lineSum : Bytes → ℕ
-lineSum ln = byteSum (withCr ln) % 256
+lineSum ln = byteSum (withCr ln) % byteValues
 
 -- n: the sum of the proposal's line
 abbrev pub withProposal : Proposal → ℕ → Await → Await
 withProposal q n w =
-    withSum ((w .sum + n) % 256)
+    withSum ((w .sum + n) % byteValues)
     (withProposals (w .proposals + 1)
     (putBytes (w .block) (at (w .proposals * proposalSize)) (proposalOut (formNumber (q .form)) (q .type) (q .from) (q .at) (q .to) (q .bid) (q .size))) w)
 
-unfoldable pub proposalLine : Proposal → ℕ → Await → Say → Keep → Reader → Judged
-proposalLine q n w y k r = cond (ltb (w .proposals) blockLimit) (wentOn (withProposal q n w) y k r) (refusal proposalCount w y k r)
+unfoldable pub proposalLine : Proposal → ℕ → Session → Judged
+proposalLine q n s = cond (ltb (s .now .proposals) blockLimit) (wentOn (withNow (withProposal q n (s .now)) s)) (refusal proposalCount s)
 
-unfoldable pub ffLine : Await → Say → Keep → Reader → Judged
-ffLine w y k r =
-    cond (eqb (w .proposals) 0)
-    (cond (w .ff) (refusal lineNotAllowed w y k r) (judged 0 ourTurnAfterFF (turnMarks k) w y (settledKeep k) r))
-    (refusal lineNotAllowed w y k r)
+unfoldable pub ffLine : Session → Judged
+ffLine s =
+    cond (eqb (s .now .proposals) 0) (cond (s .now .ff) (refusal lineNotAllowed s) (wholeTurn ourTurnAfterFF s)) (refusal lineNotAllowed s)
 
-unfoldable pub fqLine : Await → Say → Keep → Reader → Judged
-fqLine w y k r =
-    cond (eqb (w .proposals) 0)
-    (cond (w .ff) (wentOn (inPhase phaseOver w) y k r) (refusal lineNotAllowed w y k r))
-    (refusal lineNotAllowed w y k r)
+unfoldable pub fqLine : Session → Judged
+fqLine s =
+    cond (eqb (s .now .proposals) 0) (cond (s .now .ff) (wentOn (withNow (inPhase phaseOver (s .now)) s)) (refusal lineNotAllowed s)) (refusal lineNotAllowed s)
 
-abbrev pub turnRead : TurnLine → ℕ → Await → Say → Keep → Reader → Bytes → Bytes → Bytes → ℕ → Judged
-turnRead saysFF n w y k r table known inbox store = ffLine w y k r
-turnRead saysFQ n w y k r table known inbox store = fqLine w y k r
-turnRead endsBlock n w y k r table known inbox store = endLine w y k r table known inbox store
-turnRead notAllowed n w y k r table known inbox store = refusal (turnLineNumber notAllowed) w y k r
-turnRead (proposes q) n w y k r table known inbox store = proposalLine q n w y k r
-turnRead (endsSummed h) n w y k r table known inbox store = summedLine h w y k r table known inbox store
+abbrev pub turnRead : TurnLine → ℕ → Session → Bytes → Bytes → Bytes → ℕ → Judged
+turnRead saysFF n s table known inbox store = ffLine s
+turnRead saysFQ n s table known inbox store = fqLine s
+turnRead endsBlock n s table known inbox store = endLine s table known inbox store
+turnRead notAllowed n s table known inbox store = refusal (turnLineNumber notAllowed) s
+turnRead (proposes q) n s table known inbox store = proposalLine q n s
+turnRead (endsSummed h) n s table known inbox store = summedLine h s table known inbox store
 
-unfoldable pub turnLine : Bytes → ℕ → Await → Say → Keep → Reader → Bytes → Bytes → Bytes → ℕ → Judged
-turnLine ln n w y k r table known inbox store = turnRead (readTurnLine (k .framed) ln) n w y k r table known inbox store
+unfoldable pub turnLine : Bytes → ℕ → Session → Bytes → Bytes → Bytes → ℕ → Judged
+turnLine ln n s table known inbox store = turnRead (readTurnLine (s .keep .framed) ln) n s table known inbox store
 
 -- ---------------------------------------------------------------- the FS line
 
@@ -181,33 +183,32 @@ flagged (i ∷ is) flags = flagged is (set flags i 1)
 abbrev pub transfersAfter : Five → Say → Say
 transfersAfter f y = cond (ltb 0 (f .count)) (saysThen pieceTransfers y) y
 
-abbrev pub answerTaken : Bytes → Await → Say → Keep → Reader → Judged
-answerTaken ss w y k r =
+abbrev pub answerTaken : Bytes → Session → Judged
+answerTaken ss s =
     judged 0 notOurTurn
-    (record { state = stateDeclined; places = fiveOf (picked (writeSign decline) (held (w .ours)) ss); deferred = length (picked (writeSign defer) (held (w .ours)) ss) })
-    (toTurn false w)
-    (transfersAfter (fiveOf (picked (writeSign accept) (held (w .ours)) ss)) y)
-    (sends (fiveOf (picked (writeSign accept) (held (w .ours)) ss)) (flagged (picked (writeSign defer) (held (w .ours)) ss) (k .deferred)) k)
-    r
+    (record { state = stateDeclined; places = fiveOf (picked (writeSign decline) (held (s .now .ours)) ss); deferred = length (picked (writeSign defer) (held (s .now .ours)) ss) })
+    (withNow (toTurn false (s .now))
+    (withSay (transfersAfter (fiveOf (picked (writeSign accept) (held (s .now .ours)) ss)) (s .say))
+    (withKeep (sends (fiveOf (picked (writeSign accept) (held (s .now .ours)) ss)) (flagged (picked (writeSign defer) (held (s .now .ours)) ss) (s .keep .deferred)) (s .keep)) s)))
 
-unfoldable pub answerLine : Bytes → Await → Say → Keep → Reader → Judged
-answerLine ln w y k r =
-    cond (eqb (answerNumber (k .terms .level) (w .ours .count) ln) 0)
-    (answerTaken (answerSigns (k .terms .level) (w .ours .count) ln) w y k r)
-    (refusal (answerNumber (k .terms .level) (w .ours .count) ln) w y k r)
+unfoldable pub answerLine : Bytes → Session → Judged
+answerLine ln s =
+    cond (eqb (answerNumber (s .keep .terms .level) (s .now .ours .count) ln) 0)
+    (answerTaken (answerSigns (s .keep .terms .level) (s .now .ours .count) ln) s)
+    (refusal (answerNumber (s .keep .terms .level) (s .now .ours .count) ln) s)
 
 -- ---------------------------------------------------------------- any line
 
-abbrev pub lineIn : ℕ → Bytes → ℕ → Await → Say → Keep → Reader → Bytes → Bytes → Bytes → ℕ → Judged
-lineIn p ln n w y k r table known inbox store =
-    cond (eqb p phaseCalledSid) (sidLine ln w y k r)
-    (cond (eqb p phaseCallerSid) (sidLine ln w y k r)
-    (cond (eqb p phasePrompt) (textLine ln w y k r)
-    (cond (eqb p phaseTurn) (turnLine ln n w y k r table known inbox store)
-    (cond (eqb p phaseFs) (answerLine ln w y k r)
-    (refusal lineNotAllowed w y k r)))))
+abbrev pub lineIn : ℕ → Bytes → ℕ → Session → Bytes → Bytes → Bytes → ℕ → Judged
+lineIn p ln n s table known inbox store =
+    cond (eqb p phaseCalledSid) (sidLine ln s)
+    (cond (eqb p phaseCallerSid) (sidLine ln s)
+    (cond (eqb p phasePrompt) (textLine ln s)
+    (cond (eqb p phaseTurn) (turnLine ln n s table known inbox store)
+    (cond (eqb p phaseFs) (answerLine ln s)
+    (refusal lineNotAllowed s)))))
 
 -- A line without the spaces at its end, and n, the sum of the line as received; the slices are the table, the known BIDs and the inbox, store is the inbox store's size.
-unfoldable pub judgeOf : Bytes → ℕ → Await → Say → Keep → Reader → Bytes → Bytes → Bytes → ℕ → Judged
-judgeOf ln n w y k r table known inbox store =
-    cond (isComment ln) (wentOn w y k r) (lineIn (w .phase) ln n w y k r table known inbox store)
+unfoldable pub judgeOf : Bytes → ℕ → Session → Bytes → Bytes → Bytes → ℕ → Judged
+judgeOf ln n s table known inbox store =
+    cond (isComment ln) (wentOn s) (lineIn (s .now .phase) ln n s table known inbox store)

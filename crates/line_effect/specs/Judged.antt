@@ -1,17 +1,11 @@
--- What a line comes to, with the arrays that a line may change.
+-- What a line comes to, on the state as session memory holds it.
 use Prim.Native.Nat.{ℕ}
-use Rattle.transfer_step.specs.declared.Reader.{Reader}
-use Rattle.session_memory.specs.Session.{Await}
-use Rattle.session_memory.specs.declared.Say.{Say}
-use Rattle.session_memory.specs.Session.{Keep}
+use Rattle.session_memory.specs.Session.{Session}
 use Rattle.line_effect.specs.declared.Marks.{Marks}
 
--- 01's number, or 0 with the state after the line, the marks to set, and whether it is then our turn
+-- 01's number, or 0 with the marks to set and whether it is then our turn; next: the state after the line, as it was where the line is refused
 pub record Judged : Type 0 where
   pub answer : ℕ
   pub speaks : ℕ
   pub marks : Marks
-  pub now : Await
-  pub say : Say
-  pub keep : Keep
-  pub reader : Reader
+  pub next : Session

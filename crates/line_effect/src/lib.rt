@@ -4,8 +4,7 @@ use numbers::KeepNumbers;
 use numbers::Numbers;
 use session_memory::Five;
 ghost use mathlib.Core.Path.{_≡_};
-ghost use Rattle.grammar.specs.Bytes.{Bytes};
-ghost use Rattle.numbers.specs.Whole.{awaitOf, keepOf};
+ghost use Rattle.numbers.specs.Whole.{Arrays, keepOf, sessionOf};
 ghost use Rattle.line_effect.specs.Judge.{noMarks, refusal, wentOn, turnMarks, settledKeep};
 ghost use Rattle.line_effect.specs.Verdict.{judgedOf};
 
@@ -17,7 +16,7 @@ pub struct Marks {
 }
 
 // What a line comes to: 01's number, or 0 with the numbers after it, the marks to set, and whether it is then our turn (phase::OUR_TURN and
-// its like). The numbers of the line under way are in it as they were.
+// its like). Where the line is refused they are as they were.
 pub struct Verdict {
     pub answer: u8,
     pub speaks: u8,
@@ -38,7 +37,7 @@ pub fn unmarked() -> Marks
 
 // The line is refused: 01's number, and the state as it was.
 pub fn refusal(answer: u8, s: Numbers) -> Verdict
-    ensures { λ r. ⌜ ((block deferred : Bytes) → judgedOf r block deferred ≡ refusal answer (awaitOf (s .now) block) (s .say) (keepOf (s .keep) deferred) (s .reader)) ⌝ }
+    ensures { λ r. ⌜ ((a : Arrays) → judgedOf r a ≡ refusal answer (sessionOf s a)) ⌝ }
 {
     Verdict {
         answer: answer,
@@ -50,7 +49,7 @@ pub fn refusal(answer: u8, s: Numbers) -> Verdict
 
 // The line is taken, and nothing else comes of it.
 pub fn went(s: Numbers) -> Verdict
-    ensures { λ r. ⌜ ((block deferred : Bytes) → judgedOf r block deferred ≡ wentOn (awaitOf (s .now) block) (s .say) (keepOf (s .keep) deferred) (s .reader)) ⌝ }
+    ensures { λ r. ⌜ ((a : Arrays) → judgedOf r a ≡ wentOn (sessionOf s a)) ⌝ }
 {
     Verdict {
         answer: refusal::NONE,
@@ -62,7 +61,7 @@ pub fn went(s: Numbers) -> Verdict
 
 // The turn is whole: what was being sent is forwarded.
 pub fn marks_of(keep: KeepNumbers) -> Marks
-    ensures { λ r. ⌜ ((deferred : Bytes) → r ≡ turnMarks (keepOf keep deferred)) ⌝ }
+    ensures { λ r. ⌜ ((a : Arrays) → r ≡ turnMarks (keepOf keep a)) ⌝ }
 {
     let s = keep.sending;
     Marks {
@@ -74,7 +73,7 @@ pub fn marks_of(keep: KeepNumbers) -> Marks
 
 // Nothing is being sent any more.
 pub fn marked(keep: KeepNumbers) -> KeepNumbers
-    ensures { λ r. ⌜ ((deferred : Bytes) → keepOf r deferred ≡ settledKeep (keepOf keep deferred)) ⌝ }
+    ensures { λ r. ⌜ ((a : Arrays) → keepOf r a ≡ settledKeep (keepOf keep a)) ⌝ }
 {
     let mut k = keep;
     k.sending = none();

@@ -8,17 +8,17 @@ use native.Mathlib.Omega.{arith}
 use lib.Dec.{ltb}
 use lib.ListN.{length, length-append}
 use borrow.Author.Tests.{lt-ltb}
-use Rattle.grammar.specs.Turns.{Proposal, TurnLine, saysFF, saysFQ, endsBlock, notAllowed, proposes, endsSummed}
+use Rattle.grammar.specs.Turns.{Proposal, TurnLine, saysFF, saysFQ, endsBlock, notAllowed, proposes, endsSummed, blockLimit}
 use Rattle.grammar.proofs.Basics.{no-both}
 use Rattle.log.specs.Log.{Said, unfinished, farewell, wrong, turn, saidOn, inOrder, said}
 
-said-on : (qs ps : List Proposal) (ls : List TurnLine) → length qs + length ps ≤ 5 → saidOn qs (map proposes ps ++ ls) ≡ saidOn (qs ++ ps) ls
+said-on : (qs ps : List Proposal) (ls : List TurnLine) → length qs + length ps ≤ blockLimit → saidOn qs (map proposes ps ++ ls) ≡ saidOn (qs ++ ps) ls
 said-on qs [] ls h = rw (append-nil qs)
 said-on qs (p ∷ ps) ls h =
-    rw (lt-ltb (length qs) 5 (omega arith))
+    rw (lt-ltb (length qs) blockLimit (omega arith))
     (said-on (qs ++ (p ∷ [])) ps ls (simp length-append (omega arith)) ∙ ap (λ (x : List Proposal). saidOn x ls) (append-assoc qs (p ∷ []) ps))
 
-pub said-after : (ff : Bool) (ps : List Proposal) (ls : List TurnLine) → length ps ≤ 5 → said ff (map proposes ps ++ ls) ≡ inOrder ff (saidOn ps ls)
+pub said-after : (ff : Bool) (ps : List Proposal) (ls : List TurnLine) → length ps ≤ blockLimit → said ff (map proposes ps ++ ls) ≡ inOrder ff (saidOn ps ls)
 unfolding said
 said-after ff ps ls h = ap (inOrder ff) (said-on [] ps ls (omega arith))
 
@@ -58,7 +58,7 @@ before-last [] (notAllowed ∷ xs) y ys h = never h
 before-last (p ∷ ps) (notAllowed ∷ xs) y ys h = never h
 before-last [] (endsSummed n ∷ xs) y ys h = never h
 before-last (p ∷ ps) (endsSummed n ∷ xs) y ys h = never h
-before-last ps (proposes q ∷ xs) y ys h = go (ltb (length ps) 5) h (before-last (ps ++ (q ∷ [])) xs y ys)
+before-last ps (proposes q ∷ xs) y ys h = go (ltb (length ps) blockLimit) h (before-last (ps ++ (q ∷ [])) xs y ys)
   where
     go : (c : Bool) → goesWell (cond c (saidOn (ps ++ (q ∷ [])) (xs ++ y ∷ ys)) wrong) ≡ true
         → (goesWell (saidOn (ps ++ (q ∷ [])) (xs ++ y ∷ ys)) ≡ true → saidOn (ps ++ (q ∷ [])) xs ≡ unfinished)
@@ -94,7 +94,7 @@ module _ (t : TurnLine) (never-last : (ps : List Proposal) → saidOn ps (t ∷ 
   with-line (p ∷ ps) (notAllowed ∷ xs) = refl
   with-line [] (endsSummed n ∷ xs) = refl
   with-line (p ∷ ps) (endsSummed n ∷ xs) = refl
-  with-line ps (proposes q ∷ xs) = go (ltb (length ps) 5) (with-line (ps ++ (q ∷ [])) xs)
+  with-line ps (proposes q ∷ xs) = go (ltb (length ps) blockLimit) (with-line (ps ++ (q ∷ [])) xs)
     where
       go : (c : Bool) → saidOn (ps ++ (q ∷ [])) (xs ++ (t ∷ [])) ≡ wrong → cond c (saidOn (ps ++ (q ∷ [])) (xs ++ (t ∷ []))) wrong ≡ wrong
       go true more = more

@@ -10,7 +10,7 @@ use lib.ListN.{length, length-append}
 use borrow.Author.Tests.{eq-eqb, lt-ltb}
 use Rattle.grammar.specs.Bytes.{Bytes, CR, null, same}
 use Rattle.grammar.specs.Fields.{Form, plain, message, file}
-use Rattle.grammar.specs.Turns.{Proposal, endsBlock, proposes, inMode, proposable, proposalLine, fixedText, ourSid, ourPrompt, ourFF, ourFQ, ourEnd, withCr}
+use Rattle.grammar.specs.Turns.{Proposal, endsBlock, proposes, inMode, proposable, proposalLine, fixedText, ourSid, ourPrompt, ourFF, ourFQ, ourEnd, withCr, blockLimit}
 use Rattle.grammar.specs.Answers.{Sign, readFs, fsLine, fixedLine, ourProposal, OurLine, level0}
 use Rattle.grammar.specs.Transfers.{writeTransfer}
 use Rattle.grammar.proofs.Basics.{Lacks, snoc-cons}
@@ -128,21 +128,21 @@ pub map-snoc : (qs : List Proposal) (p : Proposal) → map proposes qs ++ (propo
 map-snoc [] p = refl
 map-snoc (q ∷ qs) p = rw (map-snoc qs p)
 
-proposal-spoken : (T : List Record) (md ff : Bool) (qs : List Proposal) (p : Proposal) (account : Account) → Fit md p → length qs < 5
+proposal-spoken : (T : List Record) (md ff : Bool) (qs : List Proposal) (p : Proposal) (account : Account) → Fit md p → length qs < blockLimit
     → spoken T md (at (weSay (ourTurn ff (map proposes qs))) account) (withCr (proposalLine p)) ≡ at (weSay (ourTurn ff (map proposes (qs ++ (p ∷ []))))) account
 proposal-spoken T md ff qs p account f h =
     line-spoken T md (ourTurn ff (map proposes qs)) account (proposalLine p) [] (good-line (ourProposal p) (f .0) .whole)
     ∙ rw (proposal-read md p (f .0) (f .1))
-    (rw (said-after ff qs (proposes p ∷ []) (omega arith)) (rw (lt-ltb (length qs) 5 h) (rw (map-snoc qs p))))
+    (rw (said-after ff qs (proposes p ∷ []) (omega arith)) (rw (lt-ltb (length qs) blockLimit h) (rw (map-snoc qs p))))
 
-end-spoken : (T : List Record) (md ff : Bool) (q : Proposal) (qs : List Proposal) (account : Account) → length (q ∷ qs) ≤ 5
+end-spoken : (T : List Record) (md ff : Bool) (q : Proposal) (qs : List Proposal) (account : Account) → length (q ∷ qs) ≤ blockLimit
     → spoken T md (at (weSay (ourTurn ff (map proposes (q ∷ qs)))) account) (withCr (fixedText ourEnd)) ≡ after (ourProposed (placesOf T (q ∷ qs))) account
 end-spoken T md ff q qs account h =
     line-spoken T md (ourTurn ff (map proposes (q ∷ qs))) account (fixedText ourEnd) [] (good-line (fixedLine ourEnd) tt .whole)
     ∙ rw (end-read md) (rw (said-after ff (q ∷ qs) (endsBlock ∷ []) h))
 
 -- the rest of a turn of ours, after q and qs
-rest-spoken : (T : List Record) (md ff : Bool) (ps : List Proposal) (q : Proposal) (qs : List Proposal) (account : Account) → AllFit md ps → length (q ∷ qs) + length ps ≤ 5
+rest-spoken : (T : List Record) (md ff : Bool) (ps : List Proposal) (q : Proposal) (qs : List Proposal) (account : Account) → AllFit md ps → length (q ∷ qs) + length ps ≤ blockLimit
     → spoken T md (at (weSay (ourTurn ff (map proposes (q ∷ qs)))) account) (proposalLines ps ++ withCr (fixedText ourEnd)) ≡ after (ourProposed (placesOf T ((q ∷ qs) ++ ps))) account
 rest-spoken T md ff [] q qs account f h = end-spoken T md ff q qs account (omega arith) ∙ rw (append-nil qs)
 rest-spoken T md ff (p ∷ ps) q qs account f h =
@@ -152,7 +152,7 @@ rest-spoken T md ff (p ∷ ps) q qs account f h =
     (rest-spoken T md ff ps q (qs ++ (p ∷ [])) account (f .1) (simp length-append (omega arith)) ∙ rw (append-assoc qs (p ∷ []) ps))))
 
 -- a whole turn of ours
-pub turn-spoken : (T : List Record) (md ff : Bool) (p : Proposal) (ps : List Proposal) (account : Account) → AllFit md (p ∷ ps) → length (p ∷ ps) ≤ 5
+pub turn-spoken : (T : List Record) (md ff : Bool) (p : Proposal) (ps : List Proposal) (account : Account) → AllFit md (p ∷ ps) → length (p ∷ ps) ≤ blockLimit
     → spoken T md (at (ourNewTurn ff) account) (turnText (p ∷ ps)) ≡ after (ourProposed (placesOf T (p ∷ ps))) account
 unfolding turnText
 turn-spoken T md ff p ps account f h =
@@ -162,7 +162,7 @@ turn-spoken T md ff p ps account f h =
 
 -- ---------------------------------------------------------------- an answer
 
-pub fs-spoken : (T : List Record) (md : Bool) (ps : List Proposal) (ss : List Sign) (account : Account) → length ss ≡ length ps → 1 ≤ length ps → length ps ≤ 5
+pub fs-spoken : (T : List Record) (md : Bool) (ps : List Proposal) (ss : List Sign) (account : Account) → length ss ≡ length ps → 1 ≤ length ps → length ps ≤ blockLimit
     → spoken T md (at (weSay (ourAnswer ps)) account) (withCr (fsLine ss)) ≡ at (theirsOwed (acceptedBy ss ps)) account
 fs-spoken T md ps ss account h k l =
     line-spoken T md (ourAnswer ps) account (fsLine ss) [] (good-line (OurLine.ourAnswer ss) (omega arith, omega arith) .whole)

@@ -14,7 +14,7 @@ use lib.ListN.{length}
 use borrow.Author.Tests.{le-leb, ne-eqb}
 use Rattle.grammar.specs.Bytes.{Bytes, byteValues, CR, LF}
 use Rattle.grammar.specs.Lines.{trim, isComment, lineLimit}
-use Rattle.grammar.specs.Turns.{Proposal, TurnLine, saysFF, saysFQ, endsBlock, notAllowed, proposes, endsSummed, readTurnLine, withCr}
+use Rattle.grammar.specs.Turns.{Proposal, TurnLine, saysFF, saysFQ, endsBlock, notAllowed, proposes, endsSummed, readTurnLine, withCr, blockLimit}
 use Rattle.grammar.specs.Answers.{Sign, consO, readFs}
 use Rattle.grammar.specs.Transfers.{byteSum, sumRight}
 use Rattle.grammar.proofs.Basics.{Lacks}
@@ -342,7 +342,7 @@ module _ (T : List Record) (a ff : Bool) (account : Account) (k : Book) (cs : Li
       (logs-agree T caller states (es ++ map took (bytesCame cs ++ withCr ln)))
 
 -- A WHOLE TURN OF OURS, as we write it: "ours are the records with those BIDs"; where one has no record the log has ended
-pub our-turn-fed : (T : List Record) (a ff : Bool) (p : Proposal) (ps : List Proposal) (account : Account) (k : Book) → AllFit (k .framed) (p ∷ ps) → length (p ∷ ps) ≤ 5
+pub our-turn-fed : (T : List Record) (a ff : Bool) (p : Proposal) (ps : List Proposal) (account : Account) (k : Book) → AllFit (k .framed) (p ∷ ps) → length (p ∷ ps) ≤ blockLimit
     → fedAll T (record { log = owing a (ourNewTurn ff) account k; raw = [] }) (map gave (turnText (p ∷ ps)))
     ≡ record { log = owing a (ourProposed (placesOf T (p ∷ ps))) (afterOurs (ourProposed (placesOf T (p ∷ ps))) account) k; raw = [] }
 our-turn-fed T a ff p ps account k f h =
@@ -352,7 +352,7 @@ our-turn-fed T a ff p ps account k f h =
 
 -- and they count as proposed with it (02, Q-3)
 pub our-turn-counts : (T : List Record) (a ff : Bool) (p : Proposal) (ps : List Proposal) (account : Account) (k : Book) (is : List ℕ) → AllFit (k .framed) (p ∷ ps)
-    → length (p ∷ ps) ≤ 5 → placesOf T (p ∷ ps) ≡ some is
+    → length (p ∷ ps) ≤ blockLimit → placesOf T (p ∷ ps) ≡ some is
     → fedAll T (record { log = owing a (ourNewTurn ff) account k; raw = [] }) (map gave (turnText (p ∷ ps)))
     ≡ record { log = owing a (theySay (theirAnswer is)) (withProposed (length (p ∷ ps)) account) k; raw = [] }
 our-turn-counts T a ff p ps account k is f h e =

@@ -8,18 +8,18 @@ use Rattle.grammar.specs.Fields.{digit, readFrom, field}
 use Rattle.grammar.proofs.Basics.{told, told-not}
 use Rattle.byte.specs.Classes.{classOf}
 use Rattle.byte.specs.declared.Class.{Class}
-use Rattle.pages.specs.Fields.{isLong, readLong}
+use Rattle.pages.specs.Fields.{isLong, readLong, longDigits}
 
 -- the field rule, as the code names its class
-pub class-digits : (s : Bytes) (r : Bool) → r ≡ field (classOf Class.Digit) 10 s → r ≡ isLong s
+pub class-digits : (s : Bytes) (r : Bool) → r ≡ field (classOf Class.Digit) longDigits s → r ≡ isLong s
 unfolding classOf isLong
 class-digits s r e = e
 
-module _ (s : Bytes) (r : Bool) (e : r ≡ field (classOf Class.Digit) 10 s) where
+module _ (s : Bytes) (r : Bool) (e : r ≡ field (classOf Class.Digit) longDigits s) where
   is-long : not r ≡ false → isLong s ≡ true
   is-long k = told (class-digits s r e) k
 
-  pub long-digits : not r ≡ false → field digit 10 s ≡ true
+  pub long-digits : not r ≡ false → field digit longDigits s ≡ true
   unfolding isLong
   long-digits k = is-long k
 

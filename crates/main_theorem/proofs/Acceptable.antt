@@ -3,17 +3,17 @@ use mathlib.Core.Path.{_≡_}
 use mathlib.Core.Logic.{_↔_}
 use Rattle.open_accepts.specs.Good.{Acceptable}
 use Rattle.open_accepts.proofs.Claim.{accepts-exactly}
-use Rattle.main_theorem.specs.Calls.{OpenCall, lending, openedBy}
+use Rattle.main_theorem.specs.Calls.{OpenCall, lendingOf, openedBy}
 use Rattle.main_theorem.specs.Demand3.{CallsOn, Demand3}
 use Rattle.main_theorem.specs.Demand2.{Demand2}
 use Rattle.main_theorem.proofs.Demand3.{demand-3-lent}
 use Rattle.main_theorem.proofs.Demand2.{demand-2-lent}
 
 module _ (M : OpenCall) where
-  pub accepted-exactly : (openedBy M .reply .answer ≡ 0) ↔ Acceptable (lending M)
-  accepted-exactly = accepts-exactly (lending M) .accepts
+  pub accepted-exactly : (openedBy M .reply .answer ≡ 0) ↔ Acceptable (lendingOf M)
+  accepted-exactly = accepts-exactly (lendingOf M) .accepts
 
-  module _ (good : Acceptable (lending M)) where
+  module _ (good : Acceptable (lendingOf M)) where
     pub demand-3-acceptable : (cs : CallsOn M) → Demand3 M cs
     demand-3-acceptable cs = demand-3-lent M (accepted-exactly .1 good) cs
 

@@ -8,11 +8,12 @@ use lib.Dec.{eqb, ltb, leb}
 use lib.ListN.{length}
 use borrow.Author.Tests.{eqb-true, eqb-false, leb-true, le-leb, lt-ltb, not-true}
 use Rattle.grammar.specs.Bytes.{Bytes}
-use Rattle.grammar.specs.Fields.{plain, message, file, isCall, isAt, isBid, isHeading, isBody, sameBid}
-use Rattle.grammar.specs.Turns.{isType, proposable}
+use Rattle.grammar.specs.Fields.{plain, message, file, isCall, isAt, isBid, isHeading, isBody, sameBid, formNumber}
+use Rattle.grammar.specs.Turns.{isType, proposable, sizeValues}
 use Rattle.grammar.specs.Transfers.{partOf, sendable}
+use Rattle.grammar.specs.Refusals.{noPlace}
 use Rattle.grammar.proofs.Basics.{and2, both, or2, no-both}
-use Rattle.mail.specs.Mail.{Record, noRecord, recordAt, proposalOf, headingFor}
+use Rattle.mail.specs.Mail.{Record, noRecord, recordAt, proposalOf, headingFor, recordLimit}
 use Rattle.session.specs.Choices.{among}
 use Rattle.demand2.specs.ReadBack.{ReadsBack}
 use Rattle.demand2.proofs.ReadBack as read-back
@@ -24,6 +25,7 @@ use Rattle.layout.specs.Layout.{byteAt, le2At, le4At, fieldIn, entryAt, recordS
 use Rattle.entries.specs.Decoded.{entriesFrom, entries, recordCount, recordsOf}
 use Rattle.entries.proofs.Laws.{entries-length, entries-at}
 use Rattle.open.specs.Opening.{lengthOk, statesOk, numbersOk, fieldsOk, within, headingOk, textsOk, recordOk, placeOk, faultFrom, tableFault}
+use Rattle.open.specs.Opening.{sizeLimit}
 
 -- ---------------------------------------------------------------- one record
 
@@ -40,14 +42,14 @@ module _ (c titles names bodies : Bytes) (h : recordOk c titles names bodies ≡
   unfolding numbersOk fieldsOk
   record-proposable =
       let n₁ = and2 (statesOk c) _ numbers .1 in
-      let n₂ = and2 (leb (byteAt c recordForm) 2) _ n₁ .1 in
-      let n₃ = and2 (isType (byteAt c recordType)) (leb (le4At c recordSizeAt) 999999) n₂ in
+      let n₂ = and2 (leb (byteAt c recordForm) (formNumber file)) _ n₁ .1 in
+      let n₃ = and2 (isType (byteAt c recordType)) (leb (le4At c recordSizeAt) sizeLimit) n₂ in
       let f = and2 (fieldsOk c) (textsOk c titles names bodies) rest-ok .0 in
       let f₁ = and2 (lengthOk c recordFrom callMax && isCall (fieldIn callMax recordFrom c)) _ f in
       let f₂ = and2 (lengthOk c places.recordAt atMax && isAt (fieldIn atMax places.recordAt c)) _ (f₁ .1) in
       let f₃ = and2 (lengthOk c recordTo callMax && isCall (fieldIn callMax recordTo c)) (lengthOk c recordBid bidMax && isBid (fieldIn bidMax recordBid c)) (f₂ .1) in
-      both (isType (byteAt c recordType) && ltb (le4At c recordSizeAt) 1000000) _
-      (both (isType (byteAt c recordType)) (ltb (le4At c recordSizeAt) 1000000) (n₃ .0) (lt-ltb (le4At c recordSizeAt) 1000000 (let z = leb-true (le4At c recordSizeAt) 999999 (n₃ .1) in omega arith)))
+      both (isType (byteAt c recordType) && ltb (le4At c recordSizeAt) sizeValues) _
+      (both (isType (byteAt c recordType)) (ltb (le4At c recordSizeAt) sizeValues) (n₃ .0) (lt-ltb (le4At c recordSizeAt) sizeValues (let z = leb-true (le4At c recordSizeAt) sizeLimit (n₃ .1) in omega arith)))
       (both (isCall (fieldIn callMax recordFrom c) && isAt (fieldIn atMax places.recordAt c)) _
       (both (isCall (fieldIn callMax recordFrom c)) (isAt (fieldIn atMax places.recordAt c)) (and2 (lengthOk c recordFrom callMax) (isCall (fieldIn callMax recordFrom c)) (f₁ .0) .1) (and2 (lengthOk c places.recordAt atMax) (isAt (fieldIn atMax places.recordAt c)) (f₂ .0) .1))
       (both (isCall (fieldIn callMax recordTo c)) (isBid (fieldIn bidMax recordBid c)) (and2 (lengthOk c recordTo callMax) (isCall (fieldIn callMax recordTo c)) (f₃ .0) .1) (and2 (lengthOk c recordBid bidMax) (isBid (fieldIn bidMax recordBid c)) (f₃ .1) .1)))
@@ -57,16 +59,16 @@ module _ (c titles names bodies : Bytes) (h : recordOk c titles names bodies ≡
 
   -- its title, its name and its body, as open has looked at them
   record Texts : Type 0 where
-    pub title : headingOk titles (le4At c recordTitle) (byteAt c recordTitleLength) (not (eqb (byteAt c recordForm) 2)) ≡ true
-    pub name : headingOk names (le4At c recordName) (byteAt c recordNameLength) (eqb (byteAt c recordForm) 2) ≡ true
+    pub title : headingOk titles (le4At c recordTitle) (byteAt c recordTitleLength) (not (eqb (byteAt c recordForm) (formNumber file))) ≡ true
+    pub name : headingOk names (le4At c recordName) (byteAt c recordNameLength) (eqb (byteAt c recordForm) (formNumber file)) ≡ true
     pub body : isBody (r .form) (r .body) ≡ true
 
   texts : Texts
   unfolding textsOk
   texts =
       let t = and2 (fieldsOk c) (textsOk c titles names bodies) rest-ok .1 in
-      let t₁ = and2 (headingOk titles (le4At c recordTitle) (byteAt c recordTitleLength) (not (eqb (byteAt c recordForm) 2))) _ t in
-      let t₂ = and2 (headingOk names (le4At c recordName) (byteAt c recordNameLength) (eqb (byteAt c recordForm) 2)) _ (t₁ .1) in
+      let t₁ = and2 (headingOk titles (le4At c recordTitle) (byteAt c recordTitleLength) (not (eqb (byteAt c recordForm) (formNumber file)))) _ t in
+      let t₂ = and2 (headingOk names (le4At c recordName) (byteAt c recordNameLength) (eqb (byteAt c recordForm) (formNumber file))) _ (t₁ .1) in
       record {
         title = t₁ .0;
         name = t₂ .0;
@@ -83,13 +85,13 @@ module _ (c titles names bodies : Bytes) (h : recordOk c titles names bodies ≡
       go false q = q
 
   heading-is : isHeading (headingFor (r .form) r) ≡ true
-  heading-is = go (eqb (byteAt c recordForm) 1) (eqb (byteAt c recordForm) 2) refl refl
+  heading-is = go (eqb (byteAt c recordForm) (formNumber message)) (eqb (byteAt c recordForm) (formNumber file)) refl refl
     where
-      title : eqb (byteAt c recordForm) 2 ≡ false → isHeading (r .title) ≡ true
+      title : eqb (byteAt c recordForm) (formNumber file) ≡ false → isHeading (r .title) ≡ true
       title e = needed-is titles (le4At c recordTitle) (byteAt c recordTitleLength) (subst (λ (b : Bool). headingOk titles (le4At c recordTitle) (byteAt c recordTitleLength) (not b) ≡ true) e (texts .title))
 
-      go : (a b : Bool) → eqb (byteAt c recordForm) 1 ≡ a → eqb (byteAt c recordForm) 2 ≡ b → isHeading (headingFor (cond a message (cond b file plain)) r) ≡ true
-      go true true p q = let y = eqb-true (byteAt c recordForm) 1 p in let z = eqb-true (byteAt c recordForm) 2 q in absurd (omega arith)
+      go : (a b : Bool) → eqb (byteAt c recordForm) (formNumber message) ≡ a → eqb (byteAt c recordForm) (formNumber file) ≡ b → isHeading (headingFor (cond a message (cond b file plain)) r) ≡ true
+      go true true p q = let y = eqb-true (byteAt c recordForm) (formNumber message) p in let z = eqb-true (byteAt c recordForm) (formNumber file) q in absurd (omega arith)
       go true false p q = title q
       go false true p q = needed-is names (le4At c recordName) (byteAt c recordNameLength) (subst (λ (b : Bool). headingOk names (le4At c recordName) (byteAt c recordNameLength) b ≡ true) q (texts .name))
       go false false p q = title q
@@ -100,12 +102,12 @@ module _ (c titles names bodies : Bytes) (h : recordOk c titles names bodies ≡
 -- ---------------------------------------------------------------- all records
 
 module _ (table titles names bodies : Bytes) where
-  fault-none : (n i : ℕ) → faultFrom table titles names bodies i n ≡ 255 → i + n ≤ 255 → (k : ℕ) → i ≤ k → k < i + n → placeOk table titles names bodies k ≡ true
+  fault-none : (n i : ℕ) → faultFrom table titles names bodies i n ≡ noPlace → i + n ≤ noPlace → (k : ℕ) → i ≤ k → k < i + n → placeOk table titles names bodies k ≡ true
   fault-none zero i e l k h g = absurd (omega arith)
   fault-none (suc n) i e l k h g = go (placeOk table titles names bodies i) refl e (λ f. fault-none n (suc i) f (omega arith) k)
     where
-      go : (b : Bool) → placeOk table titles names bodies i ≡ b → cond b (faultFrom table titles names bodies (suc i) n) i ≡ 255
-          → (faultFrom table titles names bodies (suc i) n ≡ 255 → suc i ≤ k → k < suc i + n → placeOk table titles names bodies k ≡ true)
+      go : (b : Bool) → placeOk table titles names bodies i ≡ b → cond b (faultFrom table titles names bodies (suc i) n) i ≡ noPlace
+          → (faultFrom table titles names bodies (suc i) n ≡ noPlace → suc i ≤ k → k < suc i + n → placeOk table titles names bodies k ≡ true)
           → placeOk table titles names bodies k ≡ true
       go true p q ih = at (eqb k i) refl
         where
@@ -114,7 +116,7 @@ module _ (table titles names bodies : Bytes) where
           at false e = let z = eqb-false k i e in ih q (omega arith) (omega arith)
       go false p q ih = absurd (omega arith)
 
-  all-ok : tableFault table titles names bodies ≡ 255 → (k : ℕ) → k < recordCount table → placeOk table titles names bodies k ≡ true
+  all-ok : tableFault table titles names bodies ≡ noPlace → (k : ℕ) → k < recordCount table → placeOk table titles names bodies k ≡ true
   unfolding tableFault
   all-ok e k h = fault-none (recordCount table) 0 e (omega arith) k (omega arith) (omega arith)
 
@@ -164,19 +166,19 @@ module _ (table titles names bodies : Bytes) where
         (none-with i n (suc i) (omega arith) (omega arith)) (distinct n (suc i) (omega arith))
 
   -- THE LAWS of a table without a fault
-  pub table-good : tableFault table titles names bodies ≡ 255 → GoodTable (recordsOf titles names bodies table)
+  pub table-good : tableFault table titles names bodies ≡ noPlace → GoodTable (recordsOf titles names bodies table)
   unfolding recordsOf
   table-good e =
       let ok = all-ok e in
       let n = entries-length (recordOf titles names bodies) recordSize table 0 (recordCount table) in
       record {
-        few = le-leb (length (entries (recordOf titles names bodies) recordSize table (recordCount table))) 64 (omega arith);
+        few = le-leb (length (entries (recordOf titles names bodies) recordSize table (recordCount table))) recordLimit (omega arith);
         fields = all-proposable ok (recordCount table) 0 (omega arith);
         bids = distinct ok (recordCount table) 0 (omega arith);
       }
 
   -- every record of it reads back
-  pub table-reads-back : tableFault table titles names bodies ≡ 255 → (i : ℕ) → i < recordCount table → ReadsBack (recordAt (recordsOf titles names bodies table) i)
+  pub table-reads-back : tableFault table titles names bodies ≡ noPlace → (i : ℕ) → i < recordCount table → ReadsBack (recordAt (recordsOf titles names bodies table) i)
   unfolding recordsOf
   table-reads-back e i h =
       let c = entryAt recordSize table i in
@@ -187,7 +189,7 @@ module _ (table titles names bodies : Bytes) where
       ∙ record-sendable c titles names bodies ok))
 
   -- and can be sent
-  pub table-sendable : tableFault table titles names bodies ≡ 255 → (i : ℕ) → i < recordCount table
+  pub table-sendable : tableFault table titles names bodies ≡ noPlace → (i : ℕ) → i < recordCount table
       → sendable (recordAt (recordsOf titles names bodies table) i .form) (headingFor (recordAt (recordsOf titles names bodies table) i .form) (recordAt (recordsOf titles names bodies table) i)) (recordAt (recordsOf titles names bodies table) i .body) ≡ true
   unfolding recordsOf
   table-sendable e i h =

@@ -13,6 +13,7 @@ use Rattle.mail.specs.Mail.{Record, Message}
 use Rattle.log.specs.Log.{Event, Course, Book, Log, applied, Cut, notWhole, outOfTurn, unit, cutUnit, withAfterCr, afterCut, logUnits}
 use Rattle.main_theorem.specs.Deeds.{Deed, answered, sent, turned, weAnswered, nothing, brought, deedOf, deedsCut, deedsFrom, gives, wasDeclined, thenTurned, sentThenTurned, wasForwarded, Fate, messagesBrought}
 use Rattle.log.specs.Effects.{oneOf, isMinus, given}
+use Rattle.phase.specs.Phase.{stateWaiting, stateForwarded, stateDeclined}
 use Rattle.log.proofs.Effects.{made-length, made-other, made-here}
 use Rattle.main_theorem.proofs.DeedStates.{one-append, accepted-one, declined-one}
 use Rattle.main_theorem.proofs.Deeds.{owes, Does, unit-does}
@@ -21,7 +22,7 @@ use Rattle.main_theorem.proofs.Deeds.{owes, Does, unit-does}
 
 -- no state but 0 changes from st to st′
 abbrev pub Keeps : List ℕ → List ℕ → Type 0
-Keeps st st′ = (i : ℕ) → (getD st i 0 ≡ 0 → ⊥) → getD st′ i 0 ≡ getD st i 0
+Keeps st st′ = (i : ℕ) → (getD st i 0 ≡ stateWaiting → ⊥) → getD st′ i 0 ≡ getD st i 0
 
 -- from unit to unit
 abbrev pub KeepsCut : List Record → Log → (Log → List Event → Type 0) → Cut → Type 0
@@ -59,11 +60,11 @@ module _ (i : ℕ) where
 
   -- the deeds to come, the book at the end, course and book now
   pub record Becomes (ds : List Deed) (e : Book) (c : Course) (k : Book) : Type 0 where
-    pub last : (at k ≡ 0 → ⊥) → at e ≡ at k
-    pub declines : i < length (k .states) → wasDeclined i ds ≡ true → at e ≡ 2
-    pub turns : i < length (k .states) → oneOf i (c .account .sent) ≡ true → thenTurned ds ≡ true → at e ≡ 1
-    pub sends : i < length (k .states) → sentThenTurned i ds ≡ true → at e ≡ 1
-    pub forwards : i < length (k .states) → wasForwarded i ds ≡ true → at e ≡ 1
+    pub last : (at k ≡ stateWaiting → ⊥) → at e ≡ at k
+    pub declines : i < length (k .states) → wasDeclined i ds ≡ true → at e ≡ stateDeclined
+    pub turns : i < length (k .states) → oneOf i (c .account .sent) ≡ true → thenTurned ds ≡ true → at e ≡ stateForwarded
+    pub sends : i < length (k .states) → sentThenTurned i ds ≡ true → at e ≡ stateForwarded
+    pub forwards : i < length (k .states) → wasForwarded i ds ≡ true → at e ≡ stateForwarded
     pub rests : wasDeclined i ds ≡ false → wasForwarded i ds ≡ false → (oneOf i (c .account .sent) ≡ true → thenTurned ds ≡ false)
         → (oneOf i (owes (c .next)) ≡ true → sentThenTurned i ds ≡ false) → at e ≡ at k
 
@@ -82,7 +83,7 @@ module _ (i : ℕ) where
       }
 
   module _ (ds : List Deed) (e : Book) (c : Course) (k : Book) (c′ : Course) (k′ : Book) (keeps : Keeps (k .states) (k′ .states)) (ih : Becomes ds e c′ k′) where
-    last-before : (at k ≡ 0 → ⊥) → at e ≡ at k
+    last-before : (at k ≡ stateWaiting → ⊥) → at e ≡ at k
     last-before h = let f = keeps i h in ih .last (λ z. h (sym f ∙ z)) ∙ f
 
     -- a deed that sets no state and sends nothing
@@ -109,19 +110,19 @@ module _ (i : ℕ) where
         let b = unmoved (q .0) (q .1) (q .2) in
         record { last = b .last; declines = b .declines; turns = b .turns; sends = b .sends; forwards = b .forwards; rests = b .rests }
     by-deed (turned ps) q =
-        let len : i < length (k .states) → i < length (k′ .states) = λ h. subst (λ (x : ℕ). i < x) (sym (ap length (q .0) ∙ made-length 0 1 (c .account .sent) (k .states))) h in
+        let len : i < length (k .states) → i < length (k′ .states) = λ h. subst (λ (x : ℕ). i < x) (sym (ap length (q .0) ∙ made-length 0 stateForwarded (c .account .sent) (k .states))) h in
         record {
           last = last-before;
           declines = λ h w. ih .declines (len h) w;
           turns = λ h w v.
-              let f : at k′ ≡ 1 = ap (λ (st : List ℕ). getD st i 0) (q .0) ∙ made-here 1 (c .account .sent) (k .states) i w h in
+              let f : at k′ ≡ stateForwarded = ap (λ (st : List ℕ). getD st i 0) (q .0) ∙ made-here stateForwarded (c .account .sent) (k .states) i w h in
               ih .last (λ z. omega arith) ∙ f;
           sends = λ h w. ih .sends (len h) w;
           forwards = λ h w. ih .forwards (len h) w;
           rests = λ w v x y.
               let f : oneOf i (c .account .sent) ≡ false = not-so (oneOf i (c .account .sent)) (λ z. no-both true refl (x z)) in
               ih .rests w v (λ z. never (sym (ap (oneOf i) (q .1)) ∙ z)) (λ z. never (sym (ap (oneOf i) (q .2)) ∙ z))
-              ∙ ap (λ (st : List ℕ). getD st i 0) (q .0) ∙ made-other 1 (c .account .sent) (k .states) i f;
+              ∙ ap (λ (st : List ℕ). getD st i 0) (q .0) ∙ made-other stateForwarded (c .account .sent) (k .states) i f;
         }
     by-deed (sent j) q =
         let len : i < length (k .states) → i < length (k′ .states) = λ h. subst (λ (x : List ℕ). i < length x) (sym (q .0)) h in
@@ -138,7 +139,7 @@ module _ (i : ℕ) where
         }
       where
         then-sent : (a : Bool) → eqb i j ≡ a → (b : Bool) → thenTurned ds ≡ b → i < length (k′ .states) → oneOf i (c′ .account .sent) ≡ oneOf i (c .account .sent) || oneOf i (j ∷ [])
-            → (a && b) || sentThenTurned i ds ≡ true → at e ≡ 1
+            → (a && b) || sentThenTurned i ds ≡ true → at e ≡ stateForwarded
         then-sent true p true r h now w = ih .turns h (now ∙ or-right (oneOf i (c .account .sent)) (oneOf i (j ∷ [])) (or-left (eqb i j) false p)) r
         then-sent true p false r h now w = ih .sends h w
         then-sent false p b r h now w = ih .sends h w
@@ -151,7 +152,7 @@ module _ (i : ℕ) where
             ap (λ (t : Bool). t && thenTurned ds) (sym r) ∙ or2 (eqb i j && thenTurned ds) (sentThenTurned i ds) (y (ap (oneOf i) o ∙ or-left (eqb i j) (oneOf i (owes (c′ .next))) r)) .0
         sent-turned false false p r x y z o = never z
     by-deed (answered is ss) q =
-        let len : i < length (k .states) → i < length (k′ .states) = λ h. subst (λ (x : ℕ). i < x) (sym (ap length (q .0) ∙ made-length 0 2 (given isMinus ss is) (k .states))) h in
+        let len : i < length (k .states) → i < length (k′ .states) = λ h. subst (λ (x : ℕ). i < x) (sym (ap length (q .0) ∙ made-length 0 stateDeclined (given isMinus ss is) (k .states))) h in
         record {
           last = last-before;
           declines = λ h w. now-declined (gives decline i is ss) refl h (len h) w;
@@ -163,16 +164,16 @@ module _ (i : ℕ) where
               let b = or2 (gives accept i is ss && sentThenTurned i ds) (wasForwarded i ds) v in
               ih .rests (a .1) (b .1) (λ z. x (ap (oneOf i) (sym (q .1)) ∙ z))
               (λ z. ap (λ (t : Bool). t && sentThenTurned i ds) (sym (sym (accepted-one i ss is) ∙ ap (oneOf i) (sym (q .2)) ∙ z)) ∙ b .0)
-              ∙ ap (λ (st : List ℕ). getD st i 0) (q .0) ∙ made-other 2 (given isMinus ss is) (k .states) i (declined-one i ss is ∙ a .0);
+              ∙ ap (λ (st : List ℕ). getD st i 0) (q .0) ∙ made-other stateDeclined (given isMinus ss is) (k .states) i (declined-one i ss is ∙ a .0);
         }
       where
-        now-declined : (b : Bool) → gives decline i is ss ≡ b → i < length (k .states) → i < length (k′ .states) → b || wasDeclined i ds ≡ true → at e ≡ 2
+        now-declined : (b : Bool) → gives decline i is ss ≡ b → i < length (k .states) → i < length (k′ .states) → b || wasDeclined i ds ≡ true → at e ≡ stateDeclined
         now-declined true g h l w =
-            let f : at k′ ≡ 2 = ap (λ (st : List ℕ). getD st i 0) (q .0) ∙ made-here 2 (given isMinus ss is) (k .states) i (declined-one i ss is ∙ g) h in
+            let f : at k′ ≡ stateDeclined = ap (λ (st : List ℕ). getD st i 0) (q .0) ∙ made-here stateDeclined (given isMinus ss is) (k .states) i (declined-one i ss is ∙ g) h in
             ih .last (λ z. omega arith) ∙ f
         now-declined false g h l w = ih .declines l w
 
-        now-accepted : (a b : Bool) → sentThenTurned i ds ≡ b → i < length (k′ .states) → (a && b) || wasForwarded i ds ≡ true → at e ≡ 1
+        now-accepted : (a b : Bool) → sentThenTurned i ds ≡ b → i < length (k′ .states) → (a && b) || wasForwarded i ds ≡ true → at e ≡ stateForwarded
         now-accepted true true g l w = ih .sends l g
         now-accepted true false g l w = ih .forwards l w
         now-accepted false b g l w = ih .forwards l w
@@ -201,18 +202,18 @@ module _ (i : ℕ) where
       b : Becomes ds end (l .course) (l .book)
       b = by-units T Becomes at-end becomes n es l k
 
-      neither : wasForwarded i ds ≡ false → wasDeclined i ds ≡ false → at (l .book) ≡ 0 → at end ≡ 0
+      neither : wasForwarded i ds ≡ false → wasDeclined i ds ≡ false → at (l .book) ≡ stateWaiting → at end ≡ stateWaiting
       neither f d z = b .rests d f (λ q. never (sym (ap (oneOf i) s) ∙ q)) (λ q. never (sym (ap (oneOf i) o) ∙ q)) ∙ z
 
-      was-forwarded : (x y : Bool) → wasForwarded i ds ≡ x → wasDeclined i ds ≡ y → at (l .book) ≡ 0 → eqb (at end) 1 ≡ wasForwarded i ds
-      was-forwarded true y f d z = ap (λ (a : ℕ). eqb a 1) (b .forwards h f) ∙ sym f
-      was-forwarded false true f d z = ap (λ (a : ℕ). eqb a 1) (b .declines h d) ∙ sym f
-      was-forwarded false false f d z = ap (λ (a : ℕ). eqb a 1) (neither f d z) ∙ sym f
+      was-forwarded : (x y : Bool) → wasForwarded i ds ≡ x → wasDeclined i ds ≡ y → at (l .book) ≡ stateWaiting → eqb (at end) stateForwarded ≡ wasForwarded i ds
+      was-forwarded true y f d z = ap (λ (a : ℕ). eqb a stateForwarded) (b .forwards h f) ∙ sym f
+      was-forwarded false true f d z = ap (λ (a : ℕ). eqb a stateForwarded) (b .declines h d) ∙ sym f
+      was-forwarded false false f d z = ap (λ (a : ℕ). eqb a stateForwarded) (neither f d z) ∙ sym f
 
-      was-declined : (x y : Bool) → wasDeclined i ds ≡ x → wasForwarded i ds ≡ y → at (l .book) ≡ 0 → eqb (at end) 2 ≡ wasDeclined i ds
-      was-declined true y d f z = ap (λ (a : ℕ). eqb a 2) (b .declines h d) ∙ sym d
-      was-declined false true d f z = ap (λ (a : ℕ). eqb a 2) (b .forwards h f) ∙ sym d
-      was-declined false false d f z = ap (λ (a : ℕ). eqb a 2) (neither f d z) ∙ sym d
+      was-declined : (x y : Bool) → wasDeclined i ds ≡ x → wasForwarded i ds ≡ y → at (l .book) ≡ stateWaiting → eqb (at end) stateDeclined ≡ wasDeclined i ds
+      was-declined true y d f z = ap (λ (a : ℕ). eqb a stateDeclined) (b .declines h d) ∙ sym d
+      was-declined false true d f z = ap (λ (a : ℕ). eqb a stateDeclined) (b .forwards h f) ∙ sym d
+      was-declined false false d f z = ap (λ (a : ℕ). eqb a stateDeclined) (neither f d z) ∙ sym d
 
 -- ---------------------------------------------------------------- the messages kept
 

@@ -12,6 +12,7 @@ use Rattle.represents.specs.Represents.{messagesOf}
 use Rattle.marking.specs.States.{statesOf, StatesOnly}
 use Rattle.marking.proofs.States.{column-stays}
 use Rattle.places.specs.Places.{partners, recordLen}
+use Rattle.phase.specs.Phase.{stateWaiting, stateForwarded, stateDeclined}
 use Rattle.main_theorem.specs.Calls.{OpenCall, messageCount, openedBy}
 use Rattle.main_theorem.specs.Demand3.{CallsOn, finally}
 use Rattle.main_theorem.specs.Deeds.{wasForwarded, wasDeclined, messagesBrought, transfersBrought, weAccepted, BroughtFor, AsAccepted}
@@ -29,20 +30,20 @@ module _ (M : OpenCall) (open-accepted : openedBy M .reply .answer ≡ 0) (cs : 
 
   -- "A record that was waiting is forwarded exactly when a valid FS line accepted it, the link had taken its whole transfer, and a whole valid
   -- turn of the partner came after that."
-  pub forwarded-exactly : (i : ℕ) → i < recordCount (M .table .bytes) → before i ≡ 0 → eqb (after i) 1 ≡ wasForwarded i (done M cs)
+  pub forwarded-exactly : (i : ℕ) → i < recordCount (M .table .bytes) → before i ≡ stateWaiting → eqb (after i) stateForwarded ≡ wasForwarded i (done M cs)
   forwarded-exactly i h w = in-words M open-accepted cs .each i h .forwarded w
 
   -- "It is declined exactly when a valid FS line declined it."
-  pub declined-exactly : (i : ℕ) → i < recordCount (M .table .bytes) → before i ≡ 0 → eqb (after i) 2 ≡ wasDeclined i (done M cs)
+  pub declined-exactly : (i : ℕ) → i < recordCount (M .table .bytes) → before i ≡ stateWaiting → eqb (after i) stateDeclined ≡ wasDeclined i (done M cs)
   declined-exactly i h w = in-words M open-accepted cs .each i h .declined w
 
   -- and waits on where neither came
-  pub waits-on : (i : ℕ) → i < recordCount (M .table .bytes) → before i ≡ 0 → wasForwarded i (done M cs) ≡ false → wasDeclined i (done M cs) ≡ false
-      → after i ≡ 0
+  pub waits-on : (i : ℕ) → i < recordCount (M .table .bytes) → before i ≡ stateWaiting → wasForwarded i (done M cs) ≡ false → wasDeclined i (done M cs) ≡ false
+      → after i ≡ stateWaiting
   waits-on i h w p q = in-words M open-accepted cs .each i h .waiting w p q
 
   -- A record that was not waiting never changes.
-  pub never-changes : (i : ℕ) → i < recordCount (M .table .bytes) → (before i ≡ 0 → ⊥) → after i ≡ before i
+  pub never-changes : (i : ℕ) → i < recordCount (M .table .bytes) → (before i ≡ stateWaiting → ⊥) → after i ≡ before i
   never-changes i h n = in-words M open-accepted cs .each i h .settled n
 
   -- "Nothing else in the table changes."

@@ -9,7 +9,7 @@ use lib.Dec.{eqb, leb}
 use lib.ListN.{length}
 use Rattle.grammar.specs.Bytes.{Bytes, LF, same, isSome}
 use Rattle.grammar.specs.Lines.{trim, isComment, isPrompt, lineLimit}
-use Rattle.grammar.specs.Sid.{readSid, hasFeature}
+use Rattle.grammar.specs.Sid.{readSid, hasFeature, letterF}
 use Rattle.grammar.specs.Turns.{Proposal, TurnLine, readTurnLine, fixedText, ourSid, ourPrompt}
 use Rattle.grammar.specs.Answers.{Sign, accept, decline, defer, readFs, level0}
 use Rattle.grammar.specs.Transfers.{Content, readTransfer}
@@ -82,7 +82,7 @@ module _ (T : List Record) (a : Bool) (st : Account) (k : Book) where
 
   sid-does : (c : Bool) (n : Next) (z : Option (List ℕ)) → ComesTo nothing n (theirSidRead c k st z)
   sid-does c n none = quiet n over refl
-  sid-does c n (some fs) = by-cond (ComesTo nothing n) (hasFeature 5 fs) (refl, refl, refl, refl) (quiet n over refl)
+  sid-does c n (some fs) = by-cond (ComesTo nothing n) (hasFeature letterF fs) (refl, refl, refl, refl) (quiet n over refl)
 
   text-does : (n : Next) (z : Bool) → ComesTo nothing n (cond z (effect k st (weSay ourSidLine)) (effect k st (theySay theirText)))
   text-does n true = quiet n (weSay ourSidLine) refl
@@ -247,7 +247,7 @@ module _ (T : List Record) (a : Bool) (st : Account) (k : Book) (ds : List Deed)
 
   sid-free : (c : Bool) (z : Option (List ℕ)) → FreeTo (theirSidRead c k st z)
   sid-free c none = ends
-  sid-free c (some fs) = by-cond FreeTo (hasFeature 5 fs) stays ends
+  sid-free c (some fs) = by-cond FreeTo (hasFeature letterF fs) stays ends
 
   ours-free : (is : List ℕ) → Free (oursOwed is)
   ours-free [] = stays

@@ -3,7 +3,6 @@
 use mathlib.Core.Path.{_≡_, refl}
 use mathlib.Core.List.{List, [], _∷_, map}
 use Prim.Native.Nat.{ℕ}
-use lib.Dec.{eqb}
 use Rattle.grammar.specs.Bytes.{Bytes}
 use Rattle.grammar.specs.Refusals.{sessionEnded}
 use Rattle.session.specs.Choices.{Shelf}
@@ -39,13 +38,13 @@ run-reached E (on-lists-run.refusedCall ∷ cs) s q h = run-reached E cs s q h
 
 module _ (M : OpenCall) (e : openedBy M .reply .answer ≡ 0) (cs : CallsOn M) where
   abbrev after : on-lists.Session
-  after = (on-lists-run.run (shelfIn M) (on-lists.opened (eqb (M .role) 1) (statesIn M)) (map callOf cs)) .0
+  after = (on-lists-run.run (shelfIn M) (on-lists.opened (isCaller M) (statesIn M)) (map callOf cs)) .0
 
   abbrev end : Lent
   end = finally M cs
 
   led : (r : Bytes) × Reached (shelfIn M) after r
-  led = run-reached (shelfIn M) (map callOf cs) (on-lists.opened (eqb (M .role) 1) (statesIn M)) [] (atOpen (eqb (M .role) 1) (statesIn M))
+  led = run-reached (shelfIn M) (map callOf cs) (on-lists.opened (isCaller M) (statesIn M)) [] (atOpen (isCaller M) (statesIn M))
 
   held : Held (fixedIn M) (shelfIn M) (freshCs M) (sizesOf (fixedIn M) (lentIn M)) end after
   held = ran M e cs .held

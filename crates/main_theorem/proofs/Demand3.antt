@@ -8,6 +8,7 @@ use native.Mathlib.Omega.{arith}
 use lib.Dec.{eqb}
 use lib.ListN.{length, take}
 use Rattle.grammar.specs.Bytes.{Bytes}
+use Rattle.grammar.specs.Refusals.{badMemory}
 use Rattle.mail.specs.Mail.{Message}
 use Rattle.session.specs.Choices.{Shelf}
 use Rattle.session.specs.Session as on-lists
@@ -21,12 +22,12 @@ use Rattle.represents.specs.Laid.{entriesBytes, bodiesBytes}
 use Rattle.form_closed.specs.Fixed.{Fixed}
 use Rattle.represents.specs.Represents.{messagesOf}
 use Rattle.marking.specs.States.{withStates, StatesOnly}
-use Rattle.main_theorem.specs.Demand2.{callOf}
-use Rattle.main_theorem.specs.Calls.{Lent, OpenCall, fixedIn, lentIn, sizesOf, lentSession, messageCount, received, given, withSession, run, openedBy, partnerIn, statesIn}
+use Rattle.main_theorem.specs.Demand2.{callOf, shelfOf}
+use Rattle.main_theorem.specs.Calls.{Lent, OpenCall, fixedIn, lentIn, sizesOf, lentSession, messageCount, received, given, withSession, run, openedBy, partnerIn, statesIn, isCaller}
 use Rattle.main_theorem.specs.Demand3.{CallsOn, finally, logged, Claim}
 use Rattle.marking.proofs.States.{with-law}
 use Rattle.form_closed.proofs.Answers.{receive-exactly, give-exactly}
-use Rattle.main_theorem.proofs.Opening.{freshCs, fresh-partner, shelfOf, accepted, OpenedAs, open-law}
+use Rattle.main_theorem.proofs.Opening.{freshCs, fresh-partner, accepted, OpenedAs, open-law}
 use Rattle.form_closed.proofs.Closed.{receive-one, give-one}
 use Rattle.main_theorem.proofs.Run.{other-form, RanAs, run-law}
 use Rattle.represents.proofs.Laid.{entries-laid, bodies-laid}
@@ -43,7 +44,7 @@ module _ (M : OpenCall) (e : openedBy M .reply .answer ≡ 0) (cs : CallsOn M) w
   E = shelfOf F m
 
   abbrev pub caller : Bool
-  caller = eqb (M .role) 1
+  caller = isCaller M
 
   abbrev pub states : List ℕ
   states = statesIn M
@@ -105,11 +106,11 @@ module _ (M : OpenCall) (e : openedBy M .reply .answer ≡ 0) (cs : CallsOn M) w
   form-along : formOf (finally M cs .sm) (finally M cs .table) (F .titles) (F .names) (F .bodies) (F .known) (finally M cs .inbox) (finally M cs .store) ≡ true
   form-along = ran .held .inForm .form
 
-  pub receive-not-one : (bs : Bytes) → eqb (received F (finally M cs) bs .reply .answer) 1 ≡ false
+  pub receive-not-one : (bs : Bytes) → eqb (received F (finally M cs) bs .reply .answer) badMemory ≡ false
   receive-not-one bs =
       receive-exactly F (finally M cs .sm) (finally M cs .table) (finally M cs .inbox) (finally M cs .store) bs ∙ ap not form-along
 
-  pub give-not-one : (buf : Bytes) (place : ℕ) → eqb (given F (finally M cs) buf place .reply .answer) 1 ≡ false
+  pub give-not-one : (buf : Bytes) (place : ℕ) → eqb (given F (finally M cs) buf place .reply .answer) badMemory ≡ false
   give-not-one buf place =
       give-exactly F (finally M cs .sm) (finally M cs .table) (finally M cs .inbox) (finally M cs .store) buf place ∙ ap not form-along
 

@@ -11,7 +11,7 @@ use lib.ListN.{length, take, drop, length-take, length-drop, drop-of-length-le}
 use lib.Seq.{drop-drop, drop-nil, take-nil, drop-at, take-append-seam, length-take-le}
 use borrow.Author.Tests.{ltb-true, ltb-false}
 use Rattle.grammar.specs.Bytes.{Bytes, null}
-use Rattle.grammar.specs.Refusals.{badMemory}
+use Rattle.grammar.specs.Refusals.{badMemory, noPlace}
 use Rattle.grammar.proofs.Basics.{no-both, by-cond}
 use Rattle.session.specs.Choices.{Shelf}
 use Rattle.session.specs.Session as on-lists
@@ -173,7 +173,7 @@ module _ (F : Fixed) (E : Shelf) (c₀ : Cs) (z : Sizes) where
     pub give-law : GaveAs m buf place s (given F m buf place)
     unfolding giveOf
     give-law =
-        subst (λ (q : Bool). GaveAs m buf place s (cond q asked (record { reply = reply badMemory 255 0; sm = m .sm; buf = buf })))
+        subst (λ (q : Bool). GaveAs m buf place s (cond q asked (record { reply = reply badMemory noPlace 0; sm = m .sm; buf = buf })))
         (sym (h .inForm .form)) (go (waits (loadOf (m .sm) .say)) (ltb place (length buf)) refl refl)
       where
         same : Given

@@ -3,7 +3,6 @@
 use mathlib.Core.Path.{_≡_, sym, ap, _∙_, subst}
 use mathlib.Core.List.{List, [], map}
 use Prim.Native.Nat.{ℕ, _/_, _<_, min}
-use lib.Dec.{eqb}
 use lib.ListN.{getD}
 use Rattle.session.specs.Choices.{Shelf}
 use Rattle.session.specs.Session as on-lists
@@ -15,13 +14,14 @@ use Rattle.layout.specs.Layout.{stateOf}
 use Rattle.entries.specs.Decoded.{recordCount}
 use Rattle.marking.specs.States.{statesOf}
 use Rattle.form_closed.specs.Fixed.{Fixed}
-use Rattle.main_theorem.specs.Calls.{Lent, fixedIn, lentIn, statesIn}
+use Rattle.mail.specs.Mail.{recordLimit}
+use Rattle.main_theorem.specs.Calls.{Lent, fixedIn, lentIn, statesIn, isCaller}
 use Rattle.main_theorem.specs.Demand3.{finally, traced, logged}
 use Rattle.main_theorem.specs.Deeds.{deeds, Fate, messagesBrought, AsAccepted}
 use Rattle.main_theorem.specs.InWords.{done, ClaimInWords}
 use Rattle.marking.proofs.States.{Whole}
-use Rattle.main_theorem.proofs.Opening.{shelfOf, accepted}
-use Rattle.main_theorem.specs.Demand2.{callOf}
+use Rattle.main_theorem.proofs.Opening.{accepted}
+use Rattle.main_theorem.specs.Demand2.{callOf, shelfOf}
 use Rattle.main_theorem.proofs.Demand3.{open-as, ran, column-only, states-logged, inbox-logged}
 use Rattle.main_theorem.proofs.Deeds.{accepted-law, brought-law}
 use Rattle.main_theorem.proofs.Fates.{fates, messages}
@@ -56,7 +56,7 @@ in-words M e cs =
     good : GoodTable (shelf .table)
     good = open-as M e cs .good
 
-    events : traced M cs ≡ (on-lists-run.run shelf (on-lists.opened (eqb (M .role) 1) st) (map callOf cs)) .1
+    events : traced M cs ≡ (on-lists-run.run shelf (on-lists.opened (isCaller M) st) (map callOf cs)) .1
     events = ran M e cs .events
 
     column : M .partner < partners
@@ -69,18 +69,18 @@ in-words M e cs =
     whole-end = ran M e cs .held .represents .holds .shelved .table
 
     count : recordCount (m .table) ≡ recordCount (end .table)
-    count = ap (λ (n : ℕ). min 64 (n / recordLen)) (sym (column-only M e cs .size))
+    count = ap (λ (n : ℕ). min recordLimit (n / recordLen)) (sym (column-only M e cs .size))
 
     fate : (i : ℕ) → i < recordCount (m .table) → Fate i (done M cs) (getD st i 0) (getD (statesOf (M .partner) (end .table)) i 0)
     fate i h =
         subst (λ (x : List ℕ). Fate i (done M cs) (getD st i 0) (getD x i 0)) (sym (states-logged M e cs))
-        (subst (λ (es : List Event). Fate i (deeds (shelf .table) (eqb (M .role) 1) st es) (getD st i 0) (getD (log (shelf .table) (eqb (M .role) 1) st es .book .states) i 0)) (sym events)
-        (fates shelf good (eqb (M .role) 1) st (map callOf cs) i (subst (λ (n : ℕ). i < n) (sym (states-length (M .partner) (m .table))) h)))
+        (subst (λ (es : List Event). Fate i (deeds (shelf .table) (isCaller M) st es) (getD st i 0) (getD (log (shelf .table) (isCaller M) st es .book .states) i 0)) (sym events)
+        (fates shelf good (isCaller M) st (map callOf cs) i (subst (λ (n : ℕ). i < n) (sym (states-length (M .partner) (m .table))) h)))
 
     in-turn : AsAccepted [] [] (done M cs)
-    in-turn = accepted-law (shelf .table) (eqb (M .role) 1) st (traced M cs)
+    in-turn = accepted-law (shelf .table) (isCaller M) st (traced M cs)
 
     kept : logged M cs .book .kept ≡ messagesBrought (done M cs)
     kept =
-        subst (λ (es : List Event). log (shelf .table) (eqb (M .role) 1) st es .book .kept ≡ messagesBrought (deeds (shelf .table) (eqb (M .role) 1) st es)) (sym events)
-        (messages shelf good (eqb (M .role) 1) st (map callOf cs))
+        subst (λ (es : List Event). log (shelf .table) (isCaller M) st es .book .kept ≡ messagesBrought (deeds (shelf .table) (isCaller M) st es)) (sym events)
+        (messages shelf good (isCaller M) st (map callOf cs))

@@ -10,7 +10,7 @@ use lib.ListN.{getD, set}
 use lib.Seq.{getD-set-other}
 use borrow.Author.Tests.{eqb-true, eqb-false, ne-eqb}
 use Rattle.grammar.specs.Bytes.{Bytes}
-use Rattle.grammar.specs.Turns.{ourBlock, inMode}
+use Rattle.grammar.specs.Turns.{ourBlock, inMode, blockLimit, announcedLimit}
 use Rattle.grammar.specs.Answers.{Sign, accept, decline, defer}
 use Rattle.grammar.proofs.Basics.{and2, or2}
 use Rattle.mail.specs.Mail.{Record, accepted, marked, declined}
@@ -19,6 +19,7 @@ use Rattle.session.specs.Session.{Awaited, awaitsSid, awaitsPrompt, awaitsTurn,
 use Rattle.session.proofs.Ways.{Passes, toEnd, toTurn, toAnswer, toTransfer, our-turn, our-answer, next-transfer, Judged, isWrong, hearsSid, hearsText, hearsPrompt, hearsProposal, hearsFF, hearsFQ, hearsEnd, hearsFs, Way, isRefused, dropsLf, growsLine, ignoresLine, hearsLine, readsOn, readsLast, way}
 use Rattle.main_theorem.specs.Deeds.{gives}
 use Rattle.log.specs.Effects.{oneOf, isMinus, given}
+use Rattle.phase.specs.Phase.{stateWaiting, stateForwarded, stateDeclined}
 use Rattle.log.proofs.Effects.{made-other}
 use Rattle.demand3.proofs.Effects.{marked-alike, declined-alike}
 use Rattle.main_theorem.proofs.DeedStates.{declined-one}
@@ -29,7 +30,7 @@ use Rattle.main_theorem.proofs.Becomes.{Keeps}
 -- the records at these places wait
 abbrev pub Waiting : List ℕ → List ℕ → Type 0
 Waiting [] st = Unit {0}
-Waiting (i ∷ is) st = (getD st i 0 ≡ 0) × Waiting is st
+Waiting (i ∷ is) st = (getD st i 0 ≡ stateWaiting) × Waiting is st
 
 -- each place once
 abbrev Once : List ℕ → Type 0
@@ -37,17 +38,17 @@ Once [] = Unit {0}
 Once (i ∷ is) = (oneOf i is ≡ false) × Once is
 
 -- a record that does not wait is none of them
-none-waits : (i : ℕ) (is st : List ℕ) → Waiting is st → (getD st i 0 ≡ 0 → ⊥) → oneOf i is ≡ false
+none-waits : (i : ℕ) (is st : List ℕ) → Waiting is st → (getD st i 0 ≡ stateWaiting → ⊥) → oneOf i is ≡ false
 none-waits i [] st w h = refl
 none-waits i (j ∷ is) st w h =
     rw (ne-eqb i j (λ e. h (ap (λ (x : ℕ). getD st x 0) e ∙ w .0))) (none-waits i is st (w .1) h)
 
 -- a record that is none of those keeps its state
 marked-other : (i : ℕ) (is st : List ℕ) → oneOf i is ≡ false → getD (marked is st) i 0 ≡ getD st i 0
-marked-other i is st h = ap (λ (l : List ℕ). getD l i 0) (marked-alike is st) ∙ made-other 1 is st i h
+marked-other i is st h = ap (λ (l : List ℕ). getD l i 0) (marked-alike is st) ∙ made-other stateForwarded is st i h
 
 declined-other : (i : ℕ) (is : List ℕ) (ss : List Sign) (st : List ℕ) → gives decline i is ss ≡ false → getD (declined is ss st) i 0 ≡ getD st i 0
-declined-other i is ss st h = ap (λ (l : List ℕ). getD l i 0) (declined-alike is ss st) ∙ made-other 2 (given isMinus ss is) st i (declined-one i ss is ∙ h)
+declined-other i is ss st h = ap (λ (l : List ℕ). getD l i 0) (declined-alike is ss st) ∙ made-other stateDeclined (given isMinus ss is) st i (declined-one i ss is ∙ h)
 
 marks-keep : (is st : List ℕ) → Waiting is st → Keeps st (marked is st)
 marks-keep is st w i h = marked-other i is st (none-waits i is st w h)
@@ -76,7 +77,7 @@ accepted-wait [] (s ∷ ss) st o w = tt
 accepted-wait (i ∷ is) [] st o w = tt
 accepted-wait (i ∷ is) (accept ∷ ss) st o w =
     (declined-other i is ss st (none-declined i is ss (o .0)) ∙ w .0, accepted-wait is ss st (o .1) (w .1))
-accepted-wait (i ∷ is) (decline ∷ ss) st o w = accepted-wait is ss (set st i 2) (o .1) (waiting-set i 2 is st (o .0) (w .1))
+accepted-wait (i ∷ is) (decline ∷ ss) st o w = accepted-wait is ss (set st i stateDeclined) (o .1) (waiting-set i stateDeclined is st (o .0) (w .1))
 accepted-wait (i ∷ is) (defer ∷ ss) st o w = accepted-wait is ss st (o .1) (w .1)
 
 -- ---------------------------------------------------------------- our choice
@@ -123,7 +124,7 @@ candidates-fit md st fl (r ∷ T) i = go (wanted md r (getD st i 0) (getD fl i 0
 
 block-has : (size : ℕ → ℕ) (n s i : ℕ) (xs : List ℕ) → oneOf i xs ≡ false → oneOf i (ourBlock size n s xs) ≡ false
 block-has size n s i [] h = refl
-block-has size n s i (x ∷ xs) h = go (ltb n 5 && ltb s 10240) (or2 (eqb i x) (oneOf i xs) h) (λ k. block-has size (n + 1) (s + size x) i xs k)
+block-has size n s i (x ∷ xs) h = go (ltb n blockLimit && ltb s announcedLimit) (or2 (eqb i x) (oneOf i xs) h) (λ k. block-has size (n + 1) (s + size x) i xs k)
   where
     go : (b : Bool) → (eqb i x ≡ false) × (oneOf i xs ≡ false) → (oneOf i xs ≡ false → oneOf i (ourBlock size (n + 1) (s + size x) xs) ≡ false)
         → oneOf i (cond b (x ∷ ourBlock size (n + 1) (s + size x) xs) []) ≡ false
@@ -133,7 +134,7 @@ block-has size n s i (x ∷ xs) h = go (ltb n 5 && ltb s 10240) (or2 (eqb i x) (
 block-fit : (size : ℕ → ℕ) (st : List ℕ) (n s : ℕ) (xs : List ℕ) → Fit st xs → Fit st (ourBlock size n s xs)
 block-fit size st n s [] f = record { once = tt; waiting = tt }
 block-fit size st n s (x ∷ xs) f =
-    go (ltb n 5 && ltb s 10240) (block-fit size st (n + 1) (s + size x) xs (record { once = f .once .1; waiting = f .waiting .1 }))
+    go (ltb n blockLimit && ltb s announcedLimit) (block-fit size st (n + 1) (s + size x) xs (record { once = f .once .1; waiting = f .waiting .1 }))
   where
     go : (b : Bool) → Fit st (ourBlock size (n + 1) (s + size x) xs) → Fit st (cond b (x ∷ ourBlock size (n + 1) (s + size x) xs) [])
     go true g = record { once = (block-has size (n + 1) (s + size x) x xs (f .once .0), g .once); waiting = (f .waiting .0, g .waiting) }

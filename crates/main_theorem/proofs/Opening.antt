@@ -1,32 +1,34 @@
 -- THE LAW OF OPEN: the session memory that an accepted open leaves, with the lent buffers, represents the session that is opened on lists.
 use mathlib.Core.Path.{_≡_, refl, sym, ap, _∙_, subst}
-use mathlib.Core.Bool.{Bool, true, false, cond}
+use mathlib.Core.Bool.{Bool, true, false}
 use Prim.Native.Nat.{ℕ, _*_, _/_, _%_, _≤_, _<_}
 use native.Mathlib.Omega.{arith}
-use lib.Dec.{eqb, leb, ltb}
+use lib.Dec.{eqb, leb}
 use lib.ListN.{length}
-use borrow.Author.Tests.{eqb-true, leb-true, ltb-true}
+use borrow.Author.Tests.{eqb-true, leb-true}
 use Rattle.grammar.specs.Bytes.{Bytes}
-use Rattle.grammar.specs.Refusals.{badMemory}
+use Rattle.grammar.specs.Refusals.{noPlace}
 use Rattle.grammar.proofs.Basics.{and2}
-use Rattle.session.specs.Choices.{Shelf}
+use Rattle.mail.specs.Mail.{recordLimit, placeLimit}
 use Rattle.session.specs.Session as on-lists
 use Rattle.demand3.specs.Demand.{GoodTable}
 use Rattle.places.specs.Places.{entryLen, knownLen, partners, recordLen, sessionLen}
-use Rattle.session_memory.specs.State.{sessionSize, loadOf, saveOf, saveSizes, freshOf}
+use Rattle.session_memory.specs.State.{sessionSize, loadOf, saveSizes, freshOf}
 use Rattle.session_memory.specs.Session.{Session}
 use Rattle.session_memory.proofs.Laws.{Sized, load-save, load-sizes, sizes-length, save-sizes-kept}
-use Rattle.entries.specs.Decoded.{recordsOf, knownBids, placeCount, recordCount}
+use Rattle.entries.specs.Decoded.{placeCount, recordCount, knownLimit}
 use Rattle.waiting.specs.Waiting.{waitingOf, firstText, thenText}
 use Rattle.pending.specs.Pending.{waits}
 use Rattle.form_test.specs.Form.{usedBy}
 use Rattle.give.specs.Giving.{reply}
-use Rattle.open.specs.Opening.{Opened, opened, entriesOk, sizesOk, knownOk, tableFault, openOf}
+use Rattle.open.specs.Opening.{entriesOk, sizesOk, faultIn, begun, begunIn}
+use Rattle.open.proofs.Accepted.{open-passed}
 use Rattle.receive_defined.specs.Receiving.{Cs, cs}
 use Rattle.form_closed.specs.Fixed.{Fixed}
 use Rattle.represents.specs.Represents.{Says, Awaits, Represents, messagesOf}
 use Rattle.represents.specs.Frame.{Spared}
-use Rattle.main_theorem.specs.Calls.{Lent, OpenCall, fixedIn, lentIn, openedBy, isCaller, statesIn, sizesOf, withSession, Buffer}
+use Rattle.main_theorem.specs.Calls.{Lent, OpenCall, lendingOf, fixedIn, lentIn, openedBy, isCaller, statesIn, sizesOf, withSession, Buffer}
+use Rattle.main_theorem.specs.Demand2.{shelfOf}
 use Rattle.represents.proofs.Byte.{spared-same}
 use Rattle.main_theorem.proofs.Held.{Held}
 use Rattle.main_theorem.proofs.Accepted.{table-good}
@@ -50,11 +52,11 @@ countedIn M = counted (M .partner) (M .table .bytes) noSheet
 pub record Accepted (M : OpenCall) : Type 0 where
   pub partner : M .partner < partners
   pub session : length (M .session .bytes) ≡ sessionLen
-  pub table : (length (M .table .bytes) ≡ recordCount (M .table .bytes) * recordLen) × (length (M .table .bytes) ≤ 64 * recordLen)
-  pub known : length (M .known .bytes) ≤ 13312
-  pub inbox : (length (M .inbox .bytes) ≡ placeCount (M .inbox .bytes) * entryLen) × (placeCount (M .inbox .bytes) ≤ 64)
-  pub fault : tableFault (M .table .bytes) (M .titles .bytes) (M .names .bytes) (M .bodies .bytes) ≡ 255
-  pub left : openedBy M .sm ≡ saveOf (saveSizes (M .session .bytes) (sizesOf (fixedIn M) (lentIn M))) (freshOf (eqb (M .role) 1) (M .partner) (countedIn M))
+  pub table : (length (M .table .bytes) ≡ recordCount (M .table .bytes) * recordLen) × (length (M .table .bytes) ≤ recordLimit * recordLen)
+  pub known : length (M .known .bytes) ≤ knownLimit * knownLen
+  pub inbox : (length (M .inbox .bytes) ≡ placeCount (M .inbox .bytes) * entryLen) × (placeCount (M .inbox .bytes) ≤ placeLimit)
+  pub fault : faultIn (lendingOf M) ≡ noPlace
+  pub left : openedBy M .sm ≡ begunIn (lendingOf M)
 
 entries-are : (n size most : ℕ) → entriesOk n size most ≡ true → (n % size ≡ 0) × (n / size ≤ most)
 entries-are n size most e = let p = and2 (eqb (n % size) 0) (leb (n / size) most) e in (eqb-true (n % size) 0 (p .0), leb-true (n / size) most (p .1))
@@ -66,78 +68,53 @@ module _ (M : OpenCall) where
   abbrev m : Lent
   m = lentIn M
 
-  abbrev fresh : Bytes
-  fresh = saveOf (saveSizes (m .sm) (sizesOf F m)) (freshOf (eqb (M .role) 1) (M .partner) (countedIn M))
-
-  abbrev fault : ℕ
-  fault = tableFault (m .table) (F .titles) (F .names) (F .bodies)
+  -- the session that begins, by who calls
+  abbrev begins : Bool → Session
+  begins caller = freshOf caller (M .partner) (countedIn M)
 
   pub accepted : openedBy M .reply .answer ≡ 0 → Accepted M
-  unfolding openOf sizesOk
-  accepted e = go (ltb (M .partner) partners) (leb (M .role) 1) (sizesOk (m .sm) (m .table) (F .known) (m .inbox)) (knownOk (F .known)) (eqb fault 255) refl refl refl refl refl e
-    where
-      bad : ℕ → Opened
-      bad n = opened (reply badMemory n 0) (m .sm)
-
-      tested : Bool → Bool → Bool → Bool → Bool → Opened
-      tested o a b c d = cond o (cond a (cond b (cond c (cond d (opened (reply 0 0 0) fresh) (bad fault)) (bad 255)) (bad 255)) (bad 255)) (bad 255)
-
-      go : (o a b c d : Bool) → ltb (M .partner) partners ≡ o → leb (M .role) 1 ≡ a → sizesOk (m .sm) (m .table) (F .known) (m .inbox) ≡ b → knownOk (F .known) ≡ c → eqb fault 255 ≡ d
-          → tested o a b c d .reply .answer ≡ 0 → Accepted M
-      go true true true true true n p q r s k =
-          let q₁ = and2 (eqb (length (m .sm)) sessionSize) _ q in
-          let q₂ = and2 (entriesOk (length (m .table)) recordLen 64) _ (q₁ .1) in
-          let q₃ = and2 (entriesOk (length (F .known)) knownLen 1024) (entriesOk (length (m .inbox)) entryLen 64) (q₂ .1) in
-          let t = entries-are (length (m .table)) recordLen 64 (q₂ .0) in
-          let w = entries-are (length (F .known)) knownLen 1024 (q₃ .0) in
-          let i = entries-are (length (m .inbox)) entryLen 64 (q₃ .1) in
-          record {
-            partner = ltb-true (M .partner) partners n;
-            session = eqb-true (length (m .sm)) sessionSize (q₁ .0);
-            table = (omega arith, omega arith);
-            known = omega arith;
-            inbox = (omega arith, i .1);
-            fault = eqb-true fault 255 s;
-            left = ap (λ (o : Bool). tested o (leb (M .role) 1) (sizesOk (m .sm) (m .table) (F .known) (m .inbox)) (knownOk (F .known)) (eqb fault 255) .sm) n
-                ∙ ap (λ (a : Bool). tested true a (sizesOk (m .sm) (m .table) (F .known) (m .inbox)) (knownOk (F .known)) (eqb fault 255) .sm) p
-                ∙ ap (λ (b : Bool). tested true true b (knownOk (F .known)) (eqb fault 255) .sm) q
-                ∙ ap (λ (c : Bool). tested true true true c (eqb fault 255) .sm) r
-                ∙ ap (λ (d : Bool). tested true true true true d .sm) s;
-          }
-      go true true true true false n p q r s k = absurd (omega arith)
-      go true true true false d n p q r s k = absurd (omega arith)
-      go true true false c d n p q r s k = absurd (omega arith)
-      go true false b c d n p q r s k = absurd (omega arith)
-      go false a b c d n p q r s k = absurd (omega arith)
+  unfolding sizesOk
+  accepted e =
+      let p = open-passed (lendingOf M) e in
+      let q₁ = and2 (eqb (length (m .sm)) sessionSize) _ (p .sizes) in
+      let q₂ = and2 (entriesOk (length (m .table)) recordLen recordLimit) _ (q₁ .1) in
+      let q₃ = and2 (entriesOk (length (F .known)) knownLen knownLimit) (entriesOk (length (m .inbox)) entryLen placeLimit) (q₂ .1) in
+      let t = entries-are (length (m .table)) recordLen recordLimit (q₂ .0) in
+      let w = entries-are (length (F .known)) knownLen knownLimit (q₃ .0) in
+      let i = entries-are (length (m .inbox)) entryLen placeLimit (q₃ .1) in
+      record {
+        partner = p .partner;
+        session = eqb-true (length (m .sm)) sessionSize (q₁ .0);
+        table = (omega arith, omega arith);
+        known = omega arith;
+        inbox = (omega arith, i .1);
+        fault = p .fault;
+        left = p .left;
+      }
 
 -- ---------------------------------------------------------------- the state that open saves
 
 -- the state that open leaves, with the lent bytes
 abbrev pub freshCs : OpenCall → Cs
-freshCs M = cs (freshOf (isCaller M) (M .partner) (countedIn M)) (M .table .bytes) (M .inbox .bytes) (M .store .bytes)
+freshCs M = cs (begun (lendingOf M)) (M .table .bytes) (M .inbox .bytes) (M .store .bytes)
 
 -- it names the partner that open was told
 pub fresh-partner : (M : OpenCall) → partnerOf (freshCs M .session) ≡ M .partner
 unfolding freshOf
 fresh-partner M = refl
 
--- the shelf of lent buffers
-abbrev pub shelfOf : Fixed → Lent → Shelf
-shelfOf F m =
-    record { table = recordsOf (F .titles) (F .names) (F .bodies) (m .table); known = knownBids (F .known); places = placeCount (m .inbox); bytes = length (m .store) }
-
 module _ (M : OpenCall) (a : Accepted M) where
-  greeting-says : (caller : Bool) → Says (F M) (cs (freshOf caller (M .partner) (countedIn M)) (M .table .bytes) (M .inbox .bytes) (M .store .bytes)) (on-lists.greeting caller)
+  greeting-says : (caller : Bool) → Says (F M) (cs (begins M caller) (M .table .bytes) (M .inbox .bytes) (M .store .bytes)) (on-lists.greeting caller)
   unfolding freshOf waits waitingOf firstText thenText
   greeting-says true = refl
   greeting-says false = refl
 
-  sid-awaited : (caller : Bool) → Awaits (cs (freshOf caller (M .partner) (countedIn M)) (M .table .bytes) (M .inbox .bytes) (M .store .bytes)) (on-lists.aLine (on-lists.awaitsSid caller))
+  sid-awaited : (caller : Bool) → Awaits (cs (begins M caller) (M .table .bytes) (M .inbox .bytes) (M .store .bytes)) (on-lists.aLine (on-lists.awaitsSid caller))
   unfolding freshOf
   sid-awaited true = (refl, tt)
   sid-awaited false = (refl, tt)
 
-  fresh-represents : (caller : Bool) → Represents (F M) (shelfOf (F M) (m M)) (cs (freshOf caller (M .partner) (countedIn M)) (M .table .bytes) (M .inbox .bytes) (M .store .bytes)) (on-lists.opened caller (statesIn M))
+  fresh-represents : (caller : Bool) → Represents (F M) (shelfOf (F M) (m M)) (cs (begins M caller) (M .table .bytes) (M .inbox .bytes) (M .store .bytes)) (on-lists.opened caller (statesIn M))
   unfolding freshOf messagesOf usedBy waitingIn sizesIn
   fresh-represents caller =
       record {
@@ -183,7 +160,7 @@ open-law M e =
     octets b = record { each = b .octets }
 
     caller : Bool
-    caller = eqb (M .role) 1
+    caller = isCaller M
 
     sized : Sized (sizesOf (F M) (m M))
     sized =
@@ -195,15 +172,15 @@ open-law M e =
     n : length (saveSizes (m M .sm) (sizesOf (F M) (m M))) ≡ sessionLen
     n = sizes-length (m M .sm) (sizesOf (F M) (m M)) ∙ a .session
 
-    back : loadOf (fresh M) ≡ freshOf caller (M .partner) (countedIn M)
-    back = load-save (saveSizes (m M .sm) (sizesOf (F M) (m M))) (freshOf caller (M .partner) (countedIn M)) n (fresh-shaped (F M) caller (M .partner) (a .partner) (countedIn M) (open-counted (M .partner) (m M .table)))
+    back : loadOf (begunIn (lendingOf M)) ≡ begins M caller
+    back = load-save (saveSizes (m M .sm) (sizesOf (F M) (m M))) (begins M caller) n (fresh-shaped (F M) caller (M .partner) (a .partner) (countedIn M) (open-counted (M .partner) (m M .table)))
 
-    held : Held (F M) (shelfOf (F M) (m M)) (freshCs M) (sizesOf (F M) (m M)) (withSession (m M) (fresh M)) (on-lists.opened caller (statesIn M))
+    held : Held (F M) (shelfOf (F M) (m M)) (freshCs M) (sizesOf (F M) (m M)) (withSession (m M) (begunIn (lendingOf M))) (on-lists.opened caller (statesIn M))
     held =
         record {
           inForm = subst (λ (x : Bytes). InForm (F M) x (m M .table) (m M .inbox) (m M .store)) (a .left)
-              (open-closed (F M) (M .role) (M .partner) (m M .sm) (m M .table) (m M .inbox) (m M .store) (octets (M .session)) (octets (M .table)) (octets (M .inbox)) (octets (M .store)) sized e);
-          sizes = save-sizes-kept (saveSizes (m M .sm) (sizesOf (F M) (m M))) (freshOf caller (M .partner) (countedIn M)) (let k = n in omega arith) ∙ load-sizes (m M .sm) (sizesOf (F M) (m M)) (omega (arith, a .session)) sized;
+              (open-closed (lendingOf M) (octets (M .session)) (octets (M .table)) (octets (M .inbox)) (octets (M .store)) sized e);
+          sizes = save-sizes-kept (saveSizes (m M .sm) (sizesOf (F M) (m M))) (begins M caller) (let k = n in omega arith) ∙ load-sizes (m M .sm) (sizesOf (F M) (m M)) (omega (arith, a .session)) sized;
           represents = subst (λ (x : Session). Represents (F M) (shelfOf (F M) (m M)) (cs x (m M .table) (m M .inbox) (m M .store)) (on-lists.opened caller (statesIn M))) (sym back) (fresh-represents M a caller);
           spared = subst (λ (x : Session). Spared (freshCs M) (cs x (m M .table) (m M .inbox) (m M .store))) (sym back) (spared-same (freshCs M));
           column = subst (λ (x : Session). OneColumn (freshCs M) (cs x (m M .table) (m M .inbox) (m M .store))) (sym back) (column-same (freshCs M));

@@ -12,10 +12,10 @@ use Rattle.grammar.specs.Refusals.{badMemory, noPlace, sessionEnded}
 use Rattle.grammar.proofs.Basics.{and2, no-both, by-cond}
 use Rattle.buffer.specs.Put.{wrote, cut, putBytes}
 use Rattle.buffer.proofs.Laws.{wrote-nil}
+use Rattle.phase.specs.Phase.{pieceNone, pieceProtocolError, pieceChecksumError, phaseTurn, phaseTransfer, phaseLeaving}
 use Rattle.session_memory.specs.State.{sessionSize, loadOf, loadSizes}
-use Rattle.session_memory.specs.declared.Five.{Five}
 use Rattle.session_memory.specs.Session.{Session}
-use Rattle.waiting.specs.Waiting.{firstText, thenText, waitingOf}
+use Rattle.waiting.specs.Waiting.{firstText, thenBy, thenText, waitingOf}
 use Rattle.waiting.proofs.Said.{first-none, first-protocol, first-checksum}
 use Rattle.pending.specs.Pending.{waits, overOf}
 use Rattle.form_test.specs.Form.{markOk, sameSizes, countsOk, inboxOk, isLast, closedOk, phaseOk, stateOk, lentSizes, formOf}
@@ -36,24 +36,24 @@ use Rattle.main_theorem.specs.Replies.{hasEnded, LastLine, noLine, proto
 -- ---------------------------------------------------------------- a closed session
 
 -- one of the two lines, or nothing
-last-line : (k : ℕ) (signs : Five) → isLast k ≡ true → LastLine (firstText k signs)
-last-line k signs e = go (eqb k 0) (eqb k 4) (eqb k 5) refl refl refl e
+last-line : (s : Session) → isLast (s .say .first) ≡ true → LastLine (firstText s)
+last-line s e = go (eqb (s .say .first) pieceNone) (eqb (s .say .first) pieceProtocolError) (eqb (s .say .first) pieceChecksumError) refl refl refl e
   where
-    go : (a b c : Bool) → eqb k 0 ≡ a → eqb k 4 ≡ b → eqb k 5 ≡ c → a || (b || c) ≡ true → LastLine (firstText k signs)
-    go true b c x y z e = subst LastLine (first-none k signs (eqb-true k 0 x)) noLine
-    go false true c x y z e = subst LastLine (first-protocol k signs (eqb-true k 4 y)) protocolLine
-    go false false true x y z e = subst LastLine (first-checksum k signs (eqb-true k 5 z)) checksumLine
+    go : (a b c : Bool) → eqb (s .say .first) pieceNone ≡ a → eqb (s .say .first) pieceProtocolError ≡ b → eqb (s .say .first) pieceChecksumError ≡ c → a || (b || c) ≡ true → LastLine (firstText s)
+    go true b c x y z e = subst LastLine (first-none s (eqb-true (s .say .first) pieceNone x)) noLine
+    go false true c x y z e = subst LastLine (first-protocol s (eqb-true (s .say .first) pieceProtocolError y)) protocolLine
+    go false false true x y z e = subst LastLine (first-checksum s (eqb-true (s .say .first) pieceChecksumError z)) checksumLine
     go false false false x y z e = absurd (no-both false e refl)
 
 -- what the form test says of it
-closed-says : (s : Session) (inbox store : Bytes) → phaseOk s inbox store ≡ true → ltb 6 (s .now .phase) ≡ true → (s .say .then ≡ 0) × (isLast (s .say .first) ≡ true)
+closed-says : (s : Session) (inbox store : Bytes) → phaseOk s inbox store ≡ true → ltb phaseLeaving (s .now .phase) ≡ true → (s .say .then ≡ pieceNone) × (isLast (s .say .first) ≡ true)
 unfolding phaseOk closedOk
 closed-says s inbox store e f =
-    let l = ltb-true 6 (s .now .phase) f in
-    let k = and2 (eqb (s .say .then) 0) (isLast (s .say .first)) (rw (ne-eqb (s .now .phase) 3 (λ z. omega arith), lt-ltb 5 (s .now .phase) (omega arith), f) at e) in
-    (eqb-true (s .say .then) 0 (k .0), k .1)
+    let l = ltb-true phaseLeaving (s .now .phase) f in
+    let k = and2 (eqb (s .say .then) pieceNone) (isLast (s .say .first)) (rw (ne-eqb (s .now .phase) phaseTurn (λ z. omega arith), lt-ltb phaseTransfer (s .now .phase) (omega arith), f) at e) in
+    (eqb-true (s .say .then) pieceNone (k .0), k .1)
 
-closed-line : (F : Fixed) (m : Lent) → passes F m ≡ true → ltb 6 (loadOf (m .sm) .now .phase) ≡ true → LastLine (waitingOf (loadOf (m .sm)) (m .table) (F .titles) (F .names) (F .bodies))
+closed-line : (F : Fixed) (m : Lent) → passes F m ≡ true → ltb phaseLeaving (loadOf (m .sm) .now .phase) ≡ true → LastLine (waitingOf (loadOf (m .sm)) (m .table) (F .titles) (F .names) (F .bodies))
 unfolding formOf stateOk waitingOf thenText
 closed-line F m e f =
     let s : Session = loadOf (m .sm) in
@@ -66,9 +66,9 @@ closed-line F m e f =
     let k = closed-says s (m .inbox) (m .store) (e₆ .0) f in
     subst LastLine
     (sym
-    (ap (λ (t : ℕ). firstText (s .say .first) (s .say .signs) ++ thenText t (s .now .ours) (s .keep .sending) (m .table) (F .titles) (F .names) (F .bodies)) (k .0)
-    ∙ append-nil (firstText (s .say .first) (s .say .signs))))
-    (last-line (s .say .first) (s .say .signs) (k .1))
+    (ap (λ (t : ℕ). firstText s ++ thenBy t s (m .table) (F .titles) (F .names) (F .bodies)) (k .0)
+    ∙ append-nil (firstText s)))
+    (last-line s (k .1))
 
 -- ---------------------------------------------------------------- receive
 
@@ -199,12 +199,12 @@ module _ (F : Fixed) (m : Lent) where
     -- on an ended session: nothing waits, or one of the two lines
     given-ended : passes F m ≡ true → hasEnded m ≡ true → OfLastLine (bytes-by (waits (loadOf (m .sm) .say)) (ltb place (length buf)))
     unfolding bytes-by overOf
-    given-ended e o = go (ltb (loadOf (m .sm) .now .phase) 6) (ltb 6 (loadOf (m .sm) .now .phase)) (waits (loadOf (m .sm) .say)) refl o (ltb place (length buf))
+    given-ended e o = go (ltb (loadOf (m .sm) .now .phase) phaseLeaving) (ltb phaseLeaving (loadOf (m .sm) .now .phase)) (waits (loadOf (m .sm) .say)) refl o (ltb place (length buf))
       where
         none : OfLastLine []
         none = record { line = []; last = noLine; from = 0; count = 0; are = refl }
 
-        go : (a b w : Bool) → ltb 6 (loadOf (m .sm) .now .phase) ≡ b → cond a false (cond b true (not w)) ≡ true → (l : Bool) → OfLastLine (bytes-by w l)
+        go : (a b w : Bool) → ltb phaseLeaving (loadOf (m .sm) .now .phase) ≡ b → cond a false (cond b true (not w)) ≡ true → (l : Bool) → OfLastLine (bytes-by w l)
         go true b w f o l = absurd (no-both false o refl)
         go false true true f o true =
             let k = closed-line F m e f in

@@ -10,7 +10,7 @@ use lib.Dec.{eqb}
 use lib.ListN.{length, take, drop}
 use borrow.Author.Tests.{eqb-true, not-true}
 use Rattle.grammar.specs.Bytes.{Bytes, null, every}
-use Rattle.grammar.specs.Refusals.{badMemory, sessionEnded}
+use Rattle.grammar.specs.Refusals.{badMemory, sessionEnded, noPlace}
 use Rattle.grammar.proofs.Basics.{no-both, octet, and-false}
 use Rattle.session.specs.Choices.{Shelf}
 use Rattle.session.specs.Session as on-lists
@@ -78,7 +78,7 @@ module _ (F : Fixed) (E : Shelf) (c₀ : Cs) (z : Sizes) where
   pub receive-law : (m : Lent) (s : on-lists.Session) → Held F E c₀ z m s → (bs : Bytes) → every octet bs ≡ true → TookAs (received F m bs) (on-lists-calls.receive E s bs)
   unfolding receiveOf on-lists-calls.receive
   receive-law m s h bs o =
-      subst (λ (b : Bool). TookAs (cond b asked (unchanged (reply badMemory 255 0) (m .sm) (m .table) (m .inbox) (m .store))) (on-lists-calls.receive E s bs))
+      subst (λ (b : Bool). TookAs (cond b asked (unchanged (reply badMemory noPlace 0) (m .sm) (m .table) (m .inbox) (m .store))) (on-lists-calls.receive E s bs))
       (sym (h .inForm .form)) (go (overOf (loadOf (m .sm))) (on-lists.ended s) (over-law F E (csOf m) s (held-good F E c₀ z m s h) (h .represents)) refl)
     where
       over : Received

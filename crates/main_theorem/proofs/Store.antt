@@ -3,13 +3,12 @@
 use mathlib.Core.Path.{_≡_, refl, sym, _∙_}
 use mathlib.Core.Bool.{false}
 use mathlib.Core.List.{[], map}
-use lib.Dec.{eqb}
 use Rattle.session.specs.Choices.{Shelf}
 use Rattle.session.specs.Session as on-lists
 use Rattle.demand2.specs.Reached.{atOpen}
 use Rattle.form_closed.specs.Fixed.{Fixed}
 use Rattle.main_theorem.specs.Demand2.{callOf, shelfIn}
-use Rattle.main_theorem.specs.Calls.{fixedIn, lentIn, sizesOf, withSession, openedBy, statesIn}
+use Rattle.main_theorem.specs.Calls.{fixedIn, lentIn, sizesOf, withSession, openedBy, statesIn, isCaller}
 use Rattle.main_theorem.specs.Demand3.{finally}
 use Rattle.main_theorem.specs.Store.{lastOf, StoreClaim}
 use Rattle.main_theorem.proofs.Opening.{freshCs}
@@ -36,13 +35,13 @@ store-exactly M e cs =
     E = shelfIn M
 
     first : on-lists.Session
-    first = on-lists.opened (eqb (M .role) 1) (statesIn M)
+    first = on-lists.opened (isCaller M) (statesIn M)
 
     at-open : on-lists.ended first ≡ false
     at-open = refl
 
     led : Lives E (lastOf M cs)
-    led = calls-reached E (map callOf cs) first [] (atOpen (eqb (M .role) 1) (statesIn M)) at-open
+    led = calls-reached E (map callOf cs) first [] (atOpen (isCaller M) (statesIn M)) at-open
 
     shown : Shown F E (freshCs M) (lastOf M cs) (finally M cs .store)
     shown =

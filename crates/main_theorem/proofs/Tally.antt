@@ -8,8 +8,8 @@ use native.Mathlib.Omega.{arith}
 use lib.Dec.{eqb, ltb}
 use lib.ListN.{length}
 use borrow.Author.Tests.{leb-true, ltb-true}
-use Rattle.grammar.specs.Bytes.{Bytes}
-use Rattle.grammar.specs.Turns.{isType, proposable}
+use Rattle.grammar.specs.Bytes.{Bytes, byteValues}
+use Rattle.grammar.specs.Turns.{isType, proposable, sizeValues}
 use Rattle.grammar.proofs.Basics.{and2}
 use Rattle.mail.specs.Mail.{Record, recordLimit, proposalOf}
 use Rattle.mail.specs.Tally.{Counts, waits, waitingBytes}
@@ -24,22 +24,20 @@ use Rattle.entries.specs.Decoded.{recordCount, recordsOf}
 use Rattle.entries.proofs.Laws.{entries-length}
 use Rattle.marking.specs.States.{statesOf}
 use Rattle.session_memory.specs.State.{loadOf, loadTally}
-use Rattle.session_memory.specs.declared.Tally.{Tally}
 use Rattle.sheet.specs.declared.Sheet.{Sheet}
 use Rattle.tally.specs.Tally.{sizesRange}
 use Rattle.represents.specs.Tallies.{Tallies}
 use Rattle.form_closed.specs.Facts.{TallyOk}
 use Rattle.main_theorem.specs.Demand2.{callOf}
-use Rattle.main_theorem.specs.Calls.{OpenCall, sizesOf, openedBy, statesIn}
+use Rattle.main_theorem.specs.Calls.{OpenCall, openedBy}
 use Rattle.main_theorem.specs.Demand3.{CallsOn, finally}
 use Rattle.main_theorem.specs.Tally.{Tallied, TallyClaim}
-use Rattle.main_theorem.proofs.Opening.{freshCs}
-use Rattle.main_theorem.proofs.Demand3.{F, m, E, caller, states, open-as, ran, states-held, in-order}
+use Rattle.main_theorem.proofs.Demand3.{F, E, caller, states, open-as, ran, states-held, in-order}
 
 -- ---------------------------------------------------------------- sums of sizes
 
 -- "announced size 0 to 999,999"
-sizes-small : (T : List Record) (st : List ℕ) → allProposable T ≡ true → waitingBytes T st ≤ length T * 1000000
+sizes-small : (T : List Record) (st : List ℕ) → allProposable T ≡ true → waitingBytes T st ≤ length T * sizeValues
 sizes-small [] st e = omega arith
 sizes-small (r ∷ T) [] e = omega arith
 sizes-small (r ∷ T) (x ∷ st) e = go (eqb x 0) (sizes-small T st (p .1))
@@ -47,10 +45,10 @@ sizes-small (r ∷ T) (x ∷ st) e = go (eqb x 0) (sizes-small T st (p .1))
     p : (proposable (proposalOf r) ≡ true) × (allProposable T ≡ true)
     p = and2 (proposable (proposalOf r)) (allProposable T) e
 
-    small : r .size < 1000000
-    small = ltb-true (r .size) 1000000 (and2 (isType (r .type)) (ltb (r .size) 1000000) (and2 (isType (r .type) && ltb (r .size) 1000000) _ (p .0) .0) .1)
+    small : r .size < sizeValues
+    small = ltb-true (r .size) sizeValues (and2 (isType (r .type)) (ltb (r .size) sizeValues) (and2 (isType (r .type) && ltb (r .size) sizeValues) _ (p .0) .0) .1)
 
-    go : (b : Bool) → waitingBytes T st ≤ length T * 1000000 → cond b (r .size + waitingBytes T st) (waitingBytes T st) ≤ suc (length T) * 1000000
+    go : (b : Bool) → waitingBytes T st ≤ length T * sizeValues → cond b (r .size + waitingBytes T st) (waitingBytes T st) ≤ suc (length T) * sizeValues
     go true h = omega (arith, small)
     go false h = omega arith
 
@@ -63,18 +61,18 @@ states-each ti na bo t p =
 -- ---------------------------------------------------------------- bytes and counts
 
 -- a count of 64 at most is its byte
-as-it-is : {x n : ℕ} → x ≡ n % 256 → n ≤ 64 → x ≡ n
+as-it-is : {x n : ℕ} → x ≡ n % byteValues → n ≤ recordLimit → x ≡ n
 as-it-is q k = omega arith
 
 -- no part of so small a sum is larger
-parts : (p f d g u : ℕ) → p ≡ f + d + g + u → p ≤ 64 → (f ≤ 64) × (d ≤ 64) × (g ≤ 64)
+parts : (p f d g u : ℕ) → p ≡ f + d + g + u → p ≤ recordLimit → (f ≤ recordLimit) × (d ≤ recordLimit) × (g ≤ recordLimit)
 parts p f d g u e k = (omega arith, omega arith, omega arith)
 
 -- of so small numbers that balance modulo 256 the last is what is left
-left-over : (p q u r : ℕ) → (q + u) % 256 ≡ p → p ≡ q + r → p ≤ 64 → u < 256 → u ≡ r
+left-over : (p q u r : ℕ) → (q + u) % byteValues ≡ p → p ≡ q + r → p ≤ recordLimit → u < byteValues → u ≡ r
 left-over p q u r e f k l = omega arith
 
-what-is-left : {P F D G U p f d g u : ℕ} → P ≡ p → F ≡ f → D ≡ d → G ≡ g → (F + D + G + U) % 256 ≡ P → p ≡ f + d + g + u → p ≤ 64 → U < 256 → U ≡ u
+what-is-left : {P F D G U p f d g u : ℕ} → P ≡ p → F ≡ f → D ≡ d → G ≡ g → (F + D + G + U) % byteValues ≡ P → p ≡ f + d + g + u → p ≤ recordLimit → U < byteValues → U ≡ u
 what-is-left {P} {F} {D} {G} {U} {p} {f} {d} {g} {u} e₁ e₂ e₃ e₄ b s k l =
     left-over P (F + D + G) U u b (e₁ ∙ s ∙ ap (λ (x : ℕ). x + d + g + u) (sym e₂) ∙ ap (λ (x : ℕ). F + x + g + u) (sym e₃) ∙ ap (λ (x : ℕ). F + D + x + u) (sym e₄)) (omega (arith, e₁, k)) l
 

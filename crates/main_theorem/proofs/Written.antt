@@ -21,6 +21,7 @@ use Rattle.represents.specs.Laid.{bodiesBytes}
 use Rattle.form_closed.specs.Fixed.{Fixed}
 use Rattle.represents.specs.Represents.{lineNumber, Awaits, Represents}
 use Rattle.represents.specs.Frame.{reachOf, Spared}
+use Rattle.phase.specs.Phase.{phaseTransfer, phaseLeaving}
 use Rattle.main_theorem.specs.Store.{underWay, written}
 use Rattle.represents.proofs.LineStep.{line-below}
 
@@ -37,8 +38,8 @@ parted l found k u i n h a b d =
     ∙ ap (λ (x : Bytes). (k ++ u) ++ x) (d ∙ ap (λ (x : ℕ). drop x found) (sym e))
 
 -- how far the store is written, by what is awaited
-reach-at : (s : Session) (n : ℕ) → s .now .phase ≡ n → reachOf s ≡ s .keep .used + cond (ltb n 5) 0 (cond (eqb n 6) 0 (s .reading .reader .body))
-reach-at s n e = ap (λ (p : ℕ). s .keep .used + cond (ltb p 5) 0 (cond (eqb p 6) 0 (s .reading .reader .body))) e
+reach-at : (s : Session) (n : ℕ) → s .now .phase ≡ n → reachOf s ≡ s .keep .used + cond (ltb n phaseTransfer) 0 (cond (eqb n phaseLeaving) 0 (s .reading .reader .body))
+reach-at s n e = ap (λ (p : ℕ). s .keep .used + cond (ltb p phaseTransfer) 0 (cond (eqb p phaseLeaving) 0 (s .reading .reader .body))) e
 
 -- A SESSION THAT GOES ON: its store
 pub store-written : (F : Fixed) (E : Shelf) (c₀ c : Cs) (v : on-lists.Session) → c .session .keep .used ≤ length (c .store) → Represents F E c v → Spared c₀ c → on-lists.ended v ≡ false
@@ -56,7 +57,7 @@ store-written F E c₀ c v w h p live = go (v .phase) refl (h .awaits)
         (subst (λ (k : ℕ). drop k (c .store) ≡ drop k (c₀ .store)) r (p .store .past))
 
     -- none are
-    without : (n : ℕ) → c .session .now .phase ≡ n → cond (ltb n 5) 0 (cond (eqb n 6) 0 (c .session .reading .reader .body)) ≡ 0
+    without : (n : ℕ) → c .session .now .phase ≡ n → cond (ltb n phaseTransfer) 0 (cond (eqb n phaseLeaving) 0 (c .session .reading .reader .body)) ≡ 0
         → c .store ≡ (bodiesBytes (v .memory .inbox) ++ []) ++ drop (length (bodiesBytes (v .memory .inbox) ++ [])) (c₀ .store)
     without n e z =
         with [] 0 (reach-at (c .session) n e ∙ ap (λ (k : ℕ). used + k) z) (omega (arith, w)) refl
@@ -65,12 +66,12 @@ store-written F E c₀ c v w h p live = go (v .phase) refl (h .awaits)
     Holds q = c .store ≡ (bodiesBytes (v .memory .inbox) ++ underWay q) ++ drop (length (bodiesBytes (v .memory .inbox) ++ underWay q)) (c₀ .store)
 
     go : (q : Phase) → v .phase ≡ q → Awaits c q → Holds q
-    go (on-lists.aLine l) e a = without (lineNumber l) (a .0) (ap (λ (q : Bool). cond q 0 (cond (eqb (lineNumber l) 6) 0 (c .session .reading .reader .body))) (lt-ltb (lineNumber l) 5 (line-below l)))
+    go (on-lists.aLine l) e a = without (lineNumber l) (a .0) (ap (λ (q : Bool). cond q 0 (cond (eqb (lineNumber l) phaseLeaving) 0 (c .session .reading .reader .body))) (lt-ltb (lineNumber l) phaseTransfer (line-below l)))
     go (on-lists.awaitsTransfer p ps sc) e a =
         let s = a .2 in
         let n = length-drop used (c .store) in
         let f = s .fits in
         let g = s .store in
-        with (bodyOf sc) (c .session .reading .reader .body) (reach-at (c .session) 5 (a .0)) (omega (arith, w, n, f, g)) (s .body)
-    go on-lists.leaving e a = without 6 a refl
+        with (bodyOf sc) (c .session .reading .reader .body) (reach-at (c .session) phaseTransfer (a .0)) (omega (arith, w, n, f, g)) (s .body)
+    go on-lists.leaving e a = without phaseLeaving a refl
     go on-lists.over e a = absurd (no-both (on-lists.ended v) (ap (λ (q : Phase). on-lists.endedIn q (v .out)) e) live)

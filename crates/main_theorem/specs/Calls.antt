@@ -12,10 +12,10 @@ use Rattle.form_test.specs.Form.{sameSizes, lentSizes, formOf}
 use Rattle.give.specs.Giving.{Given, giveOf}
 use Rattle.give.specs.declared.Reply.{Reply}
 use Rattle.marking.specs.States.{statesOf}
-use Rattle.open.specs.Opening.{Opened}
-use Rattle.open_accepts.specs.Lending.{Lending, openOn}
+use Rattle.open.specs.Lending.{Lending, lending, roleCaller}
+use Rattle.open.specs.Opening.{Opened, openOf}
 use Rattle.receive_defined.specs.Receiving.{Received, unchanged, receiveOf}
-use Rattle.form_closed.specs.Fixed.{Fixed}
+use Rattle.form_closed.specs.Fixed.{Fixed, fixedOf}
 use Rattle.form_closed.specs.Columns.{partnerOf}
 use Rattle.represents.specs.Frame.{reachOf}
 use lib.Dec.{eqb}
@@ -42,6 +42,12 @@ pub record OpenCall : Type 0 where
   pub inbox : Buffer
   pub store : Buffer
 
+-- The same as open itself takes it: the bytes alone.
+abbrev pub lendingOf : OpenCall → Lending
+lendingOf M =
+    lending (M .role) (M .partner) (M .session .bytes) (M .table .bytes) (M .titles .bytes) (M .names .bytes) (M .bodies .bytes) (M .known .bytes) (M .inbox .bytes)
+    (M .store .bytes)
+
 -- The lent bytes that a call may change: session memory, table, inbox and inbox store. The others are Fixed.
 pub record Lent : Type 0 where
   pub sm : Bytes
@@ -50,7 +56,7 @@ pub record Lent : Type 0 where
   pub store : Bytes
 
 abbrev pub fixedIn : OpenCall → Fixed
-fixedIn M = record { titles = M .titles .bytes; names = M .names .bytes; bodies = M .bodies .bytes; known = M .known .bytes }
+fixedIn M = fixedOf (lendingOf M)
 
 abbrev pub lentIn : OpenCall → Lent
 lentIn M = record { sm = M .session .bytes; table = M .table .bytes; inbox = M .inbox .bytes; store = M .store .bytes }
@@ -109,32 +115,12 @@ pub data Call (z : Sizes) : Type 0 where
   receivesOther : Other z → Buffer → Call z
   givesOther : Other z → Buffer → ℕ → Call z
 
--- "role (0 called, 1 caller)"
-abbrev pub callerRole : ℕ
-callerRole = 1
-
 abbrev pub isCaller : OpenCall → Bool
-isCaller M = eqb (M .role) callerRole
-
--- What open is called with, as its own claim has it (crates/open_accepts): the bytes alone.
-abbrev pub lending : OpenCall → Lending
-lending M =
-    record {
-      role = M .role;
-      partner = M .partner;
-      session = M .session .bytes;
-      table = M .table .bytes;
-      titles = M .titles .bytes;
-      names = M .names .bytes;
-      bodies = M .bodies .bytes;
-      known = M .known .bytes;
-      inbox = M .inbox .bytes;
-      store = M .store .bytes;
-    }
+isCaller M = eqb (M .role) roleCaller
 
 -- "Take an accepted open"
 abbrev pub openedBy : OpenCall → Opened
-openedBy M = openOn (lending M)
+openedBy M = openOf (lendingOf M)
 
 -- The table's states for the partner, as open finds them.
 abbrev pub statesIn : OpenCall → List ℕ

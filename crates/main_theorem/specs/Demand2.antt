@@ -10,7 +10,7 @@ use lib.ListN.{length}
 use Rattle.grammar.specs.Bytes.{Bytes}
 use Rattle.grammar.specs.Refusals.{sessionEnded}
 use Rattle.mail.specs.Mail.{recordAt}
-use Rattle.session.specs.Choices.{Shelf}
+use Rattle.session.specs.Choices.{Shelf, shelfWith}
 use Rattle.session.specs.Session.{Session, opened}
 use Rattle.session.specs.Calls.{receive, handedOut}
 use Rattle.demand2.specs.Refusals.{Over, Live}
@@ -23,20 +23,18 @@ use Rattle.buffer.specs.Put.{wrote}
 use Rattle.give.specs.Giving.{reply}
 use Rattle.entries.specs.Decoded.{recordCount, recordsOf, knownBids, placeCount}
 use Rattle.marking.specs.States.{statesOf}
+use Rattle.form_closed.specs.Fixed.{Fixed}
 use Rattle.represents.specs.Represents.{messagesOf}
-use Rattle.main_theorem.specs.Calls.{Buffer, OpenCall, fixedIn, messageCount, passes, received, given, unchangedBy, Call, receives, gives, receivesOther, givesOther, isCaller, statesIn, openedBy}
+use Rattle.main_theorem.specs.Calls.{Buffer, OpenCall, Lent, fixedIn, lentIn, messageCount, passes, received, given, unchangedBy, Call, receives, gives, receivesOther, givesOther, isCaller, statesIn, openedBy}
 use Rattle.main_theorem.specs.Demand3.{CallsOn, finally}
 use Rattle.session_memory.specs.declared.Sizes.{Sizes}
 
 -- What the session is opened with, as lent memory holds it.
+abbrev pub shelfOf : Fixed → Lent → Shelf
+shelfOf F m = shelfWith (recordsOf (F .titles) (F .names) (F .bodies) (m .table)) (knownBids (F .known)) (placeCount (m .inbox)) (length (m .store))
+
 abbrev pub shelfIn : OpenCall → Shelf
-shelfIn M =
-    record {
-      table = recordsOf (M .titles .bytes) (M .names .bytes) (M .bodies .bytes) (M .table .bytes);
-      known = knownBids (M .known .bytes);
-      places = placeCount (M .inbox .bytes);
-      bytes = length (M .store .bytes);
-    }
+shelfIn M = shelfOf (fixedIn M) (lentIn M)
 
 -- The call on lists that a call over lent memory stands for.
 abbrev pub callOf : {z : Sizes} → Call z → on-lists-run.Call

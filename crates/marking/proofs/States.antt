@@ -15,8 +15,9 @@ use Rattle.grammar.specs.Bytes.{Bytes, every}
 use Rattle.grammar.specs.Fields.{Form, formIs}
 use Rattle.grammar.specs.Transfers.{partOf}
 use Rattle.grammar.proofs.Basics.{and2}
-use Rattle.mail.specs.Mail.{Record, marked}
+use Rattle.mail.specs.Mail.{Record, marked, recordLimit}
 use Rattle.places.specs.Places.{recordLen, partners, callMax, atMax, bidMax, recordForm, recordType, recordFrom, recordAt, recordTo, recordBid, recordSizeAt, recordTitle, recordTitleLength, recordName, recordNameLength, recordBody, recordBodyLength}
+use Rattle.phase.specs.Phase.{stateForwarded}
 use Rattle.layout.specs.Layout.{byteAt, le2At, le4At, fieldIn, entryAt, recordSize, recordOf, stateOf}
 use Rattle.layout.proofs.Places.{part-in}
 use Rattle.entries.specs.Decoded.{entries, recordCount, recordsOf}
@@ -184,9 +185,9 @@ whole-set p t i v w = rw (state-length p t i v) w
 pub whole-mark : (p : ℕ) (is : List ℕ) (v : ℕ) (t : Bytes) → Whole t → Whole (markAll p is v t)
 whole-mark p is v t w = rw (length-mark p is v t) w
 
-pub states-marked : (p : ℕ) (is : List ℕ) (t : Bytes) → p < partners → Whole t → statesOf p (markAll p is 1 t) ≡ marked is (statesOf p t)
+pub states-marked : (p : ℕ) (is : List ℕ) (t : Bytes) → p < partners → Whole t → statesOf p (markAll p is stateForwarded t) ≡ marked is (statesOf p t)
 states-marked p [] t b w = refl
-states-marked p (i ∷ is) t b w = states-marked p is (setState p t i 1) b (whole-set p t i 1 w) ∙ ap (marked is) (states-set p t i 1 b w)
+states-marked p (i ∷ is) t b w = states-marked p is (setState p t i stateForwarded) b (whole-set p t i stateForwarded w) ∙ ap (marked is) (states-set p t i stateForwarded b w)
 
 -- ---------------------------------------------------------------- only states of the column change
 
@@ -269,4 +270,4 @@ column-stays p q t u b ne w h =
     state-at q u k b (rw (h .size) w) i ∙ h .bytes (k * recordLen + q) (λ e. ne (omega arith)) ∙ sym (state-at q t k b w (subst (λ (n : ℕ). k < n) count i)))
   where
     count : recordCount u ≡ recordCount t
-    count = ap (λ (n : ℕ). min 64 (n / recordLen)) (h .size)
+    count = ap (λ (n : ℕ). min recordLimit (n / recordLen)) (h .size)

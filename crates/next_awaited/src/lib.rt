@@ -6,14 +6,13 @@ use numbers::AwaitNumbers;
 use session_memory::Five;
 use transfer_step::Reader;
 ghost use mathlib.Core.Path.{_≡_};
-ghost use Rattle.grammar.specs.Bytes.{Bytes};
-ghost use Rattle.numbers.specs.Whole.{awaitOf};
+ghost use Rattle.numbers.specs.Whole.{Arrays, withBlock, awaitOf};
 ghost use Rattle.numbers.specs.declared.AwaitNumbers.{AwaitNumbers};
 ghost use Rattle.line_effect.specs.Judge.{toTurn, toTransfer, nextAccepted, readerFor};
 
 // The partner's turn is awaited, with no line of it yet.
 pub fn to_turn(awaited: AwaitNumbers, ff: bool) -> AwaitNumbers
-    ensures { λ r. ⌜ ((block : Bytes) → awaitOf r block ≡ toTurn ff (awaitOf awaited block)) ⌝ }
+    ensures { λ r. ⌜ ((a : Arrays) → awaitOf r a ≡ toTurn ff (awaitOf awaited a)) ⌝ }
 {
     let mut t = awaited;
     t.phase = phase::TURN;
@@ -40,7 +39,7 @@ pub fn next_accepted(signs: Five, from: usize) -> u8
 
 // The transfer of the proposal at this place is awaited.
 pub fn to_transfer(awaited: AwaitNumbers, i: u8) -> AwaitNumbers
-    ensures { λ r. ⌜ ((block : Bytes) → awaitOf r block ≡ toTransfer i (awaitOf awaited block)) ⌝ }
+    ensures { λ r. ⌜ ((a : Arrays) → awaitOf r a ≡ toTransfer i (awaitOf awaited a)) ⌝ }
 {
     let mut t = awaited;
     t.phase = phase::TRANSFER;
@@ -50,7 +49,7 @@ pub fn to_transfer(awaited: AwaitNumbers, i: u8) -> AwaitNumbers
 
 // The reader at the start of that transfer: the proposal's form decides, which stands first in it.
 pub fn reader_for(block: &[u8], i: u8) -> Reader
-    ensures { λ r. ⌜ ((w : AwaitNumbers) → r ≡ readerFor (awaitOf w (now (block .entry))) i) ⌝ }
+    ensures { λ r. ⌜ ((w : AwaitNumbers) (a : Arrays) → r ≡ readerFor (awaitOf w (withBlock (now (block .entry)) a)) i) ⌝ }
 {
     let form = byte_at(
         entry(places::PROPOSAL, block, i as u16),

@@ -1,12 +1,17 @@
 // Numbers in lent memory, little end first, read.
+use layout::BYTE_VALUES;
+use layout::FOUR_BYTE_VALUES;
+use layout::THREE_BYTE_VALUES;
+use layout::TWO_BYTE_VALUES;
 use layout::byte_at;
 ghost use mathlib.Core.Path.{_≡_};
-ghost use Prim.Native.Nat.{_<_};
+ghost use Prim.Native.Nat.{_<_, _+_};
 ghost use Rattle.layout.specs.Layout.{le2At, le4At, le8At};
+ghost use Rattle.grammar.specs.Bytes.{byteValues, twoByteValues, fourByteValues};
 
 // A byte as a number.
 fn wide(b: u8) -> usize
-    ensures { λ r. ⌜ (r ≡ b) × (r < 256) ⌝ }
+    ensures { λ r. ⌜ (r ≡ b) × (r < byteValues) ⌝ }
 {
     b as usize
 }
@@ -16,16 +21,16 @@ pub fn number2(s: &[u8], at: u16) -> usize
     ensures { λ r. ⌜ r ≡ le2At (now (s .entry)) at ⌝ }
 {
     let i = at as usize;
-    wide(byte_at(s, i)) + 256 * wide(byte_at(s, i + 1))
+    wide(byte_at(s, i)) + BYTE_VALUES * wide(byte_at(s, i + 1))
 }
 
 // The number that the four bytes from i on make.
 fn four(s: &[u8], i: usize) -> usize
-    requires { ⌜ i < 65540 ⌝ }
-    ensures { λ r. ⌜ (r ≡ le4At (now (s .entry)) i) × (r < 4294967296) ⌝ }
+    requires { ⌜ i < twoByteValues + 4 ⌝ }
+    ensures { λ r. ⌜ (r ≡ le4At (now (s .entry)) i) × (r < fourByteValues) ⌝ }
 {
-    let low = wide(byte_at(s, i)) + 256 * wide(byte_at(s, i + 1));
-    low + 65536 * wide(byte_at(s, i + 2)) + 16777216 * wide(byte_at(s, i + 3))
+    let low = wide(byte_at(s, i)) + BYTE_VALUES * wide(byte_at(s, i + 1));
+    low + TWO_BYTE_VALUES * wide(byte_at(s, i + 2)) + THREE_BYTE_VALUES * wide(byte_at(s, i + 3))
 }
 
 // A number of four bytes.
@@ -40,5 +45,5 @@ pub fn number8(s: &[u8], at: u16) -> usize
     ensures { λ r. ⌜ r ≡ le8At (now (s .entry)) at ⌝ }
 {
     let i = at as usize;
-    four(s, i) + 4294967296 * four(s, i + 4)
+    four(s, i) + FOUR_BYTE_VALUES * four(s, i + 4)
 }

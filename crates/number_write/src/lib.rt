@@ -1,12 +1,18 @@
 // Numbers as bytes, little end first, as they are written to lent memory.
+use layout::FOUR_BYTE_VALUES;
+use layout::THREE_BYTE_VALUES;
+use layout::TWO_BYTE_VALUES;
 ghost use mathlib.Core.Path.{_≡_};
 ghost use Rattle.layout.specs.Layout.{le2, le4, le8};
+
+// A byte is a digit of this base.
+const BASE: usize = layout::BYTE_VALUES;
 
 // A number in two bytes.
 pub fn bytes2(x: usize) -> [u8; 2]
     ensures { λ r. ⌜ r ≡ le2 x ⌝ }
 {
-    [(x % 256) as u8, (x / 256 % 256) as u8]
+    [(x % BASE) as u8, (x / BASE % BASE) as u8]
 }
 
 // A number in four bytes.
@@ -14,10 +20,10 @@ pub fn bytes4(x: usize) -> [u8; 4]
     ensures { λ r. ⌜ r ≡ le4 x ⌝ }
 {
     [
-        (x % 256) as u8,
-        (x / 256 % 256) as u8,
-        (x / 65536 % 256) as u8,
-        (x / 16777216 % 256) as u8,
+        (x % BASE) as u8,
+        (x / BASE % BASE) as u8,
+        (x / TWO_BYTE_VALUES % BASE) as u8,
+        (x / THREE_BYTE_VALUES % BASE) as u8,
     ]
 }
 
@@ -26,7 +32,7 @@ pub fn bytes8(x: usize) -> [u8; 8]
     ensures { λ r. ⌜ r ≡ le8 x ⌝ }
 {
     let low = bytes4(x);
-    let high = bytes4(x / 4294967296);
+    let high = bytes4(x / FOUR_BYTE_VALUES);
     [
         low[0],
         low[1],

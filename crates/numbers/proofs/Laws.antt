@@ -8,17 +8,18 @@ use lib.ListN.{length, take, drop, getD, length-append, length-drop, take-append
 use lib.Dec.{eqb}
 use lib.Seq.{drop-append-le, drop-at, drop-drop, take-add, take-all, length-take-le, take-append-le, take-take, getD-take, getD-drop}
 use Rattle.grammar.specs.Bytes.{Bytes}
+use Rattle.grammar.specs.Turns.{blockLimit}
 use Rattle.buffer.specs.Put.{wrote, putBytes}
 use Rattle.places.specs.Places.{numbersStart, lineLengthAt, tailAt, numbersEnd, numbersLen, arraysAt, freeLen, deferredLen, headingLen, lineLen, blockLen, deferredAt, headingAt, lineAt, blockAt, arraysLen, arraysEnd, sessionLen}
 use Rattle.layout.specs.Layout.{byteAt, le2, le4, le8}
 use Rattle.layout.proofs.Places.{put-fits}
-use Rattle.session_memory.specs.State.{at, flag, fiveOut, arrayAt, fiveAt, loadOf, loadAwait, loadSay, loadKeep, loadReading, loadLine, smallOut, numbersOut, tailOut, sheetOut, loadTally, arraysOut, numberPart, saveOf}
+use Rattle.session_memory.specs.State.{at, flag, fiveOut, arrayAt, fiveAt, loadOf, loadAwait, loadSay, loadKeep, loadReading, loadLine, smallOut, numbersOut, tailOut, loadTally, arraysOut, numberPart, saveOf}
 use Rattle.session_memory.specs.declared.Five.{Five}
 use Rattle.session_memory.specs.declared.Say.{Say}
 use Rattle.session_memory.specs.declared.Terms.{Terms}
 use Rattle.session_memory.specs.declared.Tally.{Tally}
 use Rattle.transfer_step.specs.declared.Reader.{Reader}
-use Rattle.session_memory.proofs.Laws.{array-in, saved, same-five, same-await, same-say, same-keep, same-reading, same-line, same-session}
+use Rattle.session_memory.proofs.Laws.{array-in, saved, same-five}
 use Rattle.region.specs.Region.{region, lent}
 use Rattle.numbers.specs.declared.AwaitNumbers.{AwaitNumbers}
 use Rattle.numbers.specs.declared.KeepNumbers.{KeepNumbers}
@@ -29,7 +30,7 @@ use Rattle.buffer.proofs.Laws.{wrote-wrote}
 
 -- ---------------------------------------------------------------- read
 
-five-items : (l : Bytes) → length l ≡ 5 → getD l 0 0 ∷ getD l 1 0 ∷ getD l 2 0 ∷ getD l 3 0 ∷ getD l 4 0 ∷ [] ≡ l
+five-items : (l : Bytes) → length l ≡ blockLimit → getD l 0 0 ∷ getD l 1 0 ∷ getD l 2 0 ∷ getD l 3 0 ∷ getD l 4 0 ∷ [] ≡ l
 five-items [] h = absurd (omega arith)
 five-items (a ∷ []) h = absurd (omega arith)
 five-items (a ∷ b ∷ []) h = absurd (omega arith)
@@ -42,16 +43,16 @@ list5 : {a b c d e f g h i j : ℕ} → a ≡ b → c ≡ d → e ≡ f → g �
 list5 e₁ e₂ e₃ e₄ e₅ = rw (e₁, e₂, e₃, e₄, e₅)
 
 -- six bytes by plain indexing are up to five numbers
-pub five-read : (s : Bytes) (i : ℕ) → i + 6 ≤ length s → {x a b c d e : ℕ} → x ≡ byteAt s i → a ≡ byteAt s (i + 1) → b ≡ byteAt s (i + 2) → c ≡ byteAt s (i + 3)
+pub five-read : (s : Bytes) (i : ℕ) → i + (1 + blockLimit) ≤ length s → {x a b c d e : ℕ} → x ≡ byteAt s i → a ≡ byteAt s (i + 1) → b ≡ byteAt s (i + 2) → c ≡ byteAt s (i + 3)
     → d ≡ byteAt s (i + 4) → e ≡ byteAt s (i + 5) → _≡_ {A = Five} (record { count = x; items = a ∷ b ∷ c ∷ d ∷ e ∷ [] }) (fiveAt s i)
 five-read s i h f₀ f₁ f₂ f₃ f₄ f₅ =
     let n : length (drop (i + 1) s) ≡ length s - (i + 1) = length-drop (i + 1) s in
-    let k : (j k : ℕ) → k < 5 → i + 1 + k ≡ j → byteAt s j ≡ getD (take 5 (drop (i + 1) s)) k 0 =
-    λ j k g e. ap (byteAt s) (sym e) ∙ sym (getD-drop (i + 1) s k 0) ∙ sym (getD-take 5 (drop (i + 1) s) k 0 g) in
+    let k : (j k : ℕ) → k < blockLimit → i + 1 + k ≡ j → byteAt s j ≡ getD (take blockLimit (drop (i + 1) s)) k 0 =
+    λ j k g e. ap (byteAt s) (sym e) ∙ sym (getD-drop (i + 1) s k 0) ∙ sym (getD-take blockLimit (drop (i + 1) s) k 0 g) in
     same-five f₀
     (list5 (f₁ ∙ k (i + 1) 0 (omega arith) (omega arith)) (f₂ ∙ k (i + 2) 1 (omega arith) (omega arith)) (f₃ ∙ k (i + 3) 2 (omega arith) (omega arith))
     (f₄ ∙ k (i + 4) 3 (omega arith) (omega arith)) (f₅ ∙ k (i + 5) 4 (omega arith) (omega arith))
-    ∙ five-items (take 5 (drop (i + 1) s)) (length-take-le 5 (drop (i + 1) s) (omega arith)) ∙ sym (array-in 5 s (i + 1) (omega arith)))
+    ∙ five-items (take blockLimit (drop (i + 1) s)) (length-take-le blockLimit (drop (i + 1) s) (omega arith)) ∙ sym (array-in blockLimit s (i + 1) (omega arith)))
 
 pub same-numbers-await : {a b c d e f i j : ℕ} {x y : Bool} {g h : Five} → a ≡ b → x ≡ y → c ≡ d → e ≡ f → g ≡ h → i ≡ j
     → _≡_ {A = AwaitNumbers} (record { phase = a; ff = x; current = c; proposals = e; ours = g; sum = i }) (record { phase = b; ff = y; current = d; proposals = f; ours = h; sum = j })
@@ -169,15 +170,6 @@ large-are h {l} {f} {b} {p} {u} e₁ e₂ e₃ e₄ e₅ =
     ∙ ap (λ (i : Bytes). largeFrom (le2 (h .line .len)) (le2 (h .reader .left)) i p u) e₃
     ∙ ap (λ (i : Bytes). largeFrom (le2 (h .line .len)) (le2 (h .reader .left)) (le4 (h .reader .body)) i u) e₄
     ∙ ap (λ (i : Bytes). largeFrom (le2 (h .line .len)) (le2 (h .reader .left)) (le4 (h .reader .body)) (le8 (h .say .pos)) i) e₅
-
-abbrev tailFrom : Numbers → Bytes → Bytes
-tailFrom h z =
-    h .now .sum ∷ h .keep .terms .level ∷ h .keep .terms .partner ∷ h .tally .waiting ∷ getD z 0 0 ∷ getD z 1 0 ∷ getD z 2 0 ∷ getD z 3 0
-    ∷ sheetOut (h .tally .sheet)
-
-pub tail-are : (h : Numbers) {z : Bytes} → z ≡ le4 (h .tally .sizes) → tailFrom h z ≡ tailBytes h
-unfolding tailOut
-tail-are h e = ap (tailFrom h) e
 
 small-length : (h : Numbers) → length (smallBytes h) ≡ lineLengthAt - numbersStart
 unfolding smallOut

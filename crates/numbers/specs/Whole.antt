@@ -1,4 +1,4 @@
--- A session is its numbers, which the code holds, and four arrays, which stay in session memory: m is that part of it (crates/places, "the arrays of the state").
+-- A session is its numbers, which the code holds, and its arrays, which stay in session memory: m is that part of it (crates/places, "the arrays of the state").
 use mathlib.Core.List.{[]}
 use Prim.Native.Nat.{ℕ}
 use lib.Dec.{eqb}
@@ -30,27 +30,52 @@ lineIn m = region lineAt lineLen m
 abbrev pub blockIn : Bytes → Bytes
 blockIn m = region blockAt blockLen m
 
-abbrev pub awaitOf : AwaitNumbers → Bytes → Await
-awaitOf w block = record { phase = w .phase; ff = w .ff; current = w .current; proposals = w .proposals; ours = w .ours; sum = w .sum; block = block }
+-- THE ARRAYS, as one value: who hands them on doesn't say which there are.
+pub record Arrays : Type 0 where
+  pub deferred : Bytes
+  pub heading : Bytes
+  pub line : Bytes
+  pub block : Bytes
 
-abbrev pub keepOf : KeepNumbers → Bytes → Keep
-keepOf k deferred = record { framed = k .framed; terms = k .terms; kept = k .kept; used = k .used; sending = k .sending; deferred = deferred }
+abbrev pub withDeferred : Bytes → Arrays → Arrays
+withDeferred x a = record { deferred = x; heading = a .heading; line = a .line; block = a .block }
 
--- from its numbers and four arrays
-abbrev pub sessionOf : Numbers → Bytes → Bytes → Bytes → Bytes → Session
-sessionOf h deferred heading line block =
+abbrev pub withHeading : Bytes → Arrays → Arrays
+withHeading x a = record { deferred = a .deferred; heading = x; line = a .line; block = a .block }
+
+abbrev pub withLineBytes : Bytes → Arrays → Arrays
+withLineBytes x a = record { deferred = a .deferred; heading = a .heading; line = x; block = a .block }
+
+abbrev pub withBlock : Bytes → Arrays → Arrays
+withBlock x a = record { deferred = a .deferred; heading = a .heading; line = a .line; block = x }
+
+-- as they stand in m
+abbrev pub arraysIn : Bytes → Arrays
+arraysIn m = record { deferred = deferredIn m; heading = headingIn m; line = lineIn m; block = blockIn m }
+
+abbrev pub noArrays : Arrays
+noArrays = arraysIn []
+
+abbrev pub awaitOf : AwaitNumbers → Arrays → Await
+awaitOf w a = record { phase = w .phase; ff = w .ff; current = w .current; proposals = w .proposals; ours = w .ours; sum = w .sum; block = a .block }
+
+abbrev pub keepOf : KeepNumbers → Arrays → Keep
+keepOf k a = record { framed = k .framed; terms = k .terms; kept = k .kept; used = k .used; sending = k .sending; deferred = a .deferred }
+
+abbrev pub sessionOf : Numbers → Arrays → Session
+sessionOf h a =
     record {
-      now = awaitOf (h .now) block;
+      now = awaitOf (h .now) a;
       say = h .say;
-      keep = keepOf (h .keep) deferred;
-      reading = record { reader = h .reader; heading = heading };
-      line = record { «after_cr» = h .line .«after_cr»; len = h .line .len; bytes = line };
+      keep = keepOf (h .keep) a;
+      reading = record { reader = h .reader; heading = a .heading };
+      line = record { «after_cr» = h .line .«after_cr»; len = h .line .len; bytes = a .line };
       tally = h .tally;
     }
 
 -- THE WHOLE SESSION: its numbers, and the arrays where they stand
 unfoldable pub wholeOf : Numbers → Bytes → Session
-wholeOf h m = sessionOf h (deferredIn m) (headingIn m) (lineIn m) (blockIn m)
+wholeOf h m = sessionOf h (arraysIn m)
 
 -- ---------------------------------------------------------------- read
 
@@ -85,14 +110,14 @@ numbersAt sm = record { now = awaitNumbers sm; say = sayNumbers sm; keep = keepN
 
 -- the numbers of one byte, the longer ones after them, and the tail; they don't look at the arrays
 abbrev pub smallBytes : Numbers → Bytes
-smallBytes h = smallOut (sessionOf h [] [] [] [])
+smallBytes h = smallOut (sessionOf h noArrays)
 
 abbrev pub largeBytes : Numbers → Bytes
-largeBytes h = numbersOut (sessionOf h [] [] [] [])
+largeBytes h = numbersOut (sessionOf h noArrays)
 
 abbrev pub tailBytes : Numbers → Bytes
-tailBytes h = tailOut (sessionOf h [] [] [] [])
+tailBytes h = tailOut (sessionOf h noArrays)
 
 -- what a save writes for the numbers
 unfoldable pub numberBytes : Numbers → Bytes
-numberBytes h = numberPart (sessionOf h [] [] [] [])
+numberBytes h = numberPart (sessionOf h noArrays)

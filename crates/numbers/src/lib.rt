@@ -1,4 +1,8 @@
-// The numbers of a session's state; its four arrays stay in session memory.
+// The numbers of a session's state; its arrays stay in session memory.
+use number_at::byte;
+use number_at::eight;
+use number_at::four;
+use number_at::two;
 use number_write::bytes2;
 use number_write::bytes4;
 use number_write::bytes8;
@@ -13,7 +17,8 @@ ghost use Prim.Native.Nat.{_+_, _<_, _≤_};
 ghost use lib.ListN.{length};
 ghost use Rattle.buffer.specs.Put.{putBytes};
 ghost use Rattle.places.specs.Places.{numbersStart, sessionLen};
-ghost use Rattle.layout.specs.Layout.{byteAt, le2At, le4At, le8At};
+ghost use Rattle.grammar.specs.Bytes.{twoByteValues};
+ghost use Rattle.grammar.specs.Turns.{blockLimit};
 ghost use Rattle.session_memory.specs.State.{at, flag, fiveAt, termsAt, sheetAt, loadTally};
 ghost use Rattle.numbers.specs.Whole.{awaitNumbers, sayNumbers, keepNumbers, readerNumbers, lineNumbers, numbersAt, smallBytes, largeBytes, tailBytes, numberBytes};
 
@@ -51,51 +56,16 @@ pub struct Numbers {
     pub tally: Tally,
 }
 
-// The byte at a place within.
-fn byte(s: &[u8], i: usize) -> u8
-    requires { ⌜ i < length (now s) ⌝ }
-    ensures { λ r. ⌜ r ≡ byteAt (now (s .entry)) i ⌝ }
-{
-    s[i]
-}
+// How many bytes the numbers of one byte take, the longer ones after them, and the tail.
+const SMALL_LENGTH: usize = places::LINE_LENGTH - places::NUMBERS;
 
-// A byte as a number.
-fn wide(b: u8) -> usize
-    ensures { λ r. ⌜ (r ≡ b) × (r < 256) ⌝ }
-{
-    b as usize
-}
+const LARGE_LENGTH: usize = places::TAIL - places::LINE_LENGTH;
 
-// A number of two bytes.
-fn two(s: &[u8], i: usize) -> u16
-    requires { ⌜ (i + 2 ≤ length (now s)) × (i < 65536) ⌝ }
-    ensures { λ r. ⌜ r ≡ le2At (now (s .entry)) i ⌝ }
-{
-    (wide(byte(s, i)) + 256 * wide(byte(s, i + 1))) as u16
-}
-
-// A number of four bytes.
-fn four(s: &[u8], i: usize) -> u32
-    requires { ⌜ (i + 4 ≤ length (now s)) × (i < 65540) ⌝ }
-    ensures { λ r. ⌜ r ≡ le4At (now (s .entry)) i ⌝ }
-{
-    (wide(byte(s, i))
-        + 256 * wide(byte(s, i + 1))
-        + 65536 * wide(byte(s, i + 2))
-        + 16777216 * wide(byte(s, i + 3))) as u32
-}
-
-// A number of eight bytes.
-fn eight(s: &[u8], i: usize) -> usize
-    requires { ⌜ (i + 8 ≤ length (now s)) × (i < 65536) ⌝ }
-    ensures { λ r. ⌜ r ≡ le8At (now (s .entry)) i ⌝ }
-{
-    (four(s, i) as usize) + 4294967296 * (four(s, i + 4) as usize)
-}
+const TAIL_LENGTH: usize = places::NUMBERS_END - places::TAIL;
 
 // Up to five numbers.
 fn five(s: &[u8], i: usize) -> Five
-    requires { ⌜ (i + 6 ≤ length (now s)) × (i < 65536) ⌝ }
+    requires { ⌜ (i + (1 + blockLimit) ≤ length (now s)) × (i < twoByteValues) ⌝ }
     ensures { λ r. ⌜ r ≡ fiveAt (now (s .entry)) i ⌝ }
 {
     Five {
@@ -239,7 +209,7 @@ fn flag(b: bool) -> u8
 }
 
 // The numbers of one byte, as they stand in session memory.
-fn small_bytes(h: Numbers) -> [u8; 32]
+fn small_bytes(h: Numbers) -> [u8; SMALL_LENGTH]
     ensures { λ r. ⌜ r ≡ smallBytes h ⌝ }
 {
     let o = h.now.ours;
@@ -283,7 +253,7 @@ fn small_bytes(h: Numbers) -> [u8; 32]
 }
 
 // The longer ones after them.
-fn large_bytes(h: Numbers) -> [u8; 24]
+fn large_bytes(h: Numbers) -> [u8; LARGE_LENGTH]
     ensures { λ r. ⌜ r ≡ largeBytes h ⌝ }
 {
     let r = h.reader;
@@ -321,7 +291,7 @@ fn large_bytes(h: Numbers) -> [u8; 24]
 }
 
 // The tail, in the order of its places.
-fn tail_bytes(h: Numbers) -> [u8; 13]
+fn tail_bytes(h: Numbers) -> [u8; TAIL_LENGTH]
     ensures { λ r. ⌜ r ≡ tailBytes h ⌝ }
 {
     let t = h.tally;

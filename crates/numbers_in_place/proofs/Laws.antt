@@ -6,7 +6,8 @@ use native.Mathlib.Omega.{arith}
 use lib.Dec.{eqb}
 use lib.ListN.{length, getD, set, take, drop}
 use lib.Seq.{sets, length-sets, getD-take, getD-drop}
-use Rattle.grammar.specs.Bytes.{Bytes}
+use Rattle.grammar.specs.Bytes.{Bytes, byteValues}
+use Rattle.grammar.specs.Turns.{blockLimit}
 use Rattle.buffer.specs.Put.{putBytes}
 use Rattle.places.specs.Places.{sessionLen, ffAt, framedAt, afterCrAt, firstAt, thenAt, keptAt, oursAt, sendingAt, signsAt, placeAt, lengthAt, headAt, offsetAt, sumAt, lineLengthAt, leftAt, bodyAt, posAt, usedAt, tailAt, tallySizesAt, tallyProposedAt, tailLen, numbersEnd}
 use Rattle.places.specs.Places as places
@@ -21,10 +22,10 @@ use Rattle.numbers_in_place.specs.Changed.{withLine, withReader, withSay
 use Rattle.numbers_in_place.proofs.Written.{bytesFrom, Agrees, agrees-same, agrees-later, agrees-set, skipped, put-sets, le2-back, le4-back, le8-back}
 
 -- up to five numbers that were read are written as they stand
-five-back : (sm : Bytes) (i : ℕ) → i + 6 ≤ length sm → fiveOut (fiveAt sm i) ≡ bytesFrom sm i 6
+five-back : (sm : Bytes) (i : ℕ) → i + (1 + blockLimit) ≤ length sm → fiveOut (fiveAt sm i) ≡ bytesFrom sm i (1 + blockLimit)
 five-back sm i h =
-    let k : (j n : ℕ) → j < 5 → i + 1 + j ≡ n → getD (arrayAt 5 sm (i + 1)) j 0 ≡ byteAt sm n =
-    λ j n g e. ap (λ (x : Bytes). getD x j 0) (array-in 5 sm (i + 1) (omega arith)) ∙ getD-take 5 (drop (i + 1) sm) j 0 g ∙ getD-drop (i + 1) sm j 0 ∙ ap (byteAt sm) e in
+    let k : (j n : ℕ) → j < blockLimit → i + 1 + j ≡ n → getD (arrayAt blockLimit sm (i + 1)) j 0 ≡ byteAt sm n =
+    λ j n g e. ap (λ (x : Bytes). getD x j 0) (array-in blockLimit sm (i + 1) (omega arith)) ∙ getD-take blockLimit (drop (i + 1) sm) j 0 g ∙ getD-drop (i + 1) sm j 0 ∙ ap (byteAt sm) e in
     list6 (k 0 (suc i) (omega arith) (omega arith)) (k 1 (suc (suc i)) (omega arith) (omega arith)) (k 2 (suc (suc (suc i))) (omega arith) (omega arith))
     (k 3 (suc (suc (suc (suc i)))) (omega arith) (omega arith)) (k 4 (suc (suc (suc (suc (suc i))))) (omega arith) (omega arith))
   where
@@ -35,7 +36,7 @@ five-back sm i h =
 abbrev pieces : Bytes → Bytes → Bytes → Bytes → Bytes → Bytes → Bytes → Bytes → Bytes → Bytes → Bytes → Bytes
 pieces a o d g r l f b p u t = (a ++ (o ++ (d ++ (g ++ r)))) ++ ((l ++ (f ++ (b ++ (p ++ u)))) ++ t)
 
-module _ (sm : Bytes) (n : length sm ≡ sessionLen) (small : (i : ℕ) → byteAt sm i < 256) where
+module _ (sm : Bytes) (n : length sm ≡ sessionLen) (small : (i : ℕ) → byteAt sm i < byteValues) where
   abbrev ff : ℕ
   ff = flag (eqb (byteAt sm ffAt) 1)
 
@@ -48,16 +49,16 @@ module _ (sm : Bytes) (n : length sm ≡ sessionLen) (small : (i : ℕ) → byte
   -- THE TAIL as it was read is written as it stands; the only law here that a later number changes
   tail-back : tailBytes (numbersAt sm) ≡ bytesFrom sm tailAt tailLen
   unfolding tailOut numbersAt awaitNumbers keepNumbers loadTally
-  tail-back = ap (λ (x : Bytes). bytesFrom sm tailAt 4 ++ (x ++ bytesFrom sm tallyProposedAt 5)) (le4-back sm small tallySizesAt)
+  tail-back = ap (λ (x : Bytes). bytesFrom sm tailAt (tallySizesAt - tailAt) ++ (x ++ bytesFrom sm tallyProposedAt (numbersEnd - tallyProposedAt))) (le4-back sm small tallySizesAt)
 
   -- up to five numbers, and the tail
   stay : (a r l f b p u : Bytes) → pieces a (fiveOut (fiveAt sm oursAt)) (fiveOut (fiveAt sm sendingAt)) (fiveOut (fiveAt sm signsAt)) r l f b p u (tailBytes (numbersAt sm))
-      ≡ pieces a (bytesFrom sm oursAt 6) (bytesFrom sm sendingAt 6) (bytesFrom sm signsAt 6) r l f b p u (bytesFrom sm tailAt tailLen)
+      ≡ pieces a (bytesFrom sm oursAt (1 + blockLimit)) (bytesFrom sm sendingAt (1 + blockLimit)) (bytesFrom sm signsAt (1 + blockLimit)) r l f b p u (bytesFrom sm tailAt tailLen)
   stay a r l f b p u =
       let t : Bytes = tailBytes (numbersAt sm) in
-      let o : Bytes = bytesFrom sm oursAt 6 in
-      let d : Bytes = bytesFrom sm sendingAt 6 in
-      let g : Bytes = bytesFrom sm signsAt 6 in
+      let o : Bytes = bytesFrom sm oursAt (1 + blockLimit) in
+      let d : Bytes = bytesFrom sm sendingAt (1 + blockLimit) in
+      let g : Bytes = bytesFrom sm signsAt (1 + blockLimit) in
       ap (λ (x : Bytes). pieces a x (fiveOut (fiveAt sm sendingAt)) (fiveOut (fiveAt sm signsAt)) r l f b p u t) (five-back sm oursAt (omega arith))
       ∙ ap (λ (x : Bytes). pieces a o x (fiveOut (fiveAt sm signsAt)) r l f b p u t) (five-back sm sendingAt (omega arith))
       ∙ ap (λ (x : Bytes). pieces a o d x r l f b p u t) (five-back sm signsAt (omega arith))
@@ -74,20 +75,20 @@ module _ (sm : Bytes) (n : length sm ≡ sessionLen) (small : (i : ℕ) → byte
 
   -- ---------------------------------------------------------------- the line
 
-  line-bytes : (k : ℕ) → numberBytes (withLine k (numbersAt sm)) ≡ phase ∷ ff ∷ framed ∷ 0 ∷ (bytesFrom sm firstAt 28 ++ (le2 k ++ (bytesFrom sm leftAt (numbersEnd - leftAt) ++ [])))
+  line-bytes : (k : ℕ) → numberBytes (withLine k (numbersAt sm)) ≡ phase ∷ ff ∷ framed ∷ 0 ∷ (bytesFrom sm firstAt (lineLengthAt - firstAt) ++ (le2 k ++ (bytesFrom sm leftAt (numbersEnd - leftAt) ++ [])))
   unfolding numberBytes smallOut numbersOut tailOut numbersAt awaitNumbers sayNumbers keepNumbers readerNumbers lineNumbers
   line-bytes k =
-      let a : Bytes = phase ∷ ff ∷ framed ∷ 0 ∷ bytesFrom sm firstAt 5 in
-      let r : Bytes = bytesFrom sm placeAt 5 in
-      let o : Bytes = bytesFrom sm oursAt 6 in
-      let d : Bytes = bytesFrom sm sendingAt 6 in
-      let g : Bytes = bytesFrom sm signsAt 6 in
+      let a : Bytes = phase ∷ ff ∷ framed ∷ 0 ∷ bytesFrom sm firstAt (oursAt - firstAt) in
+      let r : Bytes = bytesFrom sm placeAt (lineLengthAt - placeAt) in
+      let o : Bytes = bytesFrom sm oursAt (1 + blockLimit) in
+      let d : Bytes = bytesFrom sm sendingAt (1 + blockLimit) in
+      let g : Bytes = bytesFrom sm signsAt (1 + blockLimit) in
       let t : Bytes = bytesFrom sm tailAt tailLen in
       stay a r (le2 k) (le2 (le2At sm leftAt)) (le4 (le4At sm bodyAt)) (le8 (le8At sm posAt)) (le8 (le8At sm usedAt))
       ∙ ap (λ (x : Bytes). pieces a o d g r (le2 k) x (le4 (le4At sm bodyAt)) (le8 (le8At sm posAt)) (le8 (le8At sm usedAt)) t) (le2-back sm small leftAt)
-      ∙ ap (λ (x : Bytes). pieces a o d g r (le2 k) (bytesFrom sm leftAt 2) x (le8 (le8At sm posAt)) (le8 (le8At sm usedAt)) t) (le4-back sm small bodyAt)
-      ∙ ap (λ (x : Bytes). pieces a o d g r (le2 k) (bytesFrom sm leftAt 2) (bytesFrom sm bodyAt 4) x (le8 (le8At sm usedAt)) t) (le8-back sm small posAt)
-      ∙ ap (λ (x : Bytes). pieces a o d g r (le2 k) (bytesFrom sm leftAt 2) (bytesFrom sm bodyAt 4) (bytesFrom sm posAt 8) x t) (le8-back sm small usedAt)
+      ∙ ap (λ (x : Bytes). pieces a o d g r (le2 k) (bytesFrom sm leftAt (bodyAt - leftAt)) x (le8 (le8At sm posAt)) (le8 (le8At sm usedAt)) t) (le4-back sm small bodyAt)
+      ∙ ap (λ (x : Bytes). pieces a o d g r (le2 k) (bytesFrom sm leftAt (bodyAt - leftAt)) (bytesFrom sm bodyAt (posAt - bodyAt)) x (le8 (le8At sm usedAt)) t) (le8-back sm small posAt)
+      ∙ ap (λ (x : Bytes). pieces a o d g r (le2 k) (bytesFrom sm leftAt (bodyAt - leftAt)) (bytesFrom sm bodyAt (posAt - bodyAt)) (bytesFrom sm posAt (usedAt - posAt)) x t) (le8-back sm small usedAt)
 
   -- session memory with the flags as a taken byte leaves them
   abbrev flagged : Bytes
@@ -106,8 +107,8 @@ module _ (sm : Bytes) (n : length sm ≡ sessionLen) (small : (i : ℕ) → byte
   pub line-saved : (k : ℕ) → sets flagged lineLengthAt (le2 k) ≡ putBytes sm (at places.numbersStart) (numberBytes (withLine k (numbersAt sm)))
   line-saved k =
       sym
-      (saved-as (withLine k (numbersAt sm)) (ff ∷ framed ∷ 0 ∷ (bytesFrom sm firstAt 28 ++ (le2 k ++ (bytesFrom sm leftAt (numbersEnd - leftAt) ++ [])))) (line-bytes k)
-      ∙ skipped 28 firstAt flagged sm (le2 k ++ (bytesFrom sm leftAt (numbersEnd - leftAt) ++ [])) flagged-after
+      (saved-as (withLine k (numbersAt sm)) (ff ∷ framed ∷ 0 ∷ (bytesFrom sm firstAt (lineLengthAt - firstAt) ++ (le2 k ++ (bytesFrom sm leftAt (numbersEnd - leftAt) ++ [])))) (line-bytes k)
+      ∙ skipped (lineLengthAt - firstAt) firstAt flagged sm (le2 k ++ (bytesFrom sm leftAt (numbersEnd - leftAt) ++ [])) flagged-after
       ∙ skipped (numbersEnd - leftAt) leftAt (sets flagged lineLengthAt (le2 k)) sm []
       (written-after (le2 k) lineLengthAt leftAt flagged (omega arith) (agrees-later firstAt leftAt flagged sm (omega arith) flagged-after)))
 
@@ -120,18 +121,18 @@ module _ (sm : Bytes) (n : length sm ≡ sessionLen) (small : (i : ℕ) → byte
   sizes-out r = le2 (r .left) ++ le4 (r .body)
 
   reader-bytes : (r : Reader) → numberBytes (withReader r (numbersAt sm))
-      ≡ phase ∷ ff ∷ framed ∷ 0 ∷ (bytesFrom sm firstAt 23 ++ (small-out r ++ (bytesFrom sm lineLengthAt 2 ++ (sizes-out r ++ (bytesFrom sm posAt (numbersEnd - posAt) ++ [])))))
+      ≡ phase ∷ ff ∷ framed ∷ 0 ∷ (bytesFrom sm firstAt (placeAt - firstAt) ++ (small-out r ++ (bytesFrom sm lineLengthAt (leftAt - lineLengthAt) ++ (sizes-out r ++ (bytesFrom sm posAt (numbersEnd - posAt) ++ [])))))
   unfolding numberBytes smallOut numbersOut tailOut numbersAt awaitNumbers sayNumbers keepNumbers readerNumbers lineNumbers
   reader-bytes r =
-      let a : Bytes = phase ∷ ff ∷ framed ∷ 0 ∷ bytesFrom sm firstAt 5 in
-      let o : Bytes = bytesFrom sm oursAt 6 in
-      let d : Bytes = bytesFrom sm sendingAt 6 in
-      let g : Bytes = bytesFrom sm signsAt 6 in
+      let a : Bytes = phase ∷ ff ∷ framed ∷ 0 ∷ bytesFrom sm firstAt (oursAt - firstAt) in
+      let o : Bytes = bytesFrom sm oursAt (1 + blockLimit) in
+      let d : Bytes = bytesFrom sm sendingAt (1 + blockLimit) in
+      let g : Bytes = bytesFrom sm signsAt (1 + blockLimit) in
       let t : Bytes = bytesFrom sm tailAt tailLen in
       stay a (small-out r) (le2 (le2At sm lineLengthAt)) (le2 (r .left)) (le4 (r .body)) (le8 (le8At sm posAt)) (le8 (le8At sm usedAt))
       ∙ ap (λ (x : Bytes). pieces a o d g (small-out r) x (le2 (r .left)) (le4 (r .body)) (le8 (le8At sm posAt)) (le8 (le8At sm usedAt)) t) (le2-back sm small lineLengthAt)
-      ∙ ap (λ (x : Bytes). pieces a o d g (small-out r) (bytesFrom sm lineLengthAt 2) (le2 (r .left)) (le4 (r .body)) x (le8 (le8At sm usedAt)) t) (le8-back sm small posAt)
-      ∙ ap (λ (x : Bytes). pieces a o d g (small-out r) (bytesFrom sm lineLengthAt 2) (le2 (r .left)) (le4 (r .body)) (bytesFrom sm posAt 8) x t) (le8-back sm small usedAt)
+      ∙ ap (λ (x : Bytes). pieces a o d g (small-out r) (bytesFrom sm lineLengthAt (leftAt - lineLengthAt)) (le2 (r .left)) (le4 (r .body)) x (le8 (le8At sm usedAt)) t) (le8-back sm small posAt)
+      ∙ ap (λ (x : Bytes). pieces a o d g (small-out r) (bytesFrom sm lineLengthAt (leftAt - lineLengthAt)) (le2 (r .left)) (le4 (r .body)) (bytesFrom sm posAt (usedAt - posAt)) x t) (le8-back sm small usedAt)
 
   pub reader-saved : (r : Reader) → sets (sets flagged placeAt (small-out r)) leftAt (sizes-out r)
       ≡ putBytes sm (at places.numbersStart) (numberBytes (withReader r (numbersAt sm)))
@@ -140,9 +141,9 @@ module _ (sm : Bytes) (n : length sm ≡ sessionLen) (small : (i : ℕ) → byte
       let k : Bytes = bytesFrom sm posAt (numbersEnd - posAt) ++ [] in
       let f : Agrees lineLengthAt m sm = written-after (small-out r) placeAt lineLengthAt flagged (omega arith) (agrees-later firstAt lineLengthAt flagged sm (omega arith) flagged-after) in
       sym
-      (saved-as (withReader r (numbersAt sm)) (ff ∷ framed ∷ 0 ∷ (bytesFrom sm firstAt 23 ++ (small-out r ++ (bytesFrom sm lineLengthAt 2 ++ (sizes-out r ++ k))))) (reader-bytes r)
-      ∙ skipped 23 firstAt flagged sm (small-out r ++ (bytesFrom sm lineLengthAt 2 ++ (sizes-out r ++ k))) flagged-after
-      ∙ skipped 2 lineLengthAt m sm (sizes-out r ++ k) f
+      (saved-as (withReader r (numbersAt sm)) (ff ∷ framed ∷ 0 ∷ (bytesFrom sm firstAt (placeAt - firstAt) ++ (small-out r ++ (bytesFrom sm lineLengthAt (leftAt - lineLengthAt) ++ (sizes-out r ++ k))))) (reader-bytes r)
+      ∙ skipped (placeAt - firstAt) firstAt flagged sm (small-out r ++ (bytesFrom sm lineLengthAt (leftAt - lineLengthAt) ++ (sizes-out r ++ k))) flagged-after
+      ∙ skipped (leftAt - lineLengthAt) lineLengthAt m sm (sizes-out r ++ k) f
       ∙ skipped (numbersEnd - posAt) posAt (sets m leftAt (sizes-out r)) sm []
       (written-after (sizes-out r) leftAt posAt m (omega arith) (agrees-later lineLengthAt posAt m sm (omega arith) f)))
 
@@ -152,20 +153,20 @@ module _ (sm : Bytes) (n : length sm ≡ sessionLen) (small : (i : ℕ) → byte
   after-cr = flag (eqb (byteAt sm afterCrAt) 1)
 
   say-bytes : (first then pos : ℕ) → numberBytes (withSay first then pos (numbersAt sm))
-      ≡ phase ∷ ff ∷ framed ∷ after-cr ∷ first ∷ then ∷ (bytesFrom sm keptAt 34 ++ (le8 pos ++ (bytesFrom sm usedAt (numbersEnd - usedAt) ++ [])))
+      ≡ phase ∷ ff ∷ framed ∷ after-cr ∷ first ∷ then ∷ (bytesFrom sm keptAt (posAt - keptAt) ++ (le8 pos ++ (bytesFrom sm usedAt (numbersEnd - usedAt) ++ [])))
   unfolding numberBytes smallOut numbersOut tailOut numbersAt awaitNumbers sayNumbers keepNumbers readerNumbers lineNumbers
   say-bytes first then pos =
-      let a : Bytes = phase ∷ ff ∷ framed ∷ after-cr ∷ first ∷ then ∷ bytesFrom sm keptAt 3 in
-      let r : Bytes = bytesFrom sm placeAt 5 in
-      let o : Bytes = bytesFrom sm oursAt 6 in
-      let d : Bytes = bytesFrom sm sendingAt 6 in
-      let g : Bytes = bytesFrom sm signsAt 6 in
+      let a : Bytes = phase ∷ ff ∷ framed ∷ after-cr ∷ first ∷ then ∷ bytesFrom sm keptAt (oursAt - keptAt) in
+      let r : Bytes = bytesFrom sm placeAt (lineLengthAt - placeAt) in
+      let o : Bytes = bytesFrom sm oursAt (1 + blockLimit) in
+      let d : Bytes = bytesFrom sm sendingAt (1 + blockLimit) in
+      let g : Bytes = bytesFrom sm signsAt (1 + blockLimit) in
       let t : Bytes = bytesFrom sm tailAt tailLen in
       stay a r (le2 (le2At sm lineLengthAt)) (le2 (le2At sm leftAt)) (le4 (le4At sm bodyAt)) (le8 pos) (le8 (le8At sm usedAt))
       ∙ ap (λ (x : Bytes). pieces a o d g r x (le2 (le2At sm leftAt)) (le4 (le4At sm bodyAt)) (le8 pos) (le8 (le8At sm usedAt)) t) (le2-back sm small lineLengthAt)
-      ∙ ap (λ (x : Bytes). pieces a o d g r (bytesFrom sm lineLengthAt 2) x (le4 (le4At sm bodyAt)) (le8 pos) (le8 (le8At sm usedAt)) t) (le2-back sm small leftAt)
-      ∙ ap (λ (x : Bytes). pieces a o d g r (bytesFrom sm lineLengthAt 2) (bytesFrom sm leftAt 2) x (le8 pos) (le8 (le8At sm usedAt)) t) (le4-back sm small bodyAt)
-      ∙ ap (λ (x : Bytes). pieces a o d g r (bytesFrom sm lineLengthAt 2) (bytesFrom sm leftAt 2) (bytesFrom sm bodyAt 4) (le8 pos) x t) (le8-back sm small usedAt)
+      ∙ ap (λ (x : Bytes). pieces a o d g r (bytesFrom sm lineLengthAt (leftAt - lineLengthAt)) x (le4 (le4At sm bodyAt)) (le8 pos) (le8 (le8At sm usedAt)) t) (le2-back sm small leftAt)
+      ∙ ap (λ (x : Bytes). pieces a o d g r (bytesFrom sm lineLengthAt (leftAt - lineLengthAt)) (bytesFrom sm leftAt (bodyAt - leftAt)) x (le8 pos) (le8 (le8At sm usedAt)) t) (le4-back sm small bodyAt)
+      ∙ ap (λ (x : Bytes). pieces a o d g r (bytesFrom sm lineLengthAt (leftAt - lineLengthAt)) (bytesFrom sm leftAt (bodyAt - leftAt)) (bytesFrom sm bodyAt (posAt - bodyAt)) (le8 pos) x t) (le8-back sm small usedAt)
 
   -- the flags and the pieces from their place on, then how many bytes are given
   pub say-saved : (first then pos : ℕ) → sets (sets sm ffAt (ff ∷ framed ∷ after-cr ∷ first ∷ then ∷ [])) posAt (le8 pos)
@@ -176,8 +177,8 @@ module _ (sm : Bytes) (n : length sm ≡ sessionLen) (small : (i : ℕ) → byte
       let k : Bytes = bytesFrom sm usedAt (numbersEnd - usedAt) ++ [] in
       let f : Agrees keptAt m sm = written-after w ffAt keptAt sm (omega arith) (agrees-same keptAt sm) in
       sym
-      (saved-as (withSay first then pos (numbersAt sm)) (ff ∷ framed ∷ after-cr ∷ first ∷ then ∷ (bytesFrom sm keptAt 34 ++ (le8 pos ++ k))) (say-bytes first then pos)
-      ∙ skipped 34 keptAt m sm (le8 pos ++ k) f
+      (saved-as (withSay first then pos (numbersAt sm)) (ff ∷ framed ∷ after-cr ∷ first ∷ then ∷ (bytesFrom sm keptAt (posAt - keptAt) ++ (le8 pos ++ k))) (say-bytes first then pos)
+      ∙ skipped (posAt - keptAt) keptAt m sm (le8 pos ++ k) f
       ∙ skipped (numbersEnd - usedAt) usedAt (sets m posAt (le8 pos)) sm [] (written-after (le8 pos) posAt usedAt m (omega arith) (agrees-later keptAt usedAt m sm (omega arith) f)))
 
   -- the same by two writes

@@ -7,7 +7,7 @@ use native.Mathlib.Nat.{add-zero, div-div-eq-div-mul}
 use native.Mathlib.Numerals.{add-one}
 use lib.ListN.{length, getD, set, take, drop}
 use lib.Seq.{sets, sets-eq, set-getD, getD-set-other}
-use Rattle.grammar.specs.Bytes.{Bytes}
+use Rattle.grammar.specs.Bytes.{Bytes, byteValues, twoByteValues, threeByteValues, fourByteValues}
 use Rattle.buffer.specs.Put.{wrote, putBytes}
 use Rattle.layout.specs.Layout.{byteAt, le2At, le4At, le8At, le2, le4, le8}
 use Rattle.layout.proofs.Places.{put-fits}
@@ -50,12 +50,12 @@ put-sets m i l h = put-fits m i l h ∙ wrote-sets m i l h
 
 -- ---------------------------------------------------------------- a number that was read from bytes is written as those bytes
 
-module _ (a q : ℕ) (h : a < 256) where
+module _ (a q : ℕ) (h : a < byteValues) where
   -- the lowest digit of a number, and the rest of it
-  low : (a + 256 * q) % 256 ≡ a
+  low : (a + byteValues * q) % byteValues ≡ a
   low = omega arith
 
-  high : (a + 256 * q) / 256 ≡ q
+  high : (a + byteValues * q) / byteValues ≡ q
   high = omega arith
 
 list2 : {a b c d : ℕ} → a ≡ b → c ≡ d → _≡_ {A = Bytes} (a ∷ c ∷ []) (b ∷ d ∷ [])
@@ -65,27 +65,27 @@ list4 : {a b c d e f g h : ℕ} → a ≡ b → c ≡ d → e ≡ f → g ≡ h 
 list4 e₁ e₂ e₃ e₄ = rw (e₁, e₂, e₃, e₄)
 
 -- the four lowest digits, q: the rest
-module _ (a b c d q x : ℕ) (h₁ : a < 256) (h₂ : b < 256) (h₃ : c < 256) (h₄ : d < 256) (e : x ≡ a + 256 * (b + 256 * (c + 256 * (d + 256 * q)))) where
-  one : x / 256 ≡ b + 256 * (c + 256 * (d + 256 * q))
-  one = ap (λ (y : ℕ). y / 256) e ∙ high a (b + 256 * (c + 256 * (d + 256 * q))) h₁
+module _ (a b c d q x : ℕ) (h₁ : a < byteValues) (h₂ : b < byteValues) (h₃ : c < byteValues) (h₄ : d < byteValues) (e : x ≡ a + byteValues * (b + byteValues * (c + byteValues * (d + byteValues * q)))) where
+  one : x / byteValues ≡ b + byteValues * (c + byteValues * (d + byteValues * q))
+  one = ap (λ (y : ℕ). y / byteValues) e ∙ high a (b + byteValues * (c + byteValues * (d + byteValues * q))) h₁
 
-  two : x / 65536 ≡ c + 256 * (d + 256 * q)
-  two = sym (div-div-eq-div-mul x 256 256) ∙ ap (λ (y : ℕ). y / 256) one ∙ high b (c + 256 * (d + 256 * q)) h₂
+  two : x / twoByteValues ≡ c + byteValues * (d + byteValues * q)
+  two = sym (div-div-eq-div-mul x byteValues byteValues) ∙ ap (λ (y : ℕ). y / byteValues) one ∙ high b (c + byteValues * (d + byteValues * q)) h₂
 
-  three : x / 16777216 ≡ d + 256 * q
-  three = sym (div-div-eq-div-mul x 65536 256) ∙ ap (λ (y : ℕ). y / 256) two ∙ high c (d + 256 * q) h₃
+  three : x / threeByteValues ≡ d + byteValues * q
+  three = sym (div-div-eq-div-mul x twoByteValues byteValues) ∙ ap (λ (y : ℕ). y / byteValues) two ∙ high c (d + byteValues * q) h₃
 
-  pub rest : x / 4294967296 ≡ q
-  rest = sym (div-div-eq-div-mul x 16777216 256) ∙ ap (λ (y : ℕ). y / 256) three ∙ high d q h₄
+  pub rest : x / fourByteValues ≡ q
+  rest = sym (div-div-eq-div-mul x threeByteValues byteValues) ∙ ap (λ (y : ℕ). y / byteValues) three ∙ high d q h₄
 
   pub digits : le4 x ≡ a ∷ b ∷ c ∷ d ∷ []
   digits =
-      list4 (ap (λ (y : ℕ). y % 256) e ∙ low a (b + 256 * (c + 256 * (d + 256 * q))) h₁)
-      (ap (λ (y : ℕ). y % 256) one ∙ low b (c + 256 * (d + 256 * q)) h₂)
-      (ap (λ (y : ℕ). y % 256) two ∙ low c (d + 256 * q) h₃)
-      (ap (λ (y : ℕ). y % 256) three ∙ low d q h₄)
+      list4 (ap (λ (y : ℕ). y % byteValues) e ∙ low a (b + byteValues * (c + byteValues * (d + byteValues * q))) h₁)
+      (ap (λ (y : ℕ). y % byteValues) one ∙ low b (c + byteValues * (d + byteValues * q)) h₂)
+      (ap (λ (y : ℕ). y % byteValues) two ∙ low c (d + byteValues * q) h₃)
+      (ap (λ (y : ℕ). y % byteValues) three ∙ low d q h₄)
 
-module _ (m : Bytes) (small : (i : ℕ) → byteAt m i < 256) where
+module _ (m : Bytes) (small : (i : ℕ) → byteAt m i < byteValues) where
   from2 : (i : ℕ) → bytesFrom m i 2 ≡ byteAt m i ∷ byteAt m (i + 1) ∷ []
   from2 i = rw (add-one i)
 
@@ -99,7 +99,7 @@ module _ (m : Bytes) (small : (i : ℕ) → byteAt m i < 256) where
   le2-back i =
       let a = byteAt m i in
       let b = byteAt m (i + 1) in
-      let e : (a + 256 * b) / 256 % 256 ≡ b = ap (λ (y : ℕ). y % 256) (high a b (small i)) ∙ omega (arith, small (i + 1)) in
+      let e : (a + byteValues * b) / byteValues % byteValues ≡ b = ap (λ (y : ℕ). y % byteValues) (high a b (small i)) ∙ omega (arith, small (i + 1)) in
       list2 (low a b (small i)) e ∙ sym (from2 i)
 
   pub le4-back : (i : ℕ) → le4 (le4At m i) ≡ bytesFrom m i 4
@@ -112,8 +112,8 @@ module _ (m : Bytes) (small : (i : ℕ) → byteAt m i < 256) where
 
   pub le8-back : (i : ℕ) → le8 (le8At m i) ≡ bytesFrom m i 8
   le8-back i =
-      let h : le8At m i ≡ byteAt m i + 256 * (byteAt m (i + 1) + 256 * (byteAt m (i + 2) + 256 * (byteAt m (i + 3) + 256 * le4At m (i + 4)))) = omega arith in
-      ap (λ (x : Bytes). x ++ le4 (le8At m i / 4294967296))
+      let h : le8At m i ≡ byteAt m i + byteValues * (byteAt m (i + 1) + byteValues * (byteAt m (i + 2) + byteValues * (byteAt m (i + 3) + byteValues * le4At m (i + 4)))) = omega arith in
+      ap (λ (x : Bytes). x ++ le4 (le8At m i / fourByteValues))
       (digits (byteAt m i) (byteAt m (i + 1)) (byteAt m (i + 2)) (byteAt m (i + 3)) (le4At m (i + 4)) (le8At m i) (small i) (small (i + 1)) (small (i + 2)) (small (i + 3)) h ∙ sym (from4 i))
       ∙ ap (λ (y : ℕ). bytesFrom m i 4 ++ le4 y)
       (rest (byteAt m i) (byteAt m (i + 1)) (byteAt m (i + 2)) (byteAt m (i + 3)) (le4At m (i + 4)) (le8At m i) (small i) (small (i + 1)) (small (i + 2)) (small (i + 3)) h)

@@ -10,7 +10,7 @@ use borrow.Author.Tests.{le-leb, lt-leb, le-ltb, lt-ltb, eq-eqb, ne-eqb, eqb-tru
 use Rattle.grammar.specs.Bytes.{Bytes}
 use Rattle.grammar.specs.Fields.{Form, isBid, isBody}
 use Rattle.grammar.specs.Transfers.{partOf}
-use Rattle.grammar.specs.Refusals.{badMemory}
+use Rattle.grammar.specs.Refusals.{badMemory, noPlace}
 use Rattle.grammar.proofs.Basics.{and2, told, told-not}
 use Rattle.session.specs.Choices.{among}
 use Rattle.phase.specs.Phase.{stateDeclined}
@@ -22,11 +22,11 @@ use Rattle.sheet.specs.Sheet.{noSheet}
 use Rattle.tally.specs.Tally.{counted}
 use Rattle.session_memory.proofs.Laws.{sizes-length}
 use Rattle.entries.specs.Decoded.{entries}
-use Rattle.form_test.specs.Form.{lentSizes}
 use Rattle.give.specs.Giving.{reply}
 use Rattle.give.specs.declared.Reply.{Reply}
 use Rattle.places.specs.Places.{bidMax, partners, recordBid}
-use Rattle.open.specs.Opening.{lengthOk, statesFrom, within, recordOk, placeOk, faultFrom, tableFault, bidsOk, knownOk, sizesOk, Opened, opened, openOf}
+use Rattle.open.specs.Lending.{Lending, roleCaller}
+use Rattle.open.specs.Opening.{lengthOk, statesFrom, within, recordOk, placeOk, faultFrom, bidsOk, knownOk, sizesOk, Opened, opened, sizesLent, faultIn, openOf}
 
 -- ---------------------------------------------------------------- the body
 
@@ -66,7 +66,7 @@ module _ (table titles names bodies : Bytes) (i : ℕ) (c : Bytes) (e : c ≡ en
 -- ---------------------------------------------------------------- the known BIDs from place i on
 
 abbrev bidOk : Bytes → Bool
-bidOk c = lengthOk c 0 12 && isBid (fieldIn 12 0 c)
+bidOk c = lengthOk c 0 bidMax && isBid (fieldIn bidMax 0 c)
 
 module _ (known : Bytes) (i n : ℕ) where
   bids-next : i < n → bidsOk known i (n - i) ≡ (bidOk (entryAt knownSize known i) && bidsOk known (i + 1) (n - (i + 1)))
@@ -126,49 +126,54 @@ module _ (table titles names bodies : Bytes) (i n : ℕ) where
   pub fault-stop : i < n → {t : Bool} → t ≡ placeOk table titles names bodies i → not t ≡ true → i ≡ left i
   fault-stop h f g = sym (fault-next h ∙ ap (λ (x : Bool). cond x (left (i + 1)) i) (told-not f g))
 
-  pub fault-end : n ≤ i → 255 ≡ left i
+  pub fault-end : n ≤ i → noPlace ≡ left i
   fault-end h =
       let e : n - i ≡ 0 = omega arith in
       rw e
 
 -- ---------------------------------------------------------------- the call
 
-module _ (role partner : ℕ) (sm table titles names bodies known inbox store : Bytes) where
+module _ (L : Lending) where
   abbrev answer : Opened
-  answer = openOf role partner sm table titles names bodies known inbox store
+  answer = openOf L
 
-  pub open-partner : (r : Reply) → r ≡ reply badMemory 255 0 → partners ≤ partner → opened r sm ≡ answer
+  -- with this reply, and session memory as it was
+  abbrev told-by : Reply → Opened
+  told-by r = opened r (L .session)
+
+  pub open-partner : (r : Reply) → r ≡ reply badMemory noPlace 0 → partners ≤ L .partner → told-by r ≡ answer
   unfolding openOf
-  open-partner r e h = rw (le-ltb partner partners h) (ap (λ (x : Reply). opened x sm) e)
+  open-partner r e h = rw (le-ltb (L .partner) partners h) (ap told-by e)
 
-  pub open-role : partner < partners → (r : Reply) → r ≡ reply badMemory 255 0 → 1 < role → opened r sm ≡ answer
+  pub open-role : L .partner < partners → (r : Reply) → r ≡ reply badMemory noPlace 0 → roleCaller < L .role → told-by r ≡ answer
   unfolding openOf
-  open-role b r e h = rw (lt-ltb partner partners b, lt-leb role 1 h) (ap (λ (x : Reply). opened x sm) e)
+  open-role b r e h = rw (lt-ltb (L .partner) partners b, lt-leb (L .role) roleCaller h) (ap told-by e)
 
-  module _ (b : partner < partners) (h : role ≤ 1) {t : Bool} (f : t ≡ sizesOk sm table known inbox) where
-    pub open-sizes : not t ≡ true → (r : Reply) → r ≡ reply badMemory 255 0 → opened r sm ≡ answer
+  module _ (b : L .partner < partners) (h : L .role ≤ roleCaller) {t : Bool} (f : t ≡ sizesOk (L .session) (L .table) (L .known) (L .inbox)) where
+    pub open-sizes : not t ≡ true → (r : Reply) → r ≡ reply badMemory noPlace 0 → told-by r ≡ answer
     unfolding openOf
-    open-sizes g r e = rw (lt-ltb partner partners b, le-leb role 1 h, told-not f g) (ap (λ (x : Reply). opened x sm) e)
+    open-sizes g r e = rw (lt-ltb (L .partner) partners b, le-leb (L .role) roleCaller h, told-not f g) (ap told-by e)
 
-    module _ (g : not t ≡ false) {u : Bool} (k : u ≡ knownOk known) where
-      pub open-known : not u ≡ true → (r : Reply) → r ≡ reply badMemory 255 0 → opened r sm ≡ answer
+    module _ (g : not t ≡ false) {u : Bool} (k : u ≡ knownOk (L .known)) where
+      pub open-known : not u ≡ true → (r : Reply) → r ≡ reply badMemory noPlace 0 → told-by r ≡ answer
       unfolding openOf
-      open-known l r e = rw (lt-ltb partner partners b, le-leb role 1 h, told f g, told-not k l) (ap (λ (x : Reply). opened x sm) e)
+      open-known l r e = rw (lt-ltb (L .partner) partners b, le-leb (L .role) roleCaller h, told f g, told-not k l) (ap told-by e)
 
-      module _ (l : not u ≡ false) (place : ℕ) (q : place ≡ tableFault table titles names bodies) where
-        pub open-fault : (place ≡ 255 → ⊥) → (r : Reply) → r ≡ reply badMemory place 0 → opened r sm ≡ answer
+      module _ (l : not u ≡ false) (place : ℕ) (q : place ≡ faultIn L) where
+        pub open-fault : (place ≡ noPlace → ⊥) → (r : Reply) → r ≡ reply badMemory place 0 → told-by r ≡ answer
         unfolding openOf
         open-fault n r e =
-            rw (lt-ltb partner partners b, le-leb role 1 h, told f g, told k l, ne-eqb (tableFault table titles names bodies) 255 (λ x. n (q ∙ x)))
-            (ap (λ (x : Reply). opened x sm) (e ∙ ap (λ (p : ℕ). reply badMemory p 0) q))
+            rw (lt-ltb (L .partner) partners b, le-leb (L .role) roleCaller h, told f g, told k l, ne-eqb (faultIn L) noPlace (λ x. n (q ∙ x)))
+            (ap told-by (e ∙ ap (λ (p : ℕ). reply badMemory p 0) q))
 
-        pub open-good : place ≡ 255 → (m : Bytes) → m ≡ saveSizes sm (lentSizes table titles names bodies known inbox store)
-            → (t : Tally) → t ≡ counted partner table noSheet → (n : Bytes) → n ≡ saveOf m (freshOf (eqb role 1) partner t) → opened (reply 0 0 0) n ≡ answer
+        pub open-good : place ≡ noPlace → (m : Bytes) → m ≡ saveSizes (L .session) (sizesLent L) → (t : Tally) → t ≡ counted (L .partner) (L .table) noSheet
+            → (n : Bytes) → n ≡ saveOf m (freshOf (eqb (L .role) roleCaller) (L .partner) t) → opened (reply 0 0 0) n ≡ answer
         unfolding openOf
         open-good d m v t w n z =
-            rw (lt-ltb partner partners b, le-leb role 1 h, told f g, told k l, eq-eqb (tableFault table titles names bodies) 255 (sym q ∙ d))
+            rw (lt-ltb (L .partner) partners b, le-leb (L .role) roleCaller h, told f g, told k l, eq-eqb (faultIn L) noPlace (sym q ∙ d))
             (ap (λ (x : Bytes). opened (reply 0 0 0) x)
-            (z ∙ ap (λ (x : Bytes). saveOf x (freshOf (eqb role 1) partner t)) v ∙ ap (λ (x : Tally). saveOf (saveSizes sm (lentSizes table titles names bodies known inbox store)) (freshOf (eqb role 1) partner x)) w))
+            (z ∙ ap (λ (x : Bytes). saveOf x (freshOf (eqb (L .role) roleCaller) (L .partner) t)) v
+            ∙ ap (λ (x : Tally). saveOf (saveSizes (L .session) (sizesLent L)) (freshOf (eqb (L .role) roleCaller) (L .partner) x)) w))
 
 -- the size that was tested, after the sizes are saved
 pub size-told : (sm table known inbox : Bytes) {b : Bool} → b ≡ sizesOk sm table known inbox → not b ≡ false → (z : Sizes) {m : Bytes} → m ≡ saveSizes sm z

@@ -1,3 +1,4 @@
 -- What open accepts, and what it leaves.
+pub mod Lending
 pub mod Opening
 pub mod Twins

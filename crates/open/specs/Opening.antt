@@ -5,21 +5,26 @@ use Prim.Native.Nat.{ℕ, zero, suc, _-_, _/_, _%_}
 use lib.Dec.{eqb, leb, ltb}
 use lib.ListN.{length}
 use Rattle.grammar.specs.Bytes.{Bytes}
-use Rattle.grammar.specs.Refusals.{badMemory}
+use Rattle.grammar.specs.Refusals.{badMemory, noPlace}
 use Rattle.grammar.specs.Fields.{formIs, isCall, isAt, isBid, isHeading, isBody}
 use Rattle.grammar.specs.Turns.{isType}
 use Rattle.grammar.specs.Transfers.{partOf}
+use Rattle.mail.specs.Mail.{recordLimit, placeLimit}
 use Rattle.session.specs.Choices.{among}
 use Rattle.phase.specs.Phase.{stateDeclined}
 use Rattle.places.specs.Places.{atMax, bidMax, callMax, partners, recordAt, recordBid, recordBody, recordBodyLength, recordForm, recordFrom, recordName, recordNameLength, recordSizeAt, recordTitle, recordTitleLength, recordTo, recordType}
 use Rattle.layout.specs.Layout.{byteAt, le2At, le4At, fieldIn, entryAt, recordSize, knownSize, entrySize}
+use Rattle.record_text.specs.Texts.{fileForm}
 use Rattle.session_memory.specs.State.{sessionSize, saveOf, saveSizes, freshOf}
-use Rattle.entries.specs.Decoded.{entries, recordCount, knownCount}
+use Rattle.session_memory.specs.Session.{Session}
+use Rattle.session_memory.specs.declared.Sizes.{Sizes}
+use Rattle.entries.specs.Decoded.{entries, recordCount, knownCount, knownLimit}
 use Rattle.sheet.specs.Sheet.{noSheet}
 use Rattle.tally.specs.Tally.{counted}
 use Rattle.form_test.specs.Form.{lentSizes}
 use Rattle.give.specs.Giving.{reply}
 use Rattle.give.specs.declared.Reply.{Reply}
+use Rattle.open.specs.Lending.{Lending, roleCaller}
 
 -- ---------------------------------------------------------------- a record
 
@@ -35,9 +40,13 @@ statesFrom c p (suc n) = leb (byteAt c p) stateDeclined && statesFrom c (suc p) 
 unfoldable pub statesOk : Bytes → Bool
 statesOk c = statesFrom c 0 partners
 
+-- "announced size 0 to 999,999"
+abbrev pub sizeLimit : ℕ
+sizeLimit = 999999
+
 -- the states, "a form (0 .., 1 .., 2 ..)", "a type (P or B)", "announced size 0 to 999,999"
 unfoldable pub numbersOk : Bytes → Bool
-numbersOk c = statesOk c && (leb (byteAt c recordForm) 2 && (isType (byteAt c recordType) && leb (le4At c recordSizeAt) 999999))
+numbersOk c = statesOk c && (leb (byteAt c recordForm) fileForm && (isType (byteAt c recordType) && leb (le4At c recordSizeAt) sizeLimit))
 
 -- "from, at, to, BID"
 unfoldable pub fieldsOk : Bytes → Bool
@@ -55,7 +64,7 @@ headingOk s start len needed = within s start len && cond (eqb len 0) (not neede
 
 unfoldable pub textsOk : Bytes → Bytes → Bytes → Bytes → Bool
 textsOk c titles names bodies =
-    headingOk titles (le4At c recordTitle) (byteAt c recordTitleLength) (not (eqb (byteAt c recordForm) 2)) && (headingOk names (le4At c recordName) (byteAt c recordNameLength) (eqb (byteAt c recordForm) 2)
+    headingOk titles (le4At c recordTitle) (byteAt c recordTitleLength) (not (eqb (byteAt c recordForm) fileForm)) && (headingOk names (le4At c recordName) (byteAt c recordNameLength) (eqb (byteAt c recordForm) fileForm)
     && (within bodies (le4At c recordBody) (le2At c recordBodyLength) && isBody (formIs (byteAt c recordForm)) (partOf bodies (le4At c recordBody) (le2At c recordBodyLength))))
 
 unfoldable pub recordOk : Bytes → Bytes → Bytes → Bytes → Bool
@@ -67,9 +76,9 @@ placeOk table titles names bodies i =
     recordOk (entryAt recordSize table i) titles names bodies
     && not (among (fieldIn bidMax recordBid (entryAt recordSize table i)) (entries (fieldIn bidMax recordBid) recordSize table i))
 
--- The first bad one of n records from place i on; 255 where there is none.
+-- The first bad one of n records from place i on; `noPlace` where there is none.
 abbrev pub faultFrom : Bytes → Bytes → Bytes → Bytes → ℕ → ℕ → ℕ
-faultFrom table titles names bodies i zero = 255
+faultFrom table titles names bodies i zero = noPlace
 faultFrom table titles names bodies i (suc n) =
     cond (placeOk table titles names bodies i) (faultFrom table titles names bodies (suc i) n) i
 
@@ -94,7 +103,7 @@ entriesOk len size most = eqb (len % size) 0 && leb (len / size) most
 
 unfoldable pub sizesOk : Bytes → Bytes → Bytes → Bytes → Bool
 sizesOk sm table known inbox =
-    eqb (length sm) sessionSize && (entriesOk (length table) recordSize 64 && (entriesOk (length known) knownSize 1024 && entriesOk (length inbox) entrySize 64))
+    eqb (length sm) sessionSize && (entriesOk (length table) recordSize recordLimit && (entriesOk (length known) knownSize knownLimit && entriesOk (length inbox) entrySize placeLimit))
 
 -- ---------------------------------------------------------------- the call
 
@@ -106,17 +115,38 @@ pub record Opened : Type 0 where
 abbrev pub opened : Reply → Bytes → Opened
 opened r sm = record { reply = r; sm = sm }
 
+-- "A refused open changes no lent byte."
+abbrev pub refusedAt : Lending → ℕ → Opened
+refusedAt L place = opened (reply badMemory place 0) (L .session)
+
+abbrev pub sizesLent : Lending → Sizes
+sizesLent L = lentSizes (L .table) (L .titles) (L .names) (L .bodies) (L .known) (L .inbox) (L .store)
+
+abbrev pub faultIn : Lending → ℕ
+faultIn L = tableFault (L .table) (L .titles) (L .names) (L .bodies)
+
+-- The session that begins, and session memory then, with the sizes of what is lent.
+abbrev pub begun : Lending → Session
+begun L = freshOf (eqb (L .role) roleCaller) (L .partner) (counted (L .partner) (L .table) noSheet)
+
+abbrev pub begunIn : Lending → Bytes
+begunIn L = saveOf (saveSizes (L .session) (sizesLent L)) (begun L)
+
+-- What its tests come to, in the order in which they are made: partner, role, sizes, known BIDs, records.
+abbrev pub openBy : Lending → Bool → Bool → Bool → Bool → Bool → Opened
+openBy L partner role sizes known records =
+    cond partner
+    (cond role
+    (cond sizes
+    (cond known
+    (cond records (opened (reply 0 0 0) (begunIn L)) (refusedAt L (faultIn L)))
+    (refusedAt L noPlace))
+    (refusedAt L noPlace))
+    (refusedAt L noPlace))
+    (refusedAt L noPlace)
+
 -- "partner 8 or more gets 1 with place 255, tested first"
-unfoldable pub openOf : ℕ → ℕ → Bytes → Bytes → Bytes → Bytes → Bytes → Bytes → Bytes → Bytes → Opened
-openOf role partner sm table titles names bodies known inbox store =
-    cond (ltb partner partners)
-    (cond (leb role 1)
-    (cond (sizesOk sm table known inbox)
-    (cond (knownOk known)
-    (cond (eqb (tableFault table titles names bodies) 255)
-    (opened (reply 0 0 0) (saveOf (saveSizes sm (lentSizes table titles names bodies known inbox store)) (freshOf (eqb role 1) partner (counted partner table noSheet))))
-    (opened (reply badMemory (tableFault table titles names bodies) 0) sm))
-    (opened (reply badMemory 255 0) sm))
-    (opened (reply badMemory 255 0) sm))
-    (opened (reply badMemory 255 0) sm))
-    (opened (reply badMemory 255 0) sm)
+unfoldable pub openOf : Lending → Opened
+openOf L =
+    openBy L (ltb (L .partner) partners) (leb (L .role) roleCaller) (sizesOk (L .session) (L .table) (L .known) (L .inbox)) (knownOk (L .known))
+    (eqb (faultIn L) noPlace)

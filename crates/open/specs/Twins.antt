@@ -4,6 +4,7 @@ use Prim.Native.Nat.{ℕ, _-_}
 use lib.ListN.{length, replicate}
 use Rattle.grammar.specs.Bytes.{Bytes}
 use Rattle.grammar.specs.Ascii.{text}
+use Rattle.grammar.specs.Refusals.{noPlace}
 use Rattle.places.specs.Places.{atMax, bidMax, callMax, partners}
 use Rattle.open.specs.Opening.{tableFault}
 
@@ -27,9 +28,6 @@ pub record Twins : Type 0 where
   pub bids : List Bytes
   pub fault : ℕ
 
-abbrev pub none : ℕ
-none = 255
-
 -- "a table with `12_ab` and `12_AB` now gets 1 at the later record"; "Bytes from 0x80 still compare exactly."
 abbrev pub twins : List Twins
 twins =
@@ -37,7 +35,7 @@ twins =
     record { bids = text "12_ab" ∷ text "X1" ∷ text "12_aB" ∷ []; fault = 2 } ∷
     record { bids = text "ab" ∷ text "AB" ∷ text "Ab" ∷ []; fault = 1 } ∷
     record { bids = text "12_ab" ∷ text "12_ab" ∷ []; fault = 1 } ∷
-    record { bids = text "12_ab" ∷ text "12_abc" ∷ text "12_a" ∷ []; fault = none } ∷
-    record { bids = text "1[" ∷ text "1{" ∷ text "1@" ∷ text "1`" ∷ text "1^" ∷ text "1~" ∷ []; fault = none } ∷
-    record { bids = (201 ∷ []) ∷ (233 ∷ []) ∷ (105 ∷ []) ∷ []; fault = none } ∷
+    record { bids = text "12_ab" ∷ text "12_abc" ∷ text "12_a" ∷ []; fault = noPlace } ∷
+    record { bids = text "1[" ∷ text "1{" ∷ text "1@" ∷ text "1`" ∷ text "1^" ∷ text "1~" ∷ []; fault = noPlace } ∷
+    record { bids = (201 ∷ []) ∷ (233 ∷ []) ∷ (105 ∷ []) ∷ []; fault = noPlace } ∷
     []

@@ -18,11 +18,13 @@ ghost use Rattle.grammar.specs.Transfers.{partOf};
 ghost use Rattle.grammar.specs.Refusals.{badMemory};
 ghost use Rattle.layout.specs.Layout.{byteAt, le2At, le4At, fieldIn, recordSize, knownSize, entrySize};
 ghost use Rattle.session_memory.specs.State.{sessionSize};
-ghost use Rattle.entries.specs.Decoded.{recordCount, knownCount};
+ghost use Rattle.entries.specs.Decoded.{recordCount, knownLimit};
 ghost use Rattle.give.specs.Giving.{reply};
-ghost use Rattle.places.specs.Places.{atMax, bidMax, recordForm, recordTitle, recordTitleLength, recordName, recordNameLength, recordBody, recordBodyLength};
+ghost use Rattle.places.specs.Places.{atMax, bidMax, callMax, recordForm, recordTitle, recordTitleLength, recordName, recordNameLength, recordBody, recordBodyLength};
+ghost use Rattle.mail.specs.Mail.{recordLimit, placeLimit};
 ghost use Rattle.record_text.specs.Texts.{fileForm};
 ghost use Rattle.sheet.specs.Sheet.{noSheet};
+ghost use Rattle.open.specs.Lending.{lending};
 ghost use Rattle.open.specs.Opening.{lengthOk, statesOk, numbersOk, fieldsOk, within, headingOk, textsOk, recordOk, placeOk, tableFault, knownOk, entriesOk, sizesOk, openOf, Opened};
 
 // Roles: called, caller.
@@ -50,15 +52,15 @@ const BODY: u16 = places::RECORD_BODY as u16;
 const BODY_LEN: u16 = places::RECORD_BODY_LEN as u16;
 
 // "up to 64 records", "up to 1,024 BIDs", "up to 64 messages", and how long each is.
-const RECORDS: usize = 64;
+const RECORDS: usize = entries::RECORDS_MAX as usize;
 
 const RECORD: usize = places::RECORD as usize;
 
-const BIDS: usize = 1024;
+const BIDS: usize = entries::KNOWN_MAX as usize;
 
 const KNOWN: usize = places::KNOWN as usize;
 
-const MESSAGES: usize = 64;
+const MESSAGES: usize = entries::MESSAGES_MAX as usize;
 
 const ENTRY: usize = places::ENTRY as usize;
 
@@ -111,7 +113,7 @@ fn numbers_ok(c: &[u8]) -> bool
 
 // The field at this place is a callsign.
 fn call_ok(c: &[u8], at: u8) -> bool
-    ensures { λ r. ⌜ r ≡ lengthOk (now (c .entry)) at 6 && isCall (fieldIn 6 at (now (c .entry))) ⌝ }
+    ensures { λ r. ⌜ r ≡ lengthOk (now (c .entry)) at callMax && isCall (fieldIn callMax at (now (c .entry))) ⌝ }
 {
     if !length_ok(c, at, places::CALL_MAX) {
         return false;
@@ -269,17 +271,6 @@ fn records(table: &[u8]) -> u8
     n as u8
 }
 
-// How many BIDs the known list has, 1,024 at most.
-fn known_bids(known: &[u8]) -> u16
-    ensures { λ r. ⌜ r ≡ knownCount (now (known .entry)) ⌝ }
-{
-    let n = known.len() / KNOWN;
-    if BIDS < n {
-        return BIDS as u16;
-    }
-    n as u16
-}
-
 // The place of the first bad record; 255 where there is none.
 fn table_fault(table: &[u8], titles: &[u8], names: &[u8], bodies: &[u8]) -> u8
     ensures { λ r. ⌜ r ≡ tableFault (now (table .entry)) (now (titles .entry)) (now (names .entry)) (now (bodies .entry)) ⌝ }
@@ -299,7 +290,7 @@ fn table_fault(table: &[u8], titles: &[u8], names: &[u8], bodies: &[u8]) -> u8
 fn known_ok(known: &[u8]) -> bool
     ensures { λ r. ⌜ r ≡ knownOk (now (known .entry)) ⌝ }
 {
-    let n = known_bids(known);
+    let n = entries::known_bids(known);
     let mut i = 0u16;
     while i < n {
         if !bid_ok(entry(places::KNOWN, known, i), 0) {
@@ -323,7 +314,7 @@ fn entries_ok(len: usize, size: usize, most: usize) -> bool
 
 // The lengths of session memory, table, known list and inbox are good.
 fn sizes_ok(sm: usize, table: usize, known: usize, inbox: usize) -> bool
-    ensures { λ r. ⌜ r ≡ eqb sm sessionSize && (entriesOk table recordSize 64 && (entriesOk known knownSize 1024 && entriesOk inbox entrySize 64)) ⌝ }
+    ensures { λ r. ⌜ r ≡ eqb sm sessionSize && (entriesOk table recordSize recordLimit && (entriesOk known knownSize knownLimit && entriesOk inbox entrySize placeLimit)) ⌝ }
 {
     if sm != places::SESSION {
         return false;
@@ -374,7 +365,7 @@ pub fn open(
     inbox: &[u8],
     store: &[u8],
 ) -> Reply
-    ensures { λ r. ⌜ record { reply = r; sm = now (sm .exit) } ≡ openOf role partner (now (sm .entry)) (now (table .entry)) (now (titles .entry)) (now (names .entry)) (now (bodies .entry)) (now (known .entry)) (now (inbox .entry)) (now (store .entry)) ⌝ }
+    ensures { λ r. ⌜ record { reply = r; sm = now (sm .exit) } ≡ openOf (lending role partner (now (sm .entry)) (now (table .entry)) (now (titles .entry)) (now (names .entry)) (now (bodies .entry)) (now (known .entry)) (now (inbox .entry)) (now (store .entry))) ⌝ }
 {
     if places::PARTNERS <= partner {
         return bad(NO_PLACE);

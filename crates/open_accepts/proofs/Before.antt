@@ -14,23 +14,25 @@ use Rattle.grammar.specs.Fields.{isBid}
 use Rattle.grammar.proofs.Basics.{and2, both}
 use Rattle.places.specs.Places.{bidMax, partners, recordLen, knownLen, entryLen, sessionLen}
 use Rattle.layout.specs.Layout.{byteAt, fieldIn, entryAt, knownSize, knownOf}
-use Rattle.entries.specs.Decoded.{knownCount, knownBids}
+use Rattle.entries.specs.Decoded.{knownCount, knownBids, knownLimit}
 use Rattle.entries.proofs.Laws.{entries-at, entries-length}
 use Rattle.open.specs.Opening.{lengthOk, bidsOk, knownOk, entriesOk, sizesOk}
 use Rattle.open_accepts.specs.Words.{Bid, Field}
-use Rattle.open_accepts.specs.Lending.{Lending, knownIn, bidIn, knownBytesIn}
+use Rattle.open.specs.Lending.{Lending, roleCalled, roleCaller}
+use Rattle.open_accepts.specs.Lent.{knownIn, bidIn, knownBytesIn}
 use Rattle.open_accepts.specs.Good.{IsRole, Entries, Sound}
 use Rattle.open_accepts.proofs.Words.{Decides, both-decide, as-well}
 use Rattle.open_accepts.proofs.Records.{bid-in}
+use Rattle.mail.specs.Mail.{recordLimit, placeLimit}
 
-role-decides : (r : ℕ) → Decides (leb r 1) (IsRole r)
-role-decides r = (λ e. there (eqb r 0) refl (leb-true r 1 e), λ h. le-leb r 1 (back h))
+role-decides : (r : ℕ) → Decides (leb r roleCaller) (IsRole r)
+role-decides r = (λ e. there (eqb r roleCalled) refl (leb-true r roleCaller e), λ h. le-leb r roleCaller (back h))
   where
-    there : (t : Bool) → eqb r 0 ≡ t → r ≤ 1 → IsRole r
-    there true p h = inl (eqb-true r 0 p)
-    there false p h = let z = eqb-false r 0 p in inr (omega arith)
+    there : (t : Bool) → eqb r roleCalled ≡ t → r ≤ roleCaller → IsRole r
+    there true p h = inl (eqb-true r roleCalled p)
+    there false p h = let z = eqb-false r roleCalled p in inr (omega arith)
 
-    back : IsRole r → r ≤ 1
+    back : IsRole r → r ≤ roleCaller
     back (inl e) = omega arith
     back (inr e) = omega arith
 
@@ -55,12 +57,12 @@ entries-decide size most pos s = (there, back)
         (le-leb (length s / size) most (subst (λ (x : ℕ). x ≤ most) (sym (ap (λ (x : ℕ). x / size) (h .whole) ∙ mul-div-cancel (h .count) pos)) (h .limit)))
 
 sizes-decide : (sm table known inbox : Bytes)
-    → Decides (sizesOk sm table known inbox) ((length sm ≡ sessionLen) × (Entries recordLen 64 table × (Entries knownLen 1024 known × Entries entryLen 64 inbox)))
+    → Decides (sizesOk sm table known inbox) ((length sm ≡ sessionLen) × (Entries recordLen recordLimit table × (Entries knownLen knownLimit known × Entries entryLen placeLimit inbox)))
 unfolding sizesOk
 sizes-decide sm table known inbox =
     both-decide (eqb (length sm) sessionLen) _ (eqb-true (length sm) sessionLen, eq-eqb (length sm) sessionLen)
-    (both-decide (entriesOk (length table) recordLen 64) _ (entries-decide recordLen 64 (omega arith) table)
-    (both-decide (entriesOk (length known) knownLen 1024) (entriesOk (length inbox) entryLen 64) (entries-decide knownLen 1024 (omega arith) known) (entries-decide entryLen 64 (omega arith) inbox)))
+    (both-decide (entriesOk (length table) recordLen recordLimit) _ (entries-decide recordLen recordLimit (omega arith) table)
+    (both-decide (entriesOk (length known) knownLen knownLimit) (entriesOk (length inbox) entryLen placeLimit) (entries-decide knownLen knownLimit (omega arith) known) (entries-decide entryLen placeLimit (omega arith) inbox)))
 
 -- ---------------------------------------------------------------- known BIDs
 
@@ -115,10 +117,10 @@ module _ (L : Lending) where
           (h j (subst (λ (n : ℕ). j < n) (sym known-count) (omega arith)))))
 
   -- THE LAW
-  pub sound-decides : Decides (ltb (L .partner) partners && (leb (L .role) 1 && (sizesOk (L .session) (L .table) (L .known) (L .inbox) && knownOk (L .known)))) (Sound L)
+  pub sound-decides : Decides (ltb (L .partner) partners && (leb (L .role) roleCaller && (sizesOk (L .session) (L .table) (L .known) (L .inbox) && knownOk (L .known)))) (Sound L)
   sound-decides =
       as-well (both-decide (ltb (L .partner) partners) _ (ltb-true (L .partner) partners, lt-ltb (L .partner) partners)
-      (both-decide (leb (L .role) 1) _ (role-decides (L .role))
+      (both-decide (leb (L .role) roleCaller) _ (role-decides (L .role))
       (both-decide (sizesOk (L .session) (L .table) (L .known) (L .inbox)) (knownOk (L .known)) (sizes-decide (L .session) (L .table) (L .known) (L .inbox)) known-decides)))
       (λ q. let p = q .1 in record { partner = q .0; role = p .0; session = p .1 .0 .0; table = p .1 .0 .1 .0; known = p .1 .0 .1 .1 .0; bids = p .1 .1; inbox = p .1 .0 .1 .1 .1 })
       (λ s. (s .partner, (s .role, ((s .session, (s .table, (s .known, s .inbox))), s .bids))))

@@ -10,12 +10,12 @@ use lib.Dec.{eqb, ltb, leb}
 use lib.ListN.{length, take, drop, replicate}
 use lib.Seq.{drop-drop}
 use borrow.Author.Tests.{eqb-true, eqb-false, eq-eqb, ne-eqb, leb-true, leb-false}
-use Rattle.grammar.specs.Bytes.{Bytes}
+use Rattle.grammar.specs.Bytes.{Bytes, fourByteValues}
 use Rattle.grammar.specs.Refusals.{badMemory, noPlace}
 use Rattle.places.specs.Places.{numbersStart, tallyProposedAt, numbersEnd, freeLen, arraysLen, arraysEnd, partners, sessionLen}
-use Rattle.session_memory.specs.State.{saveOf, saveSizes, sizesOut, freshTally, freshOf, numberPart, smallOut, numbersOut, tailOut, arraysOut}
-use Rattle.session_memory.specs.declared.Sizes.{Sizes}
+use Rattle.session_memory.specs.State.{saveSizes, sizesOut, freshTally, freshOf, numberPart, smallOut, numbersOut, tailOut, arraysOut}
 use Rattle.session_memory.proofs.Laws.{saved, sizes-saved, sizes-length}
+use Rattle.mail.specs.Mail.{recordLimit}
 use Rattle.mail.specs.Tally.{waits, waitingBytes}
 use Rattle.layout.specs.Layout.{le4}
 use Rattle.sheet.specs.Sheet.{noSheet}
@@ -23,16 +23,16 @@ use Rattle.session_memory.specs.declared.Tally.{Tally}
 use Rattle.marking.specs.States.{statesOf}
 use Rattle.tally.specs.Tally.{waitingIn, sizesIn, counted}
 use Rattle.entries.specs.Decoded.{recordCount, recordsOf}
-use Rattle.form_test.specs.Form.{lentSizes}
 use Rattle.give.specs.Giving.{reply}
 use Rattle.give.specs.declared.Reply.{Reply}
-use Rattle.open.specs.Opening.{placeOk, faultFrom, tableFault, knownOk, sizesOk, Opened, opened, openOf}
-use Rattle.open_accepts.specs.Lending.{Lending, openOn}
+use Rattle.open.specs.Opening.{placeOk, faultFrom, tableFault, knownOk, sizesOk, Opened, opened, refusedAt, sizesLent, faultIn, begun, begunIn, openBy, openOf}
+use Rattle.open.specs.Lending.{Lending, roleCaller}
 use Rattle.open_accepts.specs.Good.{IsRole, Sound, Acceptable, FirstBad}
 use Rattle.open_accepts.specs.Claim.{numbersAtFirst, tallyAtFirst, sizesKept, sessionAtFirst, Refusal, Opens, OpenClaim}
 use Rattle.open_accepts.proofs.Words.{denied}
 use Rattle.open_accepts.proofs.Records.{records-count, place-decides}
 use Rattle.open_accepts.proofs.Before.{sound-decides}
+use Rattle.mail.specs.Mail.{recordLimit}
 
 -- ---------------------------------------------------------------- the first bad record
 
@@ -78,21 +78,21 @@ module _ (L : Lending) where
 
 -- ---------------------------------------------------------------- what an accepted open leaves
 
-numbers-out : (r p w z : ℕ) → IsRole r → numberPart (freshOf (eqb r 1) p (freshTally w z)) ≡ numbersAtFirst r p ++ (w ∷ (le4 z ++ replicate (numbersEnd - tallyProposedAt) 0))
+numbers-out : (r p w z : ℕ) → IsRole r → numberPart (freshOf (eqb r roleCaller) p (freshTally w z)) ≡ numbersAtFirst r p ++ (w ∷ (le4 z ++ replicate (numbersEnd - tallyProposedAt) 0))
 unfolding freshOf smallOut numbersOut tailOut
 numbers-out r p w z (inl e) =
-    subst (λ (x : ℕ). numberPart (freshOf (eqb x 1) p (freshTally w z)) ≡ numbersAtFirst x p ++ (w ∷ (le4 z ++ replicate (numbersEnd - tallyProposedAt) 0))) (sym e) refl
+    subst (λ (x : ℕ). numberPart (freshOf (eqb x roleCaller) p (freshTally w z)) ≡ numbersAtFirst x p ++ (w ∷ (le4 z ++ replicate (numbersEnd - tallyProposedAt) 0))) (sym e) refl
 numbers-out r p w z (inr e) =
-    subst (λ (x : ℕ). numberPart (freshOf (eqb x 1) p (freshTally w z)) ≡ numbersAtFirst x p ++ (w ∷ (le4 z ++ replicate (numbersEnd - tallyProposedAt) 0))) (sym e) refl
+    subst (λ (x : ℕ). numberPart (freshOf (eqb x roleCaller) p (freshTally w z)) ≡ numbersAtFirst x p ++ (w ∷ (le4 z ++ replicate (numbersEnd - tallyProposedAt) 0))) (sym e) refl
 
 -- four bytes hold a number modulo 2^32
-le4-low : (n : ℕ) → le4 (n % 4294967296) ≡ le4 n
+le4-low : (n : ℕ) → le4 (n % fourByteValues) ≡ le4 n
 le4-low n = list4 (omega arith) (omega arith) (omega arith) (omega arith)
   where
     list4 : {a b c d e f g h : ℕ} → a ≡ b → c ≡ d → e ≡ f → g ≡ h → _≡_ {A = Bytes} (a ∷ c ∷ e ∷ g ∷ []) (b ∷ d ∷ f ∷ h ∷ [])
     list4 e₁ e₂ e₃ e₄ = rw (e₁, e₂, e₃, e₄)
 
-numbers-are : (r p : ℕ) (table : Bytes) → IsRole r → numberPart (freshOf (eqb r 1) p (counted p table noSheet)) ≡ numbersAtFirst r p ++ tallyAtFirst p table
+numbers-are : (r p : ℕ) (table : Bytes) → IsRole r → numberPart (freshOf (eqb r roleCaller) p (counted p table noSheet)) ≡ numbersAtFirst r p ++ tallyAtFirst p table
 unfolding waitingIn sizesIn
 numbers-are r p table h =
     numbers-out r p (waitingIn p table) (sizesIn p table) h
@@ -103,91 +103,74 @@ unfolding freshOf arraysOut
 arrays-are caller p t = refl
 
 module _ (L : Lending) where
-  abbrev sizes : Sizes
-  sizes = lentSizes (L .table) (L .titles) (L .names) (L .bodies) (L .known) (L .inbox) (L .store)
-
   abbrev marked : Bytes
   marked = sizesKept L ++ drop numbersStart (L .session)
 
-  marked-is : numbersStart ≤ length (L .session) → saveSizes (L .session) sizes ≡ marked
+  marked-is : numbersStart ≤ length (L .session) → saveSizes (L .session) (sizesLent L) ≡ marked
   unfolding sizesOut
-  marked-is h = sizes-saved (L .session) sizes h
+  marked-is h = sizes-saved (L .session) (sizesLent L) h
 
-  left-is : IsRole (L .role) → length (L .session) ≡ sessionLen → saveOf (saveSizes (L .session) sizes) (freshOf (eqb (L .role) 1) (L .partner) (counted (L .partner) (L .table) noSheet)) ≡ sessionAtFirst L
+  left-is : IsRole (L .role) → length (L .session) ≡ sessionLen → begunIn L ≡ sessionAtFirst L
   left-is r n =
-      let s = freshOf (eqb (L .role) 1) (L .partner) (counted (L .partner) (L .table) noSheet) in
+      let s = begun L in
       let f : Bytes = numbersAtFirst (L .role) (L .partner) ++ tallyAtFirst (L .partner) (L .table) in
-      let m = saveSizes (L .session) sizes in
-      saved m s (sizes-length (L .session) sizes ∙ n) (ap length (arrays-are (eqb (L .role) 1) (L .partner) (counted (L .partner) (L .table) noSheet)))
+      let m = saveSizes (L .session) (sizesLent L) in
+      saved m s (sizes-length (L .session) (sizesLent L) ∙ n) (ap length (arrays-are (eqb (L .role) roleCaller) (L .partner) (counted (L .partner) (L .table) noSheet)))
       ∙ ap (λ (x : Bytes). take numbersStart x ++ (numberPart s ++ (take freeLen (drop numbersEnd x) ++ (arraysOut s ++ drop arraysEnd x)))) (marked-is (omega arith))
       ∙ ap (λ (x : Bytes). sizesKept L ++ (x ++ (take freeLen (drop numbersEnd marked) ++ (arraysOut s ++ drop arraysEnd marked)))) (numbers-are (L .role) (L .partner) (L .table) r)
       ∙ ap (λ (x : Bytes). sizesKept L ++ (f ++ (take freeLen x ++ (arraysOut s ++ drop arraysEnd marked)))) (drop-drop (numbersEnd - numbersStart) numbersStart (L .session))
-      ∙ ap (λ (x : Bytes). sizesKept L ++ (f ++ (take freeLen (drop numbersEnd (L .session)) ++ (x ++ drop arraysEnd marked)))) (arrays-are (eqb (L .role) 1) (L .partner) (counted (L .partner) (L .table) noSheet))
+      ∙ ap (λ (x : Bytes). sizesKept L ++ (f ++ (take freeLen (drop numbersEnd (L .session)) ++ (x ++ drop arraysEnd marked)))) (arrays-are (eqb (L .role) roleCaller) (L .partner) (counted (L .partner) (L .table) noSheet))
       ∙ ap (λ (x : Bytes). sizesKept L ++ (f ++ (take freeLen (drop numbersEnd (L .session)) ++ (replicate arraysLen 0 ++ x)))) (drop-drop (arraysEnd - numbersStart) numbersStart (L .session))
 
 -- ---------------------------------------------------------------- the three situations
 
 data Situation (L : Lending) : Type 0 where
-  accepted : Acceptable L → openOn L ≡ opened (reply 0 0 0) (sessionAtFirst L) → Situation L
-  badRecordAt : (i : ℕ) → FirstBad L i → openOn L ≡ opened (reply badMemory i 0) (L .session) → Situation L
-  unsound : (Sound L → ⊥) → openOn L ≡ opened (reply badMemory noPlace 0) (L .session) → Situation L
+  accepted : Acceptable L → openOf L ≡ opened (reply 0 0 0) (sessionAtFirst L) → Situation L
+  badRecordAt : (i : ℕ) → FirstBad L i → openOf L ≡ refusedAt L i → Situation L
+  unsound : (Sound L → ⊥) → openOf L ≡ refusedAt L noPlace → Situation L
 
 module _ (L : Lending) where
-  abbrev fault : ℕ
-  fault = tableFault (L .table) (L .titles) (L .names) (L .bodies)
-
-  abbrev fresh : Bytes
-  fresh = saveOf (saveSizes (L .session) (sizes L)) (freshOf (eqb (L .role) 1) (L .partner) (counted (L .partner) (L .table) noSheet))
-
-  abbrev bad : ℕ → Opened
-  bad place = opened (reply badMemory place 0) (L .session)
-
-  -- open by its five tests
-  tested : Bool → Bool → Bool → Bool → Bool → Opened
-  tested o a b c d =
-      cond o (cond a (cond b (cond c (cond d (opened (reply 0 0 0) fresh) (bad fault)) (bad noPlace)) (bad noPlace)) (bad noPlace)) (bad noPlace)
-
   abbrev before : Bool
-  before = ltb (L .partner) partners && (leb (L .role) 1 && (sizesOk (L .session) (L .table) (L .known) (L .inbox) && knownOk (L .known)))
+  before = ltb (L .partner) partners && (leb (L .role) roleCaller && (sizesOk (L .session) (L .table) (L .known) (L .inbox) && knownOk (L .known)))
 
-  by-tests : openOn L ≡ cond before (cond (eqb fault noPlace) (opened (reply 0 0 0) fresh) (bad fault)) (bad noPlace)
-  unfolding openOf tested
-  by-tests = go (ltb (L .partner) partners) (leb (L .role) 1) (sizesOk (L .session) (L .table) (L .known) (L .inbox)) (knownOk (L .known)) (eqb fault noPlace)
+  by-tests : openOf L ≡ cond before (cond (eqb (faultIn L) noPlace) (opened (reply 0 0 0) (begunIn L)) (refusedAt L (faultIn L))) (refusedAt L noPlace)
+  unfolding openOf
+  by-tests = go (ltb (L .partner) partners) (leb (L .role) roleCaller) (sizesOk (L .session) (L .table) (L .known) (L .inbox)) (knownOk (L .known)) (eqb (faultIn L) noPlace)
     where
-      go : (o a b c d : Bool) → tested o a b c d ≡ cond (o && (a && (b && c))) (cond d (opened (reply 0 0 0) fresh) (bad fault)) (bad noPlace)
+      go : (o a b c d : Bool) → openBy L o a b c d ≡ cond (o && (a && (b && c))) (cond d (opened (reply 0 0 0) (begunIn L)) (refusedAt L (faultIn L))) (refusedAt L noPlace)
       go true true true true d = refl
       go true true true false d = refl
       go true true false c d = refl
       go true false b c d = refl
       go false a b c d = refl
 
-  few : recordCount (L .table) ≤ 64
+  few : recordCount (L .table) ≤ recordLimit
   few = omega arith
 
   situation : Situation L
   unfolding tableFault
   situation = go before refl (fault-found L (recordCount (L .table)) 0)
     where
-      go : (t : Bool) → before ≡ t → None L 0 (recordCount (L .table)) fault ⊎ First L 0 (recordCount (L .table)) fault → Situation L
+      go : (t : Bool) → before ≡ t → None L 0 (recordCount (L .table)) (faultIn L) ⊎ First L 0 (recordCount (L .table)) (faultIn L) → Situation L
       go false e x = unsound (denied (sound-decides L) e) (by-tests ∙ rw e)
       go true e (inl x) =
           let s = sound-decides L .0 e in
           accepted
           (record { sound = s; records = λ i h. place-decides L i (subst (λ (n : ℕ). i < n) (records-count L) h) .0 (x .good i (omega arith) (subst (λ (n : ℕ). i < 0 + n) (records-count L) (omega arith))) })
-          (by-tests ∙ rw (e, eq-eqb fault noPlace (x .is)) (ap (λ (m : Bytes). opened (reply 0 0 0) m) (left-is L (s .role) (s .session))))
+          (by-tests ∙ rw (e, eq-eqb (faultIn L) noPlace (x .is)) (ap (λ (m : Bytes). opened (reply 0 0 0) m) (left-is L (s .role) (s .session))))
       go true e (inr x) =
           let s = sound-decides L .0 e in
           let f = few in
           let t = x .to in
-          let l : fault < recordCount (L .table) = omega arith in
-          badRecordAt fault
+          let l : faultIn L < recordCount (L .table) = omega arith in
+          badRecordAt (faultIn L)
           (record {
             sound = s;
-            there = subst (λ (n : ℕ). fault < n) (sym (records-count L)) l;
-            bad = denied (place-decides L fault l) (x .bad);
+            there = subst (λ (n : ℕ). faultIn L < n) (sym (records-count L)) l;
+            bad = denied (place-decides L (faultIn L) l) (x .bad);
             before = λ j h. place-decides L j (omega arith) .0 (x .before j (omega arith) h);
           })
-          (by-tests ∙ rw (e, ne-eqb fault noPlace (λ q. omega arith)))
+          (by-tests ∙ rw (e, ne-eqb (faultIn L) noPlace (λ q. omega arith)))
 
 -- ---------------------------------------------------------------- the theorem
 
@@ -219,7 +202,7 @@ module _ (L : Lending) where
   low : (i : ℕ) → FirstBad L i → i ≢ noPlace
   low i b e = let f = few L in let h = subst (λ (n : ℕ). i < n) (records-count L) (b .there) in omega arith
 
-  opens : Situation L → Opens L (openOn L)
+  opens : Situation L → Opens L (openOf L)
   opens (accepted a e) =
       record {
         accepts = (λ z. a, λ x. answer-of e);
@@ -286,5 +269,5 @@ module _ (L : Lending) (o p : Opened) (f : Opens L o) (g : Opens L p) where
           both-refuse (x .place) (x .is) (g .badRecord (x .place) n .1 (f .badRecord (x .place) n .0 (x .is)))
 
 -- NOTHING ELSE: whatever open the claim holds of, it answers and leaves what ours does, byte for byte
-pub nothing-else : (L : Lending) (o : Opened) → Opens L o → o ≡ openOn L
-nothing-else L o f = same-outcome L o (openOn L) f (accepts-exactly L) (f .noOther)
+pub nothing-else : (L : Lending) (o : Opened) → Opens L o → o ≡ openOf L
+nothing-else L o f = same-outcome L o (openOf L) f (accepts-exactly L) (f .noOther)

@@ -8,9 +8,9 @@ use Rattle.places.specs.Places.{sessionLen}
 use Rattle.marking.specs.States.{statesOf}
 use Rattle.give.specs.declared.Reply.{Reply}
 use Rattle.open.specs.Opening.{openOf, sizesOk, knownOk, tableFault, placeOk, recordOk, statesOk, numbersOk, fieldsOk, textsOk, headingOk, within}
-use Rattle.open_accepts.specs.Lending.{Lending}
+use Rattle.open.specs.Lending.{Lending, roleCalled}
 use Rattle.open_accepts.specs.Claim.{Opens}
-use Rattle.open_accepts.specs.Good.{Acceptable, FirstBad, Sound, called}
+use Rattle.open_accepts.specs.Good.{Acceptable, FirstBad, Sound}
 use Rattle.open_accepts.specs.Examples.{examples, answered, expected, lent, holding, first, second, withoutRecords, ofWaitingOnly, atPlace0}
 use Rattle.open_accepts.proofs.Claim.{accepts-exactly}
 
@@ -19,9 +19,9 @@ unfolding openOf sizesOk knownOk tableFault placeOk recordOk statesOk numbersOk 
 seen = refl
 
 -- an empty table and one record are good
-pub empty-good : Acceptable (lent called sessionLen [] [] 0)
+pub empty-good : Acceptable (lent roleCalled sessionLen [] [] 0)
 unfolding openOf sizesOk knownOk tableFault
-empty-good = accepts-exactly (lent called sessionLen [] [] 0) .accepts .0 refl
+empty-good = accepts-exactly (lent roleCalled sessionLen [] [] 0) .accepts .0 refl
 
 pub one-good : Acceptable (holding first)
 unfolding openOf sizesOk knownOk tableFault placeOk recordOk statesOk numbersOk fieldsOk textsOk headingOk within isCall isAt isBid sameBid

@@ -11,6 +11,7 @@ use lib.Dec.{eqb, leb}
 use lib.ListN.{length, getD, take, drop, length-drop}
 use lib.Seq.{length-take-le}
 use borrow.Author.Tests.{leb-true, le-leb, eqb-true, eqb-false, eq-eqb, ne-eqb, not-true}
+use Rattle.grammar.specs.Ascii.{char}
 use Rattle.grammar.specs.Bids.{OneBid}
 use Rattle.grammar.specs.Bytes.{Bytes, CTRLZ}
 use Rattle.grammar.specs.Fields.{Form, plain, message, file, formIs, formNumber, isCall, isAt, isBid, isHeading, isBody, bodyFair, notCtrlZ, sameBid}
@@ -19,15 +20,17 @@ use Rattle.grammar.specs.Transfers.{partOf}
 use Rattle.grammar.proofs.Basics.{and2, both, no-both, not-so, or2, or-left, or-right}
 use Rattle.session.specs.Choices.{among}
 use Rattle.mail.specs.Mail.{Record, noRecord}
+use Rattle.phase.specs.Phase.{stateWaiting, stateForwarded, stateDeclined}
 use Rattle.places.specs.Places.{atMax, bidMax, callMax, partners, recordAt, recordBid, recordBody, recordBodyLength, recordForm, recordFrom, recordName, recordNameLength, recordSizeAt, recordTitle, recordTitleLength, recordTo, recordType}
 use Rattle.layout.specs.Layout.{byteAt, le2At, le4At, fieldIn, recordSize, recordOf}
 use Rattle.entries.specs.Decoded.{entriesFrom, entries, recordCount, recordsOf}
 use Rattle.entries.proofs.Laws.{entries-at, entries-length}
 use Rattle.marking.specs.States.{statesOf}
 use Rattle.open.specs.Opening.{lengthOk, statesFrom, statesOk, numbersOk, fieldsOk, within, headingOk, textsOk, recordOk, placeOk}
-use Rattle.open_accepts.specs.Words.{Callsign, At, Bid, Field, Lies, Headed, Bodied, NeedsTitle, NeedsName}
-use Rattle.open_accepts.specs.Lending.{Lending, recordsIn, recordIn, stateIn, bytesIn}
-use Rattle.open_accepts.specs.Good.{IsType, IsState, GoodRecord, GoodAt}
+use Rattle.open_accepts.specs.Words.{Callsign, At, Bid, Field, Lies, Headed, Bodied, NeedsTitle, NeedsName, bodyMost}
+use Rattle.open.specs.Lending.{Lending}
+use Rattle.open_accepts.specs.Lent.{recordsIn, recordIn, stateIn, bytesIn}
+use Rattle.open_accepts.specs.Good.{IsType, IsState, GoodRecord, GoodAt, sizeMost}
 use Rattle.open_accepts.proofs.Words.{Decides, both-decide, as-well, leb-decides, denied, all-decides, callsign-decides, bid-decides, heading-decides, at-decides, at-some, same-decides}
 
 -- ---------------------------------------------------------------- a field in its entry
@@ -71,39 +74,39 @@ bid-in at c = field-decides Bid isBid bid-decides bidMax (λ w r. (r .notEmpty, 
 
 -- ---------------------------------------------------------------- form, type and state
 
-form-decides : (n : ℕ) → Decides (leb n 2) (n ≡ formNumber (formIs n))
-form-decides n = (λ e. there (eqb n 1) (eqb n 2) refl refl (leb-true n 2 e), λ e. le-leb n 2 (back (eqb n 1) (eqb n 2) e))
+form-decides : (n : ℕ) → Decides (leb n (formNumber file)) (n ≡ formNumber (formIs n))
+form-decides n = (λ e. there (eqb n (formNumber message)) (eqb n (formNumber file)) refl refl (leb-true n (formNumber file) e), λ e. le-leb n (formNumber file) (back (eqb n (formNumber message)) (eqb n (formNumber file)) e))
   where
-    there : (a b : Bool) → eqb n 1 ≡ a → eqb n 2 ≡ b → n ≤ 2 → n ≡ formNumber (cond a message (cond b file plain))
-    there true b p q h = eqb-true n 1 p
-    there false true p q h = eqb-true n 2 q
-    there false false p q h = let y = eqb-false n 1 p in let z = eqb-false n 2 q in omega arith
+    there : (a b : Bool) → eqb n (formNumber message) ≡ a → eqb n (formNumber file) ≡ b → n ≤ formNumber file → n ≡ formNumber (cond a message (cond b file plain))
+    there true b p q h = eqb-true n (formNumber message) p
+    there false true p q h = eqb-true n (formNumber file) q
+    there false false p q h = let y = eqb-false n (formNumber message) p in let z = eqb-false n (formNumber file) q in omega arith
 
-    back : (a b : Bool) → n ≡ formNumber (cond a message (cond b file plain)) → n ≤ 2
+    back : (a b : Bool) → n ≡ formNumber (cond a message (cond b file plain)) → n ≤ formNumber file
     back true b e = omega arith
     back false true e = omega arith
     back false false e = omega arith
 
 type-decides : (t : ℕ) → Decides (isType t) (IsType t)
-type-decides t = (there (eqb t 80) refl, back)
+type-decides t = (there (eqb t (char "P")) refl, back)
   where
-    there : (a : Bool) → eqb t 80 ≡ a → a || eqb t 66 ≡ true → IsType t
-    there true p e = inl (eqb-true t 80 p)
-    there false p e = inr (eqb-true t 66 e)
+    there : (a : Bool) → eqb t (char "P") ≡ a → a || eqb t (char "B") ≡ true → IsType t
+    there true p e = inl (eqb-true t (char "P") p)
+    there false p e = inr (eqb-true t (char "B") e)
 
     back : IsType t → isType t ≡ true
-    back (inl e) = or-left (eqb t 80) (eqb t 66) (eq-eqb t 80 e)
-    back (inr e) = or-right (eqb t 80) (eqb t 66) (eq-eqb t 66 e)
+    back (inl e) = or-left (eqb t (char "P")) (eqb t (char "B")) (eq-eqb t (char "P") e)
+    back (inr e) = or-right (eqb t (char "P")) (eqb t (char "B")) (eq-eqb t (char "B") e)
 
-state-decides : (s : ℕ) → Decides (leb s 2) (IsState s)
-state-decides s = (λ e. there (eqb s 0) (eqb s 1) refl refl (leb-true s 2 e), λ h. le-leb s 2 (back h))
+state-decides : (s : ℕ) → Decides (leb s stateDeclined) (IsState s)
+state-decides s = (λ e. there (eqb s stateWaiting) (eqb s stateForwarded) refl refl (leb-true s stateDeclined e), λ h. le-leb s stateDeclined (back h))
   where
-    there : (a b : Bool) → eqb s 0 ≡ a → eqb s 1 ≡ b → s ≤ 2 → IsState s
-    there true b p q h = inl (eqb-true s 0 p)
-    there false true p q h = inr (inl (eqb-true s 1 q))
-    there false false p q h = let y = eqb-false s 0 p in let z = eqb-false s 1 q in inr (inr (omega arith))
+    there : (a b : Bool) → eqb s stateWaiting ≡ a → eqb s stateForwarded ≡ b → s ≤ stateDeclined → IsState s
+    there true b p q h = inl (eqb-true s stateWaiting p)
+    there false true p q h = inr (inl (eqb-true s stateForwarded q))
+    there false false p q h = let y = eqb-false s stateWaiting p in let z = eqb-false s stateForwarded q in inr (inr (omega arith))
 
-    back : IsState s → s ≤ 2
+    back : IsState s → s ≤ stateDeclined
     back (inl e) = omega arith
     back (inr (inl e)) = omega arith
     back (inr (inr e)) = omega arith
@@ -166,23 +169,23 @@ module _ (s : Bytes) (start len : ℕ) where
   bodied-decides : (f : Form) → Decides (within s start len && isBody f w) (Bodied f s start len w)
   bodied-decides f =
       as-well (both-decide (within s start len) (isBody f w) (lies-decides s start len)
-      (both-decide (leb (length w) 65535) (bodyFair f w) (leb-decides (length w) 65535) (body-fair f)))
+      (both-decide (leb (length w) bodyMost) (bodyFair f w) (leb-decides (length w) bodyMost) (body-fair f)))
       (λ p. record { lies = p .0; short = p .1 .0; fair = p .1 .1 }) (λ h. (h .lies, (h .short, h .fair)))
 
-needs-title : (n : ℕ) → Decides (not (eqb n 2)) (NeedsTitle (formIs n))
-needs-title n = go (eqb n 1) (eqb n 2) refl refl
+needs-title : (n : ℕ) → Decides (not (eqb n (formNumber file))) (NeedsTitle (formIs n))
+needs-title n = go (eqb n (formNumber message)) (eqb n (formNumber file)) refl refl
   where
-    go : (a b : Bool) → eqb n 1 ≡ a → eqb n 2 ≡ b → Decides (not b) (NeedsTitle (cond a message (cond b file plain)))
-    go true true p q = let y = eqb-true n 1 p in let z = eqb-true n 2 q in absurd (omega arith)
+    go : (a b : Bool) → eqb n (formNumber message) ≡ a → eqb n (formNumber file) ≡ b → Decides (not b) (NeedsTitle (cond a message (cond b file plain)))
+    go true true p q = let y = eqb-true n (formNumber message) p in let z = eqb-true n (formNumber file) q in absurd (omega arith)
     go true false p q = (λ e. tt, λ x. refl)
     go false true p q = (λ e. no-both false e refl, λ x. absurd x)
     go false false p q = (λ e. tt, λ x. refl)
 
-needs-name : (n : ℕ) → Decides (eqb n 2) (NeedsName (formIs n))
-needs-name n = go (eqb n 1) (eqb n 2) refl refl
+needs-name : (n : ℕ) → Decides (eqb n (formNumber file)) (NeedsName (formIs n))
+needs-name n = go (eqb n (formNumber message)) (eqb n (formNumber file)) refl refl
   where
-    go : (a b : Bool) → eqb n 1 ≡ a → eqb n 2 ≡ b → Decides b (NeedsName (cond a message (cond b file plain)))
-    go true true p q = let y = eqb-true n 1 p in let z = eqb-true n 2 q in absurd (omega arith)
+    go : (a b : Bool) → eqb n (formNumber message) ≡ a → eqb n (formNumber file) ≡ b → Decides b (NeedsName (cond a message (cond b file plain)))
+    go true true p q = let y = eqb-true n (formNumber message) p in let z = eqb-true n (formNumber file) q in absurd (omega arith)
     go true false p q = (λ e. no-both false e refl, λ x. absurd x)
     go false true p q = (λ e. tt, λ x. refl)
     go false false p q = (λ e. no-both false e refl, λ x. absurd x)
@@ -196,18 +199,18 @@ module _ (L : Lending) (c : Bytes) where
   abbrev form : ℕ
   form = byteAt c recordForm
 
-  states-only : (n p : ℕ) → statesFrom c p n ≡ true → (q : ℕ) → p ≤ q → q < p + n → leb (byteAt c q) 2 ≡ true
+  states-only : (n p : ℕ) → statesFrom c p n ≡ true → (q : ℕ) → p ≤ q → q < p + n → leb (byteAt c q) stateDeclined ≡ true
   states-only zero p e q h k = absurd (omega arith)
   states-only (suc n) p e q h k =
-      let z = and2 (leb (byteAt c p) 2) (statesFrom c (suc p) n) e in go (z .0) (eqb q p) refl (states-only n (suc p) (z .1) q)
+      let z = and2 (leb (byteAt c p) stateDeclined) (statesFrom c (suc p) n) e in go (z .0) (eqb q p) refl (states-only n (suc p) (z .1) q)
     where
-      go : leb (byteAt c p) 2 ≡ true → (t : Bool) → eqb q p ≡ t → (suc p ≤ q → q < suc p + n → leb (byteAt c q) 2 ≡ true) → leb (byteAt c q) 2 ≡ true
-      go y true f ih = ap (λ (x : ℕ). leb (byteAt c x) 2) (eqb-true q p f) ∙ y
+      go : leb (byteAt c p) stateDeclined ≡ true → (t : Bool) → eqb q p ≡ t → (suc p ≤ q → q < suc p + n → leb (byteAt c q) stateDeclined ≡ true) → leb (byteAt c q) stateDeclined ≡ true
+      go y true f ih = ap (λ (x : ℕ). leb (byteAt c x) stateDeclined) (eqb-true q p f) ∙ y
       go y false f ih = let z = eqb-false q p f in ih (omega arith) (omega arith)
 
-  states-if : (n p : ℕ) → ((q : ℕ) → p ≤ q → q < p + n → leb (byteAt c q) 2 ≡ true) → statesFrom c p n ≡ true
+  states-if : (n p : ℕ) → ((q : ℕ) → p ≤ q → q < p + n → leb (byteAt c q) stateDeclined ≡ true) → statesFrom c p n ≡ true
   states-if zero p h = refl
-  states-if (suc n) p h = both (leb (byteAt c p) 2) (statesFrom c (suc p) n) (h p (omega arith) (omega arith)) (states-if n (suc p) (λ q k l. h q (omega arith) (omega arith)))
+  states-if (suc n) p h = both (leb (byteAt c p) stateDeclined) (statesFrom c (suc p) n) (h p (omega arith) (omega arith)) (states-if n (suc p) (λ q k l. h q (omega arith) (omega arith)))
 
   abbrev States : Type 0
   States = (p : ℕ) → p < partners → IsState (byteAt c p)
@@ -219,12 +222,12 @@ module _ (L : Lending) (c : Bytes) where
     λ h. states-if partners 0 (λ q a k. state-decides (byteAt c q) .1 (h q (omega arith))),
   )
 
-  numbers-decide : Decides (numbersOk c) (States × ((form ≡ formNumber (r .form)) × (IsType (r .type) × (r .size ≤ 999999))))
+  numbers-decide : Decides (numbersOk c) (States × ((form ≡ formNumber (r .form)) × (IsType (r .type) × (r .size ≤ sizeMost))))
   unfolding numbersOk
   numbers-decide =
       both-decide (statesOk c) _ states-decide
-      (both-decide (leb form 2) _ (form-decides form)
-      (both-decide (isType (byteAt c recordType)) (leb (le4At c recordSizeAt) 999999) (type-decides (byteAt c recordType)) (leb-decides (le4At c recordSizeAt) 999999)))
+      (both-decide (leb form (formNumber file)) _ (form-decides form)
+      (both-decide (isType (byteAt c recordType)) (leb (le4At c recordSizeAt) sizeMost) (type-decides (byteAt c recordType)) (leb-decides (le4At c recordSizeAt) sizeMost)))
 
   fields-decide : Decides (fieldsOk c)
       (Field Callsign (byteAt c recordFrom) (r .from) × (Field At (byteAt c recordAt) (r .at) × (Field Callsign (byteAt c recordTo) (r .to) × Field Bid (byteAt c recordBid) (r .bid))))
@@ -246,10 +249,10 @@ module _ (L : Lending) (c : Bytes) where
   texts-decide : Decides (textsOk c (L .titles) (L .names) (L .bodies)) (Title × (Name × Body))
   unfolding textsOk
   texts-decide =
-      both-decide (headingOk (L .titles) (le4At c recordTitle) (byteAt c recordTitleLength) (not (eqb form 2))) _
-      (headed-decides (L .titles) (le4At c recordTitle) (byteAt c recordTitleLength) (not (eqb form 2)) (NeedsTitle (r .form)) (needs-title form))
-      (both-decide (headingOk (L .names) (le4At c recordName) (byteAt c recordNameLength) (eqb form 2)) _
-      (headed-decides (L .names) (le4At c recordName) (byteAt c recordNameLength) (eqb form 2) (NeedsName (r .form)) (needs-name form))
+      both-decide (headingOk (L .titles) (le4At c recordTitle) (byteAt c recordTitleLength) (not (eqb form (formNumber file)))) _
+      (headed-decides (L .titles) (le4At c recordTitle) (byteAt c recordTitleLength) (not (eqb form (formNumber file))) (NeedsTitle (r .form)) (needs-title form))
+      (both-decide (headingOk (L .names) (le4At c recordName) (byteAt c recordNameLength) (eqb form (formNumber file))) _
+      (headed-decides (L .names) (le4At c recordName) (byteAt c recordNameLength) (eqb form (formNumber file)) (NeedsName (r .form)) (needs-name form))
       (bodied-decides (L .bodies) (le4At c recordBody) (le2At c recordBodyLength) (r .form)))
 
   pub record-decides : Decides (recordOk c (L .titles) (L .names) (L .bodies)) (GoodRecord L (byteAt c) c r)

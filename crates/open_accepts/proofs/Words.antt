@@ -16,7 +16,7 @@ use Rattle.grammar.specs.Fields.{field, callByte, bidByte, headingByte, isCall,
 use Rattle.grammar.proofs.Basics.{and2, both, no-both, field-is, field-of, Lacks, all-lacks}
 use Rattle.grammar.proofs.Fields.{call-field}
 use Rattle.byte.proofs.Laws.{all-get}
-use Rattle.open_accepts.specs.Words.{Between, CallByte, BidByte, HeadingByte, Text, Callsign, Bid, Heading, joined, afterPoint, AllParts, At}
+use Rattle.open_accepts.specs.Words.{Between, CallByte, BidByte, HeadingByte, Text, Callsign, Bid, Heading, joined, afterPoint, AllParts, At, callMost, atMost, afterPointMost, bidMost, headingMost, point, atSign}
 
 -- ---------------------------------------------------------------- deciding
 
@@ -48,15 +48,15 @@ between-decides least most b = (go (ltb b least) refl, λ h. rw (le-ltb b least 
     go false p e = let h = ltb-true b (suc most) e in record { low = ltb-false b least p; high = omega arith }
 
 call-decides : (b : ℕ) → Decides (callByte b) (CallByte b)
-call-decides b = (go (eqb b 46) (eqb b 64) refl refl, back)
+call-decides b = (go (eqb b point) (eqb b atSign) refl refl, back)
   where
-    go : (p q : Bool) → eqb b 46 ≡ p → eqb b 64 ≡ q → cond (p || q) false (cond (ltb b 33) false (ltb b 127)) ≡ true → CallByte b
+    go : (p q : Bool) → eqb b point ≡ p → eqb b atSign ≡ q → cond (p || q) false (cond (ltb b 0x21) false (ltb b 0x7F)) ≡ true → CallByte b
     go true q x y e = absurd (no-both false e refl)
     go false true x y e = absurd (no-both false e refl)
-    go false false x y e = record { range = between-decides 33 126 b .0 e; noAtSign = eqb-false b 64 y; noPoint = eqb-false b 46 x }
+    go false false x y e = record { range = between-decides 0x21 0x7E b .0 e; noAtSign = eqb-false b atSign y; noPoint = eqb-false b point x }
 
     back : CallByte b → callByte b ≡ true
-    back h = rw (ne-eqb b 46 (h .noPoint), ne-eqb b 64 (h .noAtSign)) (between-decides 33 126 b .1 (h .range))
+    back h = rw (ne-eqb b point (h .noPoint), ne-eqb b atSign (h .noAtSign)) (between-decides 0x21 0x7E b .1 (h .range))
 
 -- ---------------------------------------------------------------- texts
 
@@ -77,14 +77,14 @@ module _ (Kind : ℕ → Type 0) (c : ℕ → Bool) (decides : (b : ℕ) → Dec
 
 pub callsign-decides : (w : Bytes) → Decides (isCall w) (Callsign w)
 unfolding isCall
-callsign-decides w = text-decides CallByte callByte call-decides 6 w
+callsign-decides w = text-decides CallByte callByte call-decides callMost w
 
 pub bid-decides : (w : Bytes) → Decides (isBid w) (Bid w)
 unfolding isBid
-bid-decides w = text-decides BidByte bidByte (between-decides 33 255) 12 w
+bid-decides w = text-decides BidByte bidByte (between-decides 0x21 0xFF) bidMost w
 
 pub heading-decides : (w : Bytes) → Decides (isHeading w) (Heading w)
-heading-decides w = text-decides HeadingByte headingByte (between-decides 32 255) 80 w
+heading-decides w = text-decides HeadingByte headingByte (between-decides 0x20 0xFF) headingMost w
 
 -- ---------------------------------------------------------------- at
 
@@ -102,15 +102,15 @@ join-more x first (next ∷ others) = refl
 
 cut-at : (w : Bytes) → Cut w
 cut-at [] = record { first = []; others = []; cut = refl; whole = refl; after = refl }
-cut-at (x ∷ w) = go (eqb x 46) refl (cut-at w)
+cut-at (x ∷ w) = go (eqb x point) refl (cut-at w)
   where
-    go : (t : Bool) → eqb x 46 ≡ t → Cut w → Cut (x ∷ w)
+    go : (t : Bool) → eqb x point ≡ t → Cut w → Cut (x ∷ w)
     go true e k =
         record {
           first = [];
           others = k .first ∷ k .others;
           cut = rw (e, k .cut);
-          whole = ap (λ (y : ℕ). y ∷ w) (eqb-true x 46 e) ∙ ap (λ (u : Bytes). 46 ∷ u) (k .whole);
+          whole = ap (λ (y : ℕ). y ∷ w) (eqb-true x point e) ∙ ap (λ (u : Bytes). point ∷ u) (k .whole);
           after = rw e (k .whole);
         }
     go false e k =
@@ -131,14 +131,14 @@ are-parts [] h = refl
 are-parts (p ∷ ps) h = both (isCall p) (allCalls ps) (callsign-decides p .1 (h .0)) (are-parts ps (h .1))
 
 -- a part holds no point
-no-point : (w : Bytes) → Callsign w → Lacks 46 w
-no-point w h = all-lacks callByte 46 w refl (call-field w (callsign-decides w .1 h) .class)
+no-point : (w : Bytes) → Callsign w → Lacks point w
+no-point w h = all-lacks callByte point w refl (call-field w (callsign-decides w .1 h) .class)
 
-cut-last : (w : Bytes) → Lacks 46 w → (parts w ≡ w ∷ []) × (afterDot w ≡ [])
+cut-last : (w : Bytes) → Lacks point w → (parts w ≡ w ∷ []) × (afterDot w ≡ [])
 cut-last [] h = (refl, refl)
 cut-last (x ∷ w) h = let k = cut-last w (h .1) in (rw (h .0, k .0), rw (h .0) (k .1))
 
-cut-first : (w u : Bytes) → Lacks 46 w → (parts (w ++ 46 ∷ u) ≡ w ∷ parts u) × (afterDot (w ++ 46 ∷ u) ≡ u)
+cut-first : (w u : Bytes) → Lacks point w → (parts (w ++ point ∷ u) ≡ w ∷ parts u) × (afterDot (w ++ point ∷ u) ≡ u)
 cut-first [] u h = (refl, refl)
 cut-first (x ∷ w) u h = let k = cut-first w u (h .1) in (rw (h .0, k .0), rw (h .0) (k .1))
 
@@ -156,8 +156,8 @@ at-decides w = (there, back)
     there : isAt w ≡ true → At w
     there e =
         let k = cut-at w in
-        let p = and2 (allCalls (parts w)) (leb (length w) 38 && leb (length (afterDot w)) 31) e in
-        let q = and2 (leb (length w) 38) (leb (length (afterDot w)) 31) (p .1) in
+        let p = and2 (allCalls (parts w)) (leb (length w) atMost && leb (length (afterDot w)) afterPointMost) e in
+        let q = and2 (leb (length w) atMost) (leb (length (afterDot w)) afterPointMost) (p .1) in
         let z = parts-are (k .first ∷ k .others) (ap allCalls (sym (k .cut)) ∙ p .0) in
         record {
           first = k .first;
@@ -165,18 +165,18 @@ at-decides w = (there, back)
           parts = k .whole;
           firstPart = z .0;
           otherParts = z .1;
-          short = leb-true (length w) 38 (q .0);
-          shortAfter = leb-true (length (afterPoint (k .others))) 31 (ap (λ (u : Bytes). leb (length u) 31) (sym (k .after)) ∙ q .1);
+          short = leb-true (length w) atMost (q .0);
+          shortAfter = leb-true (length (afterPoint (k .others))) afterPointMost (ap (λ (u : Bytes). leb (length u) afterPointMost) (sym (k .after)) ∙ q .1);
         }
 
     back : At w → isAt w ≡ true
     back h =
         let k = cut-joined (h .first) (h .others) (h .firstPart) (h .otherParts) in
-        both (allCalls (parts w)) (leb (length w) 38 && leb (length (afterDot w)) 31)
+        both (allCalls (parts w)) (leb (length w) atMost && leb (length (afterDot w)) afterPointMost)
         (ap (λ (u : Bytes). allCalls (parts u)) (h .parts) ∙ ap allCalls (k .0) ∙ are-parts (h .first ∷ h .others) (h .firstPart, h .otherParts))
-        (both (leb (length w) 38) (leb (length (afterDot w)) 31) (le-leb (length w) 38 (h .short))
-        (ap (λ (u : Bytes). leb (length (afterDot u)) 31) (h .parts) ∙ ap (λ (u : Bytes). leb (length u) 31) (k .1)
-        ∙ le-leb (length (afterPoint (h .others))) 31 (h .shortAfter)))
+        (both (leb (length w) atMost) (leb (length (afterDot w)) afterPointMost) (le-leb (length w) atMost (h .short))
+        (ap (λ (u : Bytes). leb (length (afterDot u)) afterPointMost) (h .parts) ∙ ap (λ (u : Bytes). leb (length u) afterPointMost) (k .1)
+        ∙ le-leb (length (afterPoint (h .others))) afterPointMost (h .shortAfter)))
 
 -- one part at least, of one byte at least
 pub at-some : (w : Bytes) → At w → 1 ≤ length w

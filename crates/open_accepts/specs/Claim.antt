@@ -18,9 +18,9 @@ use Rattle.entries.specs.Decoded.{recordsOf}
 use Rattle.marking.specs.States.{statesOf}
 use Rattle.give.specs.Giving.{reply}
 use Rattle.give.specs.declared.Reply.{Reply}
-use Rattle.open.specs.Opening.{Opened}
-use Rattle.open_accepts.specs.Lending.{Lending, openOn}
-use Rattle.open_accepts.specs.Good.{Sound, Acceptable, FirstBad, called}
+use Rattle.open.specs.Opening.{Opened, openOf}
+use Rattle.open.specs.Lending.{Lending, roleCalled}
+use Rattle.open_accepts.specs.Good.{Sound, Acceptable, FirstBad}
 
 -- ---------------------------------------------------------------- what an accepted open leaves
 
@@ -33,7 +33,7 @@ sizesKept L =
 -- The numbers of a session that begins up to the partner, all 0 but that and one more. Called: "we send it, CR, `>`, CR, and await the caller's SID"; caller: "we await the SID".
 abbrev pub numbersAtFirst : ℕ → ℕ → Bytes
 numbersAtFirst role partner =
-    set (cond (eqb role called)
+    set (cond (eqb role roleCalled)
     (set (replicate (tallyWaitingAt - numbersStart) 0) (firstAt - numbersStart) pieceSidAndPrompt)
     (set (replicate (tallyWaitingAt - numbersStart) 0) (phaseAt - numbersStart) phaseCallerSid))
     (partnerAt - numbersStart) partner
@@ -74,4 +74,4 @@ pub record Opens (L : Lending) (o : Opened) : Type 0 where
 
 -- THE CLAIM
 abbrev pub OpenClaim : Type 0
-OpenClaim = (L : Lending) → Opens L (openOn L)
+OpenClaim = (L : Lending) → Opens L (openOf L)

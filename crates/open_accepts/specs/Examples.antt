@@ -6,7 +6,7 @@ use Prim.Native.Nat.{ℕ, _+_, _*_}
 use lib.Dec.{eqb}
 use lib.ListN.{length, replicate, set}
 use Rattle.grammar.specs.Bytes.{Bytes, SP, CTRLZ, every}
-use Rattle.grammar.specs.Ascii.{text}
+use Rattle.grammar.specs.Ascii.{text, char}
 use Rattle.grammar.specs.Fields.{formNumber, plain, file}
 use Rattle.grammar.specs.Refusals.{badMemory, noPlace}
 use Rattle.phase.specs.Phase.{stateWaiting, stateForwarded, stateDeclined}
@@ -15,17 +15,16 @@ use Rattle.layout.specs.Layout.{le2, le4, proposalOut, fieldOut}
 use Rattle.marking.specs.States.{statesOf}
 use Rattle.give.specs.Giving.{reply}
 use Rattle.give.specs.declared.Reply.{Reply}
-use Rattle.open.specs.Opening.{Opened}
+use Rattle.open.specs.Opening.{Opened, openOf}
 use Rattle.open_accepts.specs.Words.{point, atSign}
-use Rattle.open_accepts.specs.Lending.{Lending, openOn}
-use Rattle.open_accepts.specs.Good.{called, caller, letterP}
+use Rattle.open.specs.Lending.{Lending, lending, roleCalled, roleCaller}
 
 -- ---------------------------------------------------------------- what is lent
 
 -- A record in this state for every partner, with this BID: a plain text with the first title and the first eight bytes of the body store.
 abbrev pub letter : ℕ → Bytes → Bytes
 letter state bid =
-    replicate partners state ++ (proposalOut (formNumber plain) letterP (text "F0ABC") (text "N0SUD.TST.FRA.EU") (text "F0XYZ") bid 160
+    replicate partners state ++ (proposalOut (formNumber plain) (char "P") (text "F0ABC") (text "N0SUD.TST.FRA.EU") (text "F0XYZ") bid 160
     ++ (le4 0 ++ (5 ∷ (le4 0 ++ (0 ∷ (le4 0 ++ le2 8))))))
 
 abbrev pub first : Bytes
@@ -54,18 +53,7 @@ known bid = fieldOut bidMax bid
 -- A title, a name, and a body store in which a 0x1A follows the first eight bytes.
 abbrev pub lentFor : ℕ → ℕ → ℕ → Bytes → Bytes → ℕ → Lending
 lentFor partner role session table bids inbox =
-    record {
-      role = role;
-      partner = partner;
-      session = replicate session 0;
-      table = table;
-      titles = text "Hello";
-      names = text "A.BIN";
-      bodies = text "Hi there" ++ (CTRLZ ∷ []);
-      known = bids;
-      inbox = replicate inbox 0;
-      store = [];
-    }
+    lending role partner (replicate session 0) table (text "Hello") (text "A.BIN") (text "Hi there" ++ (CTRLZ ∷ [])) bids (replicate inbox 0) []
 
 -- One partner, and the last one.
 abbrev pub aPartner : ℕ
@@ -79,7 +67,7 @@ lent role session table bids inbox = lentFor aPartner role session table bids in
 
 -- All good, and only the table differs.
 abbrev pub holding : Bytes → Lending
-holding table = lent caller sessionLen table (known (text "7_F6FBB")) entryLen
+holding table = lent roleCaller sessionLen table (known (text "7_F6FBB")) entryLen
 
 -- ---------------------------------------------------------------- the examples
 
@@ -102,17 +90,17 @@ badAt place = reply badMemory place 0
 -- an empty table; the last partner; one record; records in all three states; BIDs that differ as letters do and in no letter
 abbrev pub goodOnes : List Example
 goodOnes =
-    gets (lent called sessionLen [] [] 0) accepted ∷ gets (lent caller sessionLen [] [] 0) accepted ∷ gets (lentFor lastPartner called sessionLen first [] 0) accepted ∷ gets (holding first) accepted
+    gets (lent roleCalled sessionLen [] [] 0) accepted ∷ gets (lent roleCaller sessionLen [] [] 0) accepted ∷ gets (lentFor lastPartner roleCalled sessionLen first [] 0) accepted ∷ gets (holding first) accepted
     ∷ gets (holding (first ++ (second ++ third))) accepted ∷ gets (holding (bracket ++ brace)) accepted ∷ []
 
 -- a partner too many, also where a record is bad; role; session memory too short; half a record; 65 records; half a known BID; a known BID with a space, one that is longer than its room; 65 inbox places
 abbrev pub badBeforeRecords : List Example
 badBeforeRecords =
-    gets (lentFor partners called sessionLen [] [] 0) badBefore ∷ gets (lentFor partners called sessionLen (set first recordForm 3) [] 0) badBefore
-    ∷ gets (lent 2 sessionLen [] [] 0) badBefore ∷ gets (lent called 1023 [] [] 0) badBefore ∷ gets (lent called sessionLen (0 ∷ first) [] 0) badBefore
-    ∷ gets (lent called sessionLen (replicate (65 * recordLen) 0) [] 0) badBefore ∷ gets (lent called sessionLen [] (1 ∷ 65 ∷ []) 0) badBefore
-    ∷ gets (lent called sessionLen [] (known (text "A B")) 0) badBefore ∷ gets (lent called sessionLen [] (known (text "1234567890123")) 0) badBefore
-    ∷ gets (lent called sessionLen [] [] (65 * entryLen)) badBefore ∷ []
+    gets (lentFor partners roleCalled sessionLen [] [] 0) badBefore ∷ gets (lentFor partners roleCalled sessionLen (set first recordForm 3) [] 0) badBefore
+    ∷ gets (lent 2 sessionLen [] [] 0) badBefore ∷ gets (lent roleCalled 1023 [] [] 0) badBefore ∷ gets (lent roleCalled sessionLen (0 ∷ first) [] 0) badBefore
+    ∷ gets (lent roleCalled sessionLen (replicate (65 * recordLen) 0) [] 0) badBefore ∷ gets (lent roleCalled sessionLen [] (1 ∷ 65 ∷ []) 0) badBefore
+    ∷ gets (lent roleCalled sessionLen [] (known (text "A B")) 0) badBefore ∷ gets (lent roleCalled sessionLen [] (known (text "1234567890123")) 0) badBefore
+    ∷ gets (lent roleCalled sessionLen [] [] (65 * entryLen)) badBefore ∷ []
 
 -- One byte of a good record changed: the state for partner 0, for the session's, for the last one; form, type, from, at, to, BID, size, title, name and body, each out of its rule or out of its store.
 abbrev pub slips : List Bytes
@@ -135,7 +123,7 @@ abbrev pub examples : List Example
 examples = goodOnes ++ (badBeforeRecords ++ (map badAlone slips ++ badLater))
 
 abbrev pub answered : Example → Reply
-answered e = openOn (e .lending) .reply
+answered e = openOf (e .lending) .reply
 
 abbrev pub expected : Example → Reply
 expected e = e .expected
@@ -148,13 +136,13 @@ abbrev pub refusing : Lending → Opened
 refusing L = record { reply = badAt 0; sm = L .session }
 
 abbrev pub withoutRecords : Lending → Opened
-withoutRecords L = cond (eqb (length (L .table)) 0) (openOn L) (refusing L)
+withoutRecords L = cond (eqb (length (L .table)) 0) (openOf L) (refusing L)
 
 abbrev pub isWaiting : ℕ → Bool
 isWaiting s = eqb s stateWaiting
 
 abbrev pub ofWaitingOnly : Lending → Opened
-ofWaitingOnly L = cond (every isWaiting (statesOf (L .partner) (L .table))) (openOn L) (refusing L)
+ofWaitingOnly L = cond (every isWaiting (statesOf (L .partner) (L .table))) (openOf L) (refusing L)
 
 abbrev pub atPlace0 : Lending → Opened
-atPlace0 L = record { reply = reply (openOn L .reply .answer) 0 0; sm = openOn L .sm }
+atPlace0 L = record { reply = reply (openOf L .reply .answer) 0 0; sm = openOf L .sm }

@@ -4,27 +4,24 @@ use mathlib.Core.Path.{_≡_}
 use mathlib.Core.Logic.{_⊎_}
 use Prim.Native.Nat.{ℕ, _*_, _≤_, _<_}
 use lib.ListN.{length}
+use Rattle.grammar.specs.Ascii.{char}
 use Rattle.grammar.specs.Bids.{OneBid}
 use Rattle.grammar.specs.Bytes.{Bytes}
 use Rattle.grammar.specs.Fields.{formNumber}
-use Rattle.mail.specs.Mail.{Record}
+use Rattle.mail.specs.Mail.{Record, recordLimit, placeLimit}
 use Rattle.phase.specs.Phase.{stateWaiting, stateForwarded, stateDeclined}
 use Rattle.places.specs.Places.{recordForm, recordFrom, recordAt, recordTo, recordBid, recordTitle, recordTitleLength, recordName, recordNameLength, recordBody, recordBodyLength, recordLen, partners, knownLen, entryLen, sessionLen}
 use Rattle.layout.specs.Layout.{byteAt, le2At, le4At}
 use Rattle.open_accepts.specs.Words.{Callsign, At, Bid, Field, Headed, Bodied, NeedsTitle, NeedsName}
-use Rattle.open_accepts.specs.Lending.{Lending, recordsIn, recordIn, stateIn, bytesIn, knownIn, bidIn, knownBytesIn}
+use Rattle.open.specs.Lending.{Lending, roleCalled, roleCaller}
+use Rattle.open_accepts.specs.Lent.{recordsIn, recordIn, stateIn, bytesIn, knownIn, bidIn, knownBytesIn}
+use Rattle.entries.specs.Decoded.{knownLimit}
 
 -- ---------------------------------------------------------------- before the records
 
 -- "role (0 called, 1 caller)"
-abbrev pub called : ℕ
-called = 0
-
-abbrev pub caller : ℕ
-caller = 1
-
 abbrev pub IsRole : ℕ → Type 0
-IsRole r = (r ≡ called) ⊎ (r ≡ caller)
+IsRole r = (r ≡ roleCalled) ⊎ (r ≡ roleCaller)
 
 -- A buffer of entries: "a limit above" is not passed, and it holds a whole number of them.
 pub record Entries (size most : ℕ) (s : Bytes) : Type 0 where
@@ -40,29 +37,26 @@ pub record Sound (L : Lending) : Type 0 where
   -- "session memory hasn't its fixed size"
   pub session : length (L .session) ≡ sessionLen
   -- "0 to 64 records"
-  pub table : Entries recordLen 64 (L .table)
+  pub table : Entries recordLen recordLimit (L .table)
   -- "Known BIDs: up to 1,024 .. one outside the BID rule below is a bad buffer"
-  pub known : Entries knownLen 1024 (L .known)
+  pub known : Entries knownLen knownLimit (L .known)
   pub bids : (j : ℕ) → j < length (knownIn L) → Field Bid (byteAt (knownBytesIn L j) 0) (bidIn L j)
   -- "Inbox: up to 64 messages"
-  pub inbox : Entries entryLen 64 (L .inbox)
+  pub inbox : Entries entryLen placeLimit (L .inbox)
 
 -- ---------------------------------------------------------------- a record
 
--- the letters P and B
-abbrev pub letterP : ℕ
-letterP = 0x50
-
-abbrev pub letterB : ℕ
-letterB = 0x42
-
 -- "a type (P or B)"
 abbrev pub IsType : ℕ → Type 0
-IsType t = (t ≡ letterP) ⊎ (t ≡ letterB)
+IsType t = (t ≡ char "P") ⊎ (t ≡ char "B")
 
 -- "a state (0 waiting, 1 forwarded, 2 declined)"
 abbrev pub IsState : ℕ → Type 0
 IsState s = (s ≡ stateWaiting) ⊎ ((s ≡ stateForwarded) ⊎ (s ≡ stateDeclined))
+
+-- "announced size 0 to 999,999"
+abbrev pub sizeMost : ℕ
+sizeMost = 999999
 
 -- r, as read from the bytes c; s, its state for each partner.
 pub record GoodRecord (L : Lending) (s : ℕ → ℕ) (c : Bytes) (r : Record) : Type 0 where
@@ -75,8 +69,7 @@ pub record GoodRecord (L : Lending) (s : ℕ → ℕ) (c : Bytes) (r : Record) :
   pub at : Field At (byteAt c recordAt) (r .at)
   pub to : Field Callsign (byteAt c recordTo) (r .to)
   pub bid : Field Bid (byteAt c recordBid) (r .bid)
-  -- "announced size 0 to 999,999"
-  pub size : r .size ≤ 999999
+  pub size : r .size ≤ sizeMost
   pub title : Headed (NeedsTitle (r .form)) (L .titles) (le4At c recordTitle) (byteAt c recordTitleLength) (r .title)
   pub name : Headed (NeedsName (r .form)) (L .names) (le4At c recordName) (byteAt c recordNameLength) (r .name)
   pub body : Bodied (r .form) (L .bodies) (le4At c recordBody) (le2At c recordBodyLength) (r .body)

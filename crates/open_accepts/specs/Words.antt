@@ -36,6 +36,31 @@ BidByte b = Between 0x21 0xFF b
 abbrev pub HeadingByte : ℕ → Type 0
 HeadingByte b = Between 0x20 0xFF b
 
+-- ---------------------------------------------------------------- the most bytes of each, said here once and shared with no other definition
+
+-- "from and to have 1 to 6 bytes"
+abbrev pub callMost : ℕ
+callMost = 6
+
+-- "38 bytes in all and 31 after the first `.` at most"
+abbrev pub atMost : ℕ
+atMost = 38
+
+abbrev pub afterPointMost : ℕ
+afterPointMost = 31
+
+-- "A BID has 1 to 12 bytes"
+abbrev pub bidMost : ℕ
+bidMost = 12
+
+-- "A title or name has 1 to 80 bytes"
+abbrev pub headingMost : ℕ
+headingMost = 80
+
+-- "A body has at most 65,535 bytes"
+abbrev pub bodyMost : ℕ
+bodyMost = 65535
+
 -- ---------------------------------------------------------------- fields
 
 -- 1 to so many bytes of a kind.
@@ -46,15 +71,15 @@ pub record Text (Kind : ℕ → Type 0) (most : ℕ) (w : Bytes) : Type 0 where
 
 -- "from and to have 1 to 6 bytes in 0x21-0x7E without `@` and `.`"
 abbrev pub Callsign : Bytes → Type 0
-Callsign w = Text CallByte 6 w
+Callsign w = Text CallByte callMost w
 
 -- "A BID has 1 to 12 bytes in 0x21-0xFF."
 abbrev pub Bid : Bytes → Type 0
-Bid w = Text BidByte 12 w
+Bid w = Text BidByte bidMost w
 
 -- "A title or name has 1 to 80 bytes in 0x20-0xFF."
 abbrev pub Heading : Bytes → Type 0
-Heading w = Text HeadingByte 80 w
+Heading w = Text HeadingByte headingMost w
 
 -- "joined by `.`": a first part, and the others each after a point
 abbrev pub joined : Bytes → List Bytes → Bytes
@@ -77,8 +102,8 @@ pub record At (w : Bytes) : Type 0 where
   pub parts : w ≡ joined first others
   pub firstPart : Callsign first
   pub otherParts : AllParts others
-  pub short : length w ≤ 38
-  pub shortAfter : length (afterPoint others) ≤ 31
+  pub short : length w ≤ atMost
+  pub shortAfter : length (afterPoint others) ≤ afterPointMost
 
 -- ---------------------------------------------------------------- fields as they lie in lent memory
 
@@ -112,5 +137,5 @@ pub record Headed (Needed : Type 0) (store : Bytes) (start len : ℕ) (w : Bytes
 -- "A body has at most 65,535 bytes; a plain body holds no 0x1A."
 pub record Bodied (form : Form) (store : Bytes) (start len : ℕ) (w : Bytes) : Type 0 where
   pub lies : Lies store start len
-  pub short : length w ≤ 65535
+  pub short : length w ≤ bodyMost
   pub fair : form ≡ plain → (k : ℕ) → k < length w → getD w k 0 ≢ CTRLZ

@@ -8,6 +8,7 @@ use mathlib.Core.List.{_++_}
 use Rattle.grammar.specs.Bytes.{Bytes}
 use Rattle.places.specs.Places.{sessionLen, arraysAt, arraysLen}
 use Rattle.places.specs.Places as places
+use Rattle.phase.specs.Phase.{pieceNone}
 use Rattle.buffer.specs.Put.{wrote, putBytes}
 use Rattle.region.specs.Region.{region, lent}
 use Rattle.transfer_step.specs.Step.{startOf}
@@ -46,7 +47,7 @@ pub numbers-are : (partner : ℕ) (t : Tally) (awaited first : ℕ) {f : Five} {
     → _≡_ {A = Numbers}
     (record {
       now = record { phase = awaited; ff = false; current = 0; proposals = 0; ours = f; sum = 0 };
-      say = record { first = first; then = 0; pos = 0; signs = f };
+      say = record { first = first; then = pieceNone; pos = 0; signs = f };
       keep = record { framed = false; terms = termsWith partner; kept = 0; used = 0; sending = f };
       reader = r;
       line = record { «after_cr» = false; len = 0 };

@@ -56,13 +56,16 @@ pub fn save_sizes(sm: &mut [u8], z: Sizes)
     let _c4 = put8(sm, c3, z.store);
 }
 
+// The most numbers of a block, as a length.
+const BLOCK_LIMIT: usize = phase::BLOCK_LIMIT as usize;
+
 // No numbers.
 fn no_five() -> Five
     ensures { λ r. ⌜ r ≡ noFive ⌝ }
 {
     Five {
         count: 0,
-        items: [0u8; 5],
+        items: [0u8; BLOCK_LIMIT],
     }
 }
 

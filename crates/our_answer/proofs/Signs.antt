@@ -11,11 +11,13 @@ use lib.Seq.{append-snoc}
 use borrow.Author.Tests.{ltb-false}
 use Rattle.grammar.specs.Bytes.{Bytes}
 use Rattle.grammar.specs.Turns.{Proposal}
-use Rattle.grammar.specs.Answers.{Sign, accept, decline, defer, writeSign}
+use Rattle.grammar.specs.Answers.{Sign, accept, decline, defer, writeSign, plusSign, minusSign, equalSign}
 use Rattle.grammar.proofs.Basics.{or2}
+use Rattle.grammar.specs.Fields.{bodyLimit}
 use Rattle.mail.specs.Mail.{Message}
 use Rattle.session.specs.Choices.{Shelf, among, recordBids, messageBids, proposalBids, bodyBytes, announced, haveBid, noRoomFor, signFor, withAccepted, answersAfter, answersTo}
 use Rattle.places.specs.Places.{bidAt, bidMax, proposalSizeAt, recordBid}
+use Rattle.phase.specs.Phase.{blockLimit}
 use Rattle.layout.specs.Layout.{le4At, fieldIn, entryAt, recordOf, proposalOf, messageOf, recordSize, knownSize, entrySize, proposalSize}
 use Rattle.session_memory.specs.State.{held, fiveOf}
 use Rattle.session_memory.specs.declared.Five.{Five}
@@ -87,30 +89,30 @@ module _ (table known inbox block : Bytes) (kept free i : ℕ) (p : Promised) {c
   signed-is : signed ≡ writeSign (cond h decline (cond f defer accept))
   signed-is = rw (← ec, ← eb, ← es, room-is table known inbox block kept free size p a, ← eh, ← ep, ← ef)
 
-  pub signed-declined : h ≡ true → 45 ≡ signed
+  pub signed-declined : h ≡ true → minusSign ≡ signed
   signed-declined e = rw (signed-is, e)
 
-  pub signed-deferred : h ≡ false → f ≡ true → 61 ≡ signed
+  pub signed-deferred : h ≡ false → f ≡ true → equalSign ≡ signed
   signed-deferred e k = rw (signed-is, e, k)
 
-  pub signed-accepted : h ≡ false → f ≡ false → 43 ≡ signed
+  pub signed-accepted : h ≡ false → f ≡ false → plusSign ≡ signed
   signed-accepted e k = rw (signed-is, e, k)
 
 -- ---------------------------------------------------------------- all proposals
 
 -- what a sign adds to those accepted
-other-sign : (s : Sign) (q : Proposal) (acc : List Proposal) → (writeSign s ≡ 43 → ⊥) → withAccepted s q acc ≡ acc
+other-sign : (s : Sign) (q : Proposal) (acc : List Proposal) → (writeSign s ≡ plusSign → ⊥) → withAccepted s q acc ≡ acc
 other-sign accept q acc h = absurd (h refl)
 other-sign decline q acc h = refl
 other-sign defer q acc h = refl
 
-accept-sign : (s : Sign) (q : Proposal) (acc : List Proposal) → writeSign s ≡ 43 → withAccepted s q acc ≡ acc ++ (q ∷ [])
+accept-sign : (s : Sign) (q : Proposal) (acc : List Proposal) → writeSign s ≡ plusSign → withAccepted s q acc ≡ acc ++ (q ∷ [])
 accept-sign accept q acc h = refl
 accept-sign decline q acc h = let z : ⊥ = omega arith in absurd z
 accept-sign defer q acc h = let z : ⊥ = omega arith in absurd z
 
 -- what is accepted has room
-accept-room : (have full : Bool) → writeSign (cond have decline (cond full defer accept)) ≡ 43 → full ≡ false
+accept-room : (have full : Bool) → writeSign (cond have decline (cond full defer accept)) ≡ plusSign → full ≡ false
 accept-room true full h = let z : ⊥ = omega arith in absurd z
 accept-room false true h = let z : ⊥ = omega arith in absurd z
 accept-room false false h = refl
@@ -169,7 +171,7 @@ module _ (table known inbox block : Bytes) (kept free n : ℕ) where
     each-next : {f : Five} → f ≡ fiveOf (held signs ++ (sign ∷ [])) → f .count ≡ i + 1
     each-next {f} e = five-next f signs sign (c .filled) e ∙ ap (λ (j : ℕ). j + 1) (c .each)
 
-    pub answering-other : {f : Five} → (sign ≡ 43 → ⊥) → f ≡ fiveOf (held signs ++ (sign ∷ [])) → Answering f p (i + 1)
+    pub answering-other : {f : Five} → (sign ≡ plusSign → ⊥) → f ≡ fiveOf (held signs ++ (sign ∷ [])) → Answering f p (i + 1)
     answering-other {f} o e =
         record {
           filled = five-filled f (held signs ++ (sign ∷ [])) e;
@@ -180,18 +182,18 @@ module _ (table known inbox block : Bytes) (kept free n : ℕ) where
         }
 
     -- what is accepted fits into the store beside what is promised
-    pub accepted-fits : sign ≡ 43 → p .bytes + le4At (entryAt proposalSize block i) proposalSizeAt ≤ free
+    pub accepted-fits : sign ≡ plusSign → p .bytes + le4At (entryAt proposalSize block i) proposalSizeAt ≤ free
     accepted-fits a =
         let size = le4At (entryAt proposalSize block i) proposalSizeAt in
         let r = accept-room (haveBid (shelfOf table known inbox free) (headsOf inbox kept) (promisedIn block p) (at i .bid))
         (noRoomFor (shelfOf table known inbox free) (headsOf inbox kept) (promisedIn block p) size) (sym s ∙ a) in
         let b = sym (room-is table known inbox block kept free size p (c .promises)) ∙ r in
         let d = or2 (ltb (free - p .bytes) size) (not (ltb (kept + p .places .count) (placeCount inbox)))
-        (or2 (ltb 65535 size) (ltb (free - p .bytes) size || not (ltb (kept + p .places .count) (placeCount inbox))) b .1) in
+        (or2 (ltb bodyLimit size) (ltb (free - p .bytes) size || not (ltb (kept + p .places .count) (placeCount inbox))) b .1) in
         omega (arith, ltb-false (free - p .bytes) size (d .0), c .promises .room)
 
-    pub answering-accepted : {f : Five} {q : Promised} → sign ≡ 43 → f ≡ fiveOf (held signs ++ (sign ∷ [])) → q .places ≡ fiveOf (held (p .places) ++ (i ∷ []))
-        → q .bytes ≡ p .bytes + le4At (entryAt proposalSize block i) proposalSizeAt → i < 5 → Answering f q (i + 1)
+    pub answering-accepted : {f : Five} {q : Promised} → sign ≡ plusSign → f ≡ fiveOf (held signs ++ (sign ∷ [])) → q .places ≡ fiveOf (held (p .places) ++ (i ∷ []))
+        → q .bytes ≡ p .bytes + le4At (entryAt proposalSize block i) proposalSizeAt → i < blockLimit → Answering f q (i + 1)
     answering-accepted {f} {q} a e d b l =
         let xs = held (p .places) ++ (i ∷ []) in
         let m : q .places .count ≡ p .places .count + 1 = five-next (q .places) (p .places) i (c .promises .filled) d in

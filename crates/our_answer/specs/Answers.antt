@@ -3,7 +3,7 @@ use mathlib.Core.List.{[], map}
 use Prim.Native.Nat.{ℕ, _-_, min}
 use Rattle.grammar.specs.Bytes.{Bytes}
 use Rattle.grammar.specs.Answers.{writeSign}
-use Rattle.session.specs.Choices.{Shelf, answersTo}
+use Rattle.session.specs.Choices.{Shelf, shelfWith, answersTo}
 use Rattle.phase.specs.Phase.{blockLimit}
 use Rattle.session_memory.specs.State.{fiveOf}
 use Rattle.session_memory.specs.declared.Five.{Five}
@@ -13,7 +13,7 @@ use Rattle.entries.specs.Decoded.{recordsOf, knownBids, headsOf, proposalsOf, p
 
 -- A shelf whose store has so many bytes left for bodies.
 abbrev pub shelfOf : Bytes → Bytes → Bytes → ℕ → Shelf
-shelfOf table known inbox free = record { table = recordsOf [] [] [] table; known = knownBids known; places = placeCount inbox; bytes = free }
+shelfOf table known inbox free = shelfWith (recordsOf [] [] [] table) (knownBids known) (placeCount inbox) free
 
 -- The sign bytes of our answers to the proposals in the block; store: how many bytes the inbox store has
 unfoldable pub answersOf : Await → Keep → Bytes → Bytes → Bytes → ℕ → Five

@@ -6,6 +6,8 @@ use Prim.Native.Nat.{ℕ, _+_, _-_, _≤_}
 use lib.Dec.{ltb}
 use Rattle.grammar.specs.Bytes.{Bytes}
 use Rattle.grammar.specs.Turns.{Proposal}
+use Rattle.grammar.specs.Fields.{bodyLimit}
+use Rattle.phase.specs.Phase.{blockLimit}
 use Rattle.session.specs.Choices.{announced}
 use Rattle.layout.specs.Layout.{entryAt, proposalSize, proposalOf}
 use Rattle.session_memory.specs.State.{held}
@@ -24,11 +26,11 @@ promisedIn block p = proposalsAt block (held (p .places))
 -- The sizes promised are counted right, and the free bytes of the store hold them.
 pub record Promises (block : Bytes) (free : ℕ) (p : Promised) : Type 0 where
   pub filled : Filled (p .places)
-  pub few : p .places .count ≤ 5
+  pub few : p .places .count ≤ blockLimit
   pub sum : announced (promisedIn block p) ≡ p .bytes
   pub room : p .bytes ≤ free
 
 -- "over 65,535, or over the free store less the sizes accepted in this block, or no inbox place is free for it", in numbers
 abbrev pub noRoomBy : ℕ → ℕ → ℕ → ℕ → Promised → Bool
 noRoomBy size free places kept p =
-    ltb 65535 size || (ltb (free - p .bytes) size || not (ltb (kept + p .places .count) places))
+    ltb bodyLimit size || (ltb (free - p .bytes) size || not (ltb (kept + p .places .count) places))

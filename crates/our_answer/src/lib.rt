@@ -13,20 +13,21 @@ use session_memory::Five;
 ghost use mathlib.Core.Path.{_≡_};
 ghost use mathlib.Core.List.{[], _∷_, _++_};
 ghost use Prim.Native.Nat.{_+_, _-_, _≤_, _<_};
-ghost use Rattle.grammar.specs.Bytes.{Bytes};
+ghost use Rattle.grammar.specs.Bytes.{Bytes, byteValues, wordValues};
 ghost use Rattle.grammar.specs.Answers.{writeSign};
 ghost use Rattle.session.specs.Choices.{among, proposalBids, haveBid, signFor};
 ghost use Rattle.places.specs.Places.{proposalSizeAt};
+ghost use Rattle.phase.specs.Phase.{blockLimit};
 ghost use Rattle.layout.specs.Layout.{le4At, entryAt, proposalOf, proposalSize};
 ghost use Rattle.session_memory.specs.State.{held, fiveOf};
-ghost use Rattle.numbers.specs.Whole.{awaitOf, keepOf};
+ghost use Rattle.numbers.specs.Whole.{Arrays, withBlock, awaitOf, keepOf};
 ghost use Rattle.entries.specs.Decoded.{headsOf};
 ghost use Rattle.five.specs.Filled.{Filled};
 ghost use Rattle.our_answer.specs.Answers.{shelfOf, answersOf};
 ghost use Rattle.our_answer.specs.Promises.{proposalsAt, promisedIn, Promises, noRoomBy};
 
 // 01, "Fields": the longest body.
-const BODY_MAX: usize = 65535;
+const BODY_MAX: usize = places::BODY_MAX as usize;
 
 // What is promised in this block so far: the places of the proposals accepted, and the sum of their sizes.
 pub struct Promised {
@@ -36,7 +37,7 @@ pub struct Promised {
 
 // One of the proposals at these places of the block has this BID.
 fn promised_bid(block: &[u8], places: Five, bid: &[u8]) -> bool
-    requires { ⌜ (Filled places) × (places .count ≤ 5) ⌝ }
+    requires { ⌜ (Filled places) × (places .count ≤ blockLimit) ⌝ }
     ensures { λ r. ⌜ r ≡ among (now (bid .entry)) (proposalBids (proposalsAt (now (block .entry)) (held places))) ⌝ }
 {
     let n = places.count as usize;
@@ -68,7 +69,7 @@ fn have_bid(
     block: &[u8],
     places: Five,
 ) -> bool
-    requires { ⌜ (Filled places) × (places .count ≤ 5) ⌝ }
+    requires { ⌜ (Filled places) × (places .count ≤ blockLimit) ⌝ }
     ensures { λ r. ⌜ r ≡ haveBid (shelfOf (now (table .entry)) (now (known .entry)) (now (inbox .entry)) 0) (headsOf (now (inbox .entry)) kept) (proposalsAt (now (block .entry)) (held places)) (now (bid .entry)) ⌝ }
 {
     if has_bid(
@@ -141,7 +142,7 @@ fn sign_for(
 
 // What is promised with the proposal at a place of the block.
 fn promise(p: Promised, block: &[u8], i: u16) -> Promised
-    requires { ⌜ (Filled (p .places)) × (p .places .count < 5) × (i < 256) × (p .bytes + le4At (entryAt proposalSize (now block) i) proposalSizeAt < 18446744073709551616) ⌝ }
+    requires { ⌜ (Filled (p .places)) × (p .places .count < blockLimit) × (i < byteValues) × (p .bytes + le4At (entryAt proposalSize (now block) i) proposalSizeAt < wordValues) ⌝ }
     ensures { λ r. ⌜ (r .places ≡ fiveOf (held (p .places) ++ (i ∷ []))) × (r .bytes ≡ p .bytes + le4At (entryAt proposalSize (now (block .entry)) i) proposalSizeAt) ⌝ }
 {
     let size = number4(
@@ -174,7 +175,7 @@ pub fn answers(
     inbox: &[u8],
     store: usize,
 ) -> Five
-    ensures { λ r. ⌜ ((deferred : Bytes) → r ≡ answersOf (awaitOf (s .now) (now (block .entry))) (keepOf (s .keep) deferred) (now (table .entry)) (now (known .entry)) (now (inbox .entry)) store) ⌝ }
+    ensures { λ r. ⌜ ((a : Arrays) → r ≡ answersOf (awaitOf (s .now) (withBlock (now (block .entry)) a)) (keepOf (s .keep) a) (now (table .entry)) (now (known .entry)) (now (inbox .entry)) store) ⌝ }
 {
     let n = part::at_most(phase::BLOCK_LIMIT as usize, s.now.proposals as usize);
     let kept = s.keep.kept;

@@ -35,6 +35,9 @@ pub fn write_fixed(which: Fixed, buf: &mut [u8], c: Cursor) -> Cursor
     }
 }
 
+// The form of a packed message.
+const MESSAGE: u8 = phase::FORM_MESSAGE;
+
 // The size, which ends the line.
 fn put_size(buf: &mut [u8], c: Cursor, size: u32) -> Cursor
     ensures { λ r. ⌜ Puts (now (buf .entry)) c (decimal size ++ (CR ∷ [])) r (now (buf .exit)) ⌝ }
@@ -49,7 +52,7 @@ fn put_size(buf: &mut [u8], c: Cursor, size: u32) -> Cursor
 fn letter(form: u8) -> u8
     ensures { λ r. ⌜ r ≡ formLetter (formIs form) ⌝ }
 {
-    if form == 1 {
+    if form == MESSAGE {
         return b'A';
     }
     b'B'

@@ -9,9 +9,9 @@ use lib.Dec.{ltb, leb}
 use lib.ListN.{length, getD, take, drop}
 use lib.Seq.{append-snoc, getD-drop}
 use borrow.Author.Tests.{lt-ltb, le-ltb}
-use Rattle.grammar.specs.Bytes.{Bytes}
+use Rattle.grammar.specs.Bytes.{Bytes, fourByteValues}
 use Rattle.grammar.specs.Fields.{plain, message, file}
-use Rattle.grammar.specs.Turns.{inMode, ourBlock}
+use Rattle.grammar.specs.Turns.{inMode, ourBlock, blockLimit, announcedLimit}
 use Rattle.mail.specs.Mail.{Record, noRecord}
 use Rattle.session.specs.Choices.{wanted, candidates, sizeAt, chosen}
 use Rattle.places.specs.Places.{recordSizeAt}
@@ -63,7 +63,7 @@ module _ (p : ℕ) (table : Bytes) (framed : Bool) (flags : List ℕ) (n : ℕ) 
 
   -- record i, which is wanted: it is added while the block has room
   abbrev addedOr : ℕ → ℕ → ℕ → ℕ → List ℕ
-  addedOr i k b size = cond (ltb k 5 && ltb b 10240) (i ∷ blockFrom (i + 1) (k + 1) (b + size)) []
+  addedOr i k b size = cond (ltb k blockLimit && ltb b announcedLimit) (i ∷ blockFrom (i + 1) (k + 1) (b + size)) []
 
   block-step : (i k b : ℕ) → i < n → isWanted i ≡ true → blockFrom i k b ≡ addedOr i k b (sizeAt T i)
   block-step i k b h e =
@@ -73,15 +73,15 @@ module _ (p : ℕ) (table : Bytes) (framed : Bool) (flags : List ℕ) (n : ℕ) 
   block-next i k b h e =
       block-step i k b h e ∙ ap (λ (r : Record). addedOr i k b (r .size)) (entries-at (recordOf [] [] []) recordSize table n i noRecord h)
 
-  pub block-more : (i k b : ℕ) → i < n → isWanted i ≡ true → k < 5 → b < 10240
+  pub block-more : (i k b : ℕ) → i < n → isWanted i ≡ true → k < blockLimit → b < announcedLimit
       → blockFrom i k b ≡ i ∷ blockFrom (i + 1) (k + 1) (b + le4At (entryAt recordSize table i) recordSizeAt)
-  block-more i k b h e l m = block-next i k b h e ∙ rw (lt-ltb k 5 l, lt-ltb b 10240 m)
+  block-more i k b h e l m = block-next i k b h e ∙ rw (lt-ltb k blockLimit l, lt-ltb b announcedLimit m)
 
-  pub block-five : (i k b : ℕ) → i < n → isWanted i ≡ true → 5 ≤ k → blockFrom i k b ≡ []
-  block-five i k b h e l = block-next i k b h e ∙ rw (le-ltb k 5 l)
+  pub block-five : (i k b : ℕ) → i < n → isWanted i ≡ true → blockLimit ≤ k → blockFrom i k b ≡ []
+  block-five i k b h e l = block-next i k b h e ∙ rw (le-ltb k blockLimit l)
 
-  pub block-full : (i k b : ℕ) → i < n → isWanted i ≡ true → k < 5 → 10240 ≤ b → blockFrom i k b ≡ []
-  block-full i k b h e l m = block-next i k b h e ∙ rw (lt-ltb k 5 l, le-ltb b 10240 m)
+  pub block-full : (i k b : ℕ) → i < n → isWanted i ≡ true → k < blockLimit → announcedLimit ≤ b → blockFrom i k b ≡ []
+  block-full i k b h e l m = block-next i k b h e ∙ rw (lt-ltb k blockLimit l, le-ltb b announcedLimit m)
 
   pub block-end : (i k b : ℕ) → n ≤ i → blockFrom i k b ≡ []
   block-end i k b h = rw (entries-end (recordOf [] [] []) recordSize table i n h)
@@ -91,7 +91,7 @@ module _ (p : ℕ) (table : Bytes) (framed : Bool) (flags : List ℕ) (n : ℕ) 
 -- records are being chosen: those held, then what is chosen from record i on, are the whole; total has room for one size more
 pub record Choosing (p : ℕ) (table : Bytes) (framed : Bool) (flags : List ℕ) (n : ℕ) (places : Five) (total i : ℕ) : Type 0 where
   pub filled : Filled places
-  pub small : total < 4294977536
+  pub small : total < announcedLimit + fourByteValues
   pub whole : blockFrom p table framed flags n 0 0 0 ≡ held places ++ blockFrom p table framed flags n i (places .count) total
 
 module _ (p : ℕ) (table : Bytes) (framed : Bool) (flags : List ℕ) (n : ℕ) where
@@ -107,8 +107,8 @@ module _ (p : ℕ) (table : Bytes) (framed : Bool) (flags : List ℕ) (n : ℕ) 
           whole = c .whole ∙ ap (λ (l : List ℕ). held places ++ l) (block-pass p table framed flags n i (places .count) total h e);
         }
 
-    pub choosing-add : isWanted p table framed flags n i ≡ true → places .count < 5 → total < 10240 → {f : Five} {size : ℕ} → f ≡ fiveOf (held places ++ (i ∷ []))
-        → size ≡ le4At (entryAt recordSize table i) recordSizeAt → size < 4294967296 → Choosing p table framed flags n f (total + size) (i + 1)
+    pub choosing-add : isWanted p table framed flags n i ≡ true → places .count < blockLimit → total < announcedLimit → {f : Five} {size : ℕ} → f ≡ fiveOf (held places ++ (i ∷ []))
+        → size ≡ le4At (entryAt recordSize table i) recordSizeAt → size < fourByteValues → Choosing p table framed flags n f (total + size) (i + 1)
     choosing-add w k b {f} {size} e s m =
         let xs = held places ++ (i ∷ []) in
         let d : f .count ≡ places .count + 1 = five-next f places i (c .filled) e in
@@ -141,7 +141,7 @@ module _ (p : ℕ) (table : Bytes) (framed : Bool) (flags : List ℕ) (n : ℕ) 
 block-same : (f g : ℕ → ℕ) → ((i : ℕ) → f i ≡ g i) → (k b : ℕ) (xs : List ℕ) → ourBlock f k b xs ≡ ourBlock g k b xs
 block-same f g h k b [] = refl
 block-same f g h k b (x ∷ xs) =
-    ap (λ (l : List ℕ). cond (ltb k 5 && ltb b 10240) (x ∷ l) []) (block-same f g h (k + 1) (b + f x) xs ∙ ap (λ (n : ℕ). ourBlock g (k + 1) (b + n) xs) (h x))
+    ap (λ (l : List ℕ). cond (ltb k blockLimit && ltb b announcedLimit) (x ∷ l) []) (block-same f g h (k + 1) (b + f x) xs ∙ ap (λ (n : ℕ). ourBlock g (k + 1) (b + n) xs) (h x))
 
 module _ (titles names bodies table : Bytes) where
   size-same : (a n i : ℕ) → sizeAt (entriesFrom (recordOf titles names bodies) recordSize table a n) i ≡ sizeAt (entriesFrom (recordOf [] [] []) recordSize table a n) i

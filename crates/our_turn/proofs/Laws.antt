@@ -6,18 +6,14 @@ use Rattle.session_memory.specs.declared.Five.{Five}
 use Rattle.session_memory.specs.declared.Say.{Say}
 use Rattle.numbers.specs.declared.AwaitNumbers.{AwaitNumbers}
 use Rattle.numbers.specs.declared.Numbers.{Numbers}
-use Rattle.numbers.specs.Whole.{awaitOf}
-use Rattle.our_turn.specs.Turn.{chooseOf, Spoken, spoken, speaking, speakOf, Speaks}
+use Rattle.numbers.specs.Whole.{Arrays, withDeferred, sessionOf}
+use Rattle.our_turn.specs.Turn.{chooseOf, speaking, speakOf}
 
+-- deferred: the flags, where they were lent
 module _ (s : Numbers) (deferred table : Bytes) (ff : Bool) {places : Five} (f : places ≡ chooseOf (s .keep .terms .partner) table (s .keep .framed) deferred) where
   pub speak-by : {w : AwaitNumbers} {y : Say} {r : Numbers} → r ≡ record { now = w; say = y; keep = s .keep; reader = s .reader; line = s .line; tally = s .tally }
-      → ((block : Bytes) → spoken (awaitOf w block) y ≡ speaking places ff (awaitOf (s .now) block) (s .say)) → Speaks s deferred table ff r
+      → ((a : Arrays) → sessionOf (record { now = w; say = y; keep = s .keep; reader = s .reader; line = s .line; tally = s .tally }) a ≡ speaking places ff (sessionOf s a))
+      → (a : Arrays) → sessionOf r (withDeferred deferred a) ≡ speakOf (sessionOf s (withDeferred deferred a)) table ff
   unfolding speakOf
-  speak-by e h =
-      record {
-        turn = λ block. ap (λ (n : Numbers). spoken (awaitOf (n .now) block) (n .say)) e ∙ h block ∙ ap (λ (p : Five). speaking p ff (awaitOf (s .now) block) (s .say)) f;
-        keep = ap (λ (n : Numbers). n .keep) e;
-        reader = ap (λ (n : Numbers). n .reader) e;
-        line = ap (λ (n : Numbers). n .line) e;
-        tally = ap (λ (n : Numbers). n .tally) e;
-      }
+  speak-by e h a =
+      ap (λ (n : Numbers). sessionOf n (withDeferred deferred a)) e ∙ h (withDeferred deferred a) ∙ ap (λ (p : Five). speaking p ff (sessionOf s (withDeferred deferred a))) f

@@ -15,7 +15,8 @@ ghost use Rattle.grammar.specs.Fields.{formIs};
 ghost use Rattle.grammar.specs.Turns.{inMode};
 ghost use Rattle.session.specs.Choices.{wanted};
 ghost use Rattle.layout.specs.Layout.{byteAt, recordOf};
-ghost use Rattle.our_turn.specs.Turn.{chooseOf, Speaks};
+ghost use Rattle.numbers.specs.Whole.{Arrays, withDeferred, sessionOf};
+ghost use Rattle.our_turn.specs.Turn.{chooseOf, speakOf};
 
 // "the announced sizes so far are below 10,240"
 const SIZES_MAX: usize = 10240;
@@ -24,10 +25,10 @@ const SIZES_MAX: usize = 10240;
 fn in_mode(framed: bool, form: u8) -> bool
     ensures { λ r. ⌜ r ≡ inMode framed (formIs form) ⌝ }
 {
-    if form == 1 {
+    if form == record_text::MESSAGE {
         return framed;
     }
-    if form == 2 {
+    if form == record_text::FILE {
         return framed;
     }
     !framed
@@ -87,7 +88,7 @@ fn with_turn(s: Numbers, awaited: AwaitNumbers, say: Say) -> Numbers
 
 // Our turn: what we propose, or FF, or FQ where the partner's turn just now was FF.
 pub fn speak(s: Numbers, deferred: &[u8], table: &[u8], ff: bool) -> Numbers
-    ensures { λ r. ⌜ Speaks s (now (deferred .entry)) (now (table .entry)) ff r ⌝ }
+    ensures { λ r. ⌜ ((a : Arrays) → sessionOf r (withDeferred (now (deferred .entry)) a) ≡ speakOf (sessionOf s (withDeferred (now (deferred .entry)) a)) (now (table .entry)) ff) ⌝ }
 {
     let chosen = choose(s.keep.terms.partner, table, s.keep.framed, deferred);
     let mut awaited = s.now;

@@ -19,7 +19,7 @@ use Rattle.size.specs.declared.Size.{Size}
 use Rattle.pages.specs.Fields as fields
 use Rattle.pages.specs.Fields.{noRecord, badVersion, memberOf}
 use Rattle.pages.specs.Pages as pages
-use Rattle.pages.specs.Pages.{isHex, leads, flagLength, hasFlag, versionOf, versionBy, memberBy, byLetter, readPage, flagV, flagM}
+use Rattle.pages.specs.Pages.{isHex, leads, flagLength, hasFlag, versionOf, versionBy, memberBy, byLetter, readPage, flagV, flagM, flagPlace, flagLimit, dataPlace, versionDigits}
 use Rattle.page_member.specs.Meaning.{memberIn, memberSaid, MemberLies, MemberIs, FieldsLie}
 use Rattle.page_member.specs.declared.Member.{Member}
 use Rattle.page_member.specs.declared.ReadMember.{ReadMember}
@@ -54,58 +54,58 @@ module _ (l : Bytes) (x : ℕ) (e : x ≡ getD l 0 0) (a : Bool) (i : a ≡ isHe
 
 -- ---------------------------------------------------------------- the flag
 
-module _ (l : Bytes) (end : ℕ) (e : end ≡ 3 + flagLength l) where
-  pub flag-empty : end ≤ 3 → false ≡ hasFlag l
+module _ (l : Bytes) (end : ℕ) (e : end ≡ flagPlace + flagLength l) where
+  pub flag-empty : end ≤ flagPlace → false ≡ hasFlag l
   flag-empty h = rw (lt-leb 1 (flagLength l) (omega (arith, e)))
 
-  pub flag-long : 3 < end → 13 < end → false ≡ hasFlag l
-  flag-long h k = rw (le-leb 1 (flagLength l) (omega (arith, e)), lt-leb (flagLength l) 10 (omega (arith, e)))
+  pub flag-long : flagPlace < end → flagPlace + flagLimit < end → false ≡ hasFlag l
+  flag-long h k = rw (le-leb 1 (flagLength l) (omega (arith, e)), lt-leb (flagLength l) flagLimit (omega (arith, e)))
 
-  pub flag-ends : 3 < end → end ≤ 13 → ltb end (length l) ≡ hasFlag l
-  flag-ends h k = rw (le-leb 1 (flagLength l) (omega (arith, e)), le-leb (flagLength l) 10 (omega (arith, e)), e)
+  pub flag-ends : flagPlace < end → end ≤ flagPlace + flagLimit → ltb end (length l) ≡ hasFlag l
+  flag-ends h k = rw (le-leb 1 (flagLength l) (omega (arith, e)), le-leb (flagLength l) flagLimit (omega (arith, e)), e)
 
 -- ---------------------------------------------------------------- the data of V
 
-module _ (l : Bytes) (h : 5 ≤ length l) where
-  pub version-length : (length l ≡ 7 → ⊥) → pages.dropped badVersion ≡ versionOf (drop 5 l)
+module _ (l : Bytes) (h : dataPlace ≤ length l) where
+  pub version-length : (length l ≡ dataPlace + versionDigits → ⊥) → pages.dropped badVersion ≡ versionOf (drop dataPlace l)
   unfolding versionOf
-  version-length n = let d = length-drop 5 l in rw (ne-eqb (length (drop 5 l)) 2 (λ z. n (omega (arith, d, h))))
+  version-length n = let d = length-drop dataPlace l in rw (ne-eqb (length (drop dataPlace l)) versionDigits (λ z. n (omega (arith, d, h))))
 
-  module _ (k : length l ≡ 7) (s : Size) (e : sizeIs s ≡ readSize (between l 5 7)) where
-    two-bytes : length (drop 5 l) ≡ 2
-    two-bytes = let d = length-drop 5 l in omega (arith, d, k)
+  module _ (k : length l ≡ dataPlace + versionDigits) (s : Size) (e : sizeIs s ≡ readSize (between l dataPlace (dataPlace + versionDigits))) where
+    two-bytes : length (drop dataPlace l) ≡ versionDigits
+    two-bytes = let d = length-drop dataPlace l in omega (arith, d, k)
 
-    version-by : versionBy (sizeIs s) ≡ versionOf (drop 5 l)
+    version-by : versionBy (sizeIs s) ≡ versionOf (drop dataPlace l)
     unfolding versionOf
-    version-by = rw (eq-eqb (length (drop 5 l)) 2 two-bytes) (ap versionBy (e ∙ ap readSize (take-all 2 (drop 5 l) (let d = two-bytes in omega (arith, d)))))
+    version-by = rw (eq-eqb (length (drop dataPlace l)) versionDigits two-bytes) (ap versionBy (e ∙ ap readSize (take-all versionDigits (drop dataPlace l) (let d = two-bytes in omega (arith, d)))))
 
-    pub no-version : s ≡ Size.Bad → pages.dropped badVersion ≡ versionOf (drop 5 l)
+    pub no-version : s ≡ Size.Bad → pages.dropped badVersion ≡ versionOf (drop dataPlace l)
     no-version q = sym (ap (λ (t : Size). versionBy (sizeIs t)) q) ∙ version-by
 
-    pub a-version : (n : ℕ) → s ≡ Size.Value n → pages.version n ≡ versionOf (drop 5 l)
+    pub a-version : (n : ℕ) → s ≡ Size.Value n → pages.version n ≡ versionOf (drop dataPlace l)
     a-version n q = sym (ap (λ (t : Size). versionBy (sizeIs t)) q) ∙ version-by
 
 -- ---------------------------------------------------------------- the data of M
 
-module _ (l : Bytes) (r : ReadMember) (e : MemberIs l 5 r) where
-  pub no-member : (n : ℕ) → r ≡ ReadMember.Breaks n → PageIs l (Page.Dropped n) (memberBy (memberOf (drop 5 l)))
+module _ (l : Bytes) (r : ReadMember) (e : MemberIs l dataPlace r) where
+  pub no-member : (n : ℕ) → r ≡ ReadMember.Breaks n → PageIs l (Page.Dropped n) (memberBy (memberOf (drop dataPlace l)))
   no-member n q = (ap memberBy (sym (ap (memberSaid l) q) ∙ e .0), tt)
 
-  pub a-member : (m : Member) → r ≡ ReadMember.Says m → PageIs l (Page.Member m) (memberBy (memberOf (drop 5 l)))
-  a-member m q = (ap memberBy (sym (ap (memberSaid l) q) ∙ e .0), subst (MemberLies l 5) q (e .1))
+  pub a-member : (m : Member) → r ≡ ReadMember.Says m → PageIs l (Page.Member m) (memberBy (memberOf (drop dataPlace l)))
+  a-member m q = (ap memberBy (sym (ap (memberSaid l) q) ∙ e .0), subst (MemberLies l dataPlace) q (e .1))
 
 -- ---------------------------------------------------------------- a flag of one byte
 
 module _ (l : Bytes) (r : Page) where
-  pub letter-v : getD l 3 0 ≡ flagV → PageIs l r (versionOf (drop 5 l)) → PageIs l r (byLetter (getD l 3 0) (drop 5 l))
+  pub letter-v : getD l flagPlace 0 ≡ flagV → PageIs l r (versionOf (drop dataPlace l)) → PageIs l r (byLetter (getD l flagPlace 0) (drop dataPlace l))
   unfolding byLetter
   letter-v e p = rw (eq-eqb _ _ e) p
 
-  pub letter-m : (getD l 3 0 ≡ flagV → ⊥) → getD l 3 0 ≡ flagM → PageIs l r (memberBy (memberOf (drop 5 l))) → PageIs l r (byLetter (getD l 3 0) (drop 5 l))
+  pub letter-m : (getD l flagPlace 0 ≡ flagV → ⊥) → getD l flagPlace 0 ≡ flagM → PageIs l r (memberBy (memberOf (drop dataPlace l))) → PageIs l r (byLetter (getD l flagPlace 0) (drop dataPlace l))
   unfolding byLetter
   letter-m n e p = rw (ne-eqb _ _ n, eq-eqb _ _ e) p
 
-pub letter-other : (l : Bytes) → (getD l 3 0 ≡ flagV → ⊥) → (getD l 3 0 ≡ flagM → ⊥) → pages.skipped ≡ byLetter (getD l 3 0) (drop 5 l)
+pub letter-other : (l : Bytes) → (getD l flagPlace 0 ≡ flagV → ⊥) → (getD l flagPlace 0 ≡ flagM → ⊥) → pages.skipped ≡ byLetter (getD l flagPlace 0) (drop dataPlace l)
 unfolding byLetter
 letter-other l n m = rw (ne-eqb _ _ n, ne-eqb _ _ m)
 
@@ -116,23 +116,23 @@ module _ (l : Bytes) (a : Bool) (i : a ≡ leads l) where
   unfolding readPage
   not-led k = rw (told-not i k)
 
-  module _ (k : not a ≡ false) (end : ℕ) (e : end ≡ 3 + flagLength l) (b : Bool) (j : b ≡ hasFlag l) where
+  module _ (k : not a ≡ false) (end : ℕ) (e : end ≡ flagPlace + flagLength l) (b : Bool) (j : b ≡ hasFlag l) where
     pub no-flag : not b ≡ true → pages.dropped noRecord ≡ readPage l
     unfolding readPage
     no-flag m = rw (told i k, told-not j m)
 
     module _ (m : not b ≡ false) where
-      pub other-flag : (end ≡ 4 → ⊥) → pages.skipped ≡ readPage l
+      pub other-flag : (end ≡ flagPlace + 1 → ⊥) → pages.skipped ≡ readPage l
       unfolding readPage
       other-flag n = rw (told i k, told j m, ne-eqb (flagLength l) 1 (λ z. n (omega (arith, e, z))))
 
-      pub data-there : end ≡ 4 → 5 ≤ length l
+      pub data-there : end ≡ flagPlace + 1 → dataPlace ≤ length l
       data-there n =
           let p = and2 (leb 1 (flagLength l)) _ (told j m) in
-          let q = and2 (leb (flagLength l) 10) _ (p .1) in
-          let t = ltb-true (3 + flagLength l) (length l) (q .1) in
+          let q = and2 (leb (flagLength l) flagLimit) _ (p .1) in
+          let t = ltb-true (flagPlace + flagLength l) (length l) (q .1) in
           omega (arith, e, n, t)
 
-      pub one-letter : end ≡ 4 → (r : Page) → PageIs l r (byLetter (getD l 3 0) (drop 5 l)) → PageIs l r (readPage l)
+      pub one-letter : end ≡ flagPlace + 1 → (r : Page) → PageIs l r (byLetter (getD l flagPlace 0) (drop dataPlace l)) → PageIs l r (readPage l)
       unfolding readPage
       one-letter n r p = rw (told i k, told j m, eq-eqb (flagLength l) 1 (omega (arith, e, n))) p

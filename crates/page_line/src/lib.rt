@@ -12,7 +12,7 @@ ghost use mathlib.Core.Path.{_≡_};
 ghost use mathlib.Core.Bool.{true};
 ghost use Prim.Native.Nat.{_+_, _≤_};
 ghost use lib.ListN.{length, drop, getD};
-ghost use Rattle.pages.specs.Pages.{isHex, leads, hasFlag, flagLength, versionOf, memberBy, byLetter, readPage};
+ghost use Rattle.pages.specs.Pages.{isHex, leads, hasFlag, flagLength, versionOf, memberBy, byLetter, readPage, flagPlace, dataPlace};
 ghost use Rattle.pages.specs.Fields.{memberOf};
 ghost use Rattle.page_line.specs.Meaning.{PageIs};
 
@@ -20,13 +20,13 @@ ghost use Rattle.page_line.specs.Meaning.{PageIs};
 const FLAG_PLACE: usize = 3;
 
 // A flag has at most ten bytes, so it ends here at the latest.
-const FLAG_END: usize = 13;
+const FLAG_END: usize = FLAG_PLACE + 10;
 
 // The data of a flag of one byte begin here.
-const DATA_PLACE: usize = 5;
+const DATA_PLACE: usize = FLAG_PLACE + 2;
 
 // The line of a version ends here: its data are two bytes.
-const VERSION_END: usize = 7;
+const VERSION_END: usize = DATA_PLACE + 2;
 
 // Why a line is dropped: the numbers of include/fringemole_pages.h.
 const NO_RECORD: u8 = 1;
@@ -66,7 +66,7 @@ fn leads_on(line: &[u8]) -> bool
 
 // A flag from its place up to end, and a space behind it.
 fn is_flag(line: &[u8], end: usize) -> bool
-    requires { ⌜ end ≡ 3 + flagLength (now line) ⌝ }
+    requires { ⌜ end ≡ flagPlace + flagLength (now line) ⌝ }
     ensures { λ r. ⌜ r ≡ hasFlag (now (line .entry)) ⌝ }
 {
     if end <= FLAG_PLACE {
@@ -80,8 +80,8 @@ fn is_flag(line: &[u8], end: usize) -> bool
 
 // The data of V: two decimal digits.
 fn read_version(line: &[u8]) -> Page
-    requires { ⌜ 5 ≤ length (now line) ⌝ }
-    ensures { λ r. ⌜ PageIs (now (line .entry)) r (versionOf (drop 5 (now (line .entry)))) ⌝ }
+    requires { ⌜ dataPlace ≤ length (now line) ⌝ }
+    ensures { λ r. ⌜ PageIs (now (line .entry)) r (versionOf (drop dataPlace (now (line .entry)))) ⌝ }
 {
     if line.len() != VERSION_END {
         return Page::Dropped(BAD_VERSION);
@@ -94,8 +94,8 @@ fn read_version(line: &[u8]) -> Page
 
 // The data of M.
 fn member_page(line: &[u8]) -> Page
-    requires { ⌜ 5 ≤ length (now line) ⌝ }
-    ensures { λ r. ⌜ PageIs (now (line .entry)) r (memberBy (memberOf (drop 5 (now (line .entry))))) ⌝ }
+    requires { ⌜ dataPlace ≤ length (now line) ⌝ }
+    ensures { λ r. ⌜ PageIs (now (line .entry)) r (memberBy (memberOf (drop dataPlace (now (line .entry))))) ⌝ }
 {
     match read_member(line, DATA_PLACE) {
         ReadMember::Breaks(why) => Page::Dropped(why),
@@ -105,8 +105,8 @@ fn member_page(line: &[u8]) -> Page
 
 // A record with a flag of one byte.
 fn by_letter(line: &[u8]) -> Page
-    requires { ⌜ 5 ≤ length (now line) ⌝ }
-    ensures { λ r. ⌜ PageIs (now (line .entry)) r (byLetter (getD (now (line .entry)) 3 0) (drop 5 (now (line .entry)))) ⌝ }
+    requires { ⌜ dataPlace ≤ length (now line) ⌝ }
+    ensures { λ r. ⌜ PageIs (now (line .entry)) r (byLetter (getD (now (line .entry)) flagPlace 0) (drop dataPlace (now (line .entry)))) ⌝ }
 {
     let flag = line[FLAG_PLACE];
     if flag == b'V' {

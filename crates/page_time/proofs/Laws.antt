@@ -15,13 +15,13 @@ use Rattle.grammar.specs.Bytes.{Bytes}
 use Rattle.grammar.proofs.Basics.{no-both, and2}
 use Rattle.dates.specs.Dates as dates
 use Rattle.dates.specs.Dates.{isDate, dayNumber, dateOf, allDays}
-use Rattle.dates.specs.Digits.{readDate, digits, dateSaid}
+use Rattle.dates.specs.Digits.{readDate, digits, dateSaid, dateLength}
 use Rattle.dates.proofs.Dates.{date-back}
 use Rattle.calendar.specs.Meaning.{dateIs}
 use Rattle.calendar.specs.declared.Date.{Date}
 use Rattle.date_digits.specs.Meaning.{readDateIs}
 use Rattle.date_digits.specs.declared.ReadDate.{ReadDate}
-use Rattle.pages.specs.Stamps.{secondsOf, secondsBy, toSeconds, dayOf, dateBy, toDate, endSeconds}
+use Rattle.pages.specs.Stamps.{secondsOf, secondsBy, toSeconds, dayOf, dateBy, toDate, endSeconds, daySeconds}
 use Rattle.page_time.specs.Meaning.{DayIs, DayLies, dayIs}
 use Rattle.page_time.specs.declared.Day.{Day}
 
@@ -45,14 +45,14 @@ unfolding dayOf
 neg-out (pos n) e = absurd (no-both (ltb n 0) e (le-ltb n 0 (omega arith)))
 neg-out (negsuc n) e = refl
 
-late-out : (z : ℤ) → ltZ (pos 3155759999) z ≡ true → none ≡ dayOf z
+late-out : (z : ℤ) → ltZ (pos (endSeconds - 1)) z ≡ true → none ≡ dayOf z
 unfolding dayOf
-late-out (pos n) e = let h = ltb-true 3155759999 n e in rw (le-ltb n endSeconds (omega (arith, h)))
+late-out (pos n) e = let h = ltb-true (endSeconds - 1) n e in rw (le-ltb n endSeconds (omega (arith, h)))
 late-out (negsuc n) e = refl
 
-day-at : (z : ℤ) → ltZ z (pos 0) ≡ false → ltZ (pos 3155759999) z ≡ false → (some (natAbs z / 86400) ≡ dayOf z) × (natAbs z / 86400 < allDays)
+day-at : (z : ℤ) → ltZ z (pos 0) ≡ false → ltZ (pos (endSeconds - 1)) z ≡ false → (some (natAbs z / daySeconds) ≡ dayOf z) × (natAbs z / daySeconds < allDays)
 unfolding dayOf
-day-at (pos n) e f = let h = ltb-false 3155759999 n f in (rw (lt-ltb n endSeconds (omega (arith, h))), omega (arith, h))
+day-at (pos n) e f = let h = ltb-false (endSeconds - 1) n f in (rw (lt-ltb n endSeconds (omega (arith, h))), omega (arith, h))
 day-at (negsuc n) e f = absurd (no-both true refl e)
 
 not-neg : (z : ℤ) → ltZ z (pos 0) ≡ false → T (nonNeg z)
@@ -63,18 +63,18 @@ module _ (z : ℤ) (f : SFits w64 z) where
   pub before-1970 : ltZ (read z) (pos 0) ≡ true → none ≡ dayOf z
   before-1970 e = neg-out z (ap (λ (x : ℤ). ltZ x (pos 0)) (sym (toZ-ofZ f)) ∙ e)
 
-  pub from-2070 : ltZ (pos 3155759999) (read z) ≡ true → none ≡ dayOf z
-  from-2070 e = late-out z (ap (ltZ (pos 3155759999)) (sym (toZ-ofZ f)) ∙ e)
+  pub from-2070 : ltZ (pos (endSeconds - 1)) (read z) ≡ true → none ≡ dayOf z
+  from-2070 e = late-out z (ap (ltZ (pos (endSeconds - 1))) (sym (toZ-ofZ f)) ∙ e)
 
   pub not-negative : ltZ (read z) (pos 0) ≡ false → T (nonNeg (read z)) × Fits w64 (natAbs (read z))
   not-negative e =
       let n : T (nonNeg (read z)) = not-neg (read z) e in
       (n, fits-natAbs {w = w64} tt (subst (SFits w64) (sym (toZ-ofZ f)) f))
 
-  pub in-range : ltZ (read z) (pos 0) ≡ false → ltZ (pos 3155759999) (read z) ≡ false → DayIs z (Day.At (natAbs (read z) / 86400))
+  pub in-range : ltZ (read z) (pos 0) ≡ false → ltZ (pos (endSeconds - 1)) (read z) ≡ false → DayIs z (Day.At (natAbs (read z) / daySeconds))
   in-range e g =
-      subst (λ (x : ℤ). DayIs z (Day.At (natAbs x / 86400))) (sym (toZ-ofZ f))
-      (day-at z (ap (λ (x : ℤ). ltZ x (pos 0)) (sym (toZ-ofZ f)) ∙ e) (ap (ltZ (pos 3155759999)) (sym (toZ-ofZ f)) ∙ g))
+      subst (λ (x : ℤ). DayIs z (Day.At (natAbs x / daySeconds))) (sym (toZ-ofZ f))
+      (day-at z (ap (λ (x : ℤ). ltZ x (pos 0)) (sym (toZ-ofZ f)) ∙ e) (ap (ltZ (pos (endSeconds - 1))) (sym (toZ-ofZ f)) ∙ g))
 
 -- ---------------------------------------------------------------- there
 
@@ -95,15 +95,15 @@ no-some a e = let z : _≡_ {A = ℕ} 1 0 = ap many e in omega arith
 -- what is read is a date
 read-date : (w : Bytes) (d : dates.Date) → some d ≡ readDate w → isDate d ≡ true
 unfolding readDate
-read-date w d e = go (digits 6 w && isDate (dateSaid w)) refl e
+read-date w d e = go (digits dateLength w && isDate (dateSaid w)) refl e
   where
-    go : (b : Bool) → (digits 6 w && isDate (dateSaid w)) ≡ b → some d ≡ cond b (some (dateSaid w)) none → isDate d ≡ true
-    go true f q = ap isDate (some-same d (dateSaid w) q) ∙ (and2 (digits 6 w) (isDate (dateSaid w)) f) .1
+    go : (b : Bool) → (digits dateLength w && isDate (dateSaid w)) ≡ b → some d ≡ cond b (some (dateSaid w)) none → isDate d ≡ true
+    go true f q = ap isDate (some-same d (dateSaid w) q) ∙ (and2 (digits dateLength w) (isDate (dateSaid w)) f) .1
     go false f q = absurd (no-some d q)
 
-day-fit : (n : ℕ) → n < 36525 → SFits w64 (secondsOf n)
+day-fit : (n : ℕ) → n < allDays → SFits w64 (secondsOf n)
 unfolding secondsOf
-day-fit n h = record { sfits = sub-small (n * 86400) 86400 (omega (arith, h)) (omega arith) }
+day-fit n h = record { sfits = sub-small (n * daySeconds) daySeconds (omega (arith, h)) (omega arith) }
 
 -- seconds of a date fit an i64
 pub seconds-fit : (w : Bytes) (t : ℤ) → some t ≡ toSeconds w → SFits w64 t
@@ -127,7 +127,7 @@ module _ (w : Bytes) (r : ReadDate) (e : readDateIs r ≡ readDate w) where
     is-date = read-date w (dateIs d) says
 
     module _ (n : ℕ) (i : n ≡ dayNumber (dateIs d)) where
-      pub number-fits : n < 36525
+      pub number-fits : n < allDays
       number-fits = let b = (date-back (dateIs d) is-date) .1 in omega (arith, b, i)
 
       pub there : (t : ℤ) → t ≡ secondsOf n → some (read t) ≡ toSeconds w
@@ -145,7 +145,7 @@ module _ (t : ℤ) (f : SFits w64 t) (r : Day) (d : DayIs (read t) r) where
   out-of-range q = ap dateBy (sym (ap dayIs q) ∙ e .0)
 
   module _ (n : ℕ) (q : r ≡ Day.At n) where
-    pub day-fits : n < 36525
+    pub day-fits : n < allDays
     day-fits = subst DayLies q (e .1)
 
     pub back : (b : Date) → dateIs b ≡ dateOf n → some (dateIs b) ≡ toDate t

@@ -8,6 +8,7 @@ ghost use mathlib.Core.Path.{_≡_};
 ghost use Prim.Native.Nat.{_<_};
 ghost use Rattle.pages.specs.Stamps.{secondsOf, toSeconds, toDate};
 ghost use Rattle.page_time.specs.Meaning.{DayIs, secondsIs, dateSaid};
+ghost use Rattle.dates.specs.Dates.{allDays};
 
 const DAY_SECONDS: u64 = 86400;
 
@@ -34,7 +35,7 @@ pub enum Dated {
 
 // The seconds of midnight of a day, less one day.
 fn seconds_of(day: u32) -> i64
-    requires { ⌜ day < 36525 ⌝ }
+    requires { ⌜ day < allDays ⌝ }
     ensures { λ r. ⌜ r ≡ secondsOf day ⌝ }
 {
     let n = (day as u64) * DAY_SECONDS;

@@ -4,7 +4,7 @@ use mathlib.Core.Path.{_≡_, refl, sym, ap, _∙_, subst}
 use mathlib.Core.Bool.{Bool, true, false, cond, _&&_}
 use mathlib.Core.Option.{Option, none, some}
 use mathlib.Core.List.{List, [], _∷_, _++_, map}
-use Prim.Native.Nat.{ℕ, suc, _+_, _<_, _≤_}
+use Prim.Native.Nat.{ℕ, suc, _+_, _<_, _≤_, _-_}
 use native.Mathlib.Omega.{arith}
 use lib.Dec.{eqb, leb, ltb}
 use lib.ListN.{length, getD, take, drop, length-append}
@@ -16,7 +16,7 @@ use Rattle.grammar.proofs.Fields.{at-field, atByte}
 use Rattle.span.specs.Places.{upto}
 use Rattle.text_line.specs.TextLines.{bodyLines}
 use Rattle.text_line.proofs.Laws.{upto-mid, take-front, drop-front}
-use Rattle.pages.specs.Fields.{Read, says, breaks, Member, Who, When, Whence, word, past, QUOTE, quoted, pastQuote, isLong, readLong, whoOf, hopped, stamped, whenOf, isName, isTown, zipped, whenceOf, memberFrom, memberAfter, memberWith, memberOf, badVersion}
+use Rattle.pages.specs.Fields.{Read, says, breaks, Member, Who, When, Whence, word, past, QUOTE, quoted, pastQuote, isLong, readLong, whoOf, hopped, stamped, whenOf, isName, isTown, zipped, whenceOf, memberFrom, memberAfter, memberWith, memberOf, badVersion, longDigits}
 use Rattle.pages.specs.Pages.{Page, version, member, skipped, dropped, isHex, leads, flagPlace, flagLength, hasFlag, versionBy, versionOf, memberBy, flagV, flagM, dataPlace, byLetter, readPage, Line, lineOf, pagesOf, anyNewer, isRecord, isDropped, kept, Mail, mailOf, handed, surveyOf}
 
 -- ---------------------------------------------------------------- what is given obeys its rules
@@ -272,7 +272,7 @@ bid-lacks w e = all-lacks bidByte SP w refl ((field-is bidByte 12 w e) .class)
 
 long-lacks : (w : Bytes) → isLong w ≡ true → Lacks SP w
 unfolding isLong
-long-lacks w e = all-lacks digit SP w refl ((field-is digit 10 w e) .class)
+long-lacks w e = all-lacks digit SP w refl ((field-is digit longDigits w e) .class)
 
 who-back : (a b c r : Bytes) → isCall a ≡ true → isAt b ≡ true → isBid c ≡ true → whoOf (then a (then b (then c r))) ≡ says (record { call = a; home = b; bid = c; rest = r })
 unfolding whoOf
@@ -318,4 +318,4 @@ written-back n f =
 -- and as a line, behind any two hexadecimal digits
 pub line-back : (a b : ℕ) (n : Nine) → Fair n → isHex a ≡ true → isHex b ≡ true → readPage (a ∷ b ∷ SP ∷ flagM ∷ SP ∷ memberText n) ≡ member (memberSaid n)
 unfolding readPage byLetter upto
-line-back a b n f ha hb = rw (ha, hb, lt-ltb 4 (length (a ∷ b ∷ SP ∷ flagM ∷ SP ∷ memberText n)) (omega arith)) (ap memberBy (written-back n f))
+line-back a b n f ha hb = rw (ha, hb, lt-ltb (flagPlace + 1) (length (a ∷ b ∷ SP ∷ flagM ∷ SP ∷ memberText n)) (omega arith)) (ap memberBy (written-back n f))

@@ -75,9 +75,13 @@ pastQuote r = drop (suc (upto QUOTE (drop 1 r))) (drop 1 r)
 abbrev pub begins : ℕ → Bytes → Bool
 begins b r = eqb (getD r 0 0) b
 
+-- The most digits of a number.
+abbrev pub longDigits : ℕ
+longDigits = 10
+
 -- "numbers of 1 to 10 digits"
 unfoldable pub isLong : Bytes → Bool
-isLong w = field digit 10 w
+isLong w = field digit longDigits w
 
 unfoldable pub readLong : Bytes → Option ℕ
 readLong w = cond (isLong w) (some (readFrom 0 w)) none

@@ -46,8 +46,11 @@ versionBy none = dropped badVersion
 versionBy (some n) = version n
 
 -- "V gives two decimal digits"
+abbrev pub versionDigits : ℕ
+versionDigits = 2
+
 unfoldable pub versionOf : Bytes → Page
-versionOf d = cond (eqb (length d) 2) (versionBy (readSize d)) (dropped badVersion)
+versionOf d = cond (eqb (length d) versionDigits) (versionBy (readSize d)) (dropped badVersion)
 
 abbrev pub memberBy : Read Member → Page
 memberBy (says m) = member m
@@ -62,7 +65,7 @@ flagM = 77
 
 -- A record by its flag. Its data begin behind a flag of one byte and two spaces.
 abbrev pub dataPlace : ℕ
-dataPlace = 5
+dataPlace = flagPlace + 2
 
 unfoldable pub byLetter : ℕ → Bytes → Page
 byLetter b d = cond (eqb b flagV) (versionOf d) (cond (eqb b flagM) (memberBy (memberOf d)) skipped)

@@ -7,7 +7,7 @@ use Prim.Native.Nat.{ℕ, _-_, _*_, _/_}
 use lib.Dec.{ltb}
 use lib.IntN.{ℤ, pos, negsuc, _-ℤ_}
 use Rattle.grammar.specs.Bytes.{Bytes}
-use Rattle.dates.specs.Dates.{Date, isLeap, daysIn, dayNumber, dateOf, allDays}
+use Rattle.dates.specs.Dates.{Date, isLeap, daysIn, dayNumber, dateOf, allDays, lastMonth}
 use Rattle.dates.specs.Digits.{readDate}
 
 -- "Refusals of this reader are its own: 1 bad date, 2 out of range."
@@ -52,9 +52,13 @@ dateBy (some n) = some (dateOf n)
 unfoldable pub toDate : ℤ → Option Date
 toDate t = dateBy (dayOf t)
 
+-- The days of the last month.
+abbrev pub decemberDays : ℕ
+decemberDays = 31
+
 -- The day before a date.
 unfoldable pub dayBefore : Date → Date
 dayBefore d =
     cond (ltb 1 (d .day)) (record { year = d .year; month = d .month; day = d .day - 1 })
     (cond (ltb 1 (d .month)) (record { year = d .year; month = d .month - 1; day = daysIn (isLeap (d .year)) (d .month - 1) })
-    (record { year = d .year - 1; month = 12; day = 31 }))
+    (record { year = d .year - 1; month = lastMonth; day = decemberDays }))

@@ -16,20 +16,19 @@ use session_memory::Five;
 use std::num::wrapping_add_u8;
 ghost use mathlib.Core.Path.{_≡_};
 ghost use Prim.Native.Nat.{ℕ};
-ghost use Rattle.grammar.specs.Bytes.{Bytes};
 ghost use Rattle.buffer.specs.Put.{putBytes};
 ghost use Rattle.span.specs.Places.{part};
 ghost use Rattle.layout.specs.Layout.{proposalOut};
 ghost use Rattle.proposal.specs.Meaning.{ProposalLies, proposalIs, endIs};
 ghost use Rattle.partner_turn.specs.Check.{rightBy};
 ghost use Rattle.session_memory.specs.State.{at};
-ghost use Rattle.numbers.specs.Whole.{awaitOf, keepOf};
-ghost use Rattle.line_effect.specs.Judge.{judged, turnMarks, settledKeep, nextAccepted, answered, proposalLine, ffLine, fqLine, turnRead, turnLine};
+ghost use Rattle.numbers.specs.Whole.{Arrays, withBlock, sessionOf};
+ghost use Rattle.line_effect.specs.Judge.{wholeTurn, nextAccepted, answered, proposalLine, ffLine, fqLine, turnRead, turnLine};
 ghost use Rattle.line_effect.specs.Verdict.{judgedOf};
 
 // The partner's turn is whole, so what we were sending is forwarded.
 fn whole_turn(s: Numbers, speaks: u8) -> Verdict
-    ensures { λ r. ⌜ ((block deferred : Bytes) → judgedOf r block deferred ≡ judged 0 speaks (turnMarks (keepOf (s .keep) deferred)) (awaitOf (s .now) block) (s .say) (settledKeep (keepOf (s .keep) deferred)) (s .reader)) ⌝ }
+    ensures { λ r. ⌜ ((a : Arrays) → judgedOf r a ≡ wholeTurn speaks (sessionOf s a)) ⌝ }
 {
     let keep = s.keep;
     let mut t = s;
@@ -44,7 +43,7 @@ fn whole_turn(s: Numbers, speaks: u8) -> Verdict
 
 // The block is answered by these signs: the first transfer is awaited, or it is our turn.
 fn answered(signs: Five, s: Numbers, block: &[u8]) -> Verdict
-    ensures { λ r. ⌜ ((deferred : Bytes) → judgedOf r (now (block .entry)) deferred ≡ answered signs (nextAccepted signs 0) (awaitOf (s .now) (now (block .entry))) (s .say) (keepOf (s .keep) deferred) (s .reader)) ⌝ }
+    ensures { λ r. ⌜ ((a : Arrays) → judgedOf r (withBlock (now (block .entry)) a) ≡ answered signs (nextAccepted signs 0) (sessionOf s (withBlock (now (block .entry)) a))) ⌝ }
 {
     let mut say = s.say;
     say.first = phase::PIECE_SIGNS;
@@ -81,7 +80,7 @@ fn end_line(
     inbox: &[u8],
     store: usize,
 ) -> Verdict
-    ensures { λ r. ⌜ ((deferred : Bytes) (n : ℕ) → judgedOf r (now (block .entry)) deferred ≡ turnRead (endIs check) n (awaitOf (s .now) (now (block .entry))) (s .say) (keepOf (s .keep) deferred) (s .reader) (now (table .entry)) (now (known .entry)) (now (inbox .entry)) store) ⌝ }
+    ensures { λ r. ⌜ ((a : Arrays) (n : ℕ) → judgedOf r (withBlock (now (block .entry)) a) ≡ turnRead (endIs check) n (sessionOf s (withBlock (now (block .entry)) a)) (now (table .entry)) (now (known .entry)) (now (inbox .entry)) store) ⌝ }
 {
     if s.now.proposals == 0 {
         return refusal(refusal::PROPOSAL_COUNT, s);
@@ -123,7 +122,7 @@ fn with_proposal(line: &[u8], p: Proposal, block: &mut [u8], place: usize)
 // A proposal of the partner's; sum: that of its line.
 fn proposal_line(line: &[u8], sum: u8, p: Proposal, s: Numbers, block: &mut [u8]) -> Verdict
     requires { ⌜ ProposalLies (now line) p ⌝ }
-    ensures { λ r. ⌜ ((deferred : Bytes) → judgedOf r (now (block .exit)) deferred ≡ proposalLine (proposalIs (now (line .entry)) p) sum (awaitOf (s .now) (now (block .entry))) (s .say) (keepOf (s .keep) deferred) (s .reader)) ⌝ }
+    ensures { λ r. ⌜ ((a : Arrays) → judgedOf r (withBlock (now (block .exit)) a) ≡ proposalLine (proposalIs (now (line .entry)) p) sum (sessionOf s (withBlock (now (block .entry)) a))) ⌝ }
 {
     if phase::BLOCK_LIMIT <= s.now.proposals {
         return refusal(refusal::PROPOSAL_COUNT, s);
@@ -140,7 +139,7 @@ fn proposal_line(line: &[u8], sum: u8, p: Proposal, s: Numbers, block: &mut [u8]
 
 // FF: the turn is whole, and it is our turn.
 fn ff_line(s: Numbers) -> Verdict
-    ensures { λ r. ⌜ ((block deferred : Bytes) → judgedOf r block deferred ≡ ffLine (awaitOf (s .now) block) (s .say) (keepOf (s .keep) deferred) (s .reader)) ⌝ }
+    ensures { λ r. ⌜ ((a : Arrays) → judgedOf r a ≡ ffLine (sessionOf s a)) ⌝ }
 {
     if s.now.proposals != 0 {
         return refusal(refusal::LINE_NOT_ALLOWED, s);
@@ -153,7 +152,7 @@ fn ff_line(s: Numbers) -> Verdict
 
 // FQ: the session is over.
 fn fq_line(s: Numbers) -> Verdict
-    ensures { λ r. ⌜ ((block deferred : Bytes) → judgedOf r block deferred ≡ fqLine (awaitOf (s .now) block) (s .say) (keepOf (s .keep) deferred) (s .reader)) ⌝ }
+    ensures { λ r. ⌜ ((a : Arrays) → judgedOf r a ≡ fqLine (sessionOf s a)) ⌝ }
 {
     if s.now.proposals != 0 {
         return refusal(refusal::LINE_NOT_ALLOWED, s);
@@ -177,7 +176,7 @@ pub fn turn_line(
     inbox: &[u8],
     store: usize,
 ) -> Verdict
-    ensures { λ r. ⌜ ((deferred : Bytes) → judgedOf r (now (block .exit)) deferred ≡ turnLine (now (line .entry)) sum (awaitOf (s .now) (now (block .entry))) (s .say) (keepOf (s .keep) deferred) (s .reader) (now (table .entry)) (now (known .entry)) (now (inbox .entry)) store) ⌝ }
+    ensures { λ r. ⌜ ((a : Arrays) → judgedOf r (withBlock (now (block .exit)) a) ≡ turnLine (now (line .entry)) sum (sessionOf s (withBlock (now (block .entry)) a)) (now (table .entry)) (now (known .entry)) (now (inbox .entry)) store) ⌝ }
 {
     let r = proposal::read_turn_line(line, s.keep.framed);
     match r {

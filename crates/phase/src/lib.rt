@@ -48,6 +48,13 @@ pub const OUR_TURN: u8 = 1;
 
 pub const OUR_TURN_AFTER_FF: u8 = 2;
 
+// A record's form, 01, "Lent memory"; the grammar's `formNumber`.
+pub const FORM_PLAIN: u8 = 0;
+
+pub const FORM_MESSAGE: u8 = 1;
+
+pub const FORM_FILE: u8 = 2;
+
 // A record's state, 01, "Lent memory".
 pub const STATE_WAITING: u8 = 0;
 

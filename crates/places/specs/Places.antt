@@ -1,19 +1,27 @@
 -- Where each thing lies in lent memory, and how long it is (docs/MEMORY.md has the same as tables).
 use Prim.Native.Nat.{ℕ, _+_, _-_}
+use Rattle.grammar.specs.Fields as fields
 
 -- ---------------------------------------------------------------- The longest field of each kind; 01, "Fields"
 
 abbrev pub callMax : ℕ
-callMax = 6
+callMax = fields.callMax
 
 abbrev pub atMax : ℕ
-atMax = 38
+atMax = fields.atMax
+
+-- what follows the first `.` of an at
+abbrev pub hierarchyMax : ℕ
+hierarchyMax = fields.afterDotMax
 
 abbrev pub bidMax : ℕ
-bidMax = 12
+bidMax = fields.bidMax
 
 abbrev pub headingMax : ℕ
-headingMax = 80
+headingMax = fields.headingMax
+
+abbrev pub bodyMax : ℕ
+bodyMax = fields.bodyLimit
 
 -- ---------------------------------------------------------------- The fields of a message, from where they begin; a proposal and an inbox entry begin with them, a record after its states. A field is a byte for its length, then room for the longest
 
@@ -289,8 +297,11 @@ lineAt = headingAt + headingLen
 abbrev pub blockAt : ℕ
 blockAt = lineAt + lineLen
 
+abbrev pub afterBlock : ℕ
+afterBlock = blockAt + blockLen
+
 abbrev pub arraysLen : ℕ
-arraysLen = blockAt + blockLen
+arraysLen = afterBlock
 
 abbrev pub arraysEnd : ℕ
 arraysEnd = arraysAt + arraysLen

@@ -5,9 +5,14 @@ pub const CALL_MAX: u8 = 6;
 
 pub const AT_MAX: u8 = 38;
 
+// What follows the first `.` of an at.
+pub const HIERARCHY_MAX: u8 = 31;
+
 pub const BID_MAX: u8 = 12;
 
 pub const HEADING_MAX: u8 = 80;
+
+pub const BODY_MAX: u16 = 65535;
 
 // The fields of a message, from where they begin; a proposal and an inbox entry begin with them, a record after its states. A field is a byte for its length, then room for the longest.
 pub const FORM: u8 = 0;
@@ -188,7 +193,9 @@ pub const LINE: usize = HEADING + HEADING_LENGTH;
 
 pub const BLOCK: usize = LINE + LINE_ROOM;
 
-pub const ARRAYS_LENGTH: usize = BLOCK + BLOCK_LENGTH;
+pub const AFTER_BLOCK: usize = BLOCK + BLOCK_LENGTH;
+
+pub const ARRAYS_LENGTH: usize = AFTER_BLOCK;
 
 pub const ARRAYS_END: usize = ARRAYS + ARRAYS_LENGTH;
 

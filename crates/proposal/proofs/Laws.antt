@@ -12,7 +12,7 @@ use lib.Seq.{drop-cons, take-all, take-suc-set, length-take-le}
 use borrow.Author.Tests.{eq-eqb, ne-eqb, lt-ltb, le-ltb, not-true, not-false}
 use Rattle.grammar.specs.Bytes.{Bytes, SP}
 use Rattle.grammar.specs.Fields.{formIs, upper, words, starts, isCall, isAt, isBid, isSize, readFrom, readSize, hexDigit, hexPair, twoHex}
-use Rattle.grammar.specs.Ascii.{text}
+use Rattle.grammar.specs.Ascii.{text, char}
 use Rattle.grammar.specs.Turns as turns
 use Rattle.byte.specs.declared.Hex.{Hex}
 use Rattle.byte.specs.Hex.{hexIs}
@@ -23,7 +23,7 @@ use Rattle.size.specs.Meaning.{sizeIs}
 use Rattle.proposal.specs.declared.TurnLine.{TurnLine}
 use Rattle.proposal.specs.declared.Seven.{Seven}
 use Rattle.proposal.specs.declared.Split.{Split}
-use Rattle.proposal.specs.Meaning.{isWord, turnLineIs, LiesIn, Within, SevenLie, wordsOf, SplitIs, formBy, typeBy, fieldsHold, sevenBy}
+use Rattle.proposal.specs.Meaning.{isWord, turnLineIs, LiesIn, Within, SevenLie, wordsOf, SplitIs, formBy, typeBy, fieldsHold, sevenBy, fieldCount, endLength, summedLength, noForm}
 
 -- ---------------------------------------------------------------- a word in either case
 
@@ -64,13 +64,13 @@ map-snoc l (x ∷ ss) s r = ap (λ (t : List Bytes). part l x ∷ t) (map-snoc l
 
 -- the first i words are those of the first i spans, which lie in the line, and the others come from a place on
 pub record Read (l : Bytes) (ss : List Span) (at i : ℕ) : Type 0 where
-  pub places : length ss ≡ 7
-  pub count : i ≤ 7
+  pub places : length ss ≡ fieldCount
+  pub count : i ≤ fieldCount
   pub said : words l ≡ map (part l) (take i ss) ++ words (drop at l)
   pub lie : AllLie l (take i ss)
 
 module _ (l : Bytes) (ss : List Span) (at i : ℕ) (h : Read l ss at i) (s : Span) (f : words (drop at l) ≡ wordsBy l s) where
-  pub read-more : i < 7 → s .start < s .end → s .end ≤ length l → Read l (set ss i s) (s .end) (i + 1)
+  pub read-more : i < fieldCount → s .start < s .end → s .end ≤ length l → Read l (set ss i s) (s .end) (i + 1)
   read-more k e b =
       let p = h .places in
       let t : take (i + 1) (set ss i s) ≡ take i ss ++ (s ∷ []) = rw (add-one i) (take-suc-set ss i s (omega arith)) in
@@ -81,11 +81,11 @@ module _ (l : Bytes) (ss : List Span) (at i : ℕ) (h : Read l ss at i) (s : Spa
         lie = subst (AllLie l) (sym t) (lie-snoc l (take i ss) s (h .lie) (omega arith, b));
       }
 
-  pub read-few : i < 7 → s .end ≤ s .start → eqb (length (words l)) 7 ≡ false
-  read-few k e = rw (h .said, f, le-ltb _ _ e, append-nil (map (part l) (take i ss)), length-map (take i ss) (part l), length-take-le i ss (let p = h .places in omega arith)) (ne-eqb i 7 (λ z. omega arith))
+  pub read-few : i < fieldCount → s .end ≤ s .start → eqb (length (words l)) fieldCount ≡ false
+  read-few k e = rw (h .said, f, le-ltb _ _ e, append-nil (map (part l) (take i ss)), length-map (take i ss) (part l), length-take-le i ss (let p = h .places in omega arith)) (ne-eqb i fieldCount (λ z. omega arith))
 
-  pub read-many : s .start < s .end → 7 ≤ i → eqb (length (words l)) 7 ≡ false
-  read-many e k = rw (h .said, f, lt-ltb _ _ e, length-append (map (part l) (take i ss)) (part l s ∷ words (drop (s .end) l)), length-map (take i ss) (part l), length-take-le i ss (let p = h .places in omega arith)) (ne-eqb (i + suc (length (words (drop (s .end) l)))) 7 (λ z. omega arith))
+  pub read-many : s .start < s .end → fieldCount ≤ i → eqb (length (words l)) fieldCount ≡ false
+  read-many e k = rw (h .said, f, lt-ltb _ _ e, length-append (map (part l) (take i ss)) (part l s ∷ words (drop (s .end) l)), length-map (take i ss) (part l), length-take-le i ss (let p = h .places in omega arith)) (ne-eqb (i + suc (length (words (drop (s .end) l)))) fieldCount (λ z. omega arith))
 
 -- seven spans by their names
 abbrev pub sevenOf : List Span → Seven
@@ -93,7 +93,7 @@ sevenOf ss =
     let z : Span = record { start = 0; end = 0 } in
     record { letters = getD ss 0 z; kind = getD ss 1 z; from = getD ss 2 z; at = getD ss 3 z; to = getD ss 4 z; bid = getD ss 5 z; size = getD ss 6 z }
 
-seven-named : (l : Bytes) (ss : List Span) → length ss ≡ 7 → AllLie l ss → (map (part l) ss ≡ wordsOf l (sevenOf ss)) × SevenLie l (sevenOf ss)
+seven-named : (l : Bytes) (ss : List Span) → length ss ≡ fieldCount → AllLie l ss → (map (part l) ss ≡ wordsOf l (sevenOf ss)) × SevenLie l (sevenOf ss)
 seven-named l [] n h = let z : ⊥ = omega arith in absurd z
 seven-named l (a ∷ []) n h = let z : ⊥ = omega arith in absurd z
 seven-named l (a ∷ b ∷ []) n h = let z : ⊥ = omega arith in absurd z
@@ -105,10 +105,10 @@ seven-named l (a ∷ b ∷ c ∷ d ∷ e ∷ f ∷ g ∷ []) n h =
     (refl, record { letters = h .0; kind = h .1 .0; from = h .1 .1 .0; at = h .1 .1 .1 .0; to = h .1 .1 .1 .1 .0; bid = h .1 .1 .1 .1 .1 .0; size = h .1 .1 .1 .1 .1 .1 .0 })
 seven-named l (a ∷ b ∷ c ∷ d ∷ e ∷ f ∷ g ∷ x ∷ ss) n h = let z : ⊥ = omega arith in absurd z
 
-pub read-start : (l : Bytes) (ss : List Span) → length ss ≡ 7 → Read l ss 0 0
+pub read-start : (l : Bytes) (ss : List Span) → length ss ≡ fieldCount → Read l ss 0 0
 read-start l ss n = record { places = n; count = omega arith; said = refl; lie = tt }
 
-pub read-seven : (l : Bytes) (ss : List Span) (at i : ℕ) → Read l ss at i → (s : Span) → words (drop at l) ≡ wordsBy l s → s .end ≤ s .start → 7 ≤ i → SplitIs l (Split.Words (sevenOf ss))
+pub read-seven : (l : Bytes) (ss : List Span) (at i : ℕ) → Read l ss at i → (s : Span) → words (drop at l) ≡ wordsBy l s → s .end ≤ s .start → fieldCount ≤ i → SplitIs l (Split.Words (sevenOf ss))
 read-seven l ss at i h s f e k =
     let p = h .places in
     let t : take i ss ≡ ss = take-all i ss (omega arith) in
@@ -124,11 +124,11 @@ size-last true false e x y = refl
 size-last false q e x y = refl
 
 module _ (framed : Bool) (l : Bytes) (w : Seven) (form : ℕ) (f : formBy form ≡ turns.formOf framed (map upper (part l (w .letters)))) where
-  pub no-form : form ≡ 3 → turns.notAllowed ≡ turns.orNotAllowed (sevenBy framed l w)
+  pub no-form : form ≡ noForm → turns.notAllowed ≡ turns.orNotAllowed (sevenBy framed l w)
   unfolding sevenBy
   no-form e = rw (← f, eq-eqb _ _ e)
 
-  module _ (n : form ≡ 3 → ⊥) (kind : ℕ) (g : typeBy kind ≡ turns.typeOf (map upper (part l (w .kind)))) where
+  module _ (n : form ≡ noForm → ⊥) (kind : ℕ) (g : typeBy kind ≡ turns.typeOf (map upper (part l (w .kind)))) where
     pub no-type : kind ≡ 0 → turns.notAllowed ≡ turns.orNotAllowed (sevenBy framed l w)
     unfolding sevenBy
     no-type e = rw (← f, ne-eqb _ _ n, ← g, eq-eqb _ _ e)
@@ -166,7 +166,7 @@ module _ (framed : Bool) (l : Bytes) (w : Seven) (form : ℕ) (f : formBy form �
 
 -- ---------------------------------------------------------------- a proposal line
 
-not-seven : (framed : Bool) (ws : List Bytes) → eqb (length ws) 7 ≡ false → turns.sevenRead framed ws ≡ none
+not-seven : (framed : Bool) (ws : List Bytes) → eqb (length ws) fieldCount ≡ false → turns.sevenRead framed ws ≡ none
 not-seven md [] e = refl
 not-seven md (a ∷ []) e = refl
 not-seven md (a ∷ b ∷ []) e = refl
@@ -214,7 +214,7 @@ module _ (framed : Bool) (l : Bytes) (h : 1 ≤ length l) where
 -- the first three bytes, and then the digits
 summed-by : (a b c : ℕ) (r : Bytes) → turns.readSummedEnd (a ∷ b ∷ c ∷ r) ≡ cond (isWord (text "F> ") (a ∷ b ∷ c ∷ [])) (twoHex r) none
 unfolding turns.readSummedEnd
-summed-by a b c r = go (eqb (upper a) 70) (eqb (upper b) 62) (eqb (upper c) 32)
+summed-by a b c r = go (eqb (upper a) (char "F")) (eqb (upper b) (char ">")) (eqb (upper c) (char " "))
   where
     go : (p q s : Bool) → turns.twoHexRead (cond p (cond q (cond s (some r) none) none) none) ≡ cond (p && (q && (s && true))) (twoHex r) none
     go true true true = refl
@@ -226,15 +226,15 @@ no-digits : {A : Type 0} (b : Bool) → _≡_ {A = Option A} (cond b none none) 
 no-digits true = refl
 no-digits false = refl
 
-pub summed-length : (l : Bytes) → (length l ≡ 5 → ⊥) → none ≡ turns.readSummedEnd l
+pub summed-length : (l : Bytes) → (length l ≡ summedLength → ⊥) → none ≡ turns.readSummedEnd l
 unfolding turns.readSummedEnd twoHex
 summed-length [] n = refl
-summed-length (a ∷ []) n = go (eqb (upper a) 70)
+summed-length (a ∷ []) n = go (eqb (upper a) (char "F"))
   where
     go : (p : Bool) → none ≡ turns.twoHexRead (cond p none none)
     go true = refl
     go false = refl
-summed-length (a ∷ b ∷ []) n = go (eqb (upper a) 70) (eqb (upper b) 62)
+summed-length (a ∷ b ∷ []) n = go (eqb (upper a) (char "F")) (eqb (upper b) (char ">"))
   where
     go : (p q : Bool) → none ≡ turns.twoHexRead (cond p (cond q none none) none)
     go true true = refl
@@ -246,8 +246,8 @@ summed-length (a ∷ b ∷ c ∷ d ∷ e ∷ []) n = absurd (n refl)
 summed-length (a ∷ b ∷ c ∷ d ∷ e ∷ f ∷ r) n = sym (summed-by a b c (d ∷ e ∷ f ∷ r) ∙ no-digits (isWord (text "F> ") (a ∷ b ∷ c ∷ [])))
 
 -- w: whether the line begins with F> and a space
-summed-here : (l : Bytes) → length l ≡ 5 → (w : Bool) → w ≡ isWord (text "F> ") (take 3 l)
-    → cond w (hexPair (hexDigit (getD l 3 0)) (hexDigit (getD l 4 0))) none ≡ turns.readSummedEnd l
+summed-here : (l : Bytes) → length l ≡ summedLength → (w : Bool) → w ≡ isWord (text "F> ") (take endLength l)
+    → cond w (hexPair (hexDigit (getD l endLength 0)) (hexDigit (getD l (endLength + 1) 0))) none ≡ turns.readSummedEnd l
 unfolding twoHex
 summed-here [] n w e = let z : ⊥ = omega arith in absurd z
 summed-here (a ∷ []) n w e = let z : ⊥ = omega arith in absurd z
@@ -257,12 +257,12 @@ summed-here (a ∷ b ∷ c ∷ d ∷ []) n w e = let z : ⊥ = omega arith in ab
 summed-here (a ∷ b ∷ c ∷ d ∷ f ∷ []) n w e = ap (λ (x : Bool). cond x (hexPair (hexDigit d) (hexDigit f)) none) e ∙ sym (summed-by a b c (d ∷ f ∷ []))
 summed-here (a ∷ b ∷ c ∷ d ∷ f ∷ g ∷ r) n w e = let z : ⊥ = omega arith in absurd z
 
-module _ (l : Bytes) (n : length l ≡ 5) (w : Bool) (e : w ≡ isWord (text "F> ") (take 3 l)) where
+module _ (l : Bytes) (n : length l ≡ summedLength) (w : Bool) (e : w ≡ isWord (text "F> ") (take endLength l)) where
   pub summed-none : w ≡ false → none ≡ turns.readSummedEnd l
-  summed-none f = ap (λ (x : Bool). cond x (hexPair (hexDigit (getD l 3 0)) (hexDigit (getD l 4 0))) none) (sym f) ∙ summed-here l n w e
+  summed-none f = ap (λ (x : Bool). cond x (hexPair (hexDigit (getD l endLength 0)) (hexDigit (getD l (endLength + 1) 0))) none) (sym f) ∙ summed-here l n w e
 
-  pub summed-pair : w ≡ true → hexPair (hexDigit (getD l 3 0)) (hexDigit (getD l 4 0)) ≡ turns.readSummedEnd l
-  summed-pair f = ap (λ (x : Bool). cond x (hexPair (hexDigit (getD l 3 0)) (hexDigit (getD l 4 0))) none) (sym f) ∙ summed-here l n w e
+  pub summed-pair : w ≡ true → hexPair (hexDigit (getD l endLength 0)) (hexDigit (getD l (endLength + 1) 0)) ≡ turns.readSummedEnd l
+  summed-pair f = ap (λ (x : Bool). cond x (hexPair (hexDigit (getD l endLength 0)) (hexDigit (getD l (endLength + 1) 0))) none) (sym f) ∙ summed-here l n w e
 
 -- what the end is, where its case is known
 pub summed-as : (l : Bytes) (h x : Hex) → hexIs h ≡ turns.readSummedEnd l → h ≡ x → turns.readSummedEnd l ≡ hexIs x

@@ -3,7 +3,7 @@ use mathlib.Core.Path.{_≡_}
 use mathlib.Core.Bool.{Bool, false, cond, _&&_}
 use mathlib.Core.Option.{Option, none, some}
 use mathlib.Core.List.{List, [], _∷_, map}
-use Prim.Native.Nat.{ℕ, _≤_}
+use Prim.Native.Nat.{ℕ, _+_, _≤_}
 use lib.Dec.{eqb}
 use lib.ListN.{length}
 use Rattle.grammar.specs.Bytes.{Bytes, same}
@@ -63,9 +63,23 @@ LiesIn l (TurnLine.Proposed p) = ProposalLies l p
 abbrev pub isWord : Bytes → Bytes → Bool
 isWord word s = same (map upper s) word
 
--- The form that form_of answers; 3 says that there is none.
+-- "Seven fields .. letters, type, from, at, to, BID, size"
+abbrev pub fieldCount : ℕ
+fieldCount = 7
+
+-- "F> HH": `F>`, a space, and two digits
+abbrev pub endLength : ℕ
+endLength = 3
+
+abbrev pub summedLength : ℕ
+summedLength = endLength + 2
+
+-- The form that form_of answers; this says that there is none.
+abbrev pub noForm : ℕ
+noForm = 3
+
 abbrev pub formBy : ℕ → Option Form
-formBy n = cond (eqb n 3) none (some (formIs n))
+formBy n = cond (eqb n noForm) none (some (formIs n))
 
 -- The type that type_of answers; 0 says that there is none.
 abbrev pub typeBy : ℕ → Option ℕ
@@ -89,7 +103,7 @@ wordsOf l w =
 -- The words of the line are these seven, or they are not seven.
 abbrev pub SplitIs : Bytes → Split → Type 0
 SplitIs l (Split.Words w) = (words l ≡ wordsOf l w) × SevenLie l w
-SplitIs l Split.NotSeven = eqb (length (words l)) 7 ≡ false
+SplitIs l Split.NotSeven = eqb (length (words l)) fieldCount ≡ false
 
 -- From, at, to and BID obey their rules.
 abbrev pub fieldsHold : Bytes → Seven → Bool

@@ -15,7 +15,7 @@ ghost use Prim.Native.Nat.{_≤_};
 ghost use Rattle.grammar.specs.Fields.{upper};
 ghost use Rattle.grammar.specs.Turns.{formOf, typeOf, orNotAllowed, readProposal, readSummedEnd, readTurnLine};
 ghost use Rattle.byte.specs.Hex.{hexIs};
-ghost use Rattle.proposal.specs.Meaning.{isWord, turnLineIs, LiesIn, formBy, typeBy, SplitIs, SevenLie, fieldsHold, sevenBy};
+ghost use Rattle.proposal.specs.Meaning.{isWord, turnLineIs, LiesIn, formBy, typeBy, SplitIs, SevenLie, fieldsHold, sevenBy, noForm};
 
 // A proposal as read: its form by 01's number, its type as the capital P or B, and its fields where they lie in the line.
 pub struct Proposal {
@@ -54,13 +54,28 @@ enum Split {
     NotSeven,
 }
 
+// The forms by 01's numbers.
+const PLAIN: u8 = phase::FORM_PLAIN;
+
+const MESSAGE: u8 = phase::FORM_MESSAGE;
+
+const FILE: u8 = phase::FORM_FILE;
+
 // What form_of and type_of answer where there is none.
 const NO_FORM: u8 = 3;
 
 const NO_TYPE: u8 = 0;
 
-// The length of F> with a checksum.
-const SUMMED_END: usize = 5;
+// The fields of a proposal.
+const FIELDS: usize = 7;
+
+// The length of `F>` and a space, and of F> with a checksum.
+const END_LENGTH: usize = 3;
+
+const SUMMED_END: usize = END_LENGTH + 2;
+
+// The place of the second digit of the checksum.
+const LAST_DIGIT: usize = SUMMED_END - 1;
 
 // The bytes are the word, in either case; the word is given in capitals.
 fn is_word(s: &[u8], word: &[u8]) -> bool
@@ -81,21 +96,21 @@ fn is_word(s: &[u8], word: &[u8]) -> bool
 
 // The form that the letters of a proposal stand for in this mode.
 fn form_of(framed: bool, w: &[u8]) -> u8
-    ensures { λ r. ⌜ (formBy r ≡ formOf framed (map upper (now (w .entry)))) × (r ≤ 3) ⌝ }
+    ensures { λ r. ⌜ (formBy r ≡ formOf framed (map upper (now (w .entry)))) × (r ≤ noForm) ⌝ }
 {
     if framed {
         if is_word(w, b"FA") {
-            return 1;
+            return MESSAGE;
         }
         if is_word(w, b"FB") {
-            return 2;
+            return FILE;
         }
         return NO_FORM;
     }
     if !is_word(w, b"FB") {
         return NO_FORM;
     }
-    0
+    PLAIN
 }
 
 // The type, P or B.
@@ -115,10 +130,10 @@ fn type_of(w: &[u8]) -> u8
 fn seven_words(line: &[u8]) -> Split
     ensures { λ r. ⌜ SplitIs (now (line .entry)) r ⌝ }
 {
-    let mut w = [Span { start: 0, end: 0 }; 7];
+    let mut w = [Span { start: 0, end: 0 }; FIELDS];
     let mut place = 0;
     let mut i = 0;
-    while i < 7 {
+    while i < FIELDS {
         let s = field_by_reader(line, place);
         if s.end <= s.start {
             return Split::NotSeven;
@@ -239,10 +254,10 @@ fn summed_end(line: &[u8]) -> Hex
     if line.len() != SUMMED_END {
         return Hex::Other;
     }
-    if !is_word(&line[..3], b"F> ") {
+    if !is_word(&line[..END_LENGTH], b"F> ") {
         return Hex::Other;
     }
-    hex_pair(line[3], line[4])
+    hex_pair(line[END_LENGTH], line[LAST_DIGIT])
 }
 
 // What a line, its spaces at the end removed, says in a turn; a proposal's fields lie in the line.

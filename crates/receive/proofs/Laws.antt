@@ -7,9 +7,9 @@ use native.Mathlib.Omega.{arith}
 use lib.ListN.{length, getD, take, drop, length-drop, drop-of-length-le}
 use lib.Seq.{take-all, drop-cons, drop-drop}
 use borrow.Author.Tests.{eq-eqb, ne-eqb, eqb-true}
-use Rattle.grammar.specs.Bytes.{Bytes}
+use Rattle.grammar.specs.Bytes.{Bytes, byteValues}
 use Rattle.layout.specs.Layout.{byteAt}
-use Rattle.grammar.specs.Refusals.{badMemory, sessionEnded}
+use Rattle.grammar.specs.Refusals.{badMemory, sessionEnded, noPlace}
 use Rattle.buffer.specs.Put.{putBytes}
 use Rattle.places.specs.Places.{sessionLen, numbersStart, arraysAt, arraysLen}
 use Rattle.session_memory.specs.State.{at, loadOf}
@@ -21,7 +21,7 @@ use Rattle.give.specs.declared.Reply.{Reply}
 use Rattle.region.specs.Region.{lent}
 use Rattle.numbers.specs.declared.Numbers.{Numbers}
 use Rattle.numbers.specs.Whole.{wholeOf, numbersAt, numberBytes}
-use Rattle.numbers_in_place.proofs.Arrays.{arraysIn, arrays-length, load-arrays, saved-lent}
+use Rattle.numbers_in_place.proofs.Arrays.{arraysPart, arrays-length, load-arrays, saved-lent}
 use Rattle.byte_run.specs.Taking.{Takes, Live}
 use Rattle.receive_defined.specs.Receiving.{Cs, cs, moved, Run, run, stops, receiveFrom, Received, saved, receiveOf}
 use Rattle.receive_defined.specs.Portion.{portionOf, Roomy}
@@ -35,7 +35,7 @@ use Rattle.receive.proofs.Portions.{good-roomy, portion-good}
 
 -- ---------------------------------------------------------------- bytes
 
-pub octets-of : (l : Bytes) → ((i : ℕ) → byteAt l i < 256) → Octets l
+pub octets-of : (l : Bytes) → ((i : ℕ) → byteAt l i < byteValues) → Octets l
 octets-of [] h = octets-nil
 octets-of (x ∷ l) h = octets-cons (h 0) (octets-of l (λ i. h (suc i)))
 
@@ -115,10 +115,10 @@ module _ (known : Bytes) (c₀ : Cs) (bs : Bytes) {c : Cs} {i : ℕ} (t : Taking
 -- ---------------------------------------------------------------- for `take_all`
 
 module _ (h : Numbers) (sm bs : Bytes) (v : Live h sm bs) where
-  pub loads : loadOf sm ≡ wholeOf h (arraysIn sm)
-  loads = load-arrays sm (v .size) ∙ ap (λ (x : Numbers). wholeOf x (arraysIn sm)) (sym (v .numbers))
+  pub loads : loadOf sm ≡ wholeOf h (arraysPart sm)
+  loads = load-arrays sm (v .size) ∙ ap (λ (x : Numbers). wholeOf x (arraysPart sm)) (sym (v .numbers))
 
-  pub loaded-sound : (table inbox store : Bytes) → Sound (cs (loadOf sm) table inbox store) → Sound (cs (wholeOf h (arraysIn sm)) table inbox store)
+  pub loaded-sound : (table inbox store : Bytes) → Sound (cs (loadOf sm) table inbox store) → Sound (cs (wholeOf h (arraysPart sm)) table inbox store)
   loaded-sound table inbox store s = subst (λ (x : Session). Sound (cs x table inbox store)) loads s
 
   -- the kept messages lie in the store
@@ -127,8 +127,8 @@ module _ (h : Numbers) (sm bs : Bytes) (v : Live h sm bs) where
   used-within table inbox store s = sound-roomy (loaded-sound table inbox store s) .used
 
   -- the arrays are w after the bytes, and then the numbers are saved
-  pub all-saved : (known table inbox store : Bytes) (n k : ℕ) (t : Numbers) (w table′ inbox′ store′ x : Bytes) (r : Reply) → length w ≡ length (arraysIn sm)
-      → run n k (cs (wholeOf t w) table′ inbox′ store′) ≡ receiveFrom known (cs (wholeOf h (arraysIn sm)) table inbox store) 0 bs
+  pub all-saved : (known table inbox store : Bytes) (n k : ℕ) (t : Numbers) (w table′ inbox′ store′ x : Bytes) (r : Reply) → length w ≡ length (arraysPart sm)
+      → run n k (cs (wholeOf t w) table′ inbox′ store′) ≡ receiveFrom known (cs (wholeOf h (arraysPart sm)) table inbox store) 0 bs
       → x ≡ putBytes (lent arraysAt arraysLen sm w) (at numbersStart) (numberBytes t) → r ≡ reply n 0 k
       → _≡_ {A = Received} (record { reply = r; sm = x; table = table′; inbox = inbox′; store = store′ }) (saved sm (receiveFrom known (cs (loadOf sm) table inbox store) 0 bs))
   all-saved known table inbox store n k t w table′ inbox′ store′ x r l e f g =
@@ -154,7 +154,7 @@ module _ (sm table titles names bodies known inbox store bs : Bytes) {b : Bool} 
   fixed = record { titles = titles; names = names; bodies = bodies; known = known }
 
   -- the memory fails the form test
-  pub receive-bad : b ≡ false → {r : Reply} → r ≡ reply badMemory 255 0 → unchanged r ≡ asked
+  pub receive-bad : b ≡ false → {r : Reply} → r ≡ reply badMemory noPlace 0 → unchanged r ≡ asked
   unfolding receiveOf
   receive-bad q e = ap unchanged e ∙ rw (sym f ∙ q)
 
@@ -178,7 +178,7 @@ module _ (sm table titles names bodies known inbox store bs : Bytes) {b : Bool} 
 
     module _ {v : Bool} {h : Numbers} (e : h ≡ numbersAt sm) (o : (m : Bytes) → v ≡ overOf (wholeOf h m)) where
       over-is : v ≡ overOf (loadOf sm)
-      over-is = o (arraysIn sm) ∙ ap overOf (ap (λ (x : Numbers). wholeOf x (arraysIn sm)) e ∙ sym (load-arrays sm form-size))
+      over-is = o (arraysPart sm) ∙ ap overOf (ap (λ (x : Numbers). wholeOf x (arraysPart sm)) e ∙ sym (load-arrays sm form-size))
 
       -- the session is over
       pub receive-over : v ≡ true → {r : Reply} → r ≡ reply sessionEnded 0 0 → unchanged r ≡ asked

@@ -4,7 +4,7 @@ use mathlib.Core.List.{[], _∷_}
 use Prim.Native.Nat.{ℕ, _<_, _≤_}
 use native.Mathlib.Omega.{arith}
 use lib.ListN.{length, drop, length-drop}
-use Rattle.grammar.specs.Bytes.{Bytes}
+use Rattle.grammar.specs.Bytes.{Bytes, byteValues}
 use Rattle.receive_defined.specs.Receiving.{Cs}
 use Rattle.receive_defined.specs.Portion.{portionOf, Roomy}
 use Rattle.receive_defined.proofs.Portions.{Each, portion-keeps}
@@ -22,11 +22,11 @@ good-roomy F nt ni ns c g =
       body = λ e. let u = g .awaited .under e in omega (arith, u .short, u .room, length-drop (c .session .keep .used) (c .store));
     }
 
-each-octet : (bs : Bytes) → Octets bs → Each (λ b. b < 256) bs
+each-octet : (bs : Bytes) → Octets bs → Each (λ b. b < byteValues) bs
 each-octet [] o = tt
 each-octet (b ∷ bs) o = (octets-first o, each-octet bs (octets-rest o))
 
 -- The facts of the form test hold after a portion.
 pub portion-good : (known : Bytes) (c : Cs) (b : ℕ) (bs : Bytes) (F : Fixed) (nt ni ns : ℕ) → Octets (b ∷ bs) → Good F nt ni ns c → Good F nt ni ns (portionOf known c (b ∷ bs) .cs)
 portion-good known c b bs F nt ni ns o g =
-    portion-keeps known c b bs (Good F nt ni ns) (λ x. x < 256) (λ d x h s. byte-ok F nt ni ns d x h s known) (g .box .within) (each-octet (b ∷ bs) o) g
+    portion-keeps known c b bs (Good F nt ni ns) (λ x. x < byteValues) (λ d x h s. byte-ok F nt ni ns d x h s known) (g .box .within) (each-octet (b ∷ bs) o) g

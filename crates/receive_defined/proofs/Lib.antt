@@ -1,3 +1,2 @@
 -- Laws of lines settled where the arrays stand.
-pub mod InPlace
 pub mod Portions

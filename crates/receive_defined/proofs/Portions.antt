@@ -14,6 +14,9 @@ use lib.Seq.{length-take-le, take-at, drop-at}
 use borrow.Author.Tests.{eqb-true, not-true}
 use Rattle.grammar.specs.Bytes.{Bytes, LF}
 use Rattle.grammar.proofs.Basics.{and2}
+use Rattle.grammar.specs.Fields.{bodyLimit}
+use Rattle.transfer_step.specs.Names.{toBody}
+use Rattle.phase.specs.Phase.{phaseTransfer}
 use Rattle.transfer_step.specs.declared.Reader.{Reader}
 use Rattle.transfer_step.specs.declared.Outcome.{Outcome}
 use Rattle.transfer_step.specs.declared.Outcome.the-variants.{More, Whole, Malformed, WrongSum, NoRoom}
@@ -44,7 +47,7 @@ storeAfter room r b st = storePut (stepOf room r b .put) r b st
 
 room-after : (room : ℕ) (r : Reader) (b : ℕ) (st : Bytes) → roomOf (storeAfter room r b st) ≡ roomOf st
 unfolding storePut
-room-after room r b st = ap (λ (n : ℕ). min n 65535) (go (eqb (stepOf room r b .put) 2))
+room-after room r b st = ap (λ (n : ℕ). min n bodyLimit) (go (eqb (stepOf room r b .put) toBody))
   where
     go : (a : Bool) → length (cond a (set st (r .body) b) st) ≡ length st
     go true = length-set st (r .body) b
@@ -105,7 +108,7 @@ further known n bs p =
     cond (stops (moved (p .answer) (p .cs))) (run (p .answer) (n + p .count) (p .cs)) (receiveFrom known (p .cs) (n + p .count) (drop (p .count) bs))
 
 -- s: the session; pre: the store before the message
-module _ (known : Bytes) (s : Session) (table inbox pre : Bytes) (l : length pre ≡ s .keep .used) (w : waits (s .say) ≡ false) (p : s .now .phase ≡ 5) where
+module _ (known : Bytes) (s : Session) (table inbox pre : Bytes) (l : length pre ≡ s .keep .used) (w : waits (s .say) ≡ false) (p : s .now .phase ≡ phaseTransfer) where
   abbrev at : Reader → Bytes → Bytes → Cs
   at r hd st = cs (reading s r hd) table inbox (pre ++ st)
 
@@ -195,14 +198,14 @@ module _ (known : Bytes) (c : Cs) (b : ℕ) (bs : Bytes) where
     no-lf : c .session .line .«after_cr» && eqb b LF ≡ false
     no-lf = not-true (c .session .line .«after_cr» && eqb b LF) (and2 (not (c .session .line .«after_cr» && eqb b LF)) _ e .0)
 
-    quiet-five : (not (waits (c .session .say)) ≡ true) × (eqb (c .session .now .phase) 5 ≡ true)
+    quiet-five : (not (waits (c .session .say)) ≡ true) × (eqb (c .session .now .phase) phaseTransfer ≡ true)
     quiet-five = and2 (not (waits (c .session .say))) _ (and2 (not (c .session .line .«after_cr» && eqb b LF)) _ e .1)
 
     quiet : waits (c .session .say) ≡ false
     quiet = not-true (waits (c .session .say)) (quiet-five .0)
 
-    five : c .session .now .phase ≡ 5
-    five = eqb-true (c .session .now .phase) 5 (quiet-five .1)
+    five : c .session .now .phase ≡ phaseTransfer
+    five = eqb-true (c .session .now .phase) phaseTransfer (quiet-five .1)
 
     -- the first byte, whatever the line's flag is
     first-byte : byteOf known c b ≡ transferStepOf c b

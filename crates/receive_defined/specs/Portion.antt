@@ -7,6 +7,7 @@ use Prim.Native.Nat.{ℕ, _≤_}
 use lib.Dec.{eqb}
 use lib.ListN.{length, take, drop}
 use Rattle.grammar.specs.Bytes.{Bytes, LF}
+use Rattle.mail.specs.Mail.{placeLimit}
 use Rattle.phase.specs.Phase.{phaseTransfer}
 use Rattle.transfer_read.specs.Feed as transfer
 use Rattle.transfer_read.specs.Feed.{roomOf, feedOf}
@@ -43,6 +44,6 @@ portionOf known c (b ∷ bs) = cond (ofTransfer c b) (transferPortionOf c (b ∷
 
 -- What the form test gives, of the numbers that grow when a message is kept: they stay within their bytes.
 pub record Roomy (c : Cs) : Type 0 where
-  pub kept : c .session .keep .kept ≤ 64
+  pub kept : c .session .keep .kept ≤ placeLimit
   pub used : c .session .keep .used ≤ length (c .store)
   pub body : c .session .now .phase ≡ phaseTransfer → c .session .reading .reader .body ≤ roomLeft c

@@ -6,11 +6,13 @@ use Prim.Native.Nat.{ℕ, suc, _+_, _*_}
 use lib.Dec.{eqb}
 use lib.ListN.{length, set, take, drop}
 use Rattle.grammar.specs.Bytes.{Bytes, LF}
-use Rattle.grammar.specs.Refusals.{badMemory, bytesWait, sessionEnded}
+use Rattle.grammar.specs.Refusals.{badMemory, bytesWait, sessionEnded, noPlace}
 use Rattle.grammar.specs.Lines.{LineByte, dropped, ends, grows, overruns, lineByte, lineByteNumber, trim}
+use Rattle.grammar.specs.Fields.{plain, formNumber}
 use Rattle.buffer.specs.Put.{putBytes}
 use Rattle.layout.specs.Layout.{byteAt, entryAt, entrySize, proposalSize, entryOut}
 use Rattle.phase.specs.Phase.{phaseTransfer, phaseOver, pieceNone, notOurTurn, ourTurn, ourTurnAfterFF, noProposal}
+use Rattle.places.specs.Places.{formAt}
 use Rattle.transfer_step.specs.declared.Reader.{Reader}
 use Rattle.transfer_step.specs.declared.Stepped.{Stepped}
 use Rattle.transfer_step.specs.declared.Outcome.{Outcome}
@@ -19,12 +21,10 @@ use Rattle.transfer_step.specs.Step.{outcomeNumber, stepOf}
 use Rattle.transfer_read.specs.Feed.{headingPut, storePut, roomOf}
 use Rattle.session_memory.specs.State.{at, held, loadOf, saveOf}
 use Rattle.session_memory.specs.Setters.{withFirst, withThen, withPos, withKept, withReader, withBytes, withAfterCr, withNow, withSay, withKeep, withReading, withLine, withTally}
-use Rattle.session_memory.specs.Session.{Await}
 use Rattle.session_memory.specs.declared.Say.{Say}
 use Rattle.session_memory.specs.Session.{Keep}
 use Rattle.session_memory.specs.Session.{Session}
 use Rattle.marking.specs.States.{markAll}
-use Rattle.session_memory.specs.declared.Tally.{Tally}
 use Rattle.receive_defined.specs.Tallied.{talliedOf}
 use Rattle.line_effect.specs.Judge.{noMarks, judged, inPhase, toTransfer, nextAccepted, readerFor, lineSum, judgeOf}
 use Rattle.our_turn.specs.Turn.{speakOf}
@@ -62,15 +62,14 @@ refusedOf n s =
 abbrev pub unsaid : Say → Say
 unsaid y = withPos 0 y
 
-abbrev pub settledOf : Session → Judged → Bool → Await → Say → Session
-settledOf s j afterCr w y =
-    withNow w (withSay (unsaid y) (withKeep (j .keep) (withReading (withReader (j .reader) (s .reading)) (withLine (withAfterCr afterCr (withBytes 0 (s .line .bytes) (s .line))) s))))
+-- A new line begins.
+abbrev pub afterLine : Bool → Session → Session
+afterLine afterCr s = withSay (unsaid (s .say)) (withLine (withAfterCr afterCr (withBytes 0 (s .line .bytes) (s .line))) s)
 
 -- our turn, if it is
-abbrev pub spokenOf : Session → Judged → Bool → Bytes → Session
-spokenOf s j afterCr table =
-    cond (eqb (j .speaks) notOurTurn) (settledOf s j afterCr (j .now) (j .say))
-    (settledOf s j afterCr (speakOf (j .now) (j .say) (j .keep) table (eqb (j .speaks) ourTurnAfterFF) .now) (speakOf (j .now) (j .say) (j .keep) table (eqb (j .speaks) ourTurnAfterFF) .say))
+abbrev pub spokenOf : Judged → Bool → Bytes → Session
+spokenOf j afterCr table =
+    cond (eqb (j .speaks) notOurTurn) (afterLine afterCr (j .next)) (afterLine afterCr (speakOf (j .next) table (eqb (j .speaks) ourTurnAfterFF)))
 
 pub record Settled : Type 0 where
   pub answer : ℕ
@@ -82,18 +81,18 @@ settled n s table = record { answer = n; session = s; table = table }
 
 -- The table with what was judged marked in the partner's column.
 abbrev pub markedBy : Judged → Bytes → Bytes
-markedBy j table = markAll (j .keep .terms .partner) (held (j .marks .places)) (j .marks .state) table
+markedBy j table = markAll (j .next .keep .terms .partner) (held (j .marks .places)) (j .marks .state) table
 
 -- s after our turn, if it is, with what that and the marks count.
-abbrev pub countedOf : Tally → Judged → Bytes → Session → Session
-countedOf t j table s = withTally (talliedOf t j (s .now) table) s
+abbrev pub countedOf : Judged → Bytes → Session → Session
+countedOf j table s = withTally (talliedOf j (s .now) table) s
 
 -- Marks first, then our turn; both are counted.
-unfoldable pub settleOf : Session → Judged → Bool → Bytes → Settled
-settleOf s j afterCr table =
+unfoldable pub settleOf : Judged → Bool → Bytes → Settled
+settleOf j afterCr table =
     cond (eqb (j .answer) 0)
-    (settled 0 (countedOf (s .tally) j (markedBy j table) (spokenOf s j afterCr (markedBy j table))) (markedBy j table))
-    (settled (j .answer) (refusedOf (j .answer) s) table)
+    (settled 0 (countedOf j (markedBy j table) (spokenOf j afterCr (markedBy j table))) (markedBy j table))
+    (settled (j .answer) (refusedOf (j .answer) (j .next)) table)
 
 -- ---------------------------------------------------------------- a byte of a line
 
@@ -103,7 +102,7 @@ longer s b = withLine (withAfterCr false (withBytes (s .line .len + 1) (set (s .
 abbrev pub lineMoved : LineByte → Session → ℕ → Bytes → Bytes → Bytes → ℕ → Settled
 lineMoved dropped s b table known inbox store = settled 0 s table
 lineMoved ends s b table known inbox store =
-    settleOf s (judgeOf (trim (take (s .line .len) (s .line .bytes))) (lineSum (take (s .line .len) (s .line .bytes))) (s .now) (s .say) (s .keep) (s .reading .reader) table known inbox store) true table
+    settleOf (judgeOf (trim (take (s .line .len) (s .line .bytes))) (lineSum (take (s .line .len) (s .line .bytes))) s table known inbox store) true table
 lineMoved grows s b table known inbox store = settled 0 (longer s b) table
 lineMoved overruns s b table known inbox store = settled (lineByteNumber overruns) (refusedOf (lineByteNumber overruns) s) table
 
@@ -119,8 +118,8 @@ keptKeep s = withKept (s .keep .kept + 1) (s .keep .used + s .reading .reader .b
 abbrev pub nextJudged : Session → ℕ → Judged
 nextJudged s i =
     cond (eqb i noProposal)
-    (judged 0 ourTurn noMarks (s .now) (s .say) (keptKeep s) (s .reading .reader))
-    (judged 0 notOurTurn noMarks (toTransfer i (s .now)) (s .say) (keptKeep s) (readerFor (s .now) i))
+    (judged 0 ourTurn noMarks (withKeep (keptKeep s) s))
+    (judged 0 notOurTurn noMarks (withNow (toTransfer i (s .now)) (withKeep (keptKeep s) (withReading (withReader (readerFor (s .now) i) (s .reading)) s))))
 
 -- "A message is kept at its last byte.": its entry in the inbox
 unfoldable pub keptInbox : Session → Bytes → Bytes
@@ -129,10 +128,10 @@ keptInbox s inbox =
     (entryOut (entryAt proposalSize (s .now .block) (s .now .current)) (take (s .reading .reader .head) (s .reading .heading)) (s .keep .used) (s .reading .reader .body))
 
 abbrev pub isPlainAt : Session → Bool
-isPlainAt s = eqb (byteAt (entryAt proposalSize (s .now .block) (s .now .current)) 0) 0
+isPlainAt s = eqb (byteAt (entryAt proposalSize (s .now .block) (s .now .current)) formAt) (formNumber plain)
 
 unfoldable pub keepOf : Session → Bytes → Settled
-keepOf s table = settleOf s (nextJudged s (nextAccepted (s .say .signs) (s .now .current + 1))) (isPlainAt s) table
+keepOf s table = settleOf (nextJudged s (nextAccepted (s .say .signs) (s .now .current + 1))) (isPlainAt s) table
 
 -- ---------------------------------------------------------------- a byte of a transfer
 
@@ -219,4 +218,4 @@ receiveOf sm table titles names bodies known inbox store bs =
     (cond (overOf (loadOf sm)) (unchanged (reply sessionEnded 0 0) sm table inbox store)
     (cond (eqb (length bs) 0) (unchanged (reply 0 0 0) sm table inbox store)
     (saved sm (receiveFrom known (cs (loadOf sm) table inbox store) 0 bs))))
-    (unchanged (reply badMemory 255 0) sm table inbox store)
+    (unchanged (reply badMemory noPlace 0) sm table inbox store)

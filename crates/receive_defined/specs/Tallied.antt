@@ -27,6 +27,6 @@ abbrev pub recountedOf : Tally → Marks → ℕ → Bytes → Sheet → Tally
 recountedOf t m partner table h = cond (eqb (m .places .count) 0) (record { waiting = t .waiting; sizes = t .sizes; sheet = h }) (counted partner table h)
 
 -- After what was judged, with the table marked; w: what is awaited once it was our turn, if it was.
-unfoldable pub talliedOf : Tally → Judged → Await → Bytes → Tally
-talliedOf t j w table =
-    recountedOf t (j .marks) (j .keep .terms .partner) table (proposedBy (sheetMarked (t .sheet) (j .marks)) (proposesOf (j .speaks) w))
+unfoldable pub talliedOf : Judged → Await → Bytes → Tally
+talliedOf j w table =
+    recountedOf (j .next .tally) (j .marks) (j .next .keep .terms .partner) table (proposedBy (sheetMarked (j .next .tally .sheet) (j .marks)) (proposesOf (j .speaks) w))

@@ -8,9 +8,12 @@ use lib.Dec.{eqb}
 use lib.ListN.{length, getD, take, drop, length-drop, drop-of-length-le}
 use lib.Seq.{drop-cons, length-take-le}
 use borrow.Author.Tests.{eq-eqb, ne-eqb}
-use Rattle.grammar.specs.Bytes.{Bytes, LF}
+use Rattle.grammar.specs.Bytes.{Bytes, LF, wordValues}
 use Rattle.grammar.proofs.Basics.{to-end}
+use Rattle.grammar.specs.Refusals.{badTransfer, badChecksum, storeFull, bytesWait}
+use Rattle.mail.specs.Mail.{placeLimit}
 use Rattle.places.specs.Places.{arraysLen, headingAt, headingLen}
+use Rattle.phase.specs.Phase.{phaseTransfer}
 use Rattle.transfer_read.specs.declared.Fed.{Fed}
 use Rattle.transfer_step.specs.declared.Outcome.{Outcome}
 use Rattle.transfer_step.specs.declared.Outcome.the-variants.{More, Whole, Malformed, WrongSum, NoRoom}
@@ -21,7 +24,7 @@ use Rattle.session_memory.specs.Session.{Session}
 use Rattle.pending.specs.Pending.{waits}
 use Rattle.region.specs.Region.{region, lent}
 use Rattle.numbers.specs.declared.Numbers.{Numbers}
-use Rattle.numbers.specs.Whole.{wholeOf}
+use Rattle.numbers.specs.Whole.{sessionOf, wholeOf}
 use Rattle.numbers_in_place.specs.Changed.{withReader}
 use Rattle.numbers_in_place.proofs.Arrays.{heading-lent}
 use Rattle.settling.specs.declared.Left.{Left}
@@ -50,14 +53,14 @@ module _ (s : Numbers) (m table inbox : Bytes) (o : Outcome) where
     refusal : (n : ℕ) → wholeOf x m ≡ refusedOf n (wholeOf s m) → (st : Bytes) → moved n (cs (wholeOf x m) table inbox st) ≡ moved n (cs (refusedOf n (wholeOf s m)) table inbox st)
     refusal n f st = ap (λ (y : Session). moved n (cs y table inbox st)) f
 
-    pub leaves-malformed : wholeOf x m ≡ refusedOf 8 (wholeOf s m) → o ≡ Malformed → Leaves o s m table inbox (record { answer = 8; session = x }) table inbox
-    leaves-malformed f e st = refusal 8 f st ∙ ap (λ (y : Outcome). transferMoved y (wholeOf s m) table inbox st) (sym e)
+    pub leaves-malformed : wholeOf x m ≡ refusedOf badTransfer (wholeOf s m) → o ≡ Malformed → Leaves o s m table inbox (record { answer = badTransfer; session = x }) table inbox
+    leaves-malformed f e st = refusal badTransfer f st ∙ ap (λ (y : Outcome). transferMoved y (wholeOf s m) table inbox st) (sym e)
 
-    pub leaves-wrong-sum : wholeOf x m ≡ refusedOf 9 (wholeOf s m) → o ≡ WrongSum → Leaves o s m table inbox (record { answer = 9; session = x }) table inbox
-    leaves-wrong-sum f e st = refusal 9 f st ∙ ap (λ (y : Outcome). transferMoved y (wholeOf s m) table inbox st) (sym e)
+    pub leaves-wrong-sum : wholeOf x m ≡ refusedOf badChecksum (wholeOf s m) → o ≡ WrongSum → Leaves o s m table inbox (record { answer = badChecksum; session = x }) table inbox
+    leaves-wrong-sum f e st = refusal badChecksum f st ∙ ap (λ (y : Outcome). transferMoved y (wholeOf s m) table inbox st) (sym e)
 
-    pub leaves-no-room : wholeOf x m ≡ refusedOf 10 (wholeOf s m) → o ≡ NoRoom → Leaves o s m table inbox (record { answer = 10; session = x }) table inbox
-    leaves-no-room f e st = refusal 10 f st ∙ ap (λ (y : Outcome). transferMoved y (wholeOf s m) table inbox st) (sym e)
+    pub leaves-no-room : wholeOf x m ≡ refusedOf storeFull (wholeOf s m) → o ≡ NoRoom → Leaves o s m table inbox (record { answer = storeFull; session = x }) table inbox
+    leaves-no-room f e st = refusal storeFull f st ∙ ap (λ (y : Outcome). transferMoved y (wholeOf s m) table inbox st) (sym e)
 
 -- ---------------------------------------------------------------- a transfer's run
 
@@ -82,7 +85,7 @@ module _ (s : Numbers) (m : Bytes) (n : length m ≡ arraysLen) (bs st : Bytes) 
 
   session-after : wholeOf (withReader (f .reader) s) (lent headingAt headingLen m u) ≡ reading (wholeOf s m) (f .reader) u
   unfolding wholeOf
-  session-after = heading-lent (withReader (f .reader) s) m u n (l ∙ length-take-le headingLen (drop headingAt m) (simp length-drop (omega arith)))
+  session-after = ap (sessionOf (withReader (f .reader) s)) (heading-lent m u n (l ∙ length-take-le headingLen (drop headingAt m) (simp length-drop (omega arith))))
 
   pub read-on : ReadOn before bs (record { outcome = f .outcome; count = f .count; session = withReader (f .reader) s })
       (take headingAt m ++ (u ++ drop headingLen (drop headingAt m))) (take (s .keep .used) st ++ (w ++ drop (length st - s .keep .used) (drop (s .keep .used) st)))
@@ -97,7 +100,7 @@ module _ (s : Numbers) (m : Bytes) (n : length m ≡ arraysLen) (bs st : Bytes) 
 
 module _ (s : Numbers) (m bs st : Bytes) (r : Reached) (m′ st′ : Bytes) (q : ReadOn (cs (wholeOf s m) [] [] st) bs r m′ st′) where
   -- the numbers of a kept message still fit
-  pub run-fits : s .keep .kept ≤ 64 → s .keep .used ≤ length st → s .reader .body ≤ roomOf (drop (s .keep .used) st) → length st < 18446744073709551616
+  pub run-fits : s .keep .kept ≤ placeLimit → s .keep .used ≤ length st → s .reader .body ≤ roomOf (drop (s .keep .used) st) → length st < wordValues
       → Keepable (r .session)
   unfolding wholeOf
   run-fits k u b l =
@@ -146,42 +149,42 @@ module _ (known : Bytes) (s : Session) (table inbox store bs : Bytes) (n : lengt
     abbrev rest : Bool → Bool → Bool → Moved
     rest x y z =
         cond x (moved 0 (cs (lfDropped s) table inbox store))
-        (cond y (moved 11 (cs (refusedOf 11 s) table inbox store)) (cond z (transferStepOf here first) (lineByteOf known here first)))
+        (cond y (moved bytesWait (cs (refusedOf bytesWait s) table inbox store)) (cond z (transferStepOf here first) (lineByteOf known here first)))
 
     pub portion-lf : (x : Session) → d ≡ true → x ≡ lfDropped s → run 0 1 (cs x table inbox store) ≡ portionOf known here bs
     unfolding byteOf
     portion-lf x e f =
-        by-byte (moved 0 (cs x table inbox store)) (ap (λ (y : Bool). not y && (not (waits (s .say)) && eqb (s .now .phase) 5)) (sym D ∙ e))
-        (ap (λ (y : Session). moved 0 (cs y table inbox store)) f ∙ ap (λ (y : Bool). rest y (waits (s .say)) (eqb (s .now .phase) 5)) (sym (sym D ∙ e)))
+        by-byte (moved 0 (cs x table inbox store)) (ap (λ (y : Bool). not y && (not (waits (s .say)) && eqb (s .now .phase) phaseTransfer)) (sym D ∙ e))
+        (ap (λ (y : Session). moved 0 (cs y table inbox store)) f ∙ ap (λ (y : Bool). rest y (waits (s .say)) (eqb (s .now .phase) phaseTransfer)) (sym (sym D ∙ e)))
 
     module _ (N : d ≡ false) (v : Bool) (E : v ≡ waits (s .say)) where
       not-dropped : s .line .«after_cr» && eqb first LF ≡ false
       not-dropped = sym D ∙ N
 
-      pub portion-waits : (x : Session) → v ≡ true → x ≡ refusedOf 11 s → run 11 1 (cs x table inbox store) ≡ portionOf known here bs
+      pub portion-waits : (x : Session) → v ≡ true → x ≡ refusedOf bytesWait s → run bytesWait 1 (cs x table inbox store) ≡ portionOf known here bs
       unfolding byteOf
       portion-waits x e f =
-          by-byte (moved 11 (cs x table inbox store))
-          (ap (λ (y : Bool). not y && (not (waits (s .say)) && eqb (s .now .phase) 5)) not-dropped ∙ ap (λ (y : Bool). not y && eqb (s .now .phase) 5) (sym E ∙ e))
-          (ap (λ (y : Session). moved 11 (cs y table inbox store)) f
-          ∙ ap (λ (y : Bool). rest false y (eqb (s .now .phase) 5)) (sym (sym E ∙ e)) ∙ ap (λ (y : Bool). rest y (waits (s .say)) (eqb (s .now .phase) 5)) (sym not-dropped))
+          by-byte (moved bytesWait (cs x table inbox store))
+          (ap (λ (y : Bool). not y && (not (waits (s .say)) && eqb (s .now .phase) phaseTransfer)) not-dropped ∙ ap (λ (y : Bool). not y && eqb (s .now .phase) phaseTransfer) (sym E ∙ e))
+          (ap (λ (y : Session). moved bytesWait (cs y table inbox store)) f
+          ∙ ap (λ (y : Bool). rest false y (eqb (s .now .phase) phaseTransfer)) (sym (sym E ∙ e)) ∙ ap (λ (y : Bool). rest y (waits (s .say)) (eqb (s .now .phase) phaseTransfer)) (sym not-dropped))
 
       module _ (Q : v ≡ false) where
-        of-phase : ofTransfer here first ≡ eqb (s .now .phase) 5
-        of-phase = ap (λ (y : Bool). not y && (not (waits (s .say)) && eqb (s .now .phase) 5)) not-dropped ∙ ap (λ (y : Bool). not y && eqb (s .now .phase) 5) (sym E ∙ Q)
+        of-phase : ofTransfer here first ≡ eqb (s .now .phase) phaseTransfer
+        of-phase = ap (λ (y : Bool). not y && (not (waits (s .say)) && eqb (s .now .phase) phaseTransfer)) not-dropped ∙ ap (λ (y : Bool). not y && eqb (s .now .phase) phaseTransfer) (sym E ∙ Q)
 
-        pub portion-transfer : (u : Run) → s .now .phase ≡ 5 → u ≡ transferPortionOf here bs → u ≡ portionOf known here bs
+        pub portion-transfer : (u : Run) → s .now .phase ≡ phaseTransfer → u ≡ transferPortionOf here bs → u ≡ portionOf known here bs
         unfolding portionOf
         portion-transfer u p e =
             e ∙ ap (transferPortionOf here) split
             ∙ ap (λ (x : Bool). cond x (transferPortionOf here (first ∷ drop 1 bs)) (counted 1 (byteOf known here first))) (sym (of-phase ∙ eq-eqb _ _ p))
             ∙ ap (portionOf known here) (sym split)
 
-        pub portion-line : (k : ℕ) (x : Session) (table′ : Bytes) → (s .now .phase ≡ 5 → ⊥) → settled k x table′ ≡ lineStepOf s first table known inbox (length store)
+        pub portion-line : (k : ℕ) (x : Session) (table′ : Bytes) → (s .now .phase ≡ phaseTransfer → ⊥) → settled k x table′ ≡ lineStepOf s first table known inbox (length store)
             → run k 1 (cs x table′ inbox store) ≡ portionOf known here bs
         unfolding byteOf
         portion-line k x table′ p e =
             by-byte (moved k (cs x table′ inbox store)) (of-phase ∙ ne-eqb _ _ p)
             (ap (λ (t : Settled). moved (t .answer) (cs (t .session) (t .table) inbox store)) e
             ∙ ap (rest false false) (sym (ne-eqb _ _ p))
-            ∙ ap (λ (y : Bool). rest false y (eqb (s .now .phase) 5)) (sym (sym E ∙ Q)) ∙ ap (λ (y : Bool). rest y (waits (s .say)) (eqb (s .now .phase) 5)) (sym not-dropped))
+            ∙ ap (λ (y : Bool). rest false y (eqb (s .now .phase) phaseTransfer)) (sym (sym E ∙ Q)) ∙ ap (λ (y : Bool). rest y (waits (s .say)) (eqb (s .now .phase) phaseTransfer)) (sym not-dropped))

@@ -7,6 +7,7 @@ ghost use mathlib.Core.List.{[]};
 ghost use Prim.Native.Nat.{_≤_};
 ghost use lib.ListN.{length, drop};
 ghost use Rattle.grammar.specs.Bytes.{Bytes};
+ghost use Rattle.mail.specs.Mail.{placeLimit};
 ghost use Rattle.places.specs.Places.{arraysLen};
 ghost use Rattle.transfer_read.specs.Feed.{roomOf};
 ghost use Rattle.numbers.specs.Whole.{wholeOf};
@@ -89,7 +90,7 @@ fn transfer_run(
     inbox: &mut [u8],
     store: &mut [u8],
 ) -> Taken
-    requires { ⌜ (s .keep .kept ≤ 64) × (s .keep .used ≤ length (now store)) × (s .reader .body ≤ roomOf (drop (s .keep .used) (now store))) × (length (now mem) ≡ arraysLen) ⌝ }
+    requires { ⌜ (s .keep .kept ≤ placeLimit) × (s .keep .used ≤ length (now store)) × (s .reader .body ≤ roomOf (drop (s .keep .used) (now store))) × (length (now mem) ≡ arraysLen) ⌝ }
     ensures { λ r. ⌜ run (r .answer) (r .count) (cs (wholeOf (r .session) (now (mem .exit))) (now (table .exit)) (now (inbox .exit)) (now (store .exit))) ≡ transferPortionOf (cs (wholeOf s (now (mem .entry))) (now (table .entry)) (now (inbox .entry)) (now (store .entry))) (now (input .entry)) ⌝ }
 {
     let r = read_on(s, input, mem, store);

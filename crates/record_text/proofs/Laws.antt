@@ -8,7 +8,7 @@ use lib.Dec.{eqb, leb, ltb}
 use lib.ListN.{length, take, drop, length-take, List·getD-eq-default}
 use lib.Seq.{getD-take, getD-drop}
 use borrow.Author.Tests.{eq-eqb, ne-eqb, ltb-true, ltb-false}
-use Rattle.grammar.specs.Bytes.{Bytes}
+use Rattle.grammar.specs.Bytes.{Bytes, byteValues}
 use Rattle.grammar.specs.Fields.{Form, plain, message, file, formIs}
 use Rattle.grammar.specs.Transfers.{partOf, writePlain, writeFramed, writeTransfer}
 use Rattle.grammar.proofs.Basics.{by-cond}
@@ -34,12 +34,12 @@ pub part-most : (s : Bytes) (start : ℕ) {len : ℕ} (most : ℕ) {x : Bytes} �
 part-most s start {len} most e h = omega (arith, ap length e, part-short s start len)
 
 -- a part of memory holds bytes, as the memory does
-pub part-octets : (s : Bytes) → ((i : ℕ) → byteAt s i < 256) → (start len i : ℕ) → byteAt (partOf s start len) i < 256
+pub part-octets : (s : Bytes) → ((i : ℕ) → byteAt s i < byteValues) → (start len i : ℕ) → byteAt (partOf s start len) i < byteValues
 part-octets s o start len i =
-    let P : Bytes → Type 0 = λ l. byteAt l i < 256 in
+    let P : Bytes → Type 0 = λ l. byteAt l i < byteValues in
     by-cond P (leb start (length s)) (by-cond P (leb len (length s - start)) (within (ltb i len) refl) (omega arith)) (omega arith)
   where
-    within : (b : Bool) → ltb i len ≡ b → byteAt (take len (drop start s)) i < 256
+    within : (b : Bool) → ltb i len ≡ b → byteAt (take len (drop start s)) i < byteValues
     within true e = rw (getD-take len (drop start s) i 0 (ltb-true i len e), getD-drop start s i 0) (o (start + i))
     within false e =
         let h = ltb-false i len e in

@@ -5,20 +5,22 @@ use number_at::two;
 use number_at::wide;
 use part::part;
 ghost use mathlib.Core.Path.{_≡_};
-ghost use Prim.Native.Nat.{_≤_};
+ghost use Prim.Native.Nat.{_≤_, _-_};
 ghost use lib.ListN.{length};
 ghost use Rattle.places.specs.Places.{recordLen};
 ghost use Rattle.record_text.specs.Texts.{headingIn, bodyIn};
+ghost use Rattle.grammar.specs.Bytes.{byteValues};
+ghost use Rattle.grammar.specs.Fields.{bodyLimit};
 
 // A record's form; any other number: plain.
-pub const MESSAGE: u8 = 1;
+pub const MESSAGE: u8 = phase::FORM_MESSAGE;
 
-pub const FILE: u8 = 2;
+pub const FILE: u8 = phase::FORM_FILE;
 
 // The heading of its transfer: the file name for a file, else the title.
 pub fn heading<'a>(r: &[u8], titles: &'a [u8], names: &'a [u8]) -> &'a [u8]
     requires { ⌜ length (now r) ≡ recordLen ⌝ }
-    ensures { λ h. ⌜ (now h ≡ headingIn (now (titles .entry)) (now (names .entry)) (now (r .entry))) × (length (now h) ≤ 255) ⌝ }
+    ensures { λ h. ⌜ (now h ≡ headingIn (now (titles .entry)) (now (names .entry)) (now (r .entry))) × (length (now h) ≤ byteValues - 1) ⌝ }
 {
     if byte(r, places::RECORD_FORM as usize) == FILE {
         let start = four(r, places::RECORD_NAME as usize) as usize;
@@ -40,7 +42,7 @@ pub fn heading<'a>(r: &[u8], titles: &'a [u8], names: &'a [u8]) -> &'a [u8]
 // Its body.
 pub fn body<'a>(r: &[u8], bodies: &'a [u8]) -> &'a [u8]
     requires { ⌜ length (now r) ≡ recordLen ⌝ }
-    ensures { λ b. ⌜ (now b ≡ bodyIn (now (bodies .entry)) (now (r .entry))) × (length (now b) ≤ 65535) ⌝ }
+    ensures { λ b. ⌜ (now b ≡ bodyIn (now (bodies .entry)) (now (r .entry))) × (length (now b) ≤ bodyLimit) ⌝ }
 {
     let start = four(r, places::RECORD_BODY as usize) as usize;
     part(

@@ -8,11 +8,12 @@ use lib.Dec.{ltb}
 use lib.ListN.{length, take, drop, length-append, length-drop}
 use lib.Seq.{take-all}
 use Rattle.grammar.specs.Bytes.{Bytes}
-use Rattle.grammar.specs.Fields.{decimal, writeNum}
-use Rattle.refusal_line.specs.Line.{refusalLine}
+use Rattle.grammar.specs.Fields.{decimal, writeNum, decimalDigits}
+use Rattle.grammar.specs.Ascii.{char}
+use Rattle.refusal_line.specs.Line.{refusalLine, lineMost}
 
-pub number-text : (bytes : Bytes) (start n : ℕ) → length bytes ≡ 10 → drop start bytes ≡ decimal n → take (10 - start) (drop start bytes) ≡ decimal n
-number-text bytes start n l e = rw (take-all (10 - start) (drop start bytes) (simp length-drop (omega arith)), e)
+pub number-text : (bytes : Bytes) (start n : ℕ) → length bytes ≡ decimalDigits → drop start bytes ≡ decimal n → take (decimalDigits - start) (drop start bytes) ≡ decimal n
+number-text bytes start n l e = rw (take-all (decimalDigits - start) (drop start bytes) (simp length-drop (omega arith)), e)
 
 -- ---------------------------------------------------------------- its length
 
@@ -21,11 +22,11 @@ unfolding writeNum
 digits-few zero n = omega arith
 digits-few (suc f) n = go (ltb n 10) (digits-few f (n / 10))
   where
-    go : (c : Bool) → length (writeNum f (n / 10)) ≤ f → length (cond c ((48 + n) ∷ []) (writeNum f (n / 10) ++ ((48 + n % 10) ∷ []))) ≤ suc f
+    go : (c : Bool) → length (writeNum f (n / 10)) ≤ f → length (cond c ((char "0" + n) ∷ []) (writeNum f (n / 10) ++ ((char "0" + n % 10) ∷ []))) ≤ suc f
     go true h = omega arith
     go false h = simp length-append (omega arith)
 
 -- the line has 19 bytes at most
-pub line-short : (n : ℕ) → length (refusalLine n) ≤ 19
+pub line-short : (n : ℕ) → length (refusalLine n) ≤ lineMost
 unfolding refusalLine
-line-short n = simp length-append (omega (arith, digits-few 10 n))
+line-short n = simp length-append (omega (arith, digits-few decimalDigits n))

@@ -17,14 +17,16 @@ use Rattle.buffer.proofs.Laws.{wrote-length}
 use Rattle.session_memory.specs.declared.Sizes.{Sizes}
 use Rattle.entries.specs.Decoded.{recordsOf, knownBids}
 use Rattle.marking.specs.States.{statesOf}
+use Rattle.open.specs.Lending.{roleCalled}
 use Rattle.open.specs.Opening.{knownOk, sizesOk, tableFault, openOf}
 use Rattle.receive_defined.specs.Receiving.{Cs}
 use Rattle.main_theorem.specs.Calls.{Buffer, OpenCall, fixedIn, lentIn, sizesOf, statesIn}
+use Rattle.main_theorem.specs.Demand2.{shelfOf}
 use Rattle.main_theorem.proofs.Held.{Held}
-use Rattle.main_theorem.proofs.Opening.{freshCs, shelfOf, open-law}
+use Rattle.main_theorem.proofs.Opening.{freshCs, open-law}
 use Rattle.refusal_line.specs.Line.{refusalLine}
 use Rattle.refusal_line.proofs.Laws.{line-short}
-use Rattle.called_station.specs.Station.{Station, called, firstPartner, opens, withSession, openedOf}
+use Rattle.called_station.specs.Station.{Station, firstPartner, opens, withSession, openedOf}
 use Rattle.capture.specs.Playing.{Playing, unplayed, startOf, playOf}
 use Rattle.replayed.specs.Replayed.{emptyShelf, Fed, taken, started, fedOne, sentFirst, fed, Replayed, replayed, written}
 use Rattle.replayed.specs.Program.{counted, onward, ran, Lends, mostWaiting, Fit, joined, told, Claim}
@@ -108,7 +110,7 @@ module _ (s : Station) (l : Lends s) where
   abbrev call : OpenCall
   call =
       record {
-        role = called;
+        role = roleCalled;
         partner = firstPartner;
         session = lends (s .session) (l .octets .0) (omega (arith, l .session));
         table = none;

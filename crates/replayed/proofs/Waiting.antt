@@ -3,15 +3,17 @@
 use mathlib.Core.Path.{subst}
 use mathlib.Core.Bool.{Bool, true, false, cond}
 use mathlib.Core.List.{List, [], _∷_}
-use Prim.Native.Nat.{ℕ, _≤_}
+use Prim.Native.Nat.{ℕ, _+_, _≤_}
 use native.Mathlib.Omega.{arith}
 use lib.Dec.{eqb}
 use lib.ListN.{length, length-append, length-map}
 use borrow.Author.Tests.{ltb-true}
 use Rattle.grammar.specs.Bytes.{Bytes}
-use Rattle.grammar.specs.Turns.{Proposal, withCr, fixedText, checksumError, protocolError}
+use Rattle.grammar.specs.Ascii.{text}
+use Rattle.grammar.specs.Turns.{Proposal, withCr, fixedText, ourFF, checksumError, protocolError, blockLimit}
 use Rattle.grammar.specs.Errors.{isSilent, errorText}
 use Rattle.grammar.specs.Answers.{Sign, fsLine}
+use Rattle.grammar.specs.Refusals.{badChecksum}
 use Rattle.mail.specs.Mail.{messageOf, accepted}
 use Rattle.session.specs.Choices.{chosen, answersTo}
 use Rattle.session.specs.Session.{Awaited, awaitsSid, awaitsPrompt, awaitsTurn, awaitsAnswer, Phase, aLine, awaitsTransfer, leaving, over, Memory, Session, Outcome, refuses, goesOn, ourTurn, answering, answered, isPlain, keptIn, nextTransfer, Stepped, settled, step}
@@ -24,7 +26,7 @@ use Rattle.replayed.specs.Program.{mostWaiting}
 abbrev pub Calm : Phase → Type 0
 Calm (aLine (awaitsSid caller)) = Unit {0}
 Calm (aLine awaitsPrompt) = Unit {0}
-Calm (aLine (awaitsTurn ff ps raw)) = length ps ≤ 5
+Calm (aLine (awaitsTurn ff ps raw)) = length ps ≤ blockLimit
 Calm (aLine (awaitsAnswer is)) = ⊥
 Calm (awaitsTransfer p ps sc) = Unit {0}
 Calm leaving = Unit {0}
@@ -40,19 +42,19 @@ Says (refuses n) = Unit {0}
 Says (goesOn p m o) = Calm p × (length o ≤ mostWaiting)
 
 -- FF or FQ after what is said before it
-our-turn-says : (o : Bytes) (ff : Bool) (m : Memory) → length o ≤ 29 → Says (ourTurn emptyShelf o ff m)
+our-turn-says : (o : Bytes) (ff : Bool) (m : Memory) → length o + length (withCr (fixedText ourFF)) ≤ mostWaiting → Says (ourTurn emptyShelf o ff m)
 unfolding chosen
 our-turn-says o true m h = (tt, simp length-append (omega arith))
 our-turn-says o false m h = (omega arith, simp length-append (omega arith))
 
-fs-length : (ss : List Sign) → length ss ≤ 5 → length (withCr (fsLine ss)) ≤ 9
+fs-length : (ss : List Sign) → length ss ≤ blockLimit → length (withCr (fsLine ss)) ≤ length (withCr (text "FS ")) + blockLimit
 unfolding fsLine
 fs-length ss h = simp (length-append, length-map) (omega arith)
 
-answer-says : (ps : List Proposal) (m : Memory) → length ps ≤ 5 → Says (answered emptyShelf ps m)
+answer-says : (ps : List Proposal) (m : Memory) → length ps ≤ blockLimit → Says (answered emptyShelf ps m)
 answer-says ps m h = go (answersTo emptyShelf (m .inbox) ps) (accepted (answersTo emptyShelf (m .inbox) ps) ps) (omega (arith, one-sign-each emptyShelf (m .inbox) ps))
   where
-    go : (ss : List Sign) (qs : List Proposal) → length ss ≤ 5 → Says (answering emptyShelf ss qs m)
+    go : (ss : List Sign) (qs : List Proposal) → length ss ≤ blockLimit → Says (answering emptyShelf ss qs m)
     go ss [] k = our-turn-says (withCr (fsLine ss)) false m (omega (arith, fs-length ss k))
     go ss (q ∷ qs) k = (tt, omega (arith, fs-length ss k))
 
@@ -68,7 +70,7 @@ line-says m ln (ways.hearsSid true fs e f) k = (tt, omega arith)
 line-says m ln (ways.hearsSid false fs e f) k = (omega arith, omega arith)
 line-says m ln (ways.hearsText e) k = (tt, omega arith)
 line-says m ln (ways.hearsPrompt e) k = our-turn-says _ false m (omega arith)
-line-says m ln (ways.hearsProposal ff ps q e f) k = (simp length-append (omega (arith, ltb-true (length ps) 5 f)), omega arith)
+line-says m ln (ways.hearsProposal ff ps q e f) k = (simp length-append (omega (arith, ltb-true (length ps) blockLimit f)), omega arith)
 line-says m ln (ways.hearsFF e) k = our-turn-says [] true _ (omega arith)
 line-says m ln (ways.hearsFQ e) k = (tt, omega arith)
 line-says m ln (ways.hearsEnd ff p ps e) k = answer-says (p ∷ ps) _ k
@@ -76,7 +78,7 @@ line-says m ln (ways.hearsFs is ss e) k = absurd k
 
 reason-length : (n : ℕ) → length (errorText n) ≤ mostWaiting
 unfolding errorText
-reason-length n = go (isSilent n) (eqb n 9)
+reason-length n = go (isSilent n) (eqb n badChecksum)
   where
     go : (a b : Bool) → length (cond a [] (withCr (fixedText (cond b checksumError protocolError)))) ≤ mostWaiting
     go true b = omega arith

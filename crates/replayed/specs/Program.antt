@@ -12,7 +12,7 @@ use Rattle.refusal_line.specs.Line.{refusalLine}
 use Rattle.places.specs.Places.{sessionLen, entryLen}
 use Rattle.called_station.specs.Station.{Station}
 use Rattle.capture.specs.Playing.{Playing, unplayed, startOf, playOf}
-use Rattle.replayed.specs.Replayed.{Replayed, replayed, written}
+use Rattle.replayed.specs.Replayed.{Replayed, replayed, written, lentPlaces, lentBytes}
 
 -- The bytes of the buffer that are counted.
 abbrev pub counted : Playing → Bytes
@@ -31,8 +31,8 @@ ran s out portions = onward (startOf s out) portions
 -- The memory that the program lends, of which nothing is asked but its sizes: "an inbox of 64 places and 32 KiB".
 pub record Lends (s : Station) : Type 0 where
   pub session : length (s .session) ≡ sessionLen
-  pub inbox : length (s .inbox) ≡ 64 * entryLen
-  pub store : length (s .store) ≡ 32768
+  pub inbox : length (s .inbox) ≡ lentPlaces * entryLen
+  pub store : length (s .store) ≡ lentBytes
   pub octets : (every isByte (s .session) ≡ true) × (every isByte (s .inbox) ≡ true) × (every isByte (s .store) ≡ true)
 
 -- So many bytes are room enough for what waits after open or a byte, and for the last line.

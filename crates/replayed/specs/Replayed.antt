@@ -6,14 +6,21 @@ use Prim.Native.Nat.{ℕ}
 use lib.Dec.{eqb}
 use Rattle.grammar.specs.Bytes.{Bytes}
 use Rattle.grammar.specs.Refusals.{lineTooLong, notSid, noForwarding, lineNotAllowed, proposalCount, badTransfer, badChecksum, storeFull, wrongBlockSum}
-use Rattle.session.specs.Choices.{Shelf}
+use Rattle.session.specs.Choices.{Shelf, shelfWith}
 use Rattle.session.specs.Session.{Session, withOut, ended, opened}
 use Rattle.session.specs.Calls.{receive}
 use Rattle.refusal_line.specs.Line.{refusalLine}
 
--- "with an empty table, no known BIDs, .. and an inbox of 64 places and 32 KiB"
+-- "an inbox of 64 places and 32 KiB"
+abbrev pub lentPlaces : ℕ
+lentPlaces = 64
+
+abbrev pub lentBytes : ℕ
+lentBytes = 32768
+
+-- "with an empty table, no known BIDs", and that inbox
 abbrev pub emptyShelf : Shelf
-emptyShelf = record { table = []; known = []; places = 64; bytes = 32768 }
+emptyShelf = shelfWith [] [] lentPlaces lentBytes
 
 -- What bytes of a capture have come to: what our node has sent, the answer to the last of them, whether the session has ended, and the session then.
 pub record Fed : Type 0 where

@@ -31,6 +31,7 @@ use Rattle.represents.proofs.Parts.{refuse-law}
 use Rattle.represents.proofs.LineStep.{line-below, awaits-line, says-line, line-step}
 use Rattle.represents.proofs.TransferStep.{reach-least, transfer-step}
 use Rattle.form_closed.specs.Facts.{Octets, Good}
+use Rattle.phase.specs.Phase.{phaseTransfer, phaseLeaving}
 use Rattle.form_closed.proofs.Laws.{octets-first, octets-rest}
 use Rattle.form_closed.proofs.Bytes.{byte-ok}
 
@@ -46,8 +47,8 @@ null-drop n l h = go (drop n l) (length-drop n l)
 waiting-none : (s : Session) (t ti na bo : Bytes) → waits (s .say) ≡ false → waitingOf s t ti na bo ≡ []
 unfolding waitingOf
 waiting-none s t ti na bo e =
-    ap (λ (l : Bytes). l ++ thenText (s .say .then) (s .now .ours) (s .keep .sending) t ti na bo) (first-nothing (s .say .first) (s .say .signs) ((waits-none (s .say) e) .0))
-    ∙ then-nothing (s .say .then) (s .now .ours) (s .keep .sending) t ti na bo ((waits-none (s .say) e) .1)
+    ap (λ (l : Bytes). l ++ thenText s t ti na bo) (first-nothing s ((waits-none (s .say) e) .0))
+    ∙ then-nothing s t ti na bo ((waits-none (s .say) e) .1)
 
 -- something waits where some bytes are still to be given
 pub waits-law : (F : Fixed) {nt ni ns : ℕ} (c : Cs) (o : Bytes) → Good F nt ni ns c → Says F c o → waits (c .session .say) ≡ not (null o)
@@ -69,33 +70,33 @@ unfolding overOf
 over-law F E c v g h = go (v .phase) (h .awaits)
   where
     at : (n : ℕ) → c .session .now .phase ≡ n
-        → cond (ltb (c .session .now .phase) 6) false (cond (ltb 6 (c .session .now .phase)) true (not (waits (c .session .say))))
-        ≡ cond (ltb n 6) false (cond (ltb 6 n) true (not (waits (c .session .say))))
-    at n e = ap (λ (p : ℕ). cond (ltb p 6) false (cond (ltb 6 p) true (not (waits (c .session .say))))) e
+        → cond (ltb (c .session .now .phase) phaseLeaving) false (cond (ltb phaseLeaving (c .session .now .phase)) true (not (waits (c .session .say))))
+        ≡ cond (ltb n phaseLeaving) false (cond (ltb phaseLeaving n) true (not (waits (c .session .say))))
+    at n e = ap (λ (p : ℕ). cond (ltb p phaseLeaving) false (cond (ltb phaseLeaving p) true (not (waits (c .session .say))))) e
 
     not-not : (q : Bool) → not (not q) ≡ q
     not-not true = refl
     not-not false = refl
 
     go : (p : Phase) → Awaits c p
-        → cond (ltb (c .session .now .phase) 6) false (cond (ltb 6 (c .session .now .phase)) true (not (waits (c .session .say)))) ≡ on-lists.endedIn p (v .out)
+        → cond (ltb (c .session .now .phase) phaseLeaving) false (cond (ltb phaseLeaving (c .session .now .phase)) true (not (waits (c .session .say)))) ≡ on-lists.endedIn p (v .out)
     go (on-lists.aLine l) a =
-        at (lineNumber l) (a .0) ∙ ap (λ (q : Bool). cond q false (cond (ltb 6 (lineNumber l)) true (not (waits (c .session .say))))) (lt-ltb (lineNumber l) 6 (omega (arith, line-below l)))
-    go (on-lists.awaitsTransfer p ps sc) a = at 5 (a .0)
-    go on-lists.leaving a = at 6 a ∙ ap not (waits-law F c (v .out) g (h .says)) ∙ not-not (null (v .out))
+        at (lineNumber l) (a .0) ∙ ap (λ (q : Bool). cond q false (cond (ltb phaseLeaving (lineNumber l)) true (not (waits (c .session .say))))) (lt-ltb (lineNumber l) phaseLeaving (omega (arith, line-below l)))
+    go (on-lists.awaitsTransfer p ps sc) a = at phaseTransfer (a .0)
+    go on-lists.leaving a = at phaseLeaving a ∙ ap not (waits-law F c (v .out) g (h .says)) ∙ not-not (null (v .out))
     go on-lists.over a =
-        rw (le-ltb (c .session .now .phase) 6 (omega arith), lt-ltb 6 (c .session .now .phase) (omega arith))
+        rw (le-ltb (c .session .now .phase) phaseLeaving (omega arith), lt-ltb phaseLeaving (c .session .now .phase) (omega arith))
 
 -- ---------------------------------------------------------------- a byte
 
 -- before a transfer nothing is written behind the kept bodies
-reach-line : (s : Session) (n : ℕ) → s .now .phase ≡ n → ltb n 5 ≡ true → reachOf s ≡ s .keep .used
+reach-line : (s : Session) (n : ℕ) → s .now .phase ≡ n → ltb n phaseTransfer ≡ true → reachOf s ≡ s .keep .used
 reach-line s n e f =
-    ap (λ (p : ℕ). s .keep .used + cond (ltb p 5) 0 (cond (eqb p 6) 0 (s .reading .reader .body))) e
-    ∙ ap (λ (c : Bool). s .keep .used + cond c 0 (cond (eqb n 6) 0 (s .reading .reader .body))) f ∙ omega arith
+    ap (λ (p : ℕ). s .keep .used + cond (ltb p phaseTransfer) 0 (cond (eqb p phaseLeaving) 0 (s .reading .reader .body))) e
+    ∙ ap (λ (c : Bool). s .keep .used + cond c 0 (cond (eqb n phaseLeaving) 0 (s .reading .reader .body))) f ∙ omega arith
 
 reach-most : (s : Session) → reachOf s ≤ s .keep .used + s .reading .reader .body
-reach-most s = go (ltb (s .now .phase) 5) (eqb (s .now .phase) 6)
+reach-most s = go (ltb (s .now .phase) phaseTransfer) (eqb (s .now .phase) phaseLeaving)
   where
     go : (x y : Bool) → s .keep .used + cond x 0 (cond y 0 (s .reading .reader .body)) ≤ s .keep .used + s .reading .reader .body
     go true y = omega arith
@@ -133,11 +134,11 @@ module _ (F : Fixed) (E : Shelf) {nt ni ns : ℕ} (c : Cs) (g : Good F nt ni ns 
 
   module _ (quiet : waits (c .session .say) ≡ false) where
     -- where a line is awaited
-    line-law : (n : ℕ) → c .session .now .phase ≡ n → ltb n 5 ≡ true → eqb n 5 ≡ false → (l : on-lists.Awaited) → v .phase ≡ on-lists.aLine l
-        → Moves (cond (eqb (c .session .now .phase) 5) (transferStepOf c b) (lineByteOf (F .known) c b)) (on-lists.lineStep E l v b)
+    line-law : (n : ℕ) → c .session .now .phase ≡ n → ltb n phaseTransfer ≡ true → eqb n phaseTransfer ≡ false → (l : on-lists.Awaited) → v .phase ≡ on-lists.aLine l
+        → Moves (cond (eqb (c .session .now .phase) phaseTransfer) (transferStepOf c b) (lineByteOf (F .known) c b)) (on-lists.lineStep E l v b)
     line-law n e low ne l x =
         let t = line-step F E c g v h quiet b l x in
-        subst (λ (q : Bool). Moves (cond q (transferStepOf c b) (lineByteOf (F .known) c b)) (on-lists.lineStep E l v b)) (sym (ap (λ (p : ℕ). eqb p 5) e ∙ ne))
+        subst (λ (q : Bool). Moves (cond q (transferStepOf c b) (lineByteOf (F .known) c b)) (on-lists.lineStep E l v b)) (sym (ap (λ (p : ℕ). eqb p phaseTransfer) e ∙ ne))
         (record {
           answer = t .answer;
           represents = t .represents;
@@ -148,19 +149,19 @@ module _ (F : Fixed) (E : Shelf) {nt ni ns : ℕ} (c : Cs) (g : Good F nt ni ns 
         })
 
     phase-law : on-lists.ended v ≡ false → null (v .out) ≡ true → (p : Phase) → v .phase ≡ p → Awaits c p
-        → Moves (cond (eqb (c .session .now .phase) 5) (transferStepOf c b) (lineByteOf (F .known) c b)) (on-lists.phaseStep E p v b)
+        → Moves (cond (eqb (c .session .now .phase) phaseTransfer) (transferStepOf c b) (lineByteOf (F .known) c b)) (on-lists.phaseStep E p v b)
     phase-law live out (on-lists.aLine l) e a =
         let k = line-below l in
-        line-law (lineNumber l) (a .0) (lt-ltb (lineNumber l) 5 k) (ne-eqb (lineNumber l) 5 (λ z. omega arith)) l e
+        line-law (lineNumber l) (a .0) (lt-ltb (lineNumber l) phaseTransfer k) (ne-eqb (lineNumber l) phaseTransfer (λ z. omega arith)) l e
     phase-law live out (on-lists.awaitsTransfer p ps sc) e a =
-        subst (λ (q : Bool). Moves (cond q (transferStepOf c b) (lineByteOf (F .known) c b)) (on-lists.phaseStep E (on-lists.awaitsTransfer p ps sc) v b)) (sym (ap (λ (n : ℕ). eqb n 5) (a .0)))
+        subst (λ (q : Bool). Moves (cond q (transferStepOf c b) (lineByteOf (F .known) c b)) (on-lists.phaseStep E (on-lists.awaitsTransfer p ps sc) v b)) (sym (ap (λ (n : ℕ). eqb n phaseTransfer) (a .0)))
         (transfer-step F E c g v h b quiet p ps sc a)
     phase-law live out on-lists.leaving e a =
         absurd (no-both (on-lists.ended v) (ap (λ (p : Phase). on-lists.endedIn p (v .out)) e ∙ out) live)
     phase-law live out on-lists.over e a = absurd (no-both (on-lists.ended v) (ap (λ (p : Phase). on-lists.endedIn p (v .out)) e) live)
 
   free-law : on-lists.ended v ≡ false → (q : Bool) → waits (c .session .say) ≡ q → (o : Bytes) → v .out ≡ o
-      → Moves (cond q (moved bytesWait (cs (refusedOf bytesWait (c .session)) (c .table) (c .inbox) (c .store))) (cond (eqb (c .session .now .phase) 5) (transferStepOf c b) (lineByteOf (F .known) c b)))
+      → Moves (cond q (moved bytesWait (cs (refusedOf bytesWait (c .session)) (c .table) (c .inbox) (c .store))) (cond (eqb (c .session .now .phase) phaseTransfer) (transferStepOf c b) (lineByteOf (F .known) c b)))
       (on-lists.freeStep E o v b)
   free-law live true e [] f = absurd (no-both true refl (sym e ∙ waits-law F c (v .out) g (h .says) ∙ ap (λ (l : Bytes). not (null l)) f))
   free-law live true e (x ∷ o) f = refused-law bytesWait
@@ -180,7 +181,7 @@ byte-law F E c v b g h live =
     free : Moved
     free =
         cond (waits (c .session .say)) (moved bytesWait (cs (refusedOf bytesWait (c .session)) (c .table) (c .inbox) (c .store)))
-        (cond (eqb (c .session .now .phase) 5) (transferStepOf c b) (lineByteOf (F .known) c b))
+        (cond (eqb (c .session .now .phase) phaseTransfer) (transferStepOf c b) (lineByteOf (F .known) c b))
 
     go : (q : Bool) → Moving F E c (cond q dropped free) (cond q (on-lists.moved (on-lists.withAfterCr false v)) (on-lists.freeStep E (v .out) v b))
     go true = dropped-law F E c g v b h

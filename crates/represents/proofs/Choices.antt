@@ -8,6 +8,7 @@ use native.Mathlib.Omega.{arith}
 use lib.ListN.{length}
 use Rattle.grammar.specs.Bytes.{Bytes}
 use Rattle.grammar.specs.Answers.{Sign, writeSign}
+use Rattle.grammar.specs.Turns.{blockLimit}
 use Rattle.mail.specs.Mail.{Message}
 use Rattle.session.specs.Choices.{Shelf, chosen, recordBids, messageBids, bodyBytes, answersTo}
 use Rattle.layout.specs.Layout.{entryAt, entrySize, messageOf}
@@ -40,11 +41,11 @@ messages-length inbox store i (suc n) = ap suc (messages-length inbox store (suc
 -- the sign bytes of our answers
 pub answers-law : (ti na bo t known inbox store : Bytes) (E : Shelf) (w : Await) (k : Keep)
     → recordsOf ti na bo t ≡ E .table → knownBids known ≡ E .known → placeCount inbox ≡ E .places → length store ≡ E .bytes
-    → bodyBytes (messagesOf inbox store (k .kept)) ≡ k .used → w .proposals ≤ 5
+    → bodyBytes (messagesOf inbox store (k .kept)) ≡ k .used → w .proposals ≤ blockLimit
     → answersOf w k t known inbox (length store) ≡ fiveOf (map writeSign (answersTo E (messagesOf inbox store (k .kept)) (proposalsOf (w .block) (w .proposals))))
 unfolding answersOf recordsOf headsOf messagesOf
 answers-law ti na bo t known inbox store E w k tables knowns places bytes used few =
-    let five : min 5 (w .proposals) ≡ w .proposals = omega arith in
+    let five : min blockLimit (w .proposals) ≡ w .proposals = omega arith in
     let heads : List Message = headsOf inbox (k .kept) in
     rw five
     (ap (λ (ss : List Sign). fiveOf (map writeSign ss))

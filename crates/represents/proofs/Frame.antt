@@ -1,28 +1,16 @@
 -- What is left alone, put together: a part unchanged, one change after another, states set; and a table of which only states changed is
 -- the old one with the new states.
-use mathlib.Core.Path.{_≡_, refl, sym, ap, _∙_}
-use mathlib.Core.Bool.{Bool, true, false}
-use mathlib.Core.List.{List, [], _∷_, _++_}
-use Prim.Native.Nat.{ℕ, zero, suc, _+_, _*_, _/_, _%_, _≤_, _<_}
+use mathlib.Core.Path.{_≡_, sym, ap, _∙_}
+use mathlib.Core.List.{_++_}
+use Prim.Native.Nat.{ℕ, _+_, _≤_}
 use native.Mathlib.Omega.{arith}
-use native.Mathlib.Nat.{add-zero}
-use lib.Dec.{eqb}
-use lib.ListN.{length, getD, take, drop, set, length-set, length-append, take-append-drop}
-use lib.Seq.{drop-drop, take-add, take-at, take-append-add, drop-append-add, drop-append-seam, length-take-le, getD-set-same, getD-set-other, ext-getD, getD-take, getD-drop}
-use borrow.Author.Tests.{eqb-true, eqb-false}
+use lib.ListN.{length, take, drop, length-append, take-append-drop}
+use lib.Seq.{drop-drop, take-add, take-at, take-append-add, drop-append-add, drop-append-seam, length-take-le}
 use Rattle.grammar.specs.Bytes.{Bytes}
 use Rattle.buffer.specs.Put.{putBytes}
 use Rattle.buffer.proofs.Laws.{cursor, put-length}
-use Rattle.places.specs.Places.{recordLen}
 use Rattle.layout.proofs.Places.{put-fits}
-use Rattle.layout.specs.Layout.{byteAt, recordSize}
 use Rattle.transfer_read.specs.Meaning.{Kept}
-use Rattle.entries.specs.Decoded.{recordCount}
-use Rattle.marking.specs.States.{statesOf}
-use Rattle.entries.proofs.Laws.{entries-length, entries-at}
-use Rattle.marking.specs.States.{markAll}
-use Rattle.marking.specs.States.{withStatesFrom, withStates, StatesOnly}
-use Rattle.marking.proofs.States.{Whole, entry-whole}
 
 -- ---------------------------------------------------------------- a part of a buffer
 

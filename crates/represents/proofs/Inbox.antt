@@ -9,12 +9,12 @@ use native.Mathlib.Numerals.{add-one}
 use lib.ListN.{length, take, drop, length-append, length-take, length-drop, length-replicate}
 use lib.Seq.{length-take-le, take-at, take-add}
 use Rattle.grammar.specs.Bytes.{Bytes}
-use Rattle.grammar.specs.Fields.{formNumber}
+use Rattle.grammar.specs.Fields.{formNumber, bodyLimit}
 use Rattle.grammar.specs.Transfers.{partOf}
-use Rattle.mail.specs.Mail.{Message}
+use Rattle.mail.specs.Mail.{Message, placeLimit}
 use Rattle.session.specs.Choices.{bodyBytes}
 use Rattle.buffer.specs.Put.{putBytes}
-use Rattle.places.specs.Places.{entryLen, fieldsSize}
+use Rattle.places.specs.Places.{entryLen, fieldsSize, headingMax}
 use Rattle.layout.specs.Layout.{le2, le4, fieldOut, fieldsOut, entryAt, entrySize, messageOf, proposalOf, bodyStart, bodyLength, entryOut}
 use Rattle.layout.proofs.Places.{part-in, part-kept, part-here}
 use Rattle.layout.proofs.Laws.{withContent, entry-length, message-back, start-back, length-back, inbox-back, inbox-kept}
@@ -116,9 +116,9 @@ laid-snoc e i start (x ∷ ms) m l h = (
 -- what is kept of a message of n bytes has a place behind the last one
 pub record Fitting (kept used : ℕ) (inbox store : Bytes) (places n : ℕ) : Type 0 where
   pub size : length inbox ≡ places * entryLen
-  pub few : places ≤ 64
+  pub few : places ≤ placeLimit
   pub free : kept < places
-  pub limit : n ≤ 65535
+  pub limit : n ≤ bodyLimit
   pub room : used + n ≤ length store
   pub sum : usedBy inbox kept ≡ used
 
@@ -172,7 +172,7 @@ fields-written c e =
 
 -- THE ENTRY of a message: c begins with its proposal's fields
 pub box-more : (kept used : ℕ) (inbox store : Bytes) (ms : List Message) (places n : ℕ) (c heading : Bytes) → Fitting kept used inbox store places n
-    → fieldsSize ≤ length c → length heading ≤ 80 → Written c → Boxed kept used inbox store ms
+    → fieldsSize ≤ length c → length heading ≤ headingMax → Written c → Boxed kept used inbox store ms
     → Boxed (kept + 1) (used + n) (putBytes inbox (at (kept * entryLen)) (entryOut c heading used n)) store
     (ms ++ (withContent (proposalOf c) heading (take n (drop used store)) ∷ []))
 box-more kept used inbox store ms places n c heading g fields short e h =
@@ -192,8 +192,8 @@ box-more kept used inbox store ms places n c heading g fields short e h =
 
     as-written : entryOut c heading used n ≡ messageBytes (withContent (proposalOf c) heading body) used
     as-written =
-        ap (λ (f : Bytes). f ++ (fieldOut 80 heading ++ (le4 used ++ le2 n))) (fields-written c e)
-        ∙ ap (λ (k : ℕ). messageHead ++ (fieldOut 80 heading ++ (le4 used ++ le2 k))) (sym (length-take-le n (drop used store) (rw (length-drop used store) (omega (arith, g .room)))))
+        ap (λ (f : Bytes). f ++ (fieldOut headingMax heading ++ (le4 used ++ le2 n))) (fields-written c e)
+        ∙ ap (λ (k : ℕ). messageHead ++ (fieldOut headingMax heading ++ (le4 used ++ le2 k))) (sym (length-take-le n (drop used store) (rw (length-drop used store) (omega (arith, g .room)))))
       where
         messageHead : Bytes
         messageHead = fieldsOut (formNumber (proposalOf c .form)) (proposalOf c .type) (proposalOf c .from) (proposalOf c .at) (proposalOf c .to) (proposalOf c .bid)

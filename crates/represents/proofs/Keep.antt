@@ -1,6 +1,6 @@
 -- A whole transfer: its message is kept behind the last, then the next accepted transfer is awaited, or it is our turn.
 use mathlib.Core.Path.{_≡_, refl, sym, ap, _∙_, subst}
-use mathlib.Core.Bool.{Bool, false, cond}
+use mathlib.Core.Bool.{Bool, false}
 use mathlib.Core.List.{List, [], _∷_, _++_}
 use Prim.Native.Nat.{ℕ, suc, _+_, _*_, _/_, _≤_}
 use native.Mathlib.Omega.{arith}
@@ -16,32 +16,30 @@ use Rattle.session.specs.Choices.{Shelf}
 use Rattle.session.specs.Session as on-lists
 use Rattle.session.specs.Session.{Memory, Outcome}
 use Rattle.buffer.specs.Put.{putBytes}
-use Rattle.places.specs.Places.{entryLen, proposalLen}
+use Rattle.places.specs.Places.{entryLen, proposalLen, headingMax, formAt}
 use Rattle.layout.specs.Layout.{byteAt, entryAt, entrySize, proposalSize, proposalOf, entryOut}
 use Rattle.layout.proofs.Places.{part-in}
 use Rattle.layout.proofs.Laws.{withContent, entry-length}
 use Rattle.transfer_read.specs.Feed.{roomOf}
 use Rattle.transfer_read.specs.Meaning.{Stands, Kept}
+use Rattle.phase.specs.Phase.{pieceNone, noProposal}
 use Rattle.session_memory.specs.State.{at, held}
 use Rattle.session_memory.specs.Session.{Session}
+use Rattle.session_memory.specs.Setters.{withKeep}
 use Rattle.entries.specs.Decoded.{proposalsOf}
-use Rattle.line_effect.specs.Judge.{noMarks, judged, toTransfer, plusFrom, nextAccepted, readerFor}
-use Rattle.our_turn.specs.Turn.{speakOf}
+use Rattle.line_effect.specs.Judge.{noMarks, plusFrom, nextAccepted}
 use Rattle.line_effect.specs.Judged.{Judged}
-use Rattle.waiting.specs.Waiting.{thenText}
 use Rattle.pending.specs.Pending.{waits}
-use Rattle.receive_defined.specs.Receiving.{Cs, keptKeep, nextJudged, isPlainAt, keepOf}
+use Rattle.receive_defined.specs.Receiving.{Cs, cs, keptKeep, nextJudged, isPlainAt, keepOf}
 use Rattle.form_closed.specs.Fixed.{Fixed}
 use Rattle.represents.specs.Represents.{Awaits, Represents, signsIn, Boxed, Holds}
 use Rattle.represents.proofs.Proposals.{Found, owing, owed-now, next-found, plain-law, written-form, owed-pluses}
 use Rattle.represents.proofs.Inbox.{Fitting, box-more}
 use Rattle.represents.proofs.Frame.{kept-put}
-use Rattle.represents.proofs.Says.{first-nothing, then-nothing}
+use Rattle.represents.proofs.Says.{first-nothing}
 use Rattle.form_closed.proofs.Waiting.{waits-none}
-use Rattle.represents.proofs.Settle.{Settles, settled-is, our-turn-law}
-use Rattle.represents.proofs.Leads.{Settling, Goes, goes-speaking, settle-goes}
-use Rattle.represents.proofs.Tallied.{counting-quiet}
-use Rattle.represents.proofs.Line.{await-transfer}
+use Rattle.represents.proofs.Leads.{Settling, Goes, goes-quiet, goes-speaking, settle-goes}
+use Rattle.represents.proofs.Line.{toTransferAt, await-transfer}
 use Rattle.represents.proofs.Transfer.{behind, behind′, store′, heading′, s′, stepped, behind-back, store-kept, holds′}
 use Rattle.form_closed.specs.Facts.{Good, Under}
 
@@ -116,7 +114,7 @@ module _ (F : Fixed) (E : Shelf) {nt ni ns : ℕ} (c : Cs) (g : Good F nt ni ns 
       let e : entry ≡ take proposalLen (drop (u .now .current * proposalLen) (u .now .block)) = part-in (u .now .block) (u .now .current * proposalLen) proposalLen (omega (arith, under .current, g .now .block, g .now .proposals)) in
       rw e (length-take-le proposalLen (drop (u .now .current * proposalLen) (u .now .block)) (rw (length-drop (u .now .current * proposalLen) (u .now .block)) (omega (arith, under .current, g .now .block, g .now .proposals))))
 
-  title-short : length title ≤ 80
+  title-short : length title ≤ headingMax
   title-short = rw (length-take (u .reading .reader .head) (u .reading .heading)) (omega (arith, k .array))
 
   entry-fits : length (entryOut entry title (u .keep .used) n) ≡ entryLen
@@ -153,51 +151,35 @@ module _ (F : Fixed) (E : Shelf) {nt ni ns : ℕ} (c : Cs) (g : Good F nt ni ns 
 
   -- ---------------------------------------------------------------- then
 
-  first : u .say .first ≡ 0
+  -- the memory with it kept
+  abbrev d : Cs
+  d = cs (withKeep (keptKeep u) u) (c .table) inbox′ st
+
+  -- nothing is said first
+  first : u .say .first ≡ pieceNone
   first = (waits-none (c .session .say) quiet) .0
 
-  then : u .say .then ≡ 0
-  then = (waits-none (c .session .say) quiet) .1
-
   abbrev Next : Judged → Outcome → Type 0
-  Next j o = Goes F E u (isPlainAt u) inbox′ st (u .keep .kept + 1) (u .keep .used + n) (c .table) (u .keep .terms .partner) (v .memory) j o
+  Next j o = Goes F E d (isPlainAt u) (v .memory) j o
 
   next-law : (l : List Proposal) (j : ℕ)
       → Found (drop (suc (u .now .current)) (held (u .say .signs))) (drop (suc (u .now .current)) (proposalsOf (u .now .block) (u .now .proposals))) (suc (u .now .current)) j l
       → Next (nextJudged u j) (on-lists.nextTransfer E l m′)
   next-law [] j found =
       subst (λ (x : ℕ). Next (nextJudged u x) (on-lists.ourTurn E [] false m′)) (sym found)
-      (goes-speaking F E u (isPlainAt u) inbox′ st (u .keep .kept + 1) (u .keep .used + n) (c .table) (u .keep .terms .partner) (v .memory) noMarks (u .now) (u .say) (keptKeep u) (u .reading .reader) refl refl refl (omega arith) (omega arith) false
-      (on-lists.ourTurn E [] false m′)
-      (subst (λ (o : Bytes). Settles F E u (isPlainAt u) inbox′ st (m′ .counts) (speakOf (u .now) (u .say) (keptKeep u) (c .table) false .now) (speakOf (u .now) (u .say) (keptKeep u) (c .table) false .say)
-      (keptKeep u) (u .reading .reader) (c .table) (on-lists.ourTurn E o false m′)) (first-nothing (u .say .first) (u .say .signs) first)
-      (our-turn-law F E u (isPlainAt u) inbox′ st (u .now) (u .say) (keptKeep u) (u .reading .reader) (c .table) m′ (h .entries) holds″ false)))
+      (goes-speaking F E d (isPlainAt u) (v .memory) noMarks (d .session) m′ [] (h .entries) holds″ refl refl (omega arith) (omega arith) (first-nothing (d .session) first) false)
   next-law (q ∷ qs) j found =
       let o = owing (u .say .signs) (u .now .block) (u .now .proposals) (g .say .signs) (under .signs) (suc (u .now .current)) j q qs found in
-      subst
-      (λ (x : Bool). Next (cond x (judged 0 1 noMarks (u .now) (u .say) (keptKeep u) (u .reading .reader)) (judged 0 0 noMarks (toTransfer j (u .now)) (u .say) (keptKeep u) (readerFor (u .now) j)))
-      (on-lists.nextTransfer E (q ∷ qs) m′))
-      (sym (ne-eqb j 5 (λ e. omega (arith, o .within, g .now .proposals)))) (
-        refl,
-        refl,
-        refl,
-        (
-          settled-is F E u (isPlainAt u) inbox′ st (toTransfer j (u .now)) (u .say) (keptKeep u) (readerFor (u .now) j) (c .table) (on-lists.awaitsTransfer q qs (scanFrom (q .form))) m′ []
-              (h .entries) holds″
-              (ap (λ (l : Bytes). l ++ thenText (u .say .then) (u .now .ours) (u .keep .sending) (c .table) (F .titles) (F .names) (F .bodies)) (first-nothing (u .say .first) (u .say .signs) first)
-              ∙ then-nothing (u .say .then) (u .now .ours) (u .keep .sending) (c .table) (F .titles) (F .names) (F .bodies) then)
-              (await-transfer F E u (isPlainAt u) inbox′ st (u .now) (u .say) (keptKeep u) (c .table) j q qs (h .entries) (g .say .signs) (k .array) o),
-          counting-quiet (u .keep) (v .memory) m′ (judged 0 0 noMarks (toTransfer j (u .now)) (u .say) (keptKeep u) (readerFor (u .now) j)) (toTransfer j (u .now)) refl refl (omega arith) (omega arith) refl,
-        ),
-      )
+      rw (ne-eqb j noProposal (λ e. omega (arith, o .within, g .now .proposals)))
+      (goes-quiet F E d (isPlainAt u) (v .memory) noMarks (toTransferAt j (d .session)) m′ [] (h .entries) holds″ refl refl (omega arith) (omega arith) (first-nothing (toTransferAt j (d .session)) first)
+      (on-lists.awaitsTransfer q qs (scanFrom (q .form))) ((waits-none (c .session .say) quiet) .1) (await-transfer (d .session) (c .table) inbox′ st j q qs (h .entries) (g .say .signs) (k .array) o))
 
   -- THE MESSAGE KEPT, at its last byte
-  pub keep-law : Settling F E inbox′ st (u .keep .kept + 1) (u .keep .used + n) (c .table) (keepOf u (c .table))
-      (on-lists.settled v (on-lists.isPlain (p .form)) (on-lists.nextTransfer E ps m′))
+  pub keep-law : Settling F E d (keepOf u (c .table)) (on-lists.settled v (on-lists.isPlain (p .form)) (on-lists.nextTransfer E ps m′))
   unfolding keepOf nextAccepted
   keep-law =
-      subst (λ (x : Bool). Settling F E inbox′ st (u .keep .kept + 1) (u .keep .used + n) (c .table) (keepOf u (c .table)) (on-lists.settled v x (on-lists.nextTransfer E ps m′))) plain
-      (settle-goes F E u (isPlainAt u) inbox′ st (u .keep .kept + 1) (u .keep .used + n) (c .table) (u .keep .terms .partner) (v .memory) (h .tally) (h .holds .states) v (nextJudged u (nextAccepted (u .say .signs) (u .now .current + 1))) (on-lists.nextTransfer E ps m′)
+      subst (λ (x : Bool). Settling F E d (keepOf u (c .table)) (on-lists.settled v x (on-lists.nextTransfer E ps m′))) plain
+      (settle-goes F E d (isPlainAt u) (v .memory) (h .tally) (h .holds .states) v (nextJudged u (nextAccepted (u .say .signs) (u .now .current + 1))) (on-lists.nextTransfer E ps m′)
       (subst (λ (x : ℕ). Next (nextJudged u (plusFrom x (drop x (held (u .say .signs))))) (on-lists.nextTransfer E ps m′)) (sym (add-one (u .now .current)))
       (next-law ps (plusFrom (suc (u .now .current)) (drop (suc (u .now .current)) (held (u .say .signs))))
       (subst (λ (l : List Proposal). Found (drop (suc (u .now .current)) (held (u .say .signs))) (drop (suc (u .now .current)) (proposalsOf (u .now .block) (u .now .proposals))) (suc (u .now .current))
@@ -205,4 +187,4 @@ module _ (F : Fixed) (E : Shelf) {nt ni ns : ℕ} (c : Cs) (g : Good F nt ni ns 
       (next-found (u .say .signs) (u .now .block) (u .now .proposals) (g .say .signs) (under .signs) (suc (u .now .current)))))))
     where
       plain : isPlainAt u ≡ on-lists.isPlain (p .form)
-      plain = plain-law (byteAt entry 0) (written-form (h .entries (u .now .current) (under .current))) ∙ ap (λ (q : Proposal). on-lists.isPlain (q .form)) (sym this)
+      plain = plain-law (byteAt entry formAt) (written-form (h .entries (u .now .current) (under .current))) ∙ ap (λ (q : Proposal). on-lists.isPlain (q .form)) (sym this)

@@ -11,7 +11,7 @@ use lib.Seq.{take-suc-set, length-take-le}
 use borrow.Author.Tests.{ltb-true}
 use Rattle.grammar.specs.Bytes.{Bytes, CR}
 use Rattle.grammar.specs.Refusals.{lineTooLong}
-use Rattle.grammar.specs.Lines.{LineByte, dropped, ends, grows, overruns, lineByte, trim, isComment, isPrompt}
+use Rattle.grammar.specs.Lines.{LineByte, dropped, ends, grows, overruns, lineByte, trim, isComment, isPrompt, lineLimit}
 use Rattle.grammar.specs.Sid.{readSid}
 use Rattle.grammar.specs.Turns.{Proposal, readTurnLine}
 use Rattle.grammar.specs.Answers.{readFs, fsNumber}
@@ -22,9 +22,10 @@ use Rattle.session.specs.Session.{Memory, Phase, Outcome, goesOn}
 use Rattle.session_memory.specs.State.{held}
 use Rattle.session_memory.specs.Session.{Line}
 use Rattle.session_memory.specs.Session.{Session}
+use Rattle.session_memory.specs.Setters.{withLine}
 use Rattle.line_effect.specs.Judge.{lineSum, wentOn, judgeOf, lineIn, sidLine, textLine, turnLine}
 use Rattle.line_effect.specs.Judged.{Judged}
-use Rattle.waiting.specs.Waiting.{waitingOf}
+use Rattle.waiting.specs.Waiting.{waitingOf, firstText, thenText}
 use Rattle.pending.specs.Pending.{waits}
 use Rattle.receive_defined.specs.Receiving.{Cs, cs, Settled, longer, lineMoved, lineStepOf, refusedOf}
 use Rattle.form_closed.specs.Fixed.{Fixed}
@@ -35,19 +36,17 @@ use Rattle.represents.proofs.Leads.{Settling, Leads, settle-law}
 use Rattle.represents.proofs.Line.{went-on, sid-law, text-law, turn-law}
 use Rattle.represents.proofs.Answer.{fs-law}
 use Rattle.form_closed.specs.Facts.{Good}
+use Rattle.phase.specs.Phase.{phaseCallerSid, phaseTurn, phaseFs, phaseTransfer}
 
 -- the numbers of lines
-pub line-below : (a : on-lists.Awaited) → lineNumber a < 5
+pub line-below : (a : on-lists.Awaited) → lineNumber a < phaseTransfer
 line-below (on-lists.awaitsSid true) = omega arith
 line-below (on-lists.awaitsSid false) = omega arith
 line-below on-lists.awaitsPrompt = omega arith
 line-below (on-lists.awaitsTurn ff ps lines) = omega arith
 line-below (on-lists.awaitsAnswer is) = omega arith
 
--- the same session with another line
-abbrev pub withLine : Line → Session → Session
-withLine l s = record { now = s .now; say = s .say; keep = s .keep; reading = s .reading; line = l; tally = s .tally }
-
+-- what is awaited doesn't depend on the line
 pub awaits-line : (p : Phase) (s : Session) (t i st : Bytes) (l : Line) → Awaits (cs s t i st) p → Awaits (cs (withLine l s) t i st) p
 awaits-line (on-lists.aLine a) s t i st l h = h
 awaits-line (on-lists.awaitsTransfer p ps sc) s t i st l h = h
@@ -56,7 +55,7 @@ awaits-line on-lists.over s t i st l h = h
 
 -- what waits does not depend on the line
 pub says-line : (F : Fixed) (s : Session) (t i st : Bytes) (l : Line) (o : Bytes) → Says F (cs s t i st) o → Says F (cs (withLine l s) t i st) o
-unfolding waitingOf
+unfolding waitingOf firstText thenText
 says-line F s t i st l o h = h
 
 module _ (F : Fixed) (E : Shelf) {nt ni ns : ℕ} (c : Cs) (g : Good F nt ni ns c) (v : on-lists.Session) (h : Represents F E c v) (quiet : waits (c .session .say) ≡ false) where
@@ -67,9 +66,9 @@ module _ (F : Fixed) (E : Shelf) {nt ni ns : ℕ} (c : Cs) (g : Good F nt ni ns 
   m = v .memory
 
   abbrev Lead : Judged → Outcome → Type 0
-  Lead j o = Leads F E s true (c .inbox) (c .store) (s .keep .kept) (s .keep .used) (c .table) (s .keep .terms .partner) m j o
+  Lead j o = Leads F E c true m j o
 
-  ready : Ready F E (s .reading .heading) (c .inbox) (c .store) (s .now) (s .say) (s .keep) (c .table) m
+  ready : Ready F E c m
   ready =
       record { now = g .now; heading = g .heading .size; entries = h .entries; keep = g .keep; holds = h .holds; first = (waits-none (s .say) quiet) .0; then = (waits-none (s .say) quiet) .1 }
 
@@ -81,40 +80,33 @@ module _ (F : Fixed) (E : Shelf) {nt ni ns : ℕ} (c : Cs) (g : Good F nt ni ns 
     ln = trim raw
 
     abbrev judgedIn : ℕ → Judged
-    judgedIn p = lineIn p ln (lineSum raw) (s .now) (s .say) (s .keep) (s .reading .reader) (c .table) (F .known) (c .inbox) (length (c .store))
+    judgedIn p = lineIn p ln (lineSum raw) s (c .table) (F .known) (c .inbox) (length (c .store))
 
     read-law : (a : on-lists.Awaited) → Awaits c (on-lists.aLine a) → Lead (judgedIn (lineNumber a)) (on-lists.awaitedJudged E a m raw)
     unfolding sidLine textLine turnLine
-    read-law (on-lists.awaitsSid true) a =
-        sid-law F E s true (c .inbox) (c .store) (s .now) (s .say) (s .keep) (s .reading .reader) (c .table) m ready true (ap (λ (p : ℕ). eqb p 1) (a .0)) (readSid ln)
-    read-law (on-lists.awaitsSid false) a =
-        sid-law F E s true (c .inbox) (c .store) (s .now) (s .say) (s .keep) (s .reading .reader) (c .table) m ready false (ap (λ (p : ℕ). eqb p 1) (a .0)) (readSid ln)
-    read-law on-lists.awaitsPrompt a =
-        text-law F E s true (c .inbox) (c .store) (s .now) (s .say) (s .keep) (s .reading .reader) (c .table) m ready (a .0) (isPrompt ln)
+    read-law (on-lists.awaitsSid true) a = sid-law F E c m ready true (ap (λ (p : ℕ). eqb p phaseCallerSid) (a .0)) (readSid ln)
+    read-law (on-lists.awaitsSid false) a = sid-law F E c m ready false (ap (λ (p : ℕ). eqb p phaseCallerSid) (a .0)) (readSid ln)
+    read-law on-lists.awaitsPrompt a = text-law F E c m ready (a .0) (isPrompt ln)
     read-law (on-lists.awaitsTurn ff ps lines) a =
-        subst (λ (o : Outcome). Lead (judgedIn 3) o) (same (h .holds .framed) (a .1 .0) (a .1 .1))
-        (turn-law F E s true (c .inbox) (c .store) (s .now) (s .say) (s .keep) (s .reading .reader) (c .table) m ready (a .0)
-        lines raw (a .1 .2) (s .keep .framed) (readTurnLine (s .keep .framed) ln) (turn-read-ok (s .keep .framed) ln))
+        subst (λ (o : Outcome). Lead (judgedIn phaseTurn) o) (same (h .holds .framed) (a .1 .0) (a .1 .1))
+        (turn-law F E c m ready (a .0) lines raw (a .1 .2) (s .keep .framed) (readTurnLine (s .keep .framed) ln) (turn-read-ok (s .keep .framed) ln))
       where
         same : {d e : Bool} {f g : Bool} {qs rs : List Proposal} → d ≡ e → f ≡ g → qs ≡ rs
             → on-lists.turnJudged E (readTurnLine d ln) f qs lines raw m ≡ on-lists.turnJudged E (readTurnLine e ln) g rs lines raw m
         same p q r = rw (p, q, r)
     read-law (on-lists.awaitsAnswer is) a =
-        subst (λ (js : List ℕ). Lead (judgedIn 4) (on-lists.answerJudged E js m (fsNumber (m .terms .level) (length js) ln) (readFs (m .terms .level) (length js) ln))) (a .1)
-        (subst (λ (v : ℕ). Lead (judgedIn 4) (on-lists.answerJudged E (held (s .now .ours)) m (fsNumber v (length (held (s .now .ours))) ln) (readFs v (length (held (s .now .ours))) ln))) (h .holds .terms .level)
-        (fs-law F E s true (c .inbox) (c .store) (s .now) (s .say) (s .keep) (s .reading .reader) (c .table) m ready ln (g .awaited .quiet (λ e. omega (arith, e, a .0)) (omega (arith, a .0)))))
+        subst (λ (js : List ℕ). Lead (judgedIn phaseFs) (on-lists.answerJudged E js m (fsNumber (m .terms .level) (length js) ln) (readFs (m .terms .level) (length js) ln))) (a .1)
+        (subst (λ (v : ℕ). Lead (judgedIn phaseFs) (on-lists.answerJudged E (held (s .now .ours)) m (fsNumber v (length (held (s .now .ours))) ln) (readFs v (length (held (s .now .ours))) ln))) (h .holds .terms .level)
+        (fs-law F E c m ready ln (g .awaited .quiet (λ e. omega (arith, e, a .0)) (omega (arith, a .0)))))
 
     -- "A line that begins with `;` is ignored wherever a line is awaited"
     judge-law : (a : on-lists.Awaited) → Awaits c (on-lists.aLine a)
-        → Lead (judgeOf ln (lineSum raw) (s .now) (s .say) (s .keep) (s .reading .reader) (c .table) (F .known) (c .inbox) (length (c .store))) (on-lists.lineJudged E a m raw)
+        → Lead (judgeOf ln (lineSum raw) s (c .table) (F .known) (c .inbox) (length (c .store))) (on-lists.lineJudged E a m raw)
     unfolding judgeOf
     judge-law a w = go (isComment ln)
       where
-        go : (x : Bool) → Lead (cond x (wentOn (s .now) (s .say) (s .keep) (s .reading .reader)) (judgedIn (s .now .phase)))
-            (cond x (goesOn (on-lists.aLine a) m []) (on-lists.awaitedJudged E a m raw))
-        go true =
-            went-on F E s true (c .inbox) (c .store) (s .now) (s .say) (s .keep) (s .reading .reader) (c .table) m ready (s .now) (s .keep) (on-lists.aLine a) m
-            (h .entries) (h .holds) refl refl refl refl w
+        go : (x : Bool) → Lead (cond x (wentOn s) (judgedIn (s .now .phase))) (cond x (goesOn (on-lists.aLine a) m []) (on-lists.awaitedJudged E a m raw))
+        go true = went-on F E c m ready (s .now) (s .keep) (on-lists.aLine a) m (h .entries) (h .holds) refl refl w
         go false = subst (λ (q : ℕ). Lead (judgedIn q) (on-lists.awaitedJudged E a m raw)) (sym (w .0)) (read-law a w)
 
   -- ---------------------------------------------------------------- a byte
@@ -123,22 +115,22 @@ module _ (F : Fixed) (E : Shelf) {nt ni ns : ℕ} (c : Cs) (g : Good F nt ni ns 
   abbrev RoomIf : LineByte → Type 0
   RoomIf dropped = Unit {0}
   RoomIf ends = Unit {0}
-  RoomIf grows = s .line .len < 256
+  RoomIf grows = s .line .len < lineLimit
   RoomIf overruns = Unit {0}
 
   room-if : (b : ℕ) → RoomIf (lineByte false (s .line .len) b)
-  room-if b = go (eqb b CR) (ltb (s .line .len) 256) refl
+  room-if b = go (eqb b CR) (ltb (s .line .len) lineLimit) refl
     where
-      go : (x y : Bool) → ltb (s .line .len) 256 ≡ y → RoomIf (cond x ends (cond y grows overruns))
+      go : (x y : Bool) → ltb (s .line .len) lineLimit ≡ y → RoomIf (cond x ends (cond y grows overruns))
       go true y e = tt
-      go false true e = ltb-true (s .line .len) 256 e
+      go false true e = ltb-true (s .line .len) lineLimit e
       go false false e = tt
 
   line-length : length (v .part) ≡ s .line .len
   line-length = ap length (sym (h .part)) ∙ length-take-le (s .line .len) (s .line .bytes) (omega (arith, g .line .len, g .line .size))
 
   abbrev Moves : Settled → on-lists.Stepped → Type 0
-  Moves x o = Settling F E (c .inbox) (c .store) (s .keep .kept) (s .keep .used) (c .table) x o
+  Moves x o = Settling F E c x o
 
   byte-moves : (b : ℕ) (a : on-lists.Awaited) → v .phase ≡ on-lists.aLine a → (l : LineByte) → RoomIf l
       → Moves (lineMoved l s b (c .table) (F .known) (c .inbox) (length (c .store))) (on-lists.lineMoved E a v b l)
@@ -148,8 +140,8 @@ module _ (F : Fixed) (E : Shelf) {nt ni ns : ℕ} (c : Cs) (g : Good F nt ni ns 
       subst
       (λ (w : Bytes). Moves (lineMoved ends s b (c .table) (F .known) (c .inbox) (length (c .store))) (on-lists.settled v true (on-lists.lineJudged E a m w)))
       (h .part)
-      (settle-law F E s true (c .inbox) (c .store) (s .keep .kept) (s .keep .used) (c .table) (s .keep .terms .partner) m (h .tally) (h .holds .states) v refl refl (λ n. refuse-law F E c v n h)
-      (judgeOf (trim (take (s .line .len) (s .line .bytes))) (lineSum (take (s .line .len) (s .line .bytes))) (s .now) (s .say) (s .keep) (s .reading .reader) (c .table) (F .known) (c .inbox) (length (c .store)))
+      (settle-law F E c true v h
+      (judgeOf (trim (take (s .line .len) (s .line .bytes))) (lineSum (take (s .line .len) (s .line .bytes))) s (c .table) (F .known) (c .inbox) (length (c .store)))
       (on-lists.lineJudged E a m (take (s .line .len) (s .line .bytes)))
       (judge-law (take (s .line .len) (s .line .bytes)) a (subst (Awaits c) x (h .awaits))))
   byte-moves b a x grows room =

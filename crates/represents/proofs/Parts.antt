@@ -9,42 +9,41 @@ use Rattle.grammar.specs.Bytes.{Bytes}
 use Rattle.session.specs.Choices.{Shelf}
 use Rattle.session.specs.Session as on-lists
 use Rattle.session.specs.Session.{Memory}
-use Rattle.session_memory.specs.Session.{Await}
-use Rattle.session_memory.specs.declared.Say.{Say}
-use Rattle.session_memory.specs.Session.{Keep}
-use Rattle.waiting.specs.Waiting.{waitingOf, firstText, thenText}
+use Rattle.waiting.specs.Waiting.{waitingOf, firstBy, firstText, thenText}
 use Rattle.pending.specs.Pending.{errorPiece}
 use Rattle.receive_defined.specs.Receiving.{Cs, cs, refusedOf}
 use Rattle.form_closed.specs.Fixed.{Fixed}
 use Rattle.represents.specs.Represents.{Represents, Entries, Holds}
 use Rattle.form_closed.specs.Facts.{AwaitOk, KeepOk}
+use Rattle.phase.specs.Phase.{pieceNone}
+use Rattle.places.specs.Places.{headingLen}
 use Rattle.represents.proofs.Says.{error-piece}
 
 -- no proposal yet
 pub no-entries : (block : Bytes) → Entries block 0
 no-entries block j e = absurd (not-suc-le-zero e)
 
--- all that a whole line is judged with; nothing waits; hd: the array of a heading
-pub record Ready (F : Fixed) (E : Shelf) (hd i st : Bytes) (w : Await) (y : Say) (k : Keep) (t : Bytes) (m : Memory) : Type 0 where
-  pub now : AwaitOk w
-  pub heading : length hd ≡ 80
-  pub entries : Entries (w .block) (w .proposals)
-  pub keep : KeepOk k
-  pub holds : Holds F E k t i st m
-  pub first : y .first ≡ 0
-  pub then : y .then ≡ 0
+-- all that a whole line is judged with; nothing waits
+pub record Ready (F : Fixed) (E : Shelf) (c : Cs) (m : Memory) : Type 0 where
+  pub now : AwaitOk (c .session .now)
+  pub heading : length (c .session .reading .heading) ≡ headingLen
+  pub entries : Entries (c .session .now .block) (c .session .now .proposals)
+  pub keep : KeepOk (c .session .keep)
+  pub holds : Holds F E (c .session .keep) (c .table) (c .inbox) (c .store) m
+  pub first : c .session .say .first ≡ pieceNone
+  pub then : c .session .say .then ≡ pieceNone
 
 -- ---------------------------------------------------------------- a refusal
 
 -- nothing is said any more but why, and what is kept stands
 pub refuse-law : (F : Fixed) (E : Shelf) (c : Cs) (s : on-lists.Session) (n : ℕ) → Represents F E c s
     → Represents F E (cs (refusedOf n (c .session)) (c .table) (c .inbox) (c .store)) (on-lists.refused s n .session)
-unfolding refusedOf waitingOf thenText
+unfolding refusedOf waitingOf firstText thenText
 refuse-law F E c s n h =
     record {
       entries = h .entries;
       holds = h .holds;
-      says = append-nil (firstText (errorPiece n) (c .session .say .signs)) ∙ error-piece n (c .session .say .signs);
+      says = append-nil (firstBy (errorPiece n) (c .session)) ∙ error-piece n (c .session);
       awaits = omega arith;
       part = refl;
       afterCr = refl;

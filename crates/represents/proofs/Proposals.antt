@@ -12,15 +12,15 @@ use lib.Seq.{drop-cons, drop-drop, getD-drop, getD-take}
 use borrow.Author.Tests.{eqb-true, eqb-false}
 use Rattle.grammar.specs.Bytes.{Bytes, same}
 use Rattle.grammar.specs.Fields.{Form, plain, message, file, formIs, formNumber}
-use Rattle.grammar.specs.Turns.{Proposal}
-use Rattle.grammar.specs.Answers.{Sign, accept, decline, defer, writeSign}
+use Rattle.grammar.specs.Turns.{Proposal, blockLimit}
+use Rattle.grammar.specs.Answers.{Sign, accept, decline, defer, writeSign, plusSign, minusSign}
 use Rattle.grammar.specs.Scan.{scanFrom}
 use Rattle.grammar.proofs.AsRead.{Proper}
 use Rattle.grammar.proofs.Fields.{call-field, at-field, bid-field}
 use Rattle.mail.specs.Mail.{accepted}
 use Rattle.session.specs.Session.{isPlain}
 use Rattle.buffer.specs.Put.{putBytes}
-use Rattle.places.specs.Places.{proposalLen}
+use Rattle.places.specs.Places.{proposalLen, headingLen, blockLen, formAt}
 use Rattle.layout.specs.Layout.{byteAt, entryAt, proposalSize, proposalOf}
 use Rattle.layout.proofs.Places.{entry-written}
 use Rattle.layout.proofs.Laws.{Fits, written, proposal-length, proposal-back, block-kept}
@@ -37,6 +37,7 @@ use Rattle.form_closed.proofs.Laws.{held-length}
 use Rattle.entries.proofs.Laws.{entries-same}
 use Rattle.represents.proofs.Lists.{entries-snoc}
 use Rattle.form_test.specs.Form.{pluses}
+use Rattle.phase.specs.Phase.{noProposal}
 
 -- ---------------------------------------------------------------- a proposal as read fits its entry
 
@@ -60,12 +61,12 @@ pub no-proposals : (block : Bytes) → proposalsOf block 0 ≡ []
 unfolding proposalsOf
 no-proposals block = refl
 
-form-small : (f : Form) → formNumber f ≤ 2
+form-small : (f : Form) → formNumber f ≤ formNumber file
 form-small plain = omega arith
 form-small message = omega arith
 form-small file = omega arith
 
-module _ (block : Bytes) (n : ℕ) (size : length block ≡ 360) (few : n < 5) (q : Proposal) where
+module _ (block : Bytes) (n : ℕ) (size : length block ≡ blockLen) (few : n < blockLimit) (q : Proposal) where
   abbrev more : Bytes
   more = putBytes block (at (n * proposalLen)) (written q)
 
@@ -97,8 +98,8 @@ module _ (block : Bytes) (n : ℕ) (size : length block ≡ 360) (few : n < 5) (
           subst Written (sym (other j l)) (h j l)
 
 -- so it has one of the three forms
-pub written-form : {c : Bytes} → Written c → byteAt c 0 ≤ 2
-written-form {c} e = subst (λ (x : Bytes). byteAt x 0 ≤ 2) e (form-small (proposalOf c .form))
+pub written-form : {c : Bytes} → Written c → byteAt c formAt ≤ formNumber file
+written-form {c} e = subst (λ (x : Bytes). byteAt x formAt ≤ formNumber file) e (form-small (proposalOf c .form))
 
 -- ---------------------------------------------------------------- the next proposal that we accept
 
@@ -112,7 +113,7 @@ signs-back (defer ∷ ss) = ap (λ (l : List Sign). defer ∷ l) (signs-back ss)
 pub accepted-pluses : {A : Type 0} (bs : List ℕ) (xs : List A) → length bs ≡ length xs → length (accepted (signsIn bs) xs) ≡ pluses bs
 accepted-pluses [] xs h = refl
 accepted-pluses (b ∷ bs) [] h = absurd (omega arith)
-accepted-pluses (b ∷ bs) (x ∷ xs) h = go (eqb b 43) (eqb b 45) (accepted-pluses bs xs (omega arith))
+accepted-pluses (b ∷ bs) (x ∷ xs) h = go (eqb b plusSign) (eqb b minusSign) (accepted-pluses bs xs (omega arith))
   where
     go : (c d : Bool) → length (accepted (signsIn bs) xs) ≡ pluses bs
         → length (accepted (cond c accept (cond d decline defer) ∷ signsIn bs) (x ∷ xs)) ≡ cond c (suc (pluses bs)) (pluses bs)
@@ -125,11 +126,11 @@ pub record Ahead (bs : List ℕ) (ps : List Proposal) (k i : ℕ) (p : Proposal)
   pub steps : ℕ
   pub place : i ≡ k + steps
   pub within : steps < length bs
-  pub plus : getD bs steps 0 ≡ 43
+  pub plus : getD bs steps 0 ≡ plusSign
   pub owed : accepted (signsIn (drop steps bs)) (drop steps ps) ≡ p ∷ qs
 
 abbrev pub Found : List ℕ → List Proposal → ℕ → ℕ → List Proposal → Type 0
-Found bs ps k i [] = i ≡ 5
+Found bs ps k i [] = i ≡ noProposal
 Found bs ps k i (p ∷ qs) = Ahead bs ps k i p qs
 
 found-later : (b : ℕ) (bs : List ℕ) (q : Proposal) (ps : List Proposal) (k i : ℕ) (l : List Proposal) → Found bs ps (suc k) i l → Found (b ∷ bs) (q ∷ ps) k i l
@@ -142,11 +143,11 @@ found-later b bs q ps k i (p ∷ qs) h =
 pub plus-law : (bs : List ℕ) (ps : List Proposal) (k : ℕ) → length bs ≡ length ps → Found bs ps k (plusFrom k bs) (accepted (signsIn bs) ps)
 plus-law [] ps k e = refl
 plus-law (b ∷ bs) [] k e = absurd (omega arith)
-plus-law (b ∷ bs) (q ∷ ps) k e = go (eqb b 43) (eqb b 45) refl (plus-law bs ps (suc k) (omega arith))
+plus-law (b ∷ bs) (q ∷ ps) k e = go (eqb b plusSign) (eqb b minusSign) refl (plus-law bs ps (suc k) (omega arith))
   where
-    go : (c d : Bool) → eqb b 43 ≡ c → Found bs ps (suc k) (plusFrom (suc k) bs) (accepted (signsIn bs) ps)
+    go : (c d : Bool) → eqb b plusSign ≡ c → Found bs ps (suc k) (plusFrom (suc k) bs) (accepted (signsIn bs) ps)
         → Found (b ∷ bs) (q ∷ ps) k (cond c k (plusFrom (suc k) bs)) (accepted (cond c accept (cond d decline defer) ∷ signsIn bs) (q ∷ ps))
-    go true d f h = record { steps = 0; place = omega arith; within = omega arith; plus = eqb-true b 43 f; owed = rw f }
+    go true d f h = record { steps = 0; place = omega arith; within = omega arith; plus = eqb-true b plusSign f; owed = rw f }
     go false true f h = found-later b bs q ps k (plusFrom (suc k) bs) (accepted (signsIn bs) ps) h
     go false false f h = found-later b bs q ps k (plusFrom (suc k) bs) (accepted (signsIn bs) ps) h
 
@@ -154,7 +155,7 @@ plus-law (b ∷ bs) (q ∷ ps) k e = go (eqb b 43) (eqb b 45) refl (plus-law bs 
 pub record Owing (signs : Five) (block : Bytes) (n i : ℕ) (p : Proposal) (qs : List Proposal) : Type 0 where
   pub within : i < n
   pub count : signs .count ≡ n
-  pub plus : getD (signs .items) i 0 ≡ 43
+  pub plus : getD (signs .items) i 0 ≡ plusSign
   pub owed : accepted (signsIn (drop i (held signs))) (drop i (proposalsOf block n)) ≡ p ∷ qs
 
 module _ (signs : Five) (block : Bytes) (n : ℕ) (g : FiveOk signs) (same : signs .count ≡ n) where
@@ -186,7 +187,7 @@ module _ (signs : Five) (block : Bytes) (n : ℕ) (g : FiveOk signs) (same : sig
       (length-drop i (held signs) ∙ ap (λ (j : ℕ). j - i) (length-held ∙ sym (proposals-length block n)) ∙ sym (length-drop i (proposalsOf block n)))
 
   -- the one under way, and those after it
-  pub owed-now : (i : ℕ) → i < n → getD (signs .items) i 0 ≡ 43
+  pub owed-now : (i : ℕ) → i < n → getD (signs .items) i 0 ≡ plusSign
       → accepted (signsIn (drop i (held signs))) (drop i (proposalsOf block n))
       ≡ proposalOf (entryAt proposalSize block i) ∷ accepted (signsIn (drop (suc i) (held signs))) (drop (suc i) (proposalsOf block n))
   unfolding proposalsOf
@@ -208,19 +209,19 @@ module _ (signs : Five) (block : Bytes) (n : ℕ) (g : FiveOk signs) (same : sig
 
 -- ---------------------------------------------------------------- where its transfer begins
 
-pub start-law : (b : ℕ) → b ≤ 2 → startOf b ≡ numbersOf (scanFrom (formIs b))
+pub start-law : (b : ℕ) → b ≤ formNumber file → startOf b ≡ numbersOf (scanFrom (formIs b))
 start-law zero h = refl
 start-law (suc zero) h = refl
 start-law (suc (suc zero)) h = refl
 start-law (suc (suc (suc b))) h = absurd (omega arith)
 
-pub plain-law : (b : ℕ) → b ≤ 2 → eqb b 0 ≡ isPlain (formIs b)
+pub plain-law : (b : ℕ) → b ≤ formNumber file → eqb b (formNumber plain) ≡ isPlain (formIs b)
 plain-law zero h = refl
 plain-law (suc zero) h = refl
 plain-law (suc (suc zero)) h = refl
 plain-law (suc (suc (suc b))) h = absurd (omega arith)
 
-pub stands-fresh : (f : Form) (room : ℕ) (hd st : Bytes) → length hd ≡ 80 → room ≤ length st → Stands room (numbersOf (scanFrom f)) hd st (scanFrom f)
+pub stands-fresh : (f : Form) (room : ℕ) (hd st : Bytes) → length hd ≡ headingLen → room ≤ length st → Stands room (numbersOf (scanFrom f)) hd st (scanFrom f)
 stands-fresh plain room hd st l h = record { numbers = refl; heading = refl; body = refl; short = omega arith; fits = omega arith; array = l; store = h }
 stands-fresh message room hd st l h = record { numbers = refl; heading = refl; body = refl; short = omega arith; fits = omega arith; array = l; store = h }
 stands-fresh file room hd st l h = record { numbers = refl; heading = refl; body = refl; short = omega arith; fits = omega arith; array = l; store = h }

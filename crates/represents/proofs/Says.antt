@@ -6,33 +6,35 @@ use Prim.Native.Nat.{ℕ}
 use lib.Dec.{eqb}
 use Rattle.grammar.specs.Bytes.{Bytes}
 use Rattle.grammar.specs.Turns.{Proposal, fixedText, withCr, protocolError, checksumError}
+use Rattle.grammar.specs.Refusals.{badChecksum}
 use Rattle.grammar.specs.Errors.{isSilent, errorText}
 use Rattle.mail.specs.Mail.{Record, proposalOf, recordAt, transferOf, turnText, transfersText}
 use Rattle.entries.specs.Decoded.{recordsOf}
-use Rattle.session_memory.specs.declared.Five.{Five}
-use Rattle.waiting.specs.Waiting.{proposalAt, blockText, sendingText, firstText, thenText}
+use Rattle.session_memory.specs.Session.{Session}
+use Rattle.phase.specs.Phase.{pieceNone, pieceProtocolError, pieceChecksumError}
+use Rattle.waiting.specs.Waiting.{proposalAt, blockText, sendingText, firstBy, firstText, thenBy, thenText}
 use Rattle.pending.specs.Pending.{errorPiece}
 use Rattle.marking.proofs.States.{Whole}
 use Rattle.represents.proofs.Table.{record-at}
 
 -- ---------------------------------------------------------------- nothing
 
-pub first-nothing : (n : ℕ) (f : Five) → n ≡ 0 → firstText n f ≡ []
+pub first-nothing : (s : Session) → s .say .first ≡ pieceNone → firstText s ≡ []
 unfolding firstText
-first-nothing n f e = ap (λ (k : ℕ). firstText k f) e
+first-nothing s e = ap (λ (k : ℕ). firstBy k s) e
 
-pub then-nothing : (n : ℕ) (o f : Five) (t ti na bo : Bytes) → n ≡ 0 → thenText n o f t ti na bo ≡ []
+pub then-nothing : (s : Session) (t ti na bo : Bytes) → s .say .then ≡ pieceNone → thenText s t ti na bo ≡ []
 unfolding thenText
-then-nothing n o f t ti na bo e = ap (λ (k : ℕ). thenText k o f t ti na bo) e
+then-nothing s t ti na bo e = ap (λ (k : ℕ). thenBy k s t ti na bo) e
 
 -- ---------------------------------------------------------------- why
 
 -- the line that a refusal with the number n leaves
-pub error-piece : (n : ℕ) (f : Five) → firstText (errorPiece n) f ≡ errorText n
-unfolding firstText errorPiece errorText
-error-piece n f = go (isSilent n) (eqb n 9)
+pub error-piece : (n : ℕ) (s : Session) → firstBy (errorPiece n) s ≡ errorText n
+unfolding errorPiece errorText
+error-piece n s = go (isSilent n) (eqb n badChecksum)
   where
-    go : (a b : Bool) → firstText (cond a 0 (cond b 5 4)) f ≡ cond a [] (withCr (fixedText (cond b checksumError protocolError)))
+    go : (a b : Bool) → firstBy (cond a pieceNone (cond b pieceChecksumError pieceProtocolError)) s ≡ cond a [] (withCr (fixedText (cond b checksumError protocolError)))
     go true b = refl
     go false true = refl
     go false false = refl

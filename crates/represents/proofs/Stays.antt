@@ -18,6 +18,7 @@ use Rattle.transfer_read.specs.Feed.{headingPut, storePut, roomOf}
 use Rattle.session_memory.specs.Session.{Session}
 use Rattle.pending.specs.Pending.{waits, overOf}
 use Rattle.receive_defined.specs.Receiving.{Cs, Moved, reading, transferMoved, transferStep, transferStepOf, lineByteOf, byteOf, stops}
+use Rattle.phase.specs.Phase.{phaseTransfer}
 
 -- only a byte at which the reading goes on is put anywhere
 put-none : (room : ℕ) (r : Reader) (b : ℕ) → goesOn (stepOf room r b .outcome) ≡ false → stepOf room r b .put ≡ 0
@@ -37,7 +38,7 @@ put-none room r b =
     })
 
 -- in a transfer the session goes on
-transfer-lives : (s : Session) → s .now .phase ≡ 5 → overOf s ≡ false
+transfer-lives : (s : Session) → s .now .phase ≡ phaseTransfer → overOf s ≡ false
 unfolding overOf
 transfer-lives s e = rw e
 
@@ -53,14 +54,14 @@ module _ (c : Cs) (b : ℕ) where
       ∙ take-append-drop (c .session .keep .used) (c .store)
 
   -- a byte of a transfer
-  transfer-stays : eqb (c .session .now .phase) 5 ≡ true → stops (transferStepOf c b) ≡ true → transferStepOf c b .cs .store ≡ c .store
+  transfer-stays : eqb (c .session .now .phase) phaseTransfer ≡ true → stops (transferStepOf c b) ≡ true → transferStepOf c b .cs .store ≡ c .store
   unfolding transferStepOf
   transfer-stays f =
       go (stepOf (roomOf (drop (c .session .keep .used) (c .store))) (c .session .reading .reader) b)
       (put-none (roomOf (drop (c .session .keep .used) (c .store))) (c .session .reading .reader) b)
     where
-      five : c .session .now .phase ≡ 5
-      five = eqb-true (c .session .now .phase) 5 f
+      five : c .session .now .phase ≡ phaseTransfer
+      five = eqb-true (c .session .now .phase) phaseTransfer f
 
       at : (o : Outcome) (p : ℕ) (r : Reader) → (goesOn o ≡ false → p ≡ 0)
           → stops (transferMoved o (reading (c .session) r (headingPut p (c .session .reading .reader) b (c .session .reading .heading))) (c .table) (c .inbox) (stored p)) ≡ true
@@ -80,11 +81,11 @@ module _ (c : Cs) (b : ℕ) where
   unfolding byteOf
   byte-stays known =
       by-cond Stays (c .session .line .«after_cr» && eqb b LF) (λ e. refl)
-      (by-cond Stays (waits (c .session .say)) (λ e. refl) (go (eqb (c .session .now .phase) 5) refl))
+      (by-cond Stays (waits (c .session .say)) (λ e. refl) (go (eqb (c .session .now .phase) phaseTransfer) refl))
     where
       Stays : Moved → Type 0
       Stays m = stops m ≡ true → m .cs .store ≡ c .store
 
-      go : (q : Bool) → eqb (c .session .now .phase) 5 ≡ q → Stays (cond q (transferStepOf c b) (lineByteOf known c b))
+      go : (q : Bool) → eqb (c .session .now .phase) phaseTransfer ≡ q → Stays (cond q (transferStepOf c b) (lineByteOf known c b))
       go true e = transfer-stays e
       go false e = λ x. refl

@@ -1,21 +1,19 @@
 -- The partner's signs on our records, as the table's states and the flags of deferred records hold them; the record at a place.
-use mathlib.Core.Path.{_≡_, refl, sym, ap, _∙_, subst}
+use mathlib.Core.Path.{_≡_, refl, sym, ap, _∙_}
 use mathlib.Core.Bool.{Bool, true, false, cond}
 use mathlib.Core.List.{List, [], _∷_, _++_, map}
 use Prim.Native.Nat.{ℕ, zero, suc, _+_, _-_, _*_, _≤_, _<_}
 use native.Mathlib.Omega.{arith}
-use native.Mathlib.Nat.{add-zero}
 use lib.Dec.{eqb, leb, ltb}
-use lib.ListN.{length, getD, take, drop, set, replicate, length-set, length-take, length-drop, List·getD-eq-default}
-use lib.Seq.{drop-set-add, drop-set-lt, take-set-le, take-set-lt, getD-set-same, getD-set-other, ext-getD}
-use borrow.Author.Tests.{eqb-true, eqb-false, ltb-true, ltb-false, lt-leb}
+use lib.ListN.{length, take, drop, set, replicate, List·getD-eq-default}
+use borrow.Author.Tests.{ltb-true, ltb-false, lt-leb}
 use Rattle.grammar.specs.Bytes.{Bytes}
-use Rattle.grammar.specs.Answers.{Sign, accept, decline, defer, writeSign}
+use Rattle.grammar.specs.Answers.{Sign, accept, decline, defer, writeSign, plusSign, minusSign, equalSign}
 use Rattle.grammar.specs.Transfers.{partOf}
-use Rattle.mail.specs.Mail.{recordAt, noRecord, marked, declined, accepted}
+use Rattle.mail.specs.Mail.{recordAt, noRecord, declined, accepted}
 use Rattle.mail.specs.Tally.{declinedOnes, deferredOnes}
 use Rattle.places.specs.Places.{recordLen, partners}
-use Rattle.layout.specs.Layout.{byteAt, entryAt, recordSize, recordOf}
+use Rattle.layout.specs.Layout.{entryAt, recordSize, recordOf}
 use Rattle.layout.proofs.Places.{part-in}
 use Rattle.entries.specs.Decoded.{entries, recordCount, recordsOf}
 use Rattle.marking.specs.States.{statesOf, setState, markAll}
@@ -23,6 +21,7 @@ use Rattle.marking.proofs.States.{Whole, whole-set, states-set}
 use Rattle.entries.proofs.Laws.{entries-length, entries-at}
 use Rattle.line_effect.specs.Judge.{picked, flagged}
 use Rattle.session.specs.Session.{deferring}
+use Rattle.phase.specs.Phase.{stateDeclined}
 
 -- ---------------------------------------------------------------- the partner's signs
 
@@ -36,26 +35,26 @@ picked-none c (i ∷ is) (suc k) e = rw e (picked-none c is k e)
 abbrev pub zerosAfter : List Sign → ℕ → List ℕ
 zerosAfter ss k = map writeSign ss ++ replicate k 0
 
-pub picked-accepted : (is : List ℕ) (ss : List Sign) (k : ℕ) → picked 43 is (zerosAfter ss k) ≡ accepted ss is
+pub picked-accepted : (is : List ℕ) (ss : List Sign) (k : ℕ) → picked plusSign is (zerosAfter ss k) ≡ accepted ss is
 picked-accepted [] [] k = refl
 picked-accepted [] (s ∷ ss) k = refl
-picked-accepted (i ∷ is) [] k = picked-none 43 (i ∷ is) k refl
+picked-accepted (i ∷ is) [] k = picked-none plusSign (i ∷ is) k refl
 picked-accepted (i ∷ is) (accept ∷ ss) k = ap (λ (l : List ℕ). i ∷ l) (picked-accepted is ss k)
 picked-accepted (i ∷ is) (decline ∷ ss) k = picked-accepted is ss k
 picked-accepted (i ∷ is) (defer ∷ ss) k = picked-accepted is ss k
 
-pub picked-declined : (is : List ℕ) (ss : List Sign) (k : ℕ) → picked 45 is (zerosAfter ss k) ≡ declinedOnes ss is
+pub picked-declined : (is : List ℕ) (ss : List Sign) (k : ℕ) → picked minusSign is (zerosAfter ss k) ≡ declinedOnes ss is
 picked-declined [] [] k = refl
 picked-declined [] (s ∷ ss) k = refl
-picked-declined (i ∷ is) [] k = picked-none 45 (i ∷ is) k refl
+picked-declined (i ∷ is) [] k = picked-none minusSign (i ∷ is) k refl
 picked-declined (i ∷ is) (accept ∷ ss) k = picked-declined is ss k
 picked-declined (i ∷ is) (decline ∷ ss) k = ap (λ (l : List ℕ). i ∷ l) (picked-declined is ss k)
 picked-declined (i ∷ is) (defer ∷ ss) k = picked-declined is ss k
 
-pub picked-deferred : (is : List ℕ) (ss : List Sign) (k : ℕ) → picked 61 is (zerosAfter ss k) ≡ deferredOnes ss is
+pub picked-deferred : (is : List ℕ) (ss : List Sign) (k : ℕ) → picked equalSign is (zerosAfter ss k) ≡ deferredOnes ss is
 picked-deferred [] [] k = refl
 picked-deferred [] (s ∷ ss) k = refl
-picked-deferred (i ∷ is) [] k = picked-none 61 (i ∷ is) k refl
+picked-deferred (i ∷ is) [] k = picked-none equalSign (i ∷ is) k refl
 picked-deferred (i ∷ is) (accept ∷ ss) k = picked-deferred is ss k
 picked-deferred (i ∷ is) (decline ∷ ss) k = picked-deferred is ss k
 picked-deferred (i ∷ is) (defer ∷ ss) k = ap (λ (l : List ℕ). i ∷ l) (picked-deferred is ss k)
@@ -71,16 +70,16 @@ picked-few c (i ∷ is) (s ∷ ss) = go (eqb s c) (picked-few c is ss)
     go false h = omega arith
 
 pub states-declined : (p : ℕ) → p < partners → (is : List ℕ) (ss : List Sign) (k : ℕ) (t : Bytes) → Whole t
-    → statesOf p (markAll p (picked 45 is (zerosAfter ss k)) 2 t) ≡ declined is ss (statesOf p t)
+    → statesOf p (markAll p (picked minusSign is (zerosAfter ss k)) stateDeclined t) ≡ declined is ss (statesOf p t)
 states-declined p b [] ss k t w = refl
-states-declined p b (i ∷ is) [] k t w = ap (λ (l : List ℕ). statesOf p (markAll p l 2 t)) (picked-none 45 (i ∷ is) k refl)
+states-declined p b (i ∷ is) [] k t w = ap (λ (l : List ℕ). statesOf p (markAll p l stateDeclined t)) (picked-none minusSign (i ∷ is) k refl)
 states-declined p b (i ∷ is) (accept ∷ ss) k t w = states-declined p b is ss k t w
-states-declined p b (i ∷ is) (decline ∷ ss) k t w = states-declined p b is ss k (setState p t i 2) (whole-set p t i 2 w) ∙ ap (declined is ss) (states-set p t i 2 b w)
+states-declined p b (i ∷ is) (decline ∷ ss) k t w = states-declined p b is ss k (setState p t i stateDeclined) (whole-set p t i stateDeclined w) ∙ ap (declined is ss) (states-set p t i stateDeclined b w)
 states-declined p b (i ∷ is) (defer ∷ ss) k t w = states-declined p b is ss k t w
 
-pub flags-deferred : (is : List ℕ) (ss : List Sign) (k : ℕ) (fl : List ℕ) → flagged (picked 61 is (zerosAfter ss k)) fl ≡ deferring is ss fl
+pub flags-deferred : (is : List ℕ) (ss : List Sign) (k : ℕ) (fl : List ℕ) → flagged (picked equalSign is (zerosAfter ss k)) fl ≡ deferring is ss fl
 flags-deferred [] ss k fl = refl
-flags-deferred (i ∷ is) [] k fl = ap (λ (l : List ℕ). flagged l fl) (picked-none 61 (i ∷ is) k refl)
+flags-deferred (i ∷ is) [] k fl = ap (λ (l : List ℕ). flagged l fl) (picked-none equalSign (i ∷ is) k refl)
 flags-deferred (i ∷ is) (accept ∷ ss) k fl = flags-deferred is ss k fl
 flags-deferred (i ∷ is) (decline ∷ ss) k fl = flags-deferred is ss k fl
 flags-deferred (i ∷ is) (defer ∷ ss) k fl = flags-deferred is ss k (set fl i 1)

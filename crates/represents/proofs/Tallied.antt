@@ -2,7 +2,7 @@
 use mathlib.Core.Path.{_≡_, refl, sym, ap, _∙_, subst}
 use mathlib.Core.Bool.{Bool, true, false, cond}
 use mathlib.Core.List.{List, [], _∷_}
-use Prim.Native.Nat.{ℕ, zero, suc, _+_, _-_, _%_, _≤_}
+use Prim.Native.Nat.{ℕ, zero, suc, _+_, _%_, _≤_}
 use native.Mathlib.Omega.{arith}
 use native.Mathlib.Nat.{add-zero}
 use lib.Dec.{eqb}
@@ -26,8 +26,9 @@ use Rattle.line_effect.specs.declared.Marks.{Marks}
 use Rattle.line_effect.specs.Judged.{Judged}
 use Rattle.marking.specs.States.{statesOf, markAll}
 use Rattle.receive_defined.specs.Receiving.{markedBy}
-use Rattle.receive_defined.specs.Tallied.{sheetMarked, proposesOf, recountedOf, talliedOf}
+use Rattle.receive_defined.specs.Tallied.{sheetMarked, proposesOf, talliedOf}
 use Rattle.form_closed.specs.Fixed.{Fixed}
+use Rattle.phase.specs.Phase.{stateForwarded, stateDeclined}
 use Rattle.represents.specs.Represents.{Holds}
 use Rattle.represents.specs.Tallies.{SheetIs, Tallies, countsMarked}
 
@@ -55,7 +56,7 @@ module _ (h : Sheet) (c : Counts) (k : SheetIs h c) (n : ℕ) where
       record { proposed = k .proposed; forwarded = k .forwarded; declined = k .declined; deferred = omega (arith, k .deferred); balance = omega (arith, k .balance, l) }
 
 sheet-marked : (h : Sheet) (c : Counts) (m : Marks) → m .places .count ≤ byteRange → m .deferred ≤ byteRange → SheetIs h c → SheetIs (sheetMarked h m) (countsMarked m c)
-sheet-marked h c m few less k = go (eqb (m .state) 1) (eqb (m .state) 2)
+sheet-marked h c m few less k = go (eqb (m .state) stateForwarded) (eqb (m .state) stateDeclined)
   where
     n : ℕ
     n = m .places .count
@@ -81,38 +82,28 @@ sizes-law ti na bo t st = sizes-from ti na bo t st 0 (recordCount t)
 
 -- ---------------------------------------------------------------- a line or a message
 
--- What was judged, from the memory m₀ before it and m after it: its marks and our turn, of which w awaits the answer, are the counts; and who the partner is stays.
-pub record Counting (partner : ℕ) (m₀ m : Memory) (j : Judged) (w : Await) : Type 0 where
+-- What was judged, from the memory m₀ before it and m after it: its marks and our turn, of which w awaits the answer, are the counts.
+pub record Counting (m₀ m : Memory) (j : Judged) (w : Await) : Type 0 where
   pub counts : m .counts ≡ moreProposed (proposesOf (j .speaks) w) (countsMarked (j .marks) (m₀ .counts))
   pub few : j .marks .places .count ≤ byteRange
   pub less : j .marks .deferred ≤ byteRange
-  pub column : j .keep .terms .partner ≡ partner
-
--- a line at which it isn't our turn counts its marks alone
-pub counting-quiet : (k : Keep) (m₀ m : Memory) (j : Judged) (w : Await) → j .speaks ≡ 0 → m .counts ≡ countsMarked (j .marks) (m₀ .counts) → j .marks .places .count ≤ byteRange → j .marks .deferred ≤ byteRange
-    → j .keep .terms .partner ≡ k .terms .partner → Counting (k .terms .partner) m₀ m j w
-counting-quiet k m₀ m j w z e l n q =
-    record {
-      counts = e ∙ none-more (countsMarked (j .marks) (m₀ .counts))
-          ∙ ap (λ (x : ℕ). moreProposed (cond (eqb x 0) 0 (cond (eqb (w .phase) 4) (w .ours .count) 0)) (countsMarked (j .marks) (m₀ .counts))) (sym z);
-      few = l;
-      less = n;
-      column = q;
-    }
 
 no-places : (f : Five) → f .count ≡ 0 → held f ≡ []
 no-places f e = ap (λ (n : ℕ). take n (f .items)) e
 
 -- THE TALLY AFTER IT
-module _ (F : Fixed) (E : Shelf) (t : Bytes) (T : Tally) (m₀ m : Memory) (j : Judged) (w : Await) (p : ℕ) where
-  pub tallied-law : Tallies E T m₀ → statesOf p t ≡ m₀ .states → Counting p m₀ m j w → {k : Keep} {i st : Bytes} → k .terms .partner ≡ j .keep .terms .partner
-      → Holds F E k (markedBy j t) i st m → Tallies E (talliedOf T j w (markedBy j t)) m
+module _ (F : Fixed) (E : Shelf) (t : Bytes) (m₀ m : Memory) (j : Judged) (w : Await) where
+  abbrev T : Tally
+  T = j .next .tally
+
+  abbrev q : ℕ
+  q = j .next .keep .terms .partner
+
+  pub tallied-law : Tallies E T m₀ → statesOf q t ≡ m₀ .states → Counting m₀ m j w → {k : Keep} {i st : Bytes} → k .terms .partner ≡ q
+      → Holds F E k (markedBy j t) i st m → Tallies E (talliedOf j w (markedBy j t)) m
   unfolding talliedOf waitingIn sizesIn
   tallied-law before states c {k} e h = go (eqb (j .marks .places .count) 0) refl
     where
-      q : ℕ
-      q = j .keep .terms .partner
-
       u : Bytes
       u = markedBy j t
 
@@ -131,7 +122,7 @@ module _ (F : Fixed) (E : Shelf) (t : Bytes) (T : Tally) (m₀ m : Memory) (j : 
       go : (b : Bool) → eqb (j .marks .places .count) 0 ≡ b → Tallies E (cond b (record { waiting = T .waiting; sizes = T .sizes; sheet = sheet }) (counted q u sheet)) m
       go true z =
           let same : m₀ .states ≡ m .states =
-          sym states ∙ ap (λ (x : ℕ). statesOf x t) (sym (c .column)) ∙ ap (λ (is : List ℕ). statesOf q (markAll q is (j .marks .state) t)) (sym (no-places (j .marks .places) (eqb-true _ 0 z))) ∙ column in
+          sym states ∙ ap (λ (is : List ℕ). statesOf q (markAll q is (j .marks .state) t)) (sym (no-places (j .marks .places) (eqb-true _ 0 z))) ∙ column in
           record {
             waiting = before .waiting ∙ ap waits same;
             sizes = before .sizes ∙ ap (λ (l : List ℕ). waitingBytes (E .table) l % sizesRange) same;

@@ -10,6 +10,7 @@ use lib.Seq.{drop-at, length-take-le}
 use Rattle.grammar.specs.Bytes.{Bytes}
 use Rattle.grammar.specs.Turns.{Proposal}
 use Rattle.grammar.specs.Scan.{Scan, scanByte}
+use Rattle.grammar.specs.Fields.{bodyLimit}
 use Rattle.session.specs.Choices.{Shelf}
 use Rattle.session.specs.Session as on-lists
 use Rattle.transfer_step.specs.declared.Reader.{Reader}
@@ -22,7 +23,7 @@ use Rattle.transfer_read.specs.Meaning.{Stands, FedAs, Kept, Untouched}
 use Rattle.transfer_read.proofs.Follows.{feed-stands}
 use Rattle.transfer_read.proofs.Untouched.{feed-untouched}
 use Rattle.session_memory.specs.Session.{Session}
-use Rattle.waiting.specs.Waiting.{waitingOf, firstText, thenText}
+use Rattle.waiting.specs.Waiting.{waitingOf, firstBy, firstText, thenText}
 use Rattle.pending.specs.Pending.{errorPiece}
 use Rattle.receive_defined.specs.Receiving.{Cs, cs, reading, refusedOf}
 use Rattle.form_closed.specs.Fixed.{Fixed}
@@ -94,7 +95,7 @@ module _ (F : Fixed) (E : Shelf) {nt ni ns : ℕ} (c : Cs) (g : Good F nt ni ns 
   behind-back = drop-at (take (s .keep .used) (c .store)) behind′ (s .keep .used) (length-take-le (s .keep .used) (c .store) (g .box .within))
 
   pub room-same : roomOf behind′ ≡ roomOf behind
-  room-same = ap (λ (n : ℕ). min n 65535) (one-kept (roomOf behind) (s .reading .reader) b (s .reading .heading) behind .size)
+  room-same = ap (λ (n : ℕ). min n bodyLimit) (one-kept (roomOf behind) (s .reading .reader) b (s .reading .heading) behind .size)
 
   pub room-law : on-lists.roomFor E (v .memory) ≡ roomOf behind
   room-law = omega (arith, length-drop (s .keep .used) (c .store), h .holds .shelved .bytes, h .holds .boxed .bytes)
@@ -119,7 +120,7 @@ module _ (F : Fixed) (E : Shelf) {nt ni ns : ℕ} (c : Cs) (g : Good F nt ni ns 
       → Stands (roomOf behind) (stepped .reader) heading′ behind′ sc′
       → Represents F E (cs s′ (c .table) (c .inbox) store′)
       (on-lists.withPhase (on-lists.awaitsTransfer p ps sc′) (on-lists.withAfterCr false v))
-  unfolding waitingOf
+  unfolding waitingOf firstText thenText
   goes-on p ps sc sc′ a k =
       record {
         entries = h .entries;
@@ -137,12 +138,12 @@ module _ (F : Fixed) (E : Shelf) {nt ni ns : ℕ} (c : Cs) (g : Good F nt ni ns 
       }
 
   pub refused-here : (n : ℕ) → Represents F E (cs (refusedOf n s′) (c .table) (c .inbox) store′) (on-lists.refused v n .session)
-  unfolding refusedOf waitingOf thenText
+  unfolding refusedOf waitingOf firstText thenText
   refused-here n =
       record {
         entries = h .entries;
         holds = holds′;
-        says = append-nil (firstText (errorPiece n) (c .session .say .signs)) ∙ error-piece n (c .session .say .signs);
+        says = append-nil (firstBy (errorPiece n) (c .session)) ∙ error-piece n (c .session);
         awaits = omega arith;
         part = refl;
         afterCr = refl;

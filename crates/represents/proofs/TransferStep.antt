@@ -28,11 +28,12 @@ use Rattle.represents.specs.Link.{Moving}
 use Rattle.represents.proofs.Transfer.{afterOne, one-fed, behind, behind′, store′, s′, stepped, store-kept, room-law, goes-on, refused-here}
 use Rattle.represents.proofs.Keep.{keep-law, inbox-kept}
 use Rattle.form_closed.specs.Facts.{Good}
+use Rattle.phase.specs.Phase.{phaseTransfer, phaseLeaving}
 
 -- ---------------------------------------------------------------- how far the store is written
 
-pub reach-five : (s : Session) → s .now .phase ≡ 5 → reachOf s ≡ s .keep .used + s .reading .reader .body
-reach-five s e = ap (λ (p : ℕ). s .keep .used + cond (ltb p 5) 0 (cond (eqb p 6) 0 (s .reading .reader .body))) e
+pub reach-five : (s : Session) → s .now .phase ≡ phaseTransfer → reachOf s ≡ s .keep .used + s .reading .reader .body
+reach-five s e = ap (λ (p : ℕ). s .keep .used + cond (ltb p phaseTransfer) 0 (cond (eqb p phaseLeaving) 0 (s .reading .reader .body))) e
 
 pub reach-least : (s : Session) → s .keep .used ≤ reachOf s
 reach-least s = omega arith

@@ -7,7 +7,7 @@ use mathlib.Core.List.{List, [], _∷_}
 use Prim.Native.Nat.{ℕ, zero, suc, _+_, _*_, _%_, _≤_, _<_}
 use lib.Dec.{eqb}
 use lib.ListN.{length, take, drop}
-use Rattle.grammar.specs.Bytes.{Bytes}
+use Rattle.grammar.specs.Bytes.{Bytes, byteValues}
 use Rattle.grammar.specs.Turns.{Proposal}
 use Rattle.grammar.specs.Answers.{Sign, accept, decline, defer, plusSign, minusSign}
 use Rattle.grammar.specs.Transfers.{partOf, byteSum}
@@ -127,7 +127,7 @@ lineNumber (on-lists.awaitsAnswer is) = phaseFs
 abbrev pub HeldFor : Await → on-lists.Awaited → Type 0
 HeldFor w (on-lists.awaitsSid caller) = Unit {0}
 HeldFor w on-lists.awaitsPrompt = Unit {0}
-HeldFor w (on-lists.awaitsTurn ff ps raw) = (w .ff ≡ ff) × (proposalsOf (w .block) (w .proposals) ≡ ps) × (w .sum ≡ byteSum raw % 256)
+HeldFor w (on-lists.awaitsTurn ff ps raw) = (w .ff ≡ ff) × (proposalsOf (w .block) (w .proposals) ≡ ps) × (w .sum ≡ byteSum raw % byteValues)
 HeldFor w (on-lists.awaitsAnswer is) = held (w .ours) ≡ is
 
 -- What is awaited.

@@ -3,7 +3,7 @@ use mathlib.Core.Path.{_≡_, refl, sym, ap, _∙_}
 use mathlib.Core.Bool.{Bool, true, false, cond, _&&_, _||_}
 use mathlib.Core.Option.{Option, none, some}
 use mathlib.Core.List.{List, [], _∷_, _++_}
-use Prim.Native.Nat.{ℕ, suc, _+_, _/_, _%_, _^_, _<_, _≤_}
+use Prim.Native.Nat.{ℕ, suc, _+_, _/_, _%_, _^_, _<_, _≤_, _-_}
 use native.Mathlib.Omega.{arith}
 use lib.Dec.{eqb, ltb, leb}
 use lib.ListN.{length, take, drop, length-append}
@@ -13,20 +13,21 @@ use Rattle.grammar.specs.Bytes.{Bytes, CR, SP, every}
 use Rattle.grammar.specs.Fields.{digit, isAt, isSize, readSize, writeNum, bodyLimit}
 use Rattle.grammar.proofs.Basics.{and2, Lacks, lacks-append, all-lacks, field-of}
 use Rattle.grammar.proofs.Fields.{num-back, num-field, at-field, atByte}
+use Rattle.grammar.specs.Ascii.{char}
 use Rattle.span.specs.Places.{upto}
 use Rattle.text_line.specs.Places.{leadingLf}
 use Rattle.text_line.proofs.Laws.{upto-mid, take-front, drop-front, line-front}
 use Rattle.dates.specs.Dates.{Date, Time, isDate, isTime}
-use Rattle.dates.specs.Digits.{twoDigits, dateText, timeText}
+use Rattle.dates.specs.Digits.{twoDigits, dateText, timeText, pairValues, dateLength, timeLength}
 use Rattle.dates.proofs.Digits.{date-text-back, time-text-back}
-use Rattle.route.specs.Routes.{Header, Station, begins, whites, untilSpace, firstForm, stationOf, isStamp, stampLength, behindTime, readHeader, routeOf, lastOf, originOf}
-use Rattle.route.specs.Written.{Ours, ours, mayWrite, numberLimit, stampText, routeLine, withRoute, written, badField, noRoom, Added, addRoute}
+use Rattle.route.specs.Routes.{Header, Station, begins, whites, untilSpace, firstForm, stationOf, isStamp, stampLength, behindTime, readHeader, routeOf, lastOf, originOf, TAB, datePlace, timePlace}
+use Rattle.route.specs.Written.{Ours, ours, mayWrite, numberLimit, stampText, routeLine, withRoute, written, badField, noRoom, Added, addRoute, numberDigits}
 
 -- what the test of our fields says
 record Good (o : Ours) : Type 0 where
   date : isDate (o .date) ≡ true
   time : isTime (o .time) ≡ true
-  number : o .number < 10 ^ 9
+  number : o .number < 10 ^ numberDigits
   mailbox : isAt (o .mailbox) ≡ true
 
 good : (o : Ours) → mayWrite o ≡ true → Good o
@@ -39,9 +40,9 @@ good o e =
 
 -- ---------------------------------------------------------------- number and mailbox
 
-number-back : (n : ℕ) → n < 10 ^ 9 → readSize (writeNum 9 n) ≡ some n
+number-back : (n : ℕ) → n < 10 ^ numberDigits → readSize (writeNum numberDigits n) ≡ some n
 unfolding isSize
-number-back n h = let f = num-field 8 n in rw (field-of digit 9 (writeNum 9 n) (f .class) (f .least) (f .most), num-back 9 n h)
+number-back n h = let f = num-field (numberDigits - 1) n in rw (field-of digit numberDigits (writeNum numberDigits n) (f .class) (f .least) (f .most), num-back numberDigits n h)
 
 upto-none : (c : ℕ) (l : Bytes) → Lacks c l → upto c l ≡ length l
 unfolding upto
@@ -51,40 +52,40 @@ upto-none c (x ∷ l) h = rw (h .0, upto-none c l (h .1))
 until-space : (w : Bytes) → Lacks SP w → untilSpace w ≡ w
 until-space w h = rw (upto-none SP w h) (take-all (length w) w (omega arith))
 
-first-back : (n : ℕ) (w : Bytes) → n < 10 ^ 9 → isAt w ≡ true → firstForm (writeNum 9 n ++ (64 ∷ w)) ≡ some (record { number = n; mailbox = w })
+first-back : (n : ℕ) (w : Bytes) → n < 10 ^ numberDigits → isAt w ≡ true → firstForm (writeNum numberDigits n ++ (char "@" ∷ w)) ≡ some (record { number = n; mailbox = w })
 unfolding firstForm
 first-back n w h e =
-    let f = num-field 8 n in
-    rw (upto-mid 64 (writeNum 9 n) w (all-lacks digit 64 (writeNum 9 n) refl (f .class)), take-front (writeNum 9 n) (64 ∷ w), drop-front 64 (writeNum 9 n) w)
+    let f = num-field (numberDigits - 1) n in
+    rw (upto-mid (char "@") (writeNum numberDigits n) w (all-lacks digit (char "@") (writeNum numberDigits n) refl (f .class)), take-front (writeNum numberDigits n) (char "@" ∷ w), drop-front (char "@") (writeNum numberDigits n) w)
     (rw (number-back n h, until-space w (all-lacks atByte SP w refl ((at-field w e) .class)), e))
 
 -- digits in front are neither white space nor `@:`
-digits-first : (w r : Bytes) → 1 ≤ length w → every digit w ≡ true → (begins 64 58 (w ++ (64 ∷ r)) ≡ false) × (whites (w ++ (64 ∷ r)) ≡ 0)
+digits-first : (w r : Bytes) → 1 ≤ length w → every digit w ≡ true → (begins (char "@") (char ":") (w ++ (char "@" ∷ r)) ≡ false) × (whites (w ++ (char "@" ∷ r)) ≡ 0)
 unfolding whites
 digits-first [] r h e = let z : ⊥ = omega arith in absurd z
 digits-first (x ∷ []) r h e =
-    (rw ((all-lacks digit 64 (x ∷ []) refl e) .0), rw ((all-lacks digit 9 (x ∷ []) refl e) .0, (all-lacks digit SP (x ∷ []) refl e) .0))
+    (rw ((all-lacks digit (char "@") (x ∷ []) refl e) .0), rw ((all-lacks digit TAB (x ∷ []) refl e) .0, (all-lacks digit SP (x ∷ []) refl e) .0))
 digits-first (x ∷ y ∷ w) r h e =
-    (rw ((all-lacks digit 64 (x ∷ y ∷ w) refl e) .0), rw ((all-lacks digit 9 (x ∷ y ∷ w) refl e) .0, (all-lacks digit SP (x ∷ y ∷ w) refl e) .0))
+    (rw ((all-lacks digit (char "@") (x ∷ y ∷ w) refl e) .0), rw ((all-lacks digit TAB (x ∷ y ∷ w) refl e) .0, (all-lacks digit SP (x ∷ y ∷ w) refl e) .0))
 
 -- ---------------------------------------------------------------- the line
 
 behind-back : (o : Ours) → Good o → behindTime (routeLine o) (o .date) (o .time) ≡ some (ours o)
 unfolding behindTime whites stationOf routeLine stampText dateText timeText
 behind-back o g =
-    let f = num-field 8 (o .number) in
-    let d = digits-first (writeNum 9 (o .number)) (o .mailbox) (f .least) (f .class) in
+    let f = num-field (numberDigits - 1) (o .number) in
+    let d = digits-first (writeNum numberDigits (o .number)) (o .mailbox) (f .least) (f .class) in
     rw (d .1, d .0, first-back (o .number) (o .mailbox) (g .number) (g .mailbox))
 
 stamp-back : (o : Ours) → isStamp (routeLine o) ≡ true
 unfolding routeLine stampText dateText timeText
 stamp-back o = rw (le-leb stampLength (length (routeLine o)) (omega arith))
 
-date-part : (o : Ours) → take 6 (drop 2 (routeLine o)) ≡ dateText (o .date)
+date-part : (o : Ours) → take dateLength (drop datePlace (routeLine o)) ≡ dateText (o .date)
 unfolding routeLine stampText dateText timeText
 date-part o = refl
 
-time-part : (o : Ours) → take 4 (drop 9 (routeLine o)) ≡ timeText (o .time)
+time-part : (o : Ours) → take timeLength (drop timePlace (routeLine o)) ≡ timeText (o .time)
 unfolding routeLine stampText dateText timeText
 time-part o = refl
 
@@ -98,12 +99,12 @@ header-back o e =
 -- ---------------------------------------------------------------- the body
 
 two-lacks : (n : ℕ) → Lacks CR (twoDigits n)
-two-lacks n = (ne-eqb (48 + n / 10) CR (λ z. omega arith), (ne-eqb (48 + n % 10) CR (λ z. omega arith), tt))
+two-lacks n = (ne-eqb (char "0" + n / 10) CR (λ z. omega arith), (ne-eqb (char "0" + n % 10) CR (λ z. omega arith), tt))
 
 stamp-lacks : (d : Date) (t : Time) → Lacks CR (stampText d t)
 unfolding stampText dateText timeText
 stamp-lacks d t =
-    let y = two-lacks (d .year % 100) in
+    let y = two-lacks (d .year % pairValues) in
     let m = two-lacks (d .month) in
     let a = two-lacks (d .day) in
     let h = two-lacks (t .hour) in
@@ -113,9 +114,9 @@ stamp-lacks d t =
 line-lacks : (o : Ours) → Good o → Lacks CR (routeLine o)
 unfolding routeLine
 line-lacks o g =
-    let f = num-field 8 (o .number) in
-    lacks-append CR (stampText (o .date) (o .time)) (writeNum 9 (o .number) ++ (64 ∷ o .mailbox)) (stamp-lacks (o .date) (o .time))
-    (lacks-append CR (writeNum 9 (o .number)) (64 ∷ o .mailbox) (all-lacks digit CR (writeNum 9 (o .number)) refl (f .class)) (refl, all-lacks atByte CR (o .mailbox) refl ((at-field (o .mailbox) (g .mailbox)) .class)))
+    let f = num-field (numberDigits - 1) (o .number) in
+    lacks-append CR (stampText (o .date) (o .time)) (writeNum numberDigits (o .number) ++ (char "@" ∷ o .mailbox)) (stamp-lacks (o .date) (o .time))
+    (lacks-append CR (writeNum numberDigits (o .number)) (char "@" ∷ o .mailbox) (all-lacks digit CR (writeNum numberDigits (o .number)) refl (f .class)) (refl, all-lacks atByte CR (o .mailbox) refl ((at-field (o .mailbox) (g .mailbox)) .class)))
 
 no-lf : (o : Ours) → leadingLf (routeLine o) ≡ 0
 unfolding routeLine stampText

@@ -8,10 +8,11 @@ use lib.Dec.{eqb, ltb, leb}
 use lib.ListN.{length, getD, take, drop}
 use Rattle.grammar.specs.Bytes.{Bytes, SP}
 use Rattle.grammar.specs.Fields.{isAt, readSize}
+use Rattle.grammar.specs.Ascii.{char}
 use Rattle.span.specs.Places.{upto}
 use Rattle.text_line.specs.TextLines.{bodyLines}
 use Rattle.dates.specs.Dates.{Date, Time}
-use Rattle.dates.specs.Digits.{readDate, readTime}
+use Rattle.dates.specs.Digits.{readDate, readTime, dateLength, timeLength}
 
 -- What a header says; the mailbox as it is spelled. gmt: the zone is known, and is GMT.
 pub record Header : Type 0 where
@@ -40,11 +41,11 @@ whites [] = 0
 whites (x ∷ xs) = cond (isWhite x) (suc (whites xs)) 0
 
 abbrev pub isLetter : ℕ → Bool
-isLetter b = cond (ltb b 65) false (cond (ltb b 91) true (cond (ltb b 97) false (ltb b 123)))
+isLetter b = cond (ltb b (char "A")) false (cond (ltb b (char "Z" + 1)) true (cond (ltb b (char "a")) false (ltb b (char "z" + 1))))
 
 -- "A `z` or `Z` after the time is GMT"
 abbrev pub isGmt : ℕ → Bool
-isGmt b = eqb b 90 || eqb b 122
+isGmt b = eqb b (char "Z") || eqb b (char "z")
 
 -- A text begins with these two bytes.
 abbrev pub begins : ℕ → ℕ → Bytes → Bool
@@ -53,6 +54,10 @@ begins a b (x ∷ []) = false
 begins a b (x ∷ y ∷ l) = eqb x a && eqb y b
 
 -- ---------------------------------------------------------------- number and mailbox
+
+-- `@:` and `#:` have so many bytes.
+abbrev pub markLength : ℕ
+markLength = 2
 
 -- "a mailbox, or the number after `#:`, ends at a space or the line's end"
 abbrev pub untilSpace : Bytes → Bytes
@@ -65,12 +70,12 @@ station (some n) w = cond (isAt w) (some (record { number = n; mailbox = w })) n
 
 -- "number `@` mailbox, remarks"
 unfoldable pub firstForm : Bytes → Option Station
-firstForm r = station (readSize (take (upto 64 r) r)) (untilSpace (drop (suc (upto 64 r)) r))
+firstForm r = station (readSize (take (upto (char "@") r) r)) (untilSpace (drop (suc (upto (char "@") r)) r))
 
 -- How many bytes the first `#:` and what stands before it have; all where there is none.
 unfoldable pub markEnd : Bytes → ℕ
 markEnd [] = 0
-markEnd (x ∷ xs) = cond (begins 35 58 (x ∷ xs)) 2 (suc (markEnd xs))
+markEnd (x ∷ xs) = cond (begins (char "#") (char ":") (x ∷ xs)) markLength (suc (markEnd xs))
 
 -- "mailbox, remarks, the first `#:` with the number, remarks", after `@:`; the remarks begin where the mailbox ends
 unfoldable pub secondForm : Bytes → Option Station
@@ -80,16 +85,25 @@ secondForm r =
 
 -- Either form: the second is the one that begins with `@:`.
 unfoldable pub stationOf : Bytes → Option Station
-stationOf r = cond (begins 64 58 r) (secondForm (drop 2 r)) (firstForm r)
+stationOf r = cond (begins (char "@") (char ":") r) (secondForm (drop markLength r)) (firstForm r)
 
 -- ---------------------------------------------------------------- a line
 
 -- 003: STAMP is "R:" YEAR MONTH DAY "/" HOUR MINUTE, 13 bytes; a zone letter may follow.
+abbrev pub datePlace : ℕ
+datePlace = 2
+
+abbrev pub slashPlace : ℕ
+slashPlace = datePlace + dateLength
+
+abbrev pub timePlace : ℕ
+timePlace = slashPlace + 1
+
 abbrev pub stampLength : ℕ
-stampLength = 13
+stampLength = timePlace + timeLength
 
 abbrev pub isStamp : Bytes → Bool
-isStamp l = leb stampLength (length l) && (begins 82 58 l && eqb (getD l 8 0) 47)
+isStamp l = leb stampLength (length l) && (begins (char "R") (char ":") l && eqb (getD l slashPlace 0) (char "/"))
 
 -- "another letter, or none, is shown as unknown": one letter at most belongs to the stamp
 abbrev pub zoneByte : Bytes → ℕ
@@ -115,7 +129,7 @@ stamped l (some d) (some t) = behindTime l d t
 
 -- The header that a line is, if it is one.
 unfoldable pub readHeader : Bytes → Option Header
-readHeader l = cond (isStamp l) (stamped l (readDate (take 6 (drop 2 l))) (readTime (take 4 (drop 9 l)))) none
+readHeader l = cond (isStamp l) (stamped l (readDate (take dateLength (drop datePlace l))) (readTime (take timeLength (drop timePlace l)))) none
 
 -- ---------------------------------------------------------------- a body
 

@@ -2,18 +2,22 @@
 -- byte below it is the original."
 use mathlib.Core.Bool.{Bool, true, cond, _&&_}
 use mathlib.Core.List.{[], _∷_, _++_}
-use Prim.Native.Nat.{ℕ}
+use Prim.Native.Nat.{ℕ, _^_}
 use lib.Dec.{ltb, leb}
 use lib.ListN.{length, drop}
-use Rattle.grammar.specs.Bytes.{Bytes, CR}
+use Rattle.grammar.specs.Bytes.{Bytes, CR, SP}
 use Rattle.grammar.specs.Fields.{isAt, writeNum, bodyLimit}
+use Rattle.grammar.specs.Ascii.{char}
 use Rattle.dates.specs.Dates.{Date, Time, isDate, isTime}
 use Rattle.dates.specs.Digits.{dateText, timeText}
 use Rattle.route.specs.Routes.{Header}
 
 -- "a number has 1 to 9 digits"
+abbrev pub numberDigits : ℕ
+numberDigits = 9
+
 abbrev pub numberLimit : ℕ
-numberLimit = 1000000000
+numberLimit = 10 ^ numberDigits
 
 -- What the writer is given.
 pub record Ours : Type 0 where
@@ -32,10 +36,10 @@ mayWrite o = (isDate (o .date) && isTime (o .time)) && (ltb (o .number) numberLi
 
 -- `R:`, date, `/`, time, `z` and a space
 unfoldable pub stampText : Date → Time → Bytes
-stampText d t = 82 ∷ 58 ∷ (dateText d ++ (47 ∷ (timeText t ++ (122 ∷ 32 ∷ []))))
+stampText d t = char "R" ∷ char ":" ∷ (dateText d ++ (char "/" ∷ (timeText t ++ (char "z" ∷ SP ∷ []))))
 
 unfoldable pub routeLine : Ours → Bytes
-routeLine o = stampText (o .date) (o .time) ++ (writeNum 9 (o .number) ++ (64 ∷ o .mailbox))
+routeLine o = stampText (o .date) (o .time) ++ (writeNum numberDigits (o .number) ++ (char "@" ∷ o .mailbox))
 
 -- The body with our line in front.
 unfoldable pub withRoute : Ours → Bytes → Bytes

@@ -12,20 +12,21 @@ use borrow.Author.Tests.{eq-eqb, ne-eqb, le-leb, lt-leb, lt-ltb, le-ltb}
 use Rattle.grammar.specs.Bytes.{Bytes, SP}
 use Rattle.grammar.specs.Fields.{isAt, isCall, readSize}
 use Rattle.grammar.proofs.Basics.{told, told-not}
+use Rattle.grammar.specs.Ascii.{char}
 use Rattle.span.specs.Places.{between, part, upto}
 use Rattle.span.specs.declared.Span.{Span}
 use Rattle.span.proofs.Laws.{found-within}
 use Rattle.size.specs.Meaning.{sizeIs}
 use Rattle.size.specs.declared.Size.{Size}
 use Rattle.dates.specs.Dates as dates
-use Rattle.dates.specs.Digits.{readDate, readTime}
+use Rattle.dates.specs.Digits.{readDate, readTime, dateLength, timeLength}
 use Rattle.calendar.specs.Meaning.{dateIs, timeIs}
 use Rattle.calendar.specs.declared.Date.{Date}
 use Rattle.calendar.specs.declared.Time.{Time}
 use Rattle.date_digits.specs.Meaning.{readDateIs, readTimeIs}
 use Rattle.date_digits.specs.declared.ReadDate.{ReadDate}
 use Rattle.date_digits.specs.declared.ReadTime.{ReadTime}
-use Rattle.route.specs.Routes.{begins, isWhite, whites, markEnd, station, firstForm, secondForm, stationOf, isGmt, zoneByte, pastZone, headerOf, behindTime, isStamp, readHeader}
+use Rattle.route.specs.Routes.{begins, isWhite, whites, markEnd, station, firstForm, secondForm, stationOf, isGmt, zoneByte, pastZone, headerOf, behindTime, isStamp, readHeader, datePlace, slashPlace, timePlace, stampLength}
 use Rattle.route_scan.proofs.Laws.{begins-fits}
 use Rattle.route_read.specs.Meaning.{Lies, stationSaid, StationLies, StationIs}
 use Rattle.route_read.specs.declared.Stated.{Stated}
@@ -53,7 +54,7 @@ mark-most : (l : Bytes) → markEnd l ≤ length l
 unfolding markEnd
 mark-most [] = omega arith
 mark-most (x ∷ []) = omega arith
-mark-most (x ∷ y ∷ l) = go (begins 35 58 (x ∷ y ∷ l)) (mark-most (y ∷ l))
+mark-most (x ∷ y ∷ l) = go (begins (char "#") (char ":") (x ∷ y ∷ l)) (mark-most (y ∷ l))
   where
     go : (b : Bool) → markEnd (y ∷ l) ≤ length (y ∷ l) → cond b 2 (suc (markEnd (y ∷ l))) ≤ length (x ∷ y ∷ l)
     go true h = omega arith
@@ -75,13 +76,13 @@ unfolding isAt isCall
 no-station none = refl
 no-station (some n) = refl
 
-module _ (l : Bytes) (at sign : ℕ) (h : at ≤ length l) (e : sign ≡ at + upto 64 (drop at l)) where
+module _ (l : Bytes) (at sign : ℕ) (h : at ≤ length l) (e : sign ≡ at + upto (char "@") (drop at l)) where
   pub no-sign : length l ≤ sign → none ≡ firstForm (drop at l)
   unfolding firstForm
   no-sign k =
       let n = length-drop at l in
-      let z : drop (suc (upto 64 (drop at l))) (drop at l) ≡ [] = drop-of-length-le (drop at l) {i = suc (upto 64 (drop at l))} (omega (arith, e, k, n)) in
-      rw (z, take-nil (upto SP [])) (sym (no-station (readSize (take (upto 64 (drop at l)) (drop at l)))))
+      let z : drop (suc (upto (char "@") (drop at l))) (drop at l) ≡ [] = drop-of-length-le (drop at l) {i = suc (upto (char "@") (drop at l))} (omega (arith, e, k, n)) in
+      rw (z, take-nil (upto SP [])) (sym (no-station (readSize (take (upto (char "@") (drop at l)) (drop at l)))))
 
   module _ (k : sign < length l) (end : ℕ) (f : end ≡ sign + 1 + upto SP (drop (sign + 1) l)) where
     pub first-lies : Lies l (record { start = at; end = sign }) × Lies l (record { start = sign + 1; end = end })
@@ -90,8 +91,8 @@ module _ (l : Bytes) (at sign : ℕ) (h : at ≤ length l) (e : sign ≡ at + up
     pub first-by : station (readSize (between l at sign)) (between l (sign + 1) end) ≡ firstForm (drop at l)
     unfolding firstForm
     first-by =
-        let a : sign - at ≡ upto 64 (drop at l) = omega arith in
-        let b : drop (suc (upto 64 (drop at l))) (drop at l) ≡ drop (sign + 1) l = drop-to l (suc (upto 64 (drop at l))) at (sign + 1) (omega arith) in
+        let a : sign - at ≡ upto (char "@") (drop at l) = omega arith in
+        let b : drop (suc (upto (char "@") (drop at l))) (drop at l) ≡ drop (sign + 1) l = drop-to l (suc (upto (char "@") (drop at l))) at (sign + 1) (omega arith) in
         let g : end - (sign + 1) ≡ upto SP (drop (sign + 1) l) = omega arith in
         rw (a, b, g)
 
@@ -118,7 +119,7 @@ module _ (l : Bytes) (at end number stop : ℕ) (h : at ≤ length l) (e : end �
 
 -- ---------------------------------------------------------------- either form
 
-module _ (l : Bytes) (at : ℕ) (r : Bool) (e : r ≡ begins 64 58 (drop at l)) where
+module _ (l : Bytes) (at : ℕ) (r : Bool) (e : r ≡ begins (char "@") (char ":") (drop at l)) where
   pub as-second : r ≡ true → secondForm (drop (at + 2) l) ≡ stationOf (drop at l)
   unfolding stationOf
   as-second f = rw (sym e ∙ f, drop-to l 2 at (at + 2) refl)
@@ -129,7 +130,7 @@ module _ (l : Bytes) (at : ℕ) (r : Bool) (e : r ≡ begins 64 58 (drop at l)) 
 
 -- ---------------------------------------------------------------- behind the time
 
-module _ (l : Bytes) (zone white at : ℕ) (e : zone ≡ getD l 13 0) (f : white ≡ pastZone zone) (g : at ≡ white + whites (drop white l)) (d : dates.Date) (t : dates.Time) where
+module _ (l : Bytes) (zone white at : ℕ) (e : zone ≡ getD l stampLength 0) (f : white ≡ pastZone zone) (g : at ≡ white + whites (drop white l)) (d : dates.Date) (t : dates.Time) where
   behind-at : behindTime l d t ≡ cond (ltb 0 (whites (drop white l))) (headerOf d t (isGmt zone) (stationOf (drop (whites (drop white l)) (drop white l)))) none
   unfolding behindTime
   behind-at =
@@ -159,30 +160,30 @@ station-lies l r s h q = subst (StationLies l) q h
 
 -- ---------------------------------------------------------------- a line
 
-pub line-short : (l : Bytes) → length l < 13 → none ≡ readHeader l
+pub line-short : (l : Bytes) → length l < stampLength → none ≡ readHeader l
 unfolding readHeader
-line-short l h = rw (lt-leb 13 (length l) h)
+line-short l h = rw (lt-leb stampLength (length l) h)
 
-module _ (l : Bytes) (h : 13 ≤ length l) (r : Bool) (e : r ≡ begins 82 58 l) where
+module _ (l : Bytes) (h : stampLength ≤ length l) (r : Bool) (e : r ≡ begins (char "R") (char ":") l) where
   pub line-begins : not r ≡ true → none ≡ readHeader l
   unfolding readHeader
-  line-begins f = rw (le-leb 13 (length l) h, told-not e f)
+  line-begins f = rw (le-leb stampLength (length l) h, told-not e f)
 
   module _ (f : not r ≡ false) where
-    pub line-slash : (getD l 8 0 ≡ 47 → ⊥) → none ≡ readHeader l
+    pub line-slash : (getD l slashPlace 0 ≡ char "/" → ⊥) → none ≡ readHeader l
     unfolding readHeader
-    line-slash n = rw (le-leb 13 (length l) h, told e f, ne-eqb _ _ n)
+    line-slash n = rw (le-leb stampLength (length l) h, told e f, ne-eqb _ _ n)
 
-    module _ (g : getD l 8 0 ≡ 47) (z : ReadDate) (k : readDateIs z ≡ readDate (take 6 (drop 2 l))) where
+    module _ (g : getD l slashPlace 0 ≡ char "/") (z : ReadDate) (k : readDateIs z ≡ readDate (take dateLength (drop datePlace l))) where
       pub no-date : z ≡ ReadDate.BadDate → none ≡ readHeader l
       unfolding readHeader
-      no-date q = rw (le-leb 13 (length l) h, told e f, eq-eqb _ _ g, sym k ∙ ap readDateIs q)
+      no-date q = rw (le-leb stampLength (length l) h, told e f, eq-eqb _ _ g, sym k ∙ ap readDateIs q)
 
-      module _ (d : Date) (q : z ≡ ReadDate.Says d) (y : ReadTime) (j : readTimeIs y ≡ readTime (take 4 (drop 9 l))) where
+      module _ (d : Date) (q : z ≡ ReadDate.Says d) (y : ReadTime) (j : readTimeIs y ≡ readTime (take timeLength (drop timePlace l))) where
         pub no-time : y ≡ ReadTime.BadTime → none ≡ readHeader l
         unfolding readHeader
-        no-time i = rw (le-leb 13 (length l) h, told e f, eq-eqb _ _ g, sym k ∙ ap readDateIs q, sym j ∙ ap readTimeIs i)
+        no-time i = rw (le-leb stampLength (length l) h, told e f, eq-eqb _ _ g, sym k ∙ ap readDateIs q, sym j ∙ ap readTimeIs i)
 
         pub as-behind : (t : Time) → y ≡ ReadTime.Says t → behindTime l (dateIs d) (timeIs t) ≡ readHeader l
         unfolding readHeader
-        as-behind t i = rw (le-leb 13 (length l) h, told e f, eq-eqb _ _ g, sym k ∙ ap readDateIs q, sym j ∙ ap readTimeIs i)
+        as-behind t i = rw (le-leb stampLength (length l) h, told e f, eq-eqb _ _ g, sym k ∙ ap readDateIs q, sym j ∙ ap readTimeIs i)

@@ -28,11 +28,11 @@ ghost use Rattle.route_read.specs.Meaning.{Lies, StationIs, RouteIs};
 // A time stamp without its zone, 003's STAMP: `R:`, the date, a slash, the time.
 const DATE: usize = 2;
 
-const SLASH: usize = 8;
+const SLASH: usize = DATE + date_digits::DATE_LENGTH;
 
-const TIME: usize = 9;
+const TIME: usize = SLASH + 1;
 
-const STAMP_LENGTH: usize = 13;
+const STAMP_LENGTH: usize = TIME + date_digits::TIME_LENGTH;
 
 // `@:`, with which the second form begins.
 const MARK_LENGTH: usize = 2;

@@ -11,6 +11,7 @@ use lib.Seq.{drop-cons}
 use borrow.Author.Tests.{eq-eqb, ne-eqb}
 use Rattle.grammar.specs.Bytes.{Bytes}
 use Rattle.grammar.proofs.Basics.{told, told-not}
+use Rattle.grammar.specs.Ascii.{char}
 use Rattle.route.specs.Routes.{isWhite, whites, isLetter, begins, markEnd, pastZone, stampLength}
 
 pub past-byte : (l : Bytes) (i : ℕ) → length l ≤ i → 0 ≡ getD l i 0
@@ -59,9 +60,9 @@ module _ (l : Bytes) (i a b : ℕ) where
 
 -- ---------------------------------------------------------------- the mark
 
-module _ (l : Bytes) (i : ℕ) (h : i < length l) (r : Bool) (e : r ≡ begins 35 58 (drop i l)) where
-  there : begins 35 58 (getD l i 0 ∷ drop (suc i) l) ≡ r
-  there = ap (begins 35 58) (sym (drop-cons l i 0 h)) ∙ sym e
+module _ (l : Bytes) (i : ℕ) (h : i < length l) (r : Bool) (e : r ≡ begins (char "#") (char ":") (drop i l)) where
+  there : begins (char "#") (char ":") (getD l i 0 ∷ drop (suc i) l) ≡ r
+  there = ap (begins (char "#") (char ":")) (sym (drop-cons l i 0 h)) ∙ sym e
 
   pub mark-more : r ≡ false → i + markEnd (drop i l) ≡ i + 1 + markEnd (drop (i + 1) l)
   unfolding markEnd
@@ -77,8 +78,8 @@ mark-end l i h = rw (drop-of-length-le l {i = i} h) (omega arith)
 
 -- ---------------------------------------------------------------- the zone
 
-pub zone-letter : (b : ℕ) (r : Bool) → r ≡ isLetter b → r ≡ true → 14 ≡ pastZone b
+pub zone-letter : (b : ℕ) (r : Bool) → r ≡ isLetter b → r ≡ true → stampLength + 1 ≡ pastZone b
 zone-letter b r e f = rw (sym e ∙ f)
 
-pub zone-none : (b : ℕ) (r : Bool) → r ≡ isLetter b → r ≡ false → 13 ≡ pastZone b
+pub zone-none : (b : ℕ) (r : Bool) → r ≡ isLetter b → r ≡ false → stampLength ≡ pastZone b
 zone-none b r e f = rw (sym e ∙ f)

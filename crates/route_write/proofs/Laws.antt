@@ -10,17 +10,18 @@ use lib.ListN.{length, take, drop, length-append, length-take, length-drop}
 use lib.Seq.{take-all}
 use borrow.Author.Tests.{lt-ltb, le-ltb, le-leb, lt-leb, ltb-true}
 use Rattle.grammar.specs.Bytes.{Bytes, CR}
-use Rattle.grammar.specs.Fields.{isAt, decimal, writeNum, bodyLimit}
+use Rattle.grammar.specs.Fields.{isAt, decimal, writeNum, bodyLimit, decimalDigits}
 use Rattle.grammar.proofs.Basics.{and2, and-false, both, told, told-not}
 use Rattle.grammar.proofs.Fields.{num-field, at-field}
+use Rattle.grammar.specs.Ascii.{char}
 use Rattle.buffer.specs.declared.Cursor.{Cursor}
 use Rattle.buffer.specs.Put.{Puts, putBytes}
 use Rattle.buffer.proofs.Laws.{cursor, puts-as, puts-then}
 use Rattle.dates.specs.Dates.{isDate, isTime}
 use Rattle.dates.specs.Digits.{dateText, timeText}
 use Rattle.decimal.proofs.Laws.{nine-digits}
-use Rattle.route.specs.Written.{Ours, mayWrite, numberLimit, stampText, routeLine, withRoute, addRoute}
-use Rattle.route_write.specs.Meaning.{fixedLength, numberDigits, addedIs}
+use Rattle.route.specs.Written.{Ours, mayWrite, numberLimit, stampText, routeLine, withRoute, addRoute, numberDigits}
+use Rattle.route_write.specs.Meaning.{fixedLength, addedIs}
 use Rattle.route_write.specs.declared.Added.{Added}
 
 -- ---------------------------------------------------------------- the fields
@@ -50,22 +51,26 @@ fields o e = and2 (ltb (o .number) numberLimit) (isAt (o .mailbox)) ((and2 (isDa
 
 -- ---------------------------------------------------------------- the line
 
-pub digit-count : (bytes : Bytes) (start n : ℕ) → length bytes ≡ 10 → start ≤ 10 → drop start bytes ≡ decimal n → n < numberLimit → 10 - start ≡ length (writeNum numberDigits n)
+-- A bound that our line keeps, with room to spare.
+abbrev pub lineBound : ℕ
+lineBound = 64
+
+pub digit-count : (bytes : Bytes) (start n : ℕ) → length bytes ≡ decimalDigits → start ≤ decimalDigits → drop start bytes ≡ decimal n → n < numberLimit → decimalDigits - start ≡ length (writeNum numberDigits n)
 digit-count bytes start n k s e h =
     let f = ap length (nine-digits bytes start n k e h) in
-    let a = length-take (10 - start) (drop start bytes) in
+    let a = length-take (decimalDigits - start) (drop start bytes) in
     let b = length-drop start bytes in
     omega (arith, f, a, b, k, s)
 
-pub line-count : (bytes : Bytes) (start n m : ℕ) → length bytes ≡ 10 → start ≤ 10 → drop start bytes ≡ decimal n → n < numberLimit → fixedLength + (10 - start) + m ≡ fixedLength + length (writeNum numberDigits n) + m
+pub line-count : (bytes : Bytes) (start n m : ℕ) → length bytes ≡ decimalDigits → start ≤ decimalDigits → drop start bytes ≡ decimal n → n < numberLimit → fixedLength + (decimalDigits - start) + m ≡ fixedLength + length (writeNum numberDigits n) + m
 line-count bytes start n m k s e h = ap (λ (i : ℕ). fixedLength + i + m) (digit-count bytes start n k s e h)
 
 module _ (d : Bytes) (c : Cursor) (o : Ours) (stamp number : Bytes) (s : stamp ≡ stampText (o .date) (o .time)) (n : number ≡ writeNum numberDigits (o .number)) where
-  route-text : ((stamp ++ number) ++ (64 ∷ [])) ++ (o .mailbox ++ (CR ∷ [])) ≡ routeLine o ++ (CR ∷ [])
+  route-text : ((stamp ++ number) ++ (char "@" ∷ [])) ++ (o .mailbox ++ (CR ∷ [])) ≡ routeLine o ++ (CR ∷ [])
   unfolding routeLine
   route-text = rw (s, n) (simp append-assoc)
 
-  pub route-puts : {c₁ c₂ c₃ r : Cursor} {d₁ d₂ d₃ e : Bytes} → Puts d c stamp c₁ d₁ → Puts d₁ c₁ number c₂ d₂ → Puts d₂ c₂ (64 ∷ []) c₃ d₃ → Puts d₃ c₃ (o .mailbox ++ (CR ∷ [])) r e
+  pub route-puts : {c₁ c₂ c₃ r : Cursor} {d₁ d₂ d₃ e : Bytes} → Puts d c stamp c₁ d₁ → Puts d₁ c₁ number c₂ d₂ → Puts d₂ c₂ (char "@" ∷ []) c₃ d₃ → Puts d₃ c₃ (o .mailbox ++ (CR ∷ [])) r e
       → Puts d c (routeLine o ++ (CR ∷ [])) r e
   route-puts p₁ p₂ p₃ p₄ = puts-as d c route-text (puts-then d c _ _ (puts-then d c _ _ (puts-then d c _ _ p₁ p₂) p₃) p₄)
 
@@ -96,9 +101,9 @@ module _ (d : Bytes) (o : Ours) (body : Bytes) (m : Bool) (e : m ≡ mayWrite o)
   body-long h = too-long (omega (arith, h, route-length o body))
 
   module _ (line : ℕ) (g : line ≡ fixedLength + length (writeNum numberDigits (o .number)) + length (o .mailbox)) where
-    pub line-small : line ≤ 64
+    pub line-small : line ≤ lineBound
     line-small =
-        let a = (num-field 8 (o .number)) .most in
+        let a = (num-field (numberDigits - 1) (o .number)) .most in
         let b = (at-field (o .mailbox) ((fields o (told e f)) .1)) .most in
         omega (arith, g, a, b)
 

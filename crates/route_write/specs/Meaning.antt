@@ -8,18 +8,15 @@ use Rattle.calendar.specs.declared.Date.{Date}
 use Rattle.calendar.specs.declared.Time.{Time}
 use Rattle.route.specs.Written as route
 use Rattle.route_write.specs.declared.Added.{Added}
+use Rattle.route.specs.Routes.{stampLength}
 
 -- What our line has beside its number and mailbox: the stamp with `z` and a space, `@`, CR.
 abbrev pub fixedLength : ℕ
-fixedLength = 17
-
--- "a number has 1 to 9 digits"
-abbrev pub numberDigits : ℕ
-numberDigits = 9
+fixedLength = stampLength + 2 + 2
 
 -- The bytes of our line, its CR included.
 abbrev pub lineLength : ℕ → Bytes → ℕ
-lineLength n w = fixedLength + length (writeNum numberDigits n) + length w
+lineLength n w = fixedLength + length (writeNum route.numberDigits n) + length w
 
 abbrev pub oursIs : Date → Time → ℕ → Bytes → route.Ours
 oursIs d t n w = record { date = dateIs d; time = timeIs t; number = n; mailbox = w }

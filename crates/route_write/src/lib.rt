@@ -21,13 +21,16 @@ ghost use Rattle.route_write.specs.Meaning.{lineLength, oursIs, addedIs}
 // A number has nine digits at most.
 const NUMBER_LIMIT: u32 = 1000000000;
 
-const BODY_LIMIT: usize = 65535;
+const BODY_LIMIT: usize = places::BODY_MAX as usize;
 
 // What our line has beside its number and mailbox: the stamp with `z` and a space, `@`, CR.
-const FIXED_LENGTH: usize = 17;
+const FIXED_LENGTH: usize = STAMP + 2;
+
+// The stamp with `z` and a space.
+const STAMP: usize = 15;
 
 // The room of decimal's digits; those of a number stand at its end.
-const DIGITS_ROOM: usize = 10;
+const DIGITS_ROOM: usize = decimal::MOST_DIGITS;
 
 // How the writer answers: with how many bytes it has written, or by what it refuses, and then it has written nothing.
 pub enum Added {
@@ -53,7 +56,7 @@ fn may_write(date: Date, time: Time, number: u32, mailbox: &[u8]) -> bool
 }
 
 // The stamp in GMT and a space.
-fn stamp_text(date: Date, time: Time) -> [u8; 15]
+fn stamp_text(date: Date, time: Time) -> [u8; STAMP]
     ensures { λ r. ⌜ r ≡ stampText (dateIs date) (timeIs time) ⌝ }
 {
     let d = date_text(date);

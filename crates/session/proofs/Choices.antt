@@ -7,7 +7,7 @@ use Prim.Native.Nat.{ℕ, zero, suc, _+_, _≤_, _<_}
 use native.Mathlib.Omega.{arith}
 use lib.Dec.{eqb, ltb}
 use lib.ListN.{length, getD}
-use Rattle.grammar.specs.Turns.{Proposal, inMode, ourBlock}
+use Rattle.grammar.specs.Turns.{Proposal, inMode, ourBlock, blockLimit, announcedLimit}
 use Rattle.grammar.proofs.Basics.{and2}
 use Rattle.grammar.proofs.OurLines.{block-at-most-five}
 use Rattle.mail.specs.Mail.{Record, Message, recordAt}
@@ -15,7 +15,7 @@ use Rattle.session.specs.Choices.{Shelf, wanted, candidates, sizeAt, cho
 
 -- ---------------------------------------------------------------- our block
 
-pub few : (T : List Record) (md : Bool) (states flags : List ℕ) → length (chosen T md states flags) ≤ 5
+pub few : (T : List Record) (md : Bool) (states flags : List ℕ) → length (chosen T md states flags) ≤ blockLimit
 unfolding chosen
 few T md states flags = block-at-most-five (sizeAt T) (candidates md states flags 0 T)
 
@@ -26,7 +26,7 @@ Places md T (i ∷ is) = (i < length T) × (inMode md (recordAt T i .form) ≡ t
 
 block-places : (md : Bool) (T : List Record) (size : ℕ → ℕ) (n s : ℕ) (xs : List ℕ) → Places md T xs → Places md T (ourBlock size n s xs)
 block-places md T size n s [] h = tt
-block-places md T size n s (x ∷ xs) h = go (ltb n 5 && ltb s 10240) (block-places md T size (n + 1) (s + size x) xs (h .2))
+block-places md T size n s (x ∷ xs) h = go (ltb n blockLimit && ltb s announcedLimit) (block-places md T size (n + 1) (s + size x) xs (h .2))
   where
     go : (c : Bool) → Places md T (ourBlock size (n + 1) (s + size x) xs) → Places md T (cond c (x ∷ ourBlock size (n + 1) (s + size x) xs) [])
     go true k = (h .0, h .1, k)

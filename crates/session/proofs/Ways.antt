@@ -9,9 +9,9 @@ use lib.Dec.{eqb, ltb}
 use lib.ListN.{length}
 use Rattle.grammar.specs.Bytes.{Bytes, CR, LF, null}
 use Rattle.grammar.specs.Refusals.{lineTooLong, notSid, noForwarding, lineNotAllowed, proposalCount, badTransfer, badChecksum, storeFull, bytesWait, sessionEnded, wrongBlockSum}
-use Rattle.grammar.specs.Lines.{ends, grows, overruns, trim, isComment, isPrompt}
-use Rattle.grammar.specs.Sid.{readSid, hasFeature}
-use Rattle.grammar.specs.Turns.{Proposal, TurnLine, saysFF, saysFQ, endsBlock, notAllowed, proposes, endsSummed, readTurnLine, fixedText, ourSid, withCr}
+use Rattle.grammar.specs.Lines.{ends, grows, overruns, trim, isComment, isPrompt, lineLimit}
+use Rattle.grammar.specs.Sid.{readSid, hasFeature, letterF}
+use Rattle.grammar.specs.Turns.{Proposal, TurnLine, saysFF, saysFQ, endsBlock, notAllowed, proposes, endsSummed, readTurnLine, fixedText, ourSid, withCr, blockLimit}
 use Rattle.grammar.specs.Answers.{Sign, readFs, fsNumber, fsLine}
 use Rattle.grammar.specs.Scan.{Scan, Scanned, goes, got, malformed, wrongSum, noRoom, scanByte, scanFrom}
 use Rattle.grammar.specs.Transfers.{sumRight}
@@ -54,7 +54,7 @@ next-transfer E (p ∷ ps) m = toTransfer [] p ps
 -- Why a line is refused where this one is awaited, and the number. ln: the line as it came, without its CR
 pub data Wrong (m : Memory) (ln : Bytes) : Awaited → ℕ → Type 0 where
   noSid : (c : Bool) → readSid (trim ln) ≡ none → Wrong m ln (awaitsSid c) notSid
-  noF : (c : Bool) (fs : List ℕ) → readSid (trim ln) ≡ some fs → hasFeature 5 fs ≡ false → Wrong m ln (awaitsSid c) noForwarding
+  noF : (c : Bool) (fs : List ℕ) → readSid (trim ln) ≡ some fs → hasFeature letterF fs ≡ false → Wrong m ln (awaitsSid c) noForwarding
   noTurnLine : (ff : Bool) (ps : List Proposal) {raw : Bytes} → readTurnLine (m .framed) (trim ln) ≡ notAllowed → Wrong m ln (awaitsTurn ff ps raw) lineNotAllowed
   ffAfterFf : {raw : Bytes} → readTurnLine (m .framed) (trim ln) ≡ saysFF → Wrong m ln (awaitsTurn true [] raw) lineNotAllowed
   ffInBlock : (ff : Bool) (p : Proposal) (ps : List Proposal) {raw : Bytes} → readTurnLine (m .framed) (trim ln) ≡ saysFF
@@ -64,7 +64,7 @@ pub data Wrong (m : Memory) (ln : Bytes) : Awaited → ℕ → Type 0 where
       → Wrong m ln (awaitsTurn ff (p ∷ ps) raw) lineNotAllowed
   emptyBlock : (ff : Bool) {raw : Bytes} → readTurnLine (m .framed) (trim ln) ≡ endsBlock → Wrong m ln (awaitsTurn ff [] raw) proposalCount
   emptySummed : (ff : Bool) {raw : Bytes} (h : ℕ) → readTurnLine (m .framed) (trim ln) ≡ endsSummed h → Wrong m ln (awaitsTurn ff [] raw) proposalCount
-  tooMany : (ff : Bool) (ps : List Proposal) {raw : Bytes} (q : Proposal) → readTurnLine (m .framed) (trim ln) ≡ proposes q → ltb (length ps) 5 ≡ false
+  tooMany : (ff : Bool) (ps : List Proposal) {raw : Bytes} (q : Proposal) → readTurnLine (m .framed) (trim ln) ≡ proposes q → ltb (length ps) blockLimit ≡ false
       → Wrong m ln (awaitsTurn ff ps raw) proposalCount
   wrongHex : (ff : Bool) (p : Proposal) (ps : List Proposal) {raw : Bytes} (h : ℕ) → readTurnLine (m .framed) (trim ln) ≡ endsSummed h
       → sumRight raw h ≡ false → Wrong m ln (awaitsTurn ff (p ∷ ps) raw) wrongBlockSum
@@ -78,12 +78,12 @@ pub data EndsBlock (raw : Bytes) (t : TurnLine) : Type 0 where
 -- What a line that is no comment comes to.
 pub data Judged (E : Shelf) (m : Memory) (ln : Bytes) : Awaited → Outcome → Type 0 where
   isWrong : {a : Awaited} (n : ℕ) → Wrong m ln a n → Judged E m ln a (refuses n)
-  hearsSid : (c : Bool) (fs : List ℕ) → readSid (trim ln) ≡ some fs → hasFeature 5 fs ≡ true
+  hearsSid : (c : Bool) (fs : List ℕ) → readSid (trim ln) ≡ some fs → hasFeature letterF fs ≡ true
       → Judged E m ln (awaitsSid c) (goesOn (afterSid c) (withSid fs m) [])
   hearsText : isPrompt (trim ln) ≡ false → Judged E m ln awaitsPrompt (goesOn (aLine awaitsPrompt) m [])
   hearsPrompt : isPrompt (trim ln) ≡ true → Judged E m ln awaitsPrompt (ourTurn E (withCr (fixedText ourSid)) false m)
   hearsProposal : (ff : Bool) (ps : List Proposal) {raw : Bytes} (q : Proposal) → readTurnLine (m .framed) (trim ln) ≡ proposes q
-      → ltb (length ps) 5 ≡ true → Judged E m ln (awaitsTurn ff ps raw) (goesOn (aLine (awaitsTurn ff (ps ++ (q ∷ [])) (raw ++ withCr ln))) m [])
+      → ltb (length ps) blockLimit ≡ true → Judged E m ln (awaitsTurn ff ps raw) (goesOn (aLine (awaitsTurn ff (ps ++ (q ∷ [])) (raw ++ withCr ln))) m [])
   hearsFF : {raw : Bytes} → readTurnLine (m .framed) (trim ln) ≡ saysFF → Judged E m ln (awaitsTurn false [] raw) (ourTurn E [] true (turnMarks m))
   hearsFQ : {raw : Bytes} → readTurnLine (m .framed) (trim ln) ≡ saysFQ → Judged E m ln (awaitsTurn true [] raw) (goesOn over m [])
   hearsEnd : (ff : Bool) (p : Proposal) (ps : List Proposal) {raw : Bytes} → EndsBlock raw (readTurnLine (m .framed) (trim ln))
@@ -94,9 +94,9 @@ pub data Judged (E : Shelf) (m : Memory) (ln : Bytes) : Awaited → Outcome → 
 module _ (E : Shelf) (m : Memory) (ln : Bytes) where
   sid-way : (c : Bool) (o : Option (List ℕ)) → readSid (trim ln) ≡ o → Judged E m ln (awaitsSid c) (sidJudged c m o)
   sid-way c none e = isWrong notSid (noSid c e)
-  sid-way c (some fs) e = go (hasFeature 5 fs) refl
+  sid-way c (some fs) e = go (hasFeature letterF fs) refl
     where
-      go : (d : Bool) → hasFeature 5 fs ≡ d → Judged E m ln (awaitsSid c) (cond d (goesOn (afterSid c) (withSid fs m) []) (refuses noForwarding))
+      go : (d : Bool) → hasFeature letterF fs ≡ d → Judged E m ln (awaitsSid c) (cond d (goesOn (afterSid c) (withSid fs m) []) (refuses noForwarding))
       go true f = hearsSid c fs e f
       go false f = isWrong noForwarding (noF c fs e f)
 
@@ -121,9 +121,9 @@ module _ (E : Shelf) (m : Memory) (ln : Bytes) where
       go true f = hearsEnd ff p ps (summed h e f)
       go false f = isWrong wrongBlockSum (wrongHex ff p ps h e f)
   turn-way notAllowed ff ps raw e = isWrong lineNotAllowed (noTurnLine ff ps e)
-  turn-way (proposes q) ff ps raw e = go (ltb (length ps) 5) refl
+  turn-way (proposes q) ff ps raw e = go (ltb (length ps) blockLimit) refl
     where
-      go : (c : Bool) → ltb (length ps) 5 ≡ c
+      go : (c : Bool) → ltb (length ps) blockLimit ≡ c
           → Judged E m ln (awaitsTurn ff ps raw) (cond c (goesOn (aLine (awaitsTurn ff (ps ++ (q ∷ [])) (raw ++ withCr ln))) m []) (refuses proposalCount))
       go true f = hearsProposal ff ps q e f
       go false f = isWrong proposalCount (tooMany ff ps q e f)
@@ -153,7 +153,7 @@ pub data Why (E : Shelf) (s : Session) (b : ℕ) : ℕ → Type 0 where
   waits : s .afterCr && eqb b LF ≡ false → null (s .out) ≡ false → Why E s b bytesWait
   hasLeft : At s b leaving → Why E s b sessionEnded
   isOver : At s b over → Why E s b sessionEnded
-  tooLong : (a : Awaited) → At s b (aLine a) → eqb b CR ≡ false → ltb (length (s .part)) 256 ≡ false → Why E s b lineTooLong
+  tooLong : (a : Awaited) → At s b (aLine a) → eqb b CR ≡ false → ltb (length (s .part)) lineLimit ≡ false → Why E s b lineTooLong
   unread : (p : Proposal) (ps : List Proposal) (sc : Scan) → At s b (awaitsTransfer p ps sc) → scanByte (roomFor E (s .memory)) sc b ≡ malformed → Why E s b badTransfer
   unsummed : (p : Proposal) (ps : List Proposal) (sc : Scan) → At s b (awaitsTransfer p ps sc) → scanByte (roomFor E (s .memory)) sc b ≡ wrongSum → Why E s b badChecksum
   unkept : (p : Proposal) (ps : List Proposal) (sc : Scan) → At s b (awaitsTransfer p ps sc) → scanByte (roomFor E (s .memory)) sc b ≡ noRoom → Why E s b storeFull
@@ -162,7 +162,7 @@ pub data Why (E : Shelf) (s : Session) (b : ℕ) : ℕ → Type 0 where
 pub data Way (E : Shelf) (s : Session) (b : ℕ) : Stepped → Type 0 where
   isRefused : (n : ℕ) → s .afterCr && eqb b LF ≡ false → Why E s b n → Way E s b (refused s n)
   dropsLf : s .afterCr && eqb b LF ≡ true → Way E s b (moved (withAfterCr false s))
-  growsLine : (a : Awaited) → At s b (aLine a) → eqb b CR ≡ false → ltb (length (s .part)) 256 ≡ true
+  growsLine : (a : Awaited) → At s b (aLine a) → eqb b CR ≡ false → ltb (length (s .part)) lineLimit ≡ true
       → Way E s b (moved (withPart (s .part ++ (b ∷ [])) (withAfterCr false s)))
   ignoresLine : (a : Awaited) → At s b (aLine a) → eqb b CR ≡ true → isComment (trim (s .part)) ≡ true → Way E s b (moved (between (aLine a) true [] (s .memory)))
   hearsLine : (a : Awaited) → At s b (aLine a) → eqb b CR ≡ true → isComment (trim (s .part)) ≡ false
@@ -173,7 +173,7 @@ pub data Way (E : Shelf) (s : Session) (b : ℕ) : Stepped → Type 0 where
       → Way E s b (settled s (isPlain (p .form)) (nextTransfer E ps (keptIn (s .memory) (messageOf p (record { heading = h; body = x })))))
 
 module _ (E : Shelf) (s : Session) (b : ℕ) where
-  line-way : (a : Awaited) → At s b (aLine a) → (c d e : Bool) → eqb b CR ≡ c → ltb (length (s .part)) 256 ≡ d → isComment (trim (s .part)) ≡ e
+  line-way : (a : Awaited) → At s b (aLine a) → (c d e : Bool) → eqb b CR ≡ c → ltb (length (s .part)) lineLimit ≡ d → isComment (trim (s .part)) ≡ e
       → Way E s b
       (lineMoved E a s b (cond c ends (cond d grows overruns)))
   line-way a w true d e x y z = go e z
@@ -193,7 +193,7 @@ module _ (E : Shelf) (s : Session) (b : ℕ) where
   transfer-way p ps sc w noRoom e = isRefused storeFull (w .kept) (unkept p ps sc w e)
 
   phase-way : (p : Phase) → At s b p → Way E s b (phaseStep E p s b)
-  phase-way (aLine a) w = line-way a w (eqb b CR) (ltb (length (s .part)) 256) (isComment (trim (s .part))) refl refl refl
+  phase-way (aLine a) w = line-way a w (eqb b CR) (ltb (length (s .part)) lineLimit) (isComment (trim (s .part))) refl refl refl
   phase-way (awaitsTransfer p ps sc) w = transfer-way p ps sc w (scanByte (roomFor E (s .memory)) sc b) refl
   phase-way leaving w = isRefused sessionEnded (w .kept) (hasLeft w)
   phase-way over w = isRefused sessionEnded (w .kept) (isOver w)

@@ -18,6 +18,9 @@ pub record Shelf : Type 0 where
   pub places : ℕ
   pub bytes : ℕ
 
+abbrev pub shelfWith : List Record → List Bytes → ℕ → ℕ → Shelf
+shelfWith table known places bytes = record { table = table; known = known; places = places; bytes = bytes }
+
 -- ---------------------------------------------------------------- our block
 
 -- "waiting records .. form 0 in plain mode, 1 and 2 in framed mode, none deferred in this session"; flags: 1 where deferred

@@ -7,7 +7,7 @@ use lib.ListN.{length}
 use Rattle.grammar.specs.Bytes.{Bytes}
 use Rattle.grammar.specs.Ascii.{text}
 use Rattle.grammar.specs.Fields.{plain, message}
-use Rattle.session.specs.Choices.{Shelf}
+use Rattle.session.specs.Choices.{Shelf, shelfWith}
 use Rattle.session.specs.Sessions.{Trial, hears, takes, trial, letter, greeted}
 use Rattle.session.specs.Reasons.{protocol}
 
@@ -16,13 +16,10 @@ use Rattle.session.specs.Reasons.{protocol}
 -- five packed messages, which one block proposes, and a plain text
 abbrev pub packets : Shelf
 packets =
-    record {
-      table = letter message (text "M1") 1 (text "a") ∷ letter message (text "M2") 1 (text "b") ∷ letter message (text "M3") 1 (text "c")
-          ∷ letter message (text "M4") 1 (text "d") ∷ letter message (text "M5") 1 (text "e") ∷ letter plain (text "P1") 1 (text "f") ∷ [];
-      known = [];
-      places = 2;
-      bytes = 3;
-    }
+    shelfWith
+    (letter message (text "M1") 1 (text "a") ∷ letter message (text "M2") 1 (text "b") ∷ letter message (text "M3") 1 (text "c")
+    ∷ letter message (text "M4") 1 (text "d") ∷ letter message (text "M5") 1 (text "e") ∷ letter plain (text "P1") 1 (text "f") ∷ [])
+    [] 2 3
 
 abbrev pub sixWaiting : List ℕ
 sixWaiting = 0 ∷ 0 ∷ 0 ∷ 0 ∷ 0 ∷ 0 ∷ []

@@ -8,7 +8,7 @@ use Rattle.grammar.specs.Bytes.{Bytes}
 use Rattle.grammar.specs.Ascii.{text}
 use Rattle.grammar.specs.Fields.{Form, plain, message, file}
 use Rattle.mail.specs.Mail.{Record, Message}
-use Rattle.session.specs.Choices.{Shelf}
+use Rattle.session.specs.Choices.{Shelf, shelfWith}
 use Rattle.session.specs.Session.{Session, opened, ended}
 use Rattle.session.specs.Calls.{receive, give, handedOut}
 
@@ -61,13 +61,10 @@ letter f bid size body =
 -- "Announced 1345, 5346, 8548, 1: three proposed"; the store has three bytes, the inbox two places
 abbrev pub shelf : Shelf
 shelf =
-    record {
-      table = letter plain (text "X1") 1345 (text "a") ∷ letter plain (text "X2") 5346 (text "b") ∷ letter plain (text "X3") 8548 (text "c")
-          ∷ letter plain (text "X4") 1 (text "d") ∷ letter file (text "X5") 1 (text "e") ∷ [];
-      known = text "K1" ∷ [];
-      places = 2;
-      bytes = 3;
-    }
+    shelfWith
+    (letter plain (text "X1") 1345 (text "a") ∷ letter plain (text "X2") 5346 (text "b") ∷ letter plain (text "X3") 8548 (text "c")
+    ∷ letter plain (text "X4") 1 (text "d") ∷ letter file (text "X5") 1 (text "e") ∷ [])
+    (text "K1" ∷ []) 2 3
 
 abbrev pub waiting : List ℕ
 waiting = 0 ∷ 0 ∷ 0 ∷ 0 ∷ 0 ∷ []

@@ -7,7 +7,7 @@ use Rattle.grammar.specs.Ascii.{text}
 use Rattle.grammar.specs.Fields.{plain}
 use Rattle.mail.specs.Mail.{Record}
 use Rattle.mail.specs.Tally.{waits, waitingBytes}
-use Rattle.session.specs.Choices.{Shelf}
+use Rattle.session.specs.Choices.{Shelf, shelfWith}
 use Rattle.session.specs.Session.{Memory, opened}
 use Rattle.session.specs.Sessions.{Move, hears, takes, Played, played, letter, shelf, waiting}
 use Rattle.session.specs.Levels.{packets, sixWaiting}
@@ -61,12 +61,9 @@ panelAfter t = panelOf (t .shelf .table) (lastAnswer (playedOf t .answers)) (pla
 -- one block proposes them all
 abbrev pub threeShelf : Shelf
 threeShelf =
-    record {
-      table = letter plain (text "X1") 1345 (text "a") ∷ letter plain (text "X2") 5346 (text "b") ∷ letter plain (text "X3") 8548 (text "c") ∷ [];
-      known = text "K1" ∷ [];
-      places = 2;
-      bytes = 3;
-    }
+    shelfWith
+    (letter plain (text "X1") 1345 (text "a") ∷ letter plain (text "X2") 5346 (text "b") ∷ letter plain (text "X3") 8548 (text "c") ∷ [])
+    (text "K1" ∷ []) 2 3
 
 abbrev pub panel : ℕ → ℕ → ℕ → ℕ → ℕ → ℕ → ℕ → ℕ → Panel
 panel n w b p f d e u = record { answer = n; waits = w; bytes = b; proposed = p; forwarded = f; declined = d; deferred = e; unsettled = u }

@@ -9,19 +9,19 @@ use native.Mathlib.Nat.{add-assoc}
 use lib.Dec.{eqb}
 use lib.ListN.{length, take, drop, getD, replicate, length-append, length-drop, length-replicate, drop-of-length-le}
 use lib.Seq.{take-append-seam, take-append-add, take-at, take-all, drop-append-add, drop-drop, length-take-le}
-use Rattle.grammar.specs.Bytes.{Bytes, every}
+use Rattle.grammar.specs.Bytes.{Bytes, wordValues, every, twoByteValues, fourByteValues}
 use Rattle.grammar.specs.Transfers.{partOf}
 use Rattle.grammar.proofs.Basics.{octet}
+use Rattle.grammar.specs.Turns.{blockLimit}
 use Rattle.buffer.specs.Put.{putBytes}
 use Rattle.buffer.proofs.Laws.{put-length}
-use Rattle.places.specs.Places.{markAt, sizeTable, sizeTitles, sizeNames, sizeBodies, sizeKnown, sizeInbox, sizeStore, numbersStart, oursAt, sendingAt, signsAt, lineLengthAt, leftAt, bodyAt, posAt, usedAt, tallySizesAt, numbersEnd, numbersLen, arraysAt, freeLen, deferredLen, headingLen, lineLen, blockLen, deferredAt, headingAt, lineAt, blockAt, arraysLen, arraysEnd, sessionLen}
+use Rattle.places.specs.Places.{markAt, sizeTable, sizeTitles, sizeNames, sizeBodies, sizeKnown, sizeInbox, sizeStore, numbersStart, oursAt, sendingAt, signsAt, lineLengthAt, leftAt, bodyAt, posAt, usedAt, tallySizesAt, numbersEnd, numbersLen, arraysAt, freeLen, deferredLen, headingLen, lineLen, blockLen, deferredAt, headingAt, lineAt, blockAt, arraysLen, arraysEnd, sessionLen, phaseAt, ffAt, currentAt, proposalsAt, blockSumAt, firstAt, thenAt, framedAt, levelAt, partnerAt, keptAt, placeAt, lengthAt, headAt, offsetAt, sumAt, afterCrAt, tallyWaitingAt, tallyProposedAt, tallyForwardedAt, tallyDeclinedAt, tallyDeferredAt, tallyUnsettledAt}
 use Rattle.layout.specs.Layout.{byteAt, le8At}
 use Rattle.layout.proofs.Places.{byte-skip, le2-skip, le4-skip, le8-skip, part-skip, part-in, part-front, part-here, part-before, part-after, put-fits, le8-kept}
 use Rattle.layout.proofs.Laws.{le2-here, le4-here, le8-here, le2-small, le4-small, le8-small, octets}
 use Rattle.session_memory.specs.declared.Five.{Five}
 use Rattle.session_memory.specs.Session.{Await}
 use Rattle.session_memory.specs.declared.Say.{Say}
-use Rattle.session_memory.specs.declared.Terms.{Terms}
 use Rattle.session_memory.specs.declared.Tally.{Tally}
 use Rattle.sheet.specs.declared.Sheet.{Sheet}
 use Rattle.session_memory.specs.Session.{Keep}
@@ -29,34 +29,34 @@ use Rattle.session_memory.specs.Session.{Reading}
 use Rattle.session_memory.specs.Session.{Line}
 use Rattle.session_memory.specs.Session.{Session}
 use Rattle.session_memory.specs.declared.Sizes.{Sizes}
-use Rattle.session_memory.specs.State.{at, held, fiveOf, flag, fiveAt, arrayAt, loadAwait, loadSay, loadKeep, loadReading, loadLine, loadTally, loadOf, loadSizes, smallOut, numbersOut, tailOut, arraysOut, numberPart, saveOf, sizesOut, saveSizes}
+use Rattle.session_memory.specs.State.{at, held, fiveOf, flag, fiveAt, arrayAt, loadAwait, loadSay, loadKeep, loadReading, loadLine, loadTally, loadOf, loadSizes, smallOut, numbersOut, tailOut, arraysTail, arraysOut, numberPart, saveOf, sizesOut, saveSizes}
 
 -- ---------------------------------------------------------------- a state in shape: arrays of their sizes, numbers that fit their bytes
 
 pub record AwaitShape (a : Await) : Type 0 where
-  pub ours : length (a .ours .items) ≡ 5
+  pub ours : length (a .ours .items) ≡ blockLimit
   pub block : length (a .block) ≡ blockLen
 
 pub record SayShape (a : Say) : Type 0 where
-  pub pos : a .pos < 18446744073709551616
-  pub signs : length (a .signs .items) ≡ 5
+  pub pos : a .pos < wordValues
+  pub signs : length (a .signs .items) ≡ blockLimit
 
 pub record KeepShape (k : Keep) : Type 0 where
-  pub used : k .used < 18446744073709551616
-  pub sending : length (k .sending .items) ≡ 5
+  pub used : k .used < wordValues
+  pub sending : length (k .sending .items) ≡ blockLimit
   pub deferred : length (k .deferred) ≡ deferredLen
 
 pub record ReadingShape (r : Reading) : Type 0 where
-  pub left : r .reader .left < 65536
-  pub body : r .reader .body < 4294967296
+  pub left : r .reader .left < twoByteValues
+  pub body : r .reader .body < fourByteValues
   pub heading : length (r .heading) ≡ headingLen
 
 pub record LineShape (l : Line) : Type 0 where
-  pub len : l .len < 65536
+  pub len : l .len < twoByteValues
   pub bytes : length (l .bytes) ≡ lineLen
 
 pub record TallyShape (t : Tally) : Type 0 where
-  pub sizes : t .sizes < 4294967296
+  pub sizes : t .sizes < fourByteValues
 
 pub record Shaped (s : Session) : Type 0 where
   pub now : AwaitShape (s .now)
@@ -90,9 +90,9 @@ array-here n p r h =
 -- ---------------------------------------------------------------- up to five numbers
 
 pub held-five : (xs : List ℕ) → held (fiveOf xs) ≡ xs
-held-five xs = take-append-seam xs (replicate (5 - length xs) 0)
+held-five xs = take-append-seam xs (replicate (blockLimit - length xs) 0)
 
-pub five-length : (xs : List ℕ) → length xs ≤ 5 → length (fiveOf xs .items) ≡ 5
+pub five-length : (xs : List ℕ) → length xs ≤ blockLimit → length (fiveOf xs .items) ≡ blockLimit
 five-length xs h = simp (length-append, length-replicate) (omega arith)
 
 -- ---------------------------------------------------------------- records from their fields
@@ -100,32 +100,9 @@ five-length xs h = simp (length-append, length-replicate) (omega arith)
 pub same-five : {a b : ℕ} {l m : Bytes} → a ≡ b → l ≡ m → _≡_ {A = Five} (record { count = a; items = l }) (record { count = b; items = m })
 same-five e f = rw (e, f)
 
-pub same-await : {a b c d e f i j : ℕ} {x y : Bool} {g h : Five} {l m : Bytes} → a ≡ b → x ≡ y → c ≡ d → e ≡ f → g ≡ h → i ≡ j → l ≡ m
-    → _≡_ {A = Await} (record { phase = a; ff = x; current = c; proposals = e; ours = g; sum = i; block = l })
-    (record { phase = b; ff = y; current = d; proposals = f; ours = h; sum = j; block = m })
-same-await e₁ e₂ e₃ e₄ e₅ e₆ e₇ = rw (e₁, e₂, e₃, e₄, e₅, e₆, e₇)
-
 pub same-say : {a b c d e f : ℕ} {g h : Five} → a ≡ b → c ≡ d → e ≡ f → g ≡ h
     → _≡_ {A = Say} (record { first = a; then = c; pos = e; signs = g }) (record { first = b; then = d; pos = f; signs = h })
 same-say e₁ e₂ e₃ e₄ = rw (e₁, e₂, e₃, e₄)
-
-pub same-terms : {a b c d : ℕ} → a ≡ b → c ≡ d → _≡_ {A = Terms} (record { level = a; partner = c }) (record { level = b; partner = d })
-same-terms e₁ e₂ = rw (e₁, e₂)
-
-pub same-keep : {x y : Bool} {t u : Terms} {a b c d : ℕ} {g h : Five} {l m : Bytes} → x ≡ y → t ≡ u → a ≡ b → c ≡ d → g ≡ h → l ≡ m
-    → _≡_ {A = Keep} (record { framed = x; terms = t; kept = a; used = c; sending = g; deferred = l })
-    (record { framed = y; terms = u; kept = b; used = d; sending = h; deferred = m })
-same-keep e₁ e₂ e₃ e₄ e₅ e₆ = rw (e₁, e₂, e₃, e₄, e₅, e₆)
-
-pub same-reading : {a b c d e f g h i j k l m n : ℕ} {v w : Bytes} → a ≡ b → c ≡ d → e ≡ f → g ≡ h → i ≡ j → k ≡ l → m ≡ n → v ≡ w
-    → _≡_ {A = Reading}
-    (record { reader = record { place = a; len = c; head = e; off = g; left = i; sum = k; body = m }; heading = v })
-    (record { reader = record { place = b; len = d; head = f; off = h; left = j; sum = l; body = n }; heading = w })
-same-reading e₁ e₂ e₃ e₄ e₅ e₆ e₇ e₈ = rw (e₁, e₂, e₃, e₄, e₅, e₆, e₇, e₈)
-
-pub same-line : {x y : Bool} {a b : ℕ} {l m : Bytes} → x ≡ y → a ≡ b → l ≡ m
-    → _≡_ {A = Line} (record { «after_cr» = x; len = a; bytes = l }) (record { «after_cr» = y; len = b; bytes = m })
-same-line e₁ e₂ e₃ = rw (e₁, e₂, e₃)
 
 pub same-sheet : {a b c d e f g h i j : ℕ} → a ≡ b → c ≡ d → e ≡ f → g ≡ h → i ≡ j
     → _≡_ {A = Sheet} (record { proposed = a; forwarded = c; declined = e; deferred = g; unsettled = i }) (record { proposed = b; forwarded = d; declined = f; deferred = h; unsettled = j })
@@ -134,17 +111,13 @@ same-sheet e₁ e₂ e₃ e₄ e₅ = rw (e₁, e₂, e₃, e₄, e₅)
 pub same-tally : {a b c d : ℕ} {g h : Sheet} → a ≡ b → c ≡ d → g ≡ h → _≡_ {A = Tally} (record { waiting = a; sizes = c; sheet = g }) (record { waiting = b; sizes = d; sheet = h })
 same-tally e₁ e₂ e₃ = rw (e₁, e₂, e₃)
 
-pub same-session : {a b : Await} {c d : Say} {e f : Keep} {g h : Reading} {i j : Line} {k l : Tally} → a ≡ b → c ≡ d → e ≡ f → g ≡ h → i ≡ j → k ≡ l
-    → _≡_ {A = Session} (record { now = a; say = c; keep = e; reading = g; line = i; tally = k }) (record { now = b; say = d; keep = f; reading = h; line = j; tally = l })
-same-session e₁ e₂ e₃ e₄ e₅ e₆ = rw (e₁, e₂, e₃, e₄, e₅, e₆)
-
 -- ---------------------------------------------------------------- the state
 
 flag-back : (b : Bool) → eqb (flag b) 1 ≡ b
 flag-back true = refl
 flag-back false = refl
 
-five-items : (l : Bytes) → length l ≡ 5 → getD l 0 0 ∷ getD l 1 0 ∷ getD l 2 0 ∷ getD l 3 0 ∷ getD l 4 0 ∷ [] ≡ l
+five-items : (l : Bytes) → length l ≡ blockLimit → getD l 0 0 ∷ getD l 1 0 ∷ getD l 2 0 ∷ getD l 3 0 ∷ getD l 4 0 ∷ [] ≡ l
 five-items [] h = absurd (omega arith)
 five-items (a ∷ []) h = absurd (omega arith)
 five-items (a ∷ b ∷ []) h = absurd (omega arith)
@@ -157,7 +130,7 @@ part-length : (s : Session) → length (numberPart s) ≡ numbersLen
 unfolding smallOut numbersOut tailOut
 part-length s = refl
 
-arrays-length : (s : Session) → Shaped s → length (arraysOut s) ≡ arraysLen
+pub arrays-length : (s : Session) → Shaped s → length (arraysOut s) ≡ arraysLen
 unfolding arraysOut
 arrays-length s h = simp length-append (omega (arith, h .now .block, h .keep .deferred, h .reading .heading, h .line .bytes))
 
@@ -170,17 +143,21 @@ module _ (f g t : Bytes) (n : length f ≡ numbersStart) (k : length g ≡ freeL
   unfolding rest
   rest-length = rw (length-append (numberPart s) (g ++ (arraysOut s ++ t))) (omega (arith, part-length s))
 
+  -- a place among the numbers
+  abbrev among : ℕ → ℕ
+  among a = a - numbersStart
+
   byte : (b : ℕ) → byteAt (f ++ rest) (numbersStart + b) ≡ byteAt rest b
   byte b = byte-skip f rest numbersStart n b
 
   -- five numbers among the single bytes: where they stand is the hypothesis
-  five : (b : ℕ) (x : Five) → b + 6 ≤ numbersLen → length (x .items) ≡ 5 → byteAt rest b ≡ x .count
-      → take 5 (drop (b + 1) rest) ≡ getD (x .items) 0 0 ∷ getD (x .items) 1 0 ∷ getD (x .items) 2 0 ∷ getD (x .items) 3 0 ∷ getD (x .items) 4 0 ∷ []
+  five : (b : ℕ) (x : Five) → b + (1 + blockLimit) ≤ numbersLen → length (x .items) ≡ blockLimit → byteAt rest b ≡ x .count
+      → take blockLimit (drop (b + 1) rest) ≡ getD (x .items) 0 0 ∷ getD (x .items) 1 0 ∷ getD (x .items) 2 0 ∷ getD (x .items) 3 0 ∷ getD (x .items) 4 0 ∷ []
       → fiveAt (f ++ rest) (numbersStart + b) ≡ x
   five b x q l e i =
       same-five (byte b ∙ e)
       (rw (add-assoc numbersStart b 1)
-      (array-skip 5 f rest numbersStart n (b + 1) ∙ array-in 5 rest (b + 1) (omega (arith, rest-length)) ∙ i ∙ five-items (x .items) l))
+      (array-skip blockLimit f rest numbersStart n (b + 1) ∙ array-in blockLimit rest (b + 1) (omega (arith, rest-length)) ∙ i ∙ five-items (x .items) l))
 
   -- the arrays stand behind the numbers and the free bytes, whatever stands after them
   array : (m b : ℕ) → b + m ≤ arraysLen → arrayAt m (f ++ rest) (numbersStart + (numbersLen + (freeLen + b))) ≡ arrayAt m (arraysOut s) b
@@ -195,71 +172,97 @@ module _ (f g t : Bytes) (n : length f ≡ numbersStart) (k : length g ≡ freeL
   deferred-back : arrayAt deferredLen (f ++ rest) (arraysAt + deferredAt) ≡ s .keep .deferred
   unfolding arraysOut
   deferred-back =
-      array deferredLen 0 (omega arith) ∙ array-here deferredLen (s .keep .deferred) (s .reading .heading ++ (s .line .bytes ++ s .now .block)) (h .keep .deferred)
+      array deferredLen 0 (omega arith) ∙ array-here deferredLen (s .keep .deferred) (s .reading .heading ++ (s .line .bytes ++ arraysTail s)) (h .keep .deferred)
 
   after-deferred : (m b : ℕ) → deferredLen + b + m ≤ arraysLen
-      → arrayAt m (f ++ rest) (numbersStart + (numbersLen + (freeLen + (deferredLen + b)))) ≡ arrayAt m (s .reading .heading ++ (s .line .bytes ++ s .now .block)) b
+      → arrayAt m (f ++ rest) (numbersStart + (numbersLen + (freeLen + (deferredLen + b)))) ≡ arrayAt m (s .reading .heading ++ (s .line .bytes ++ arraysTail s)) b
   unfolding arraysOut
   after-deferred m b q =
-      array m (deferredLen + b) q ∙ array-skip m (s .keep .deferred) (s .reading .heading ++ (s .line .bytes ++ s .now .block)) deferredLen (h .keep .deferred) b
+      array m (deferredLen + b) q ∙ array-skip m (s .keep .deferred) (s .reading .heading ++ (s .line .bytes ++ arraysTail s)) deferredLen (h .keep .deferred) b
 
   heading-back : arrayAt headingLen (f ++ rest) (arraysAt + headingAt) ≡ s .reading .heading
-  heading-back = after-deferred headingLen 0 (omega arith) ∙ array-here headingLen (s .reading .heading) (s .line .bytes ++ s .now .block) (h .reading .heading)
+  heading-back = after-deferred headingLen 0 (omega arith) ∙ array-here headingLen (s .reading .heading) (s .line .bytes ++ arraysTail s) (h .reading .heading)
 
   after-heading : (m b : ℕ) → deferredLen + (headingLen + b) + m ≤ arraysLen
-      → arrayAt m (f ++ rest) (numbersStart + (numbersLen + (freeLen + (deferredLen + (headingLen + b))))) ≡ arrayAt m (s .line .bytes ++ s .now .block) b
+      → arrayAt m (f ++ rest) (numbersStart + (numbersLen + (freeLen + (deferredLen + (headingLen + b))))) ≡ arrayAt m (s .line .bytes ++ arraysTail s) b
   after-heading m b q =
-      after-deferred m (headingLen + b) q ∙ array-skip m (s .reading .heading) (s .line .bytes ++ s .now .block) headingLen (h .reading .heading) b
+      after-deferred m (headingLen + b) q ∙ array-skip m (s .reading .heading) (s .line .bytes ++ arraysTail s) headingLen (h .reading .heading) b
 
   bytes-back : arrayAt lineLen (f ++ rest) (arraysAt + lineAt) ≡ s .line .bytes
-  bytes-back = after-heading lineLen 0 (omega arith) ∙ array-here lineLen (s .line .bytes) (s .now .block) (h .line .bytes)
+  bytes-back = after-heading lineLen 0 (omega arith) ∙ array-here lineLen (s .line .bytes) (arraysTail s) (h .line .bytes)
 
   block-back : arrayAt blockLen (f ++ rest) (arraysAt + blockAt) ≡ s .now .block
   block-back =
-      after-heading blockLen lineLen (omega arith) ∙ array-skip blockLen (s .line .bytes) (s .now .block) lineLen (h .line .bytes) 0
+      after-heading blockLen lineLen (omega arith) ∙ array-skip blockLen (s .line .bytes) (arraysTail s) lineLen (h .line .bytes) 0
       ∙ array-in blockLen (s .now .block) 0 (omega (arith, h .now .block)) ∙ take-all blockLen (s .now .block) (omega (arith, h .now .block))
 
   await-back : loadAwait (f ++ rest) ≡ s .now
   unfolding loadAwait smallOut numbersOut tailOut rest
   await-back =
-      same-await (byte 0) (ap (λ (x : ℕ). eqb x 1) (byte 1) ∙ flag-back (s .now .ff)) (byte 7) (byte 8)
-      (five 9 (s .now .ours) (omega arith) (h .now .ours) refl refl) (byte 56) block-back
+      rw (
+        byte (among phaseAt),
+        byte (among ffAt),
+        flag-back (s .now .ff),
+        byte (among currentAt),
+        byte (among proposalsAt),
+        five (among oursAt) (s .now .ours) (omega arith) (h .now .ours) refl refl,
+        byte (among blockSumAt),
+        block-back,
+      )
 
   say-back : loadSay (f ++ rest) ≡ s .say
   unfolding loadSay smallOut numbersOut rest
   say-back =
-      same-say (byte 4) (byte 5) (le8-skip f rest numbersStart n 40 ∙ le8-here (s .say .pos) [] (h .say .pos))
-      (five 21 (s .say .signs) (omega arith) (h .say .signs) refl refl)
+      same-say (byte (among firstAt)) (byte (among thenAt)) (le8-skip f rest numbersStart n (among posAt) ∙ le8-here (s .say .pos) [] (h .say .pos))
+      (five (among signsAt) (s .say .signs) (omega arith) (h .say .signs) refl refl)
 
   keep-back : loadKeep (f ++ rest) ≡ s .keep
   unfolding loadKeep smallOut numbersOut tailOut rest
   keep-back =
-      same-keep (ap (λ (x : ℕ). eqb x 1) (byte 2) ∙ flag-back (s .keep .framed)) (same-terms (byte 57) (byte 58)) (byte 6)
-      (le8-skip f rest numbersStart n 48 ∙ le8-here (s .keep .used) [] (h .keep .used))
-      (five 15 (s .keep .sending) (omega arith) (h .keep .sending) refl refl) deferred-back
+      rw (
+        byte (among framedAt),
+        flag-back (s .keep .framed),
+        byte (among levelAt),
+        byte (among partnerAt),
+        byte (among keptAt),
+        le8-skip f rest numbersStart n (among usedAt) ∙ le8-here (s .keep .used) [] (h .keep .used),
+        five (among sendingAt) (s .keep .sending) (omega arith) (h .keep .sending) refl refl,
+        deferred-back,
+      )
 
   reading-back : loadReading (f ++ rest) ≡ s .reading
   unfolding loadReading smallOut numbersOut rest
   reading-back =
-      same-reading (byte 27) (byte 28) (byte 29) (byte 30)
-      (le2-skip f rest numbersStart n 34 ∙ le2-here (s .reading .reader .left) [] (h .reading .left)) (byte 31)
-      (le4-skip f rest numbersStart n 36 ∙ le4-here (s .reading .reader .body) [] (h .reading .body)) heading-back
+      rw (
+        byte (among placeAt),
+        byte (among lengthAt),
+        byte (among headAt),
+        byte (among offsetAt),
+        le2-skip f rest numbersStart n (among leftAt) ∙ le2-here (s .reading .reader .left) [] (h .reading .left),
+        byte (among sumAt),
+        le4-skip f rest numbersStart n (among bodyAt) ∙ le4-here (s .reading .reader .body) [] (h .reading .body),
+        heading-back,
+      )
 
   line-back : loadLine (f ++ rest) ≡ s .line
   unfolding loadLine smallOut numbersOut rest
   line-back =
-      same-line (ap (λ (x : ℕ). eqb x 1) (byte 3) ∙ flag-back (s .line .«after_cr»))
-      (le2-skip f rest numbersStart n 32 ∙ le2-here (s .line .len) [] (h .line .len)) bytes-back
+      rw (
+        byte (among afterCrAt),
+        flag-back (s .line .«after_cr»),
+        le2-skip f rest numbersStart n (among lineLengthAt) ∙ le2-here (s .line .len) [] (h .line .len),
+        bytes-back,
+      )
 
   tally-back : loadTally (f ++ rest) ≡ s .tally
   unfolding loadTally smallOut numbersOut tailOut rest
   tally-back =
-      same-tally (byte 59) (le4-skip f rest numbersStart n 60 ∙ le4-here (s .tally .sizes) [] (h .tally .sizes))
-      (same-sheet (byte 64) (byte 65) (byte 66) (byte 67) (byte 68))
+      same-tally (byte (among tallyWaitingAt)) (le4-skip f rest numbersStart n (among tallySizesAt) ∙ le4-here (s .tally .sizes) [] (h .tally .sizes))
+      (same-sheet (byte (among tallyProposedAt)) (byte (among tallyForwardedAt)) (byte (among tallyDeclinedAt)) (byte (among tallyDeferredAt)) (byte (among tallyUnsettledAt)))
 
   state-back : loadOf (f ++ (numberPart s ++ (g ++ (arraysOut s ++ t)))) ≡ s
   unfolding loadOf rest
-  state-back = same-session await-back say-back keep-back reading-back line-back tally-back
+  state-back = rw (await-back, say-back, keep-back, reading-back, line-back, tally-back)
 
 -- ---------------------------------------------------------------- what a save leaves
 
@@ -348,13 +351,13 @@ sizes-length sm z = put-length sm (at markAt) (sizesOut z)
 
 -- the sizes' numbers fit their bytes
 pub record Sized (z : Sizes) : Type 0 where
-  pub table : z .table < 18446744073709551616
-  pub titles : z .titles < 18446744073709551616
-  pub names : z .names < 18446744073709551616
-  pub bodies : z .bodies < 18446744073709551616
-  pub known : z .known < 18446744073709551616
-  pub inbox : z .inbox < 18446744073709551616
-  pub store : z .store < 18446744073709551616
+  pub table : z .table < wordValues
+  pub titles : z .titles < wordValues
+  pub names : z .names < wordValues
+  pub bodies : z .bodies < wordValues
+  pub known : z .known < wordValues
+  pub inbox : z .inbox < wordValues
+  pub store : z .store < wordValues
 
 module _ (sm : Bytes) (z : Sizes) (n : numbersStart ≤ length sm) where
   -- the mark and the sizes, and then the memory as it was
@@ -377,9 +380,9 @@ unfolding loadOf loadAwait loadSay loadKeep loadReading loadLine loadTally
 load-shaped sm o =
     let b = octets sm o in
     record {
-      now = record { ours = array-length 5 sm (oursAt + 1); block = array-length blockLen sm (arraysAt + blockAt) };
-      say = record { pos = le8-small sm b posAt; signs = array-length 5 sm (signsAt + 1) };
-      keep = record { used = le8-small sm b usedAt; sending = array-length 5 sm (sendingAt + 1); deferred = array-length deferredLen sm (arraysAt + deferredAt) };
+      now = record { ours = array-length blockLimit sm (oursAt + 1); block = array-length blockLen sm (arraysAt + blockAt) };
+      say = record { pos = le8-small sm b posAt; signs = array-length blockLimit sm (signsAt + 1) };
+      keep = record { used = le8-small sm b usedAt; sending = array-length blockLimit sm (sendingAt + 1); deferred = array-length deferredLen sm (arraysAt + deferredAt) };
       reading = record { left = le2-small sm b leftAt; body = le4-small sm b bodyAt; heading = array-length headingLen sm (arraysAt + headingAt) };
       line = record { len = le2-small sm b lineLengthAt; bytes = array-length lineLen sm (arraysAt + lineAt) };
       tally = record { sizes = le4-small sm b tallySizesAt };

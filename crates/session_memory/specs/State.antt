@@ -8,9 +8,12 @@ use lib.ListN.{length, getD, take, replicate}
 use Rattle.grammar.specs.Bytes.{Bytes}
 use Rattle.grammar.specs.Ascii.{text}
 use Rattle.grammar.specs.Transfers.{partOf}
+use Rattle.grammar.specs.Turns.{blockLimit}
+use Rattle.grammar.specs.Answers.{level0}
 use Rattle.buffer.specs.Put.{putBytes}
 use Rattle.buffer.specs.declared.Cursor.{Cursor}
 use Rattle.places.specs.Places.{markAt, sizeTable, sizeTitles, sizeNames, sizeBodies, sizeKnown, sizeInbox, sizeStore, numbersStart, phaseAt, ffAt, framedAt, afterCrAt, firstAt, thenAt, keptAt, currentAt, proposalsAt, oursAt, sendingAt, signsAt, placeAt, lengthAt, headAt, offsetAt, sumAt, lineLengthAt, leftAt, bodyAt, posAt, usedAt, blockSumAt, levelAt, partnerAt, tallyWaitingAt, tallySizesAt, tallyProposedAt, tallyForwardedAt, tallyDeclinedAt, tallyDeferredAt, tallyUnsettledAt, arraysAt, deferredLen, headingLen, lineLen, blockLen, deferredAt, headingAt, lineAt, blockAt, sessionLen}
+use Rattle.phase.specs.Phase.{pieceNone, pieceSidAndPrompt}
 use Rattle.layout.specs.Layout.{byteAt, le2At, le4At, le8At, le2, le4, le8}
 use Rattle.transfer_step.specs.Step.{startOf}
 use Rattle.session_memory.specs.declared.Five.{Five}
@@ -43,10 +46,10 @@ held f = take (f .count) (f .items)
 
 -- These numbers, zeros after them.
 abbrev pub fiveOf : List ℕ → Five
-fiveOf xs = record { count = length xs; items = xs ++ replicate (5 - length xs) 0 }
+fiveOf xs = record { count = length xs; items = xs ++ replicate (blockLimit - length xs) 0 }
 
 abbrev pub noFive : Five
-noFive = record { count = 0; items = replicate 5 0 }
+noFive = record { count = 0; items = replicate blockLimit 0 }
 
 -- ---------------------------------------------------------------- read
 
@@ -55,7 +58,7 @@ abbrev pub arrayAt : ℕ → Bytes → ℕ → Bytes
 arrayAt n sm a = putBytes (replicate n 0) (at 0) (partOf sm a n)
 
 abbrev pub fiveAt : Bytes → ℕ → Five
-fiveAt sm a = record { count = byteAt sm a; items = arrayAt 5 sm (a + 1) }
+fiveAt sm a = record { count = byteAt sm a; items = arrayAt blockLimit sm (a + 1) }
 
 unfoldable pub loadAwait : Bytes → Await
 loadAwait sm =
@@ -147,8 +150,12 @@ tallyOut t = t .waiting ∷ (le4 (t .sizes) ++ sheetOut (t .sheet))
 unfoldable pub tailOut : Session → Bytes
 tailOut s = s .now .sum ∷ (termsOut (s .keep .terms) ++ tallyOut (s .tally))
 
+-- The last of the arrays; one that comes later stands behind it.
+abbrev pub arraysTail : Session → Bytes
+arraysTail s = s .now .block
+
 unfoldable pub arraysOut : Session → Bytes
-arraysOut s = s .keep .deferred ++ (s .reading .heading ++ (s .line .bytes ++ s .now .block))
+arraysOut s = s .keep .deferred ++ (s .reading .heading ++ (s .line .bytes ++ arraysTail s))
 
 -- The numbers, one after the other.
 abbrev pub numberPart : Session → Bytes
@@ -167,7 +174,7 @@ saveSizes sm z = putBytes sm (at markAt) (sizesOut z)
 
 -- Nothing is settled before the partner's SID but who the partner is.
 abbrev pub termsWith : ℕ → Terms
-termsWith partner = record { level = 0; partner = partner }
+termsWith partner = record { level = level0; partner = partner }
 
 -- So many records wait, with this sum of sizes, and nothing is proposed.
 abbrev pub freshTally : ℕ → ℕ → Tally
@@ -178,7 +185,7 @@ unfoldable pub freshOf : Bool → ℕ → Tally → Session
 freshOf caller partner tally =
     record {
       now = record { phase = flag caller; ff = false; current = 0; proposals = 0; ours = noFive; sum = 0; block = replicate blockLen 0 };
-      say = record { first = cond caller 0 1; then = 0; pos = 0; signs = noFive };
+      say = record { first = cond caller pieceNone pieceSidAndPrompt; then = pieceNone; pos = 0; signs = noFive };
       keep = record { framed = false; terms = termsWith partner; kept = 0; used = 0; sending = noFive; deferred = replicate deferredLen 0 };
       reading = record { reader = startOf 0; heading = replicate headingLen 0 };
       line = record { «after_cr» = false; len = 0; bytes = replicate lineLen 0 };

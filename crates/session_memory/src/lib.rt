@@ -2,10 +2,13 @@
 // specs/Session.antt; its numbers by value are crates/numbers.
 use sheet::Sheet;
 
+// The most numbers of a block.
+const BLOCK_LIMIT: usize = phase::BLOCK_LIMIT as usize;
+
 // Up to five numbers: places of records, or signs.
 pub struct Five {
     pub count: u8,
-    pub items: [u8; 5],
+    pub items: [u8; BLOCK_LIMIT],
 }
 
 // What waits for give: the first piece and the one after it (crates/phase), pos: how many of their bytes are given; the signs of our FS line.

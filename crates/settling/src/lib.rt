@@ -15,9 +15,7 @@ ghost use mathlib.Core.Path.{_≡_};
 ghost use lib.ListN.{length};
 ghost use Rattle.grammar.specs.Bytes.{Bytes};
 ghost use Rattle.places.specs.Places.{arraysLen};
-ghost use Rattle.numbers.specs.declared.Numbers.{Numbers};
-ghost use Rattle.session_memory.specs.Setters.{withTally};
-ghost use Rattle.numbers.specs.Whole.{awaitOf, wholeOf};
+ghost use Rattle.numbers.specs.Whole.{Arrays, awaitOf, wholeOf};
 ghost use Rattle.line_effect.specs.Verdict.{judgedIn};
 ghost use Rattle.receive_defined.specs.Receiving.{refusedOf, spokenOf, settled, settleOf};
 ghost use Rattle.receive_defined.specs.Tallied.{sheetMarked, proposesOf, recountedOf};
@@ -58,7 +56,7 @@ fn after_line(s: Numbers, after_cr: bool) -> Numbers
 // The numbers after what was judged, with our turn, if it is our turn; what that counts is not in them yet. mem: the state's arrays.
 fn spoken(v: Verdict, after_cr: bool, mem: &[u8], table: &[u8]) -> Numbers
     requires { ⌜ length (now mem) ≡ arraysLen ⌝ }
-    ensures { λ r. ⌜ ((s : Numbers) → withTally (s .tally) (wholeOf r (now (mem .entry))) ≡ spokenOf (wholeOf s (now (mem .entry))) (judgedIn v (now (mem .entry))) «after_cr» (now (table .entry))) ⌝ }
+    ensures { λ r. ⌜ wholeOf r (now (mem .entry)) ≡ spokenOf (judgedIn v (now (mem .entry))) «after_cr» (now (table .entry)) ⌝ }
 {
     let next = v.next;
     if v.speaks == phase::NOT_OUR_TURN {
@@ -90,7 +88,7 @@ fn sheet_marked(sheet: Sheet, marks: Marks) -> Sheet
 
 // How many records our turn proposes: those on which an FS line is awaited, where it was our turn.
 fn proposes(speaks: u8, awaited: AwaitNumbers) -> u8
-    ensures { λ r. ⌜ ((block : Bytes) → r ≡ proposesOf speaks (awaitOf awaited block)) ⌝ }
+    ensures { λ r. ⌜ ((a : Arrays) → r ≡ proposesOf speaks (awaitOf awaited a)) ⌝ }
 {
     if speaks == phase::NOT_OUR_TURN {
         return 0;
@@ -124,26 +122,28 @@ fn showing(s: Numbers, tally: Tally) -> Numbers
     t
 }
 
-// What a judged line or a kept message leaves: marks first, then our turn. s: the numbers before it; mem: the state's arrays after it.
-pub fn settle(s: Numbers, v: Verdict, after_cr: bool, mem: &[u8], table: &mut [u8]) -> Left
+// What a judged line or a kept message leaves: marks first, then our turn. mem: the state's arrays after it.
+pub fn settle(v: Verdict, after_cr: bool, mem: &[u8], table: &mut [u8]) -> Left
     requires { ⌜ length (now mem) ≡ arraysLen ⌝ }
-    ensures { λ r. ⌜ settled (r .answer) (wholeOf (r .session) (now (mem .entry))) (now (table .exit)) ≡ settleOf (wholeOf s (now (mem .entry))) (judgedIn v (now (mem .entry))) «after_cr» (now (table .entry)) ⌝ }
+    ensures { λ r. ⌜ settled (r .answer) (wholeOf (r .session) (now (mem .entry))) (now (table .exit)) ≡ settleOf (judgedIn v (now (mem .entry))) «after_cr» (now (table .entry)) ⌝ }
 {
+    let next = v.next;
     if v.answer != refusal::NONE {
         return Left {
             answer: v.answer,
-            session: refused(v.answer, s),
+            session: refused(v.answer, next),
         };
     }
     let marks = v.marks;
     let places = marks.places;
-    let partner = v.next.keep.terms.partner;
+    let partner = next.keep.terms.partner;
+    let tally = next.tally;
     mark_all(table, partner, places, marks.state);
     let t = spoken(v, after_cr, mem, table);
-    let marked = sheet_marked(s.tally.sheet, marks);
+    let marked = sheet_marked(tally.sheet, marks);
     let sheet = with_proposed(marked, proposes(v.speaks, t.now));
     Left {
         answer: refusal::NONE,
-        session: showing(t, recounted(s.tally, marks, partner, table, sheet)),
+        session: showing(t, recounted(tally, marks, partner, table, sheet)),
     }
 }

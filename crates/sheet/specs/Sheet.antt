@@ -1,15 +1,16 @@
 -- 02, Q-3, "a tally sheet: records proposed, forwarded, declined, deferred, and not settled yet": one byte each, and its four events. What doesn't fit a
 -- byte begins again at 0; that it never comes to that is said by the theorem on the tally (crates/main_theorem).
 use Prim.Native.Nat.{ℕ, _+_, _-_, _%_}
+use Rattle.grammar.specs.Bytes.{byteValues}
 use Rattle.sheet.specs.declared.Sheet.{Sheet}
 
 -- "all 0 when open accepts"
 abbrev pub noSheet : Sheet
 noSheet = record { proposed = 0; forwarded = 0; declined = 0; deferred = 0; unsettled = 0 }
 
--- How many numbers a byte has.
+-- How many numbers a byte has: the grammar's number, by this name for the sheet.
 abbrev pub byteRange : ℕ
-byteRange = 256
+byteRange = byteValues
 
 abbrev pub more : ℕ → ℕ → ℕ
 more x n = (x + n) % byteRange

@@ -12,20 +12,23 @@ pub struct Sheet {
     pub unsettled: u8,
 }
 
+// How many numbers a byte has.
+const BYTE_VALUES: u16 = 256;
+
 // n more; what doesn't fit begins again at 0.
 fn added(x: u8, n: u8) -> u8
     ensures { λ r. ⌜ r ≡ more x n ⌝ }
 {
     let y = (x as u16) + (n as u16);
-    (y % 256) as u8
+    (y % BYTE_VALUES) as u8
 }
 
 // n less; below 0 it goes on from 255.
 fn taken(x: u8, n: u8) -> u8
     ensures { λ r. ⌜ r ≡ less x n ⌝ }
 {
-    let y = ((x as u16) + 256) - (n as u16);
-    (y % 256) as u8
+    let y = ((x as u16) + BYTE_VALUES) - (n as u16);
+    (y % BYTE_VALUES) as u8
 }
 
 // n records were proposed: by value.

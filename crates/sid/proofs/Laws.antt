@@ -12,46 +12,48 @@ use lib.Seq.{drop-cons}
 use borrow.Author.Tests.{eq-eqb, ne-eqb, lt-ltb, le-ltb, ltb-true, ltb-false, not-true, not-false}
 use Rattle.grammar.specs.Bytes.{Bytes, null, every, splitAt}
 use Rattle.grammar.specs.Fields.{upper, digit}
-use Rattle.grammar.specs.Sid.{isLetter, letterPlace, noFeatures, hasFeature, withFeature, sidEnd, readLevels, readFeatures, splitLast, dataRead, authorRead, sidRead, readSid}
+use Rattle.grammar.specs.Sid.{isLetter, letterPlace, noFeatures, hasFeature, withFeature, sidEnd, readLevels, readFeatures, splitLast, dataRead, authorRead, sidRead, readSid, dollarPlace}
 use Rattle.grammar.proofs.Basics.{to-end}
 use Rattle.byte.specs.declared.Class.{Class}
 use Rattle.byte.specs.Classes.{classOf}
 use Rattle.span.specs.Places.{upto}
 use Rattle.span.proofs.Laws.{split-upto}
 use Rattle.sid.specs.Meaning.{lastBy}
+use Rattle.grammar.specs.Bids.{toSmall}
+use Rattle.grammar.specs.Ascii.{char}
 
 -- ---------------------------------------------------------------- the features
 
-pub letter-is : (x : ℕ) → isLetter x ≡ true → (65 ≤ upper x) × (upper x < 91)
-letter-is x e = go (ltb (upper x) 65) refl e
+pub letter-is : (x : ℕ) → isLetter x ≡ true → (char "A" ≤ upper x) × (upper x < char "Z" + 1)
+letter-is x e = go (ltb (upper x) (char "A")) refl e
   where
-    go : (c : Bool) → ltb (upper x) 65 ≡ c → cond c false (ltb (upper x) 91) ≡ true → (65 ≤ upper x) × (upper x < 91)
+    go : (c : Bool) → ltb (upper x) (char "A") ≡ c → cond c false (ltb (upper x) (char "Z" + 1)) ≡ true → (char "A" ≤ upper x) × (upper x < char "Z" + 1)
     go true q k = let z : _≡_ {A = ℕ} 0 1 = cc in (omega arith, omega arith)
-    go false q k = (ltb-false (upper x) 65 q, ltb-true (upper x) 91 k)
+    go false q k = (ltb-false (upper x) (char "A") q, ltb-true (upper x) (char "Z" + 1) k)
 
 -- the end of a SID, by its length and then its bytes
 pub end-by : (fs l : Bytes) → sidEnd fs l
-    ≡ cond (eqb (length l) 1) (cond (eqb (getD l 0 0) 93) (some fs) none)
-    (cond (eqb (length l) 2) (cond (eqb (getD l 0 0) 36) (cond (eqb (getD l 1 0) 93) (some (withFeature 26 0 fs)) none) none) none)
+    ≡ cond (eqb (length l) 1) (cond (eqb (getD l 0 0) (char "]")) (some fs) none)
+    (cond (eqb (length l) 2) (cond (eqb (getD l 0 0) (char "$")) (cond (eqb (getD l 1 0) (char "]")) (some (withFeature dollarPlace 0 fs)) none) none) none)
 end-by fs [] = refl
-end-by fs (x ∷ []) = go (eqb x 93) (eqb x 36)
+end-by fs (x ∷ []) = go (eqb x (char "]")) (eqb x (char "$"))
   where
-    go : (t u : Bool) → cond (t && true) (some fs) (cond (u && false) (some (withFeature 26 0 fs)) none) ≡ cond t (some fs) none
+    go : (t u : Bool) → cond (t && true) (some fs) (cond (u && false) (some (withFeature dollarPlace 0 fs)) none) ≡ cond t (some fs) none
     go true u = refl
     go false true = refl
     go false false = refl
-end-by fs (x ∷ y ∷ []) = go (eqb x 93) (eqb x 36) (eqb y 93)
+end-by fs (x ∷ y ∷ []) = go (eqb x (char "]")) (eqb x (char "$")) (eqb y (char "]"))
   where
-    go : (t u v : Bool) → cond (t && false) (some fs) (cond (u && (v && true)) (some (withFeature 26 0 fs)) none) ≡ cond u (cond v (some (withFeature 26 0 fs)) none) none
+    go : (t u v : Bool) → cond (t && false) (some fs) (cond (u && (v && true)) (some (withFeature dollarPlace 0 fs)) none) ≡ cond u (cond v (some (withFeature dollarPlace 0 fs)) none) none
     go true true true = refl
     go true true false = refl
     go true false v = refl
     go false true true = refl
     go false true false = refl
     go false false v = refl
-end-by fs (x ∷ y ∷ z ∷ l) = rw (ne-eqb (length (x ∷ y ∷ z ∷ l)) 1 (λ e. omega arith), ne-eqb (length (x ∷ y ∷ z ∷ l)) 2 (λ e. omega arith)) (go (eqb x 93) (eqb x 36) (eqb y 93))
+end-by fs (x ∷ y ∷ z ∷ l) = rw (ne-eqb (length (x ∷ y ∷ z ∷ l)) 1 (λ e. omega arith), ne-eqb (length (x ∷ y ∷ z ∷ l)) 2 (λ e. omega arith)) (go (eqb x (char "]")) (eqb x (char "$")) (eqb y (char "]")))
   where
-    go : (t u v : Bool) → _≡_ {A = Option (List ℕ)} (cond (t && false) (some fs) (cond (u && (v && false)) (some (withFeature 26 0 fs)) none)) none
+    go : (t u v : Bool) → _≡_ {A = Option (List ℕ)} (cond (t && false) (some fs) (cond (u && (v && false)) (some (withFeature dollarPlace 0 fs)) none)) none
     go true true true = refl
     go true true false = refl
     go true false v = refl
@@ -84,7 +86,7 @@ module _ (fs s : Bytes) (i : ℕ) (h : i + 1 < length s) (r : Bool) (l : r ≡ i
     levels-twice k = rw (pair, sym l ∙ not-false r e, ← q, sym g ∙ k)
 
     module _ (k : f ≡ false) (d : Bool) (m : d ≡ digit (getD s (i + 1) 0)) (more : Bytes) where
-      pub with-digit : d ≡ true → more ≡ withFeature p (getD s (i + 1) 0 - 48) fs → readLevels fs (drop i s) ≡ readLevels more (drop (i + 2) s)
+      pub with-digit : d ≡ true → more ≡ withFeature p (getD s (i + 1) 0 - char "0") fs → readLevels fs (drop i s) ≡ readLevels more (drop (i + 2) s)
       with-digit n w = rw (w, pair, sym l ∙ not-false r e, ← q, sym g ∙ k, sym m ∙ n)
 
       pub no-digit : d ≡ false → more ≡ withFeature p 0 fs → readLevels fs (drop i s) ≡ readLevels more (drop (i + 1) s)
@@ -114,10 +116,10 @@ module _ (l : Bytes) (i : ℕ) (h : 0 < i) (k : i ≤ length l) (n : splitLast (
       let e : suc (i - 1) ≡ i = omega arith in
       drop-cons l (i - 1) 0 (omega arith) ∙ rw e
 
-  pub hyphen-more : (getD l (i - 1) 0 ≡ 45 → ⊥) → splitLast (drop (i - 1) l) ≡ none
+  pub hyphen-more : (getD l (i - 1) 0 ≡ char "-" → ⊥) → splitLast (drop (i - 1) l) ≡ none
   hyphen-more e = rw (back, n, ne-eqb _ _ e)
 
-  pub hyphen-stop : getD l (i - 1) 0 ≡ 45 → splitLast l ≡ lastBy l i
+  pub hyphen-stop : getD l (i - 1) 0 ≡ char "-" → splitLast l ≡ lastBy l i
   hyphen-stop e =
       let f : splitLast (drop (i - 1) l) ≡ some ([], drop i l) = rw (back, n, eq-eqb _ _ e) in
       rw (split-drop (i - 1) l ([], drop i l) (omega arith) f, append-nil (take (i - 1) l), ne-eqb i 0 (λ z. omega arith))
@@ -147,39 +149,39 @@ module _ (l : Bytes) (p : ℕ) (f : splitLast l ≡ lastBy l p) where
       rw (f, ne-eqb p 0 n, g, z, to-end l p)
 
 -- "The author runs to the first hyphen"
-module _ (l : Bytes) (h : ℕ) (f : h ≡ upto 45 l) where
-  pub author-none : length l ≤ h → none ≡ authorRead (splitAt 45 l)
-  author-none k = rw (split-upto 45 l, ← f, le-ltb _ _ k)
+module _ (l : Bytes) (h : ℕ) (f : h ≡ upto (char "-") l) where
+  pub author-none : length l ≤ h → none ≡ authorRead (splitAt (char "-") l)
+  author-none k = rw (split-upto (char "-") l, ← f, le-ltb _ _ k)
 
   pub author-by : (r : Bool) → h < length l → r ≡ (every (classOf Class.Author) (take (h - 0) l) && not (null (take (h - 0) l)))
-      → authorRead (splitAt 45 l) ≡ cond r (let t = take (length l - (h + 1)) (drop (h + 1) l) in dataRead t (splitLast t)) none
+      → authorRead (splitAt (char "-") l) ≡ cond r (let t = take (length l - (h + 1)) (drop (h + 1) l) in dataRead t (splitLast t)) none
   unfolding classOf
   author-by r k g =
       let z : h - 0 ≡ h = omega arith in
-      rw (split-upto 45 l, ← f, lt-ltb _ _ k, g, z, to-end l (h + 1), add-one h)
+      rw (split-upto (char "-") l, ← f, lt-ltb _ _ k, g, z, to-end l (h + 1), add-one h)
 
 -- the bracket has no small letter
-bracket : (x : ℕ) → eqb (upper x) 91 ≡ eqb x 91
-bracket x = go (ltb x 97) refl (ltb x 123) refl
+bracket : (x : ℕ) → eqb (upper x) (char "[") ≡ eqb x (char "[")
+bracket x = go (ltb x (char "a")) refl (ltb x (char "z" + 1)) refl
   where
-    go : (t : Bool) → ltb x 97 ≡ t → (u : Bool) → ltb x 123 ≡ u → eqb (cond t x (cond u (x - 32) x)) 91 ≡ eqb x 91
+    go : (t : Bool) → ltb x (char "a") ≡ t → (u : Bool) → ltb x (char "z" + 1) ≡ u → eqb (cond t x (cond u (x - toSmall) x)) (char "[") ≡ eqb x (char "[")
     go true e u k = refl
     go false e false k = refl
     go false e true k =
-        let a = ltb-false x 97 e in
-        let b = ltb-true x 123 k in
-        rw (ne-eqb (x - 32) 91 (λ z. omega arith), ne-eqb x 91 (λ z. omega arith))
+        let a = ltb-false x (char "a") e in
+        let b = ltb-true x (char "z" + 1) k in
+        rw (ne-eqb (x - toSmall) (char "[") (λ z. omega arith), ne-eqb x (char "[") (λ z. omega arith))
 
 pub sid-empty : (l : Bytes) → length l < 1 → none ≡ readSid l
 unfolding readSid
 sid-empty [] h = refl
 sid-empty (x ∷ l) h = let z : ⊥ = omega arith in absurd z
 
-pub sid-by : (l : Bytes) → 1 ≤ length l → readSid l ≡ cond (eqb (getD l 0 0) 91) (authorRead (splitAt 45 (take (length l - 1) (drop 1 l)))) none
+pub sid-by : (l : Bytes) → 1 ≤ length l → readSid l ≡ cond (eqb (getD l 0 0) (char "[")) (authorRead (splitAt (char "-") (take (length l - 1) (drop 1 l)))) none
 unfolding readSid
 sid-by [] h = let z : ⊥ = omega arith in absurd z
-sid-by (x ∷ l) h = rw (to-end (x ∷ l) 1, bracket x) (go (eqb x 91))
+sid-by (x ∷ l) h = rw (to-end (x ∷ l) 1, bracket x) (go (eqb x (char "[")))
   where
-    go : (t : Bool) → sidRead (cond t (some l) none) ≡ cond t (authorRead (splitAt 45 l)) none
+    go : (t : Bool) → sidRead (cond t (some l) none) ≡ cond t (authorRead (splitAt (char "-") l)) none
     go true = refl
     go false = refl

@@ -12,13 +12,14 @@ ghost use Prim.Native.Nat.{_≤_, _<_};
 ghost use lib.ListN.{length};
 ghost use Rattle.grammar.specs.Bytes.{null, every, splitAt};
 ghost use Rattle.grammar.specs.Sid.{isLetter, letterPlace, noFeatures, sidEnd, readLevels, readFeatures, splitLast, dataRead, authorRead, readSid};
+ghost use Rattle.grammar.specs.Ascii.{char};
 ghost use Rattle.byte.specs.Classes.{classOf};
 ghost use Rattle.sid.specs.Meaning.{sidOf, lastBy};
 
 // 01's numbers for a line that isn't a SID, and for a SID without F.
-const NOT_SID: u8 = 3;
+const NOT_SID: u8 = refusal::NOT_SID;
 
-const NO_FORWARDING: u8 = 4;
+const NO_FORWARDING: u8 = refusal::NO_FORWARDING;
 
 // What a line says as a SID: 01's number, 0 where it goes on, and the features, none where it isn't a SID.
 pub struct Sid {
@@ -175,7 +176,7 @@ fn read_data(s: &[u8]) -> Sid
 
 // What follows the bracket: the author up to the first hyphen, and the rest.
 fn read_author(s: &[u8]) -> Sid
-    ensures { λ r. ⌜ r ≡ sidOf (authorRead (splitAt 45 (now (s .entry)))) ⌝ }
+    ensures { λ r. ⌜ r ≡ sidOf (authorRead (splitAt (char "-") (now (s .entry)))) ⌝ }
 {
     let h = find(s, b'-');
     if s.len() <= h {

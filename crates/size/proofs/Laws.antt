@@ -9,38 +9,39 @@ use native.Mathlib.Nat.{pow-succ', pow-le-pow-right}
 use lib.ListN.{length, getD, drop, drop-of-length-le}
 use lib.Seq.{drop-cons}
 use Rattle.grammar.specs.Bytes.{Bytes, isSome}
-use Rattle.grammar.specs.Fields.{digit, isSize, readFrom, readSize, field}
+use Rattle.grammar.specs.Fields.{digit, isSize, readFrom, readSize, field, sizeDigits, decimalDigits}
 use Rattle.grammar.proofs.Basics.{field-is, field-of}
+use Rattle.grammar.specs.Ascii.{char}
 use Rattle.byte.specs.Classes.{classOf}
 use Rattle.byte.specs.declared.Class.{Class}
 use Rattle.byte.proofs.Laws.{all-get, digit-is}
 
 -- the field rule of a size, as the code tests it
-pub size-is : (s : Bytes) → field (classOf Class.Digit) 9 s ≡ isSize s
+pub size-is : (s : Bytes) → field (classOf Class.Digit) sizeDigits s ≡ isSize s
 unfolding isSize classOf
 size-is s = refl
 
 -- it has no more digits than a number may have, and what it says fits in 32 bits
-pub size-digits : (s : Bytes) → isSize s ≡ true → field digit 10 s ≡ true
+pub size-digits : (s : Bytes) → isSize s ≡ true → field digit decimalDigits s ≡ true
 unfolding isSize
-size-digits s f = let t = field-is digit 9 s f in let m = t .most in field-of digit 10 s (t .class) (t .least) (omega arith)
+size-digits s f = let t = field-is digit sizeDigits s f in let m = t .most in field-of digit decimalDigits s (t .class) (t .least) (omega arith)
 
-pub size-fits : (s : Bytes) (n : ℕ) → isSize s ≡ true → n < 10 ^ length s → n < 1000000000
+pub size-fits : (s : Bytes) (n : ℕ) → isSize s ≡ true → n < 10 ^ length s → n < 10 ^ sizeDigits
 unfolding isSize
-size-fits s n f h = let k : 10 ^ length s ≤ 10 ^ 9 = pow-le-pow-right (omega arith) ((field-is digit 9 s f) .most) in omega (arith, k)
+size-fits s n f h = let k : 10 ^ length s ≤ 10 ^ sizeDigits = pow-le-pow-right (omega arith) ((field-is digit sizeDigits s f) .most) in omega (arith, k)
 
-module _ (s : Bytes) (v i : ℕ) (f : field digit 10 s ≡ true) (h : i < length s) (b : v < 10 ^ i) where
-  pub num-digit : (48 ≤ getD s i 0) × (getD s i 0 ≤ 57)
-  num-digit = digit-is (getD s i 0) (all-get digit s i ((field-is digit 10 s f) .class) h)
+module _ (s : Bytes) (v i : ℕ) (f : field digit decimalDigits s ≡ true) (h : i < length s) (b : v < 10 ^ i) where
+  pub num-digit : (char "0" ≤ getD s i 0) × (getD s i 0 ≤ char "9")
+  num-digit = digit-is (getD s i 0) (all-get digit s i ((field-is digit decimalDigits s f) .class) h)
 
-  pub num-small : v < 1000000000
+  pub num-small : v < 10 ^ sizeDigits
   num-small =
-      let m = (field-is digit 10 s f) .most in
-      let h9 : i ≤ 9 = omega arith in
-      let k : 10 ^ i ≤ 10 ^ 9 = pow-le-pow-right (omega arith) h9 in
+      let m = (field-is digit decimalDigits s f) .most in
+      let h9 : i ≤ sizeDigits = omega arith in
+      let k : 10 ^ i ≤ 10 ^ sizeDigits = pow-le-pow-right (omega arith) h9 in
       omega (arith, k)
 
-  pub num-bound : v * 10 + (getD s i 0 - 48) < 10 ^ (i + 1)
+  pub num-bound : v * 10 + (getD s i 0 - char "0") < 10 ^ (i + 1)
   num-bound =
       let d = num-digit in
       let d0 = d .0 in
@@ -48,7 +49,7 @@ module _ (s : Bytes) (v i : ℕ) (f : field digit 10 s ≡ true) (h : i < length
       let e : 10 ^ (i + 1) ≡ 10 * 10 ^ i = ap (λ (n : ℕ). 10 ^ n) (add-one i) ∙ pow-succ' 10 i in
       omega (arith, e)
 
-  pub num-more : readFrom v (drop i s) ≡ readFrom (v * 10 + (getD s i 0 - 48)) (drop (i + 1) s)
+  pub num-more : readFrom v (drop i s) ≡ readFrom (v * 10 + (getD s i 0 - char "0")) (drop (i + 1) s)
   unfolding readFrom
   num-more = rw (drop-cons s i 0 h, add-one i)
 

@@ -5,8 +5,14 @@ ghost use mathlib.Core.Path.{_≡_};
 ghost use mathlib.Core.Bool.{true};
 ghost use Prim.Native.Nat.{_^_, _<_};
 ghost use lib.ListN.{length};
-ghost use Rattle.grammar.specs.Fields.{digit, field, readFrom, readSize};
+ghost use Rattle.grammar.specs.Fields.{digit, field, readFrom, readSize, decimalDigits};
 ghost use Rattle.size.specs.Meaning.{sizeIs, sizeNumber, fieldNumber};
+
+// "size (1 to 9 digits)"
+const SIZE_DIGITS: usize = 9;
+
+// The digit 0, as a number.
+const ZERO: u64 = b'0' as u64;
 
 // The size that a field says, or that it says none.
 pub enum Size {
@@ -23,13 +29,13 @@ fn wide(b: u8) -> u64
 
 // The number of 1 to 10 digits.
 pub fn number(s: &[u8]) -> u64
-    requires { ⌜ field digit 10 (now s) ≡ true ⌝ }
+    requires { ⌜ field digit decimalDigits (now s) ≡ true ⌝ }
     ensures { λ r. ⌜ (r ≡ readFrom 0 (now (s .entry))) × (r < 10 ^ length (now (s .entry))) ⌝ }
 {
     let mut v = 0;
     let mut i = 0;
     while i < s.len() {
-        v = v * 10 + (wide(s[i]) - 48);
+        v = v * 10 + (wide(s[i]) - ZERO);
         i += 1;
     }
     v
@@ -39,7 +45,7 @@ pub fn number(s: &[u8]) -> u64
 pub fn read_size(s: &[u8]) -> Size
     ensures { λ r. ⌜ (sizeIs r ≡ readSize (now (s .entry))) × (sizeNumber r ≡ fieldNumber (now (s .entry))) ⌝ }
 {
-    if !is_field(s, Class::Digit, 9) {
+    if !is_field(s, Class::Digit, SIZE_DIGITS) {
         return Size::Bad;
     }
     Size::Value(number(s) as u32)

@@ -9,9 +9,10 @@ use lib.Dec.{eqb}
 use lib.ListN.{length}
 use borrow.Author.Tests.{eq-eqb, ne-eqb}
 use Rattle.grammar.specs.Bytes.{Bytes}
-use Rattle.mail.specs.Mail.{Record}
+use Rattle.mail.specs.Mail.{Record, recordLimit}
 use Rattle.mail.specs.Tally.{waits, waitingBytes}
 use Rattle.places.specs.Places.{recordSizeAt}
+use Rattle.phase.specs.Phase.{stateWaiting}
 use Rattle.layout.specs.Layout.{byteAt, le4At, entryAt, recordOf, recordSize}
 use Rattle.entries.specs.Decoded.{entriesFrom, entries, recordCount, recordsOf}
 use Rattle.entries.proofs.Laws.{entries-more, entries-all, entries-end, entries-length}
@@ -45,7 +46,7 @@ module _ (p : ℕ) (table : Bytes) (n : ℕ) where
   pub counting-none : Counting 0 0 0
   counting-none = record { records = omega arith; sizes = omega arith; few = omega arith; small = omega arith }
 
-  pub counting-pass : {w z i : ℕ} → Counting w z i → i < n → (stateAt i ≡ 0 → ⊥) → Counting w z (i + 1)
+  pub counting-pass : {w z i : ℕ} → Counting w z i → i < n → (stateAt i ≡ stateWaiting → ⊥) → Counting w z (i + 1)
   counting-pass {w} {z} {i} c h e =
       record {
         records = ap (λ (x : ℕ). w + x) (sym (ap waits states ∙ rw (ne-eqb (stateAt i) 0 e))) ∙ c .records;
@@ -60,7 +61,7 @@ module _ (p : ℕ) (table : Bytes) (n : ℕ) where
       both : waitingBytes (recordsFrom i) (statesFrom i) ≡ waitingBytes (recordOf [] [] [] (entryAt recordSize table i) ∷ recordsFrom (i + 1)) (stateAt i ∷ statesFrom (i + 1))
       both = ap (λ (l : List ℕ). waitingBytes (recordsFrom i) l) states ∙ ap (λ (T : List Record). waitingBytes T (stateAt i ∷ statesFrom (i + 1))) (entries-more (recordOf [] [] []) recordSize table i n h)
 
-  pub counting-add : {w z i : ℕ} → Counting w z i → i < n → stateAt i ≡ 0 → sizeAt i < sizesRange → Counting (w + 1) (z + sizeAt i) (i + 1)
+  pub counting-add : {w z i : ℕ} → Counting w z i → i < n → stateAt i ≡ stateWaiting → sizeAt i < sizesRange → Counting (w + 1) (z + sizeAt i) (i + 1)
   counting-add {w} {z} {i} c h e l =
       let f : waits (statesFrom i) ≡ suc (waits (statesFrom (i + 1))) = ap waits states ∙ rw (eq-eqb (stateAt i) 0 e) in
       let g : waitingBytes (recordsFrom i) (statesFrom i) ≡ sizeAt i + waitingBytes (recordsFrom (i + 1)) (statesFrom (i + 1)) = both ∙ rw (eq-eqb (stateAt i) 0 e) in
@@ -100,8 +101,8 @@ pub counted-all : (p : ℕ) (table : Bytes) {n w z i : ℕ} → n ≡ recordCoun
 unfolding waitingIn sizesIn statesOf recordsOf
 counted-all p table {n} e c l h = rw (← e) (same-tally (records-all p table n c l) (ap (λ (x : ℕ). x % sizesRange) (sizes-all p table n c l)) refl)
 
-pub few-records : (table : Bytes) {n : ℕ} → n ≡ recordCount table → n ≤ 64
-few-records table e = rw e (min-le-left 64 (length table / recordSize))
+pub few-records : (table : Bytes) {n : ℕ} → n ≡ recordCount table → n ≤ recordLimit
+few-records table e = rw e (min-le-left recordLimit (length table / recordSize))
 
 -- no more wait than there are records
 waits-most : (st : List ℕ) → waits st ≤ length st
@@ -112,7 +113,7 @@ waits-most (x ∷ st) = go (eqb x 0) (waits-most st)
     go true h = omega arith
     go false h = omega arith
 
-pub waiting-few : (p : ℕ) (table : Bytes) → waitingIn p table ≤ 64
+pub waiting-few : (p : ℕ) (table : Bytes) → waitingIn p table ≤ recordLimit
 unfolding waitingIn statesOf
 waiting-few p table =
     let h = waits-most (statesOf p table) in

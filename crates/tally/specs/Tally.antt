@@ -1,7 +1,7 @@
 -- 02, Q-3, "how many records wait and the sum of their announced sizes", for one partner, on the bytes of the table.
 use mathlib.Core.List.{[]}
 use Prim.Native.Nat.{ℕ, _%_}
-use Rattle.grammar.specs.Bytes.{Bytes}
+use Rattle.grammar.specs.Bytes.{Bytes, fourByteValues}
 use Rattle.mail.specs.Tally.{waits, waitingBytes}
 use Rattle.entries.specs.Decoded.{recordsOf}
 use Rattle.marking.specs.States.{statesOf}
@@ -10,7 +10,7 @@ use Rattle.session_memory.specs.declared.Tally.{Tally}
 
 -- How many numbers four bytes have: 64 sizes of 999,999 at most, as open demands, stay far below.
 abbrev pub sizesRange : ℕ
-sizesRange = 4294967296
+sizesRange = fourByteValues
 
 unfoldable pub waitingIn : ℕ → Bytes → ℕ
 waitingIn partner table = waits (statesOf partner table)

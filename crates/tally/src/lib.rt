@@ -8,7 +8,7 @@ ghost use mathlib.Core.Path.{_≡_};
 ghost use Rattle.tally.specs.Tally.{counted};
 
 // The sum has four bytes in session memory.
-const SIZES_RANGE: usize = 4294967296;
+const SIZES_RANGE: usize = layout::FOUR_BYTE_VALUES;
 
 // What waits for the partner, beside this sheet.
 pub fn counted(partner: u8, table: &[u8], sheet: Sheet) -> Tally

@@ -9,35 +9,37 @@ use lib.Dec.{leb}
 use lib.ListN.{length, take, drop, length-append, length-take, length-drop}
 use lib.Seq.{length-take-le}
 use borrow.Author.Tests.{lt-ltb, le-ltb, leb-true}
-use Rattle.grammar.specs.Bytes.{Bytes}
-use Rattle.grammar.specs.Fields.{writeNum, decimal}
+use Rattle.grammar.specs.Bytes.{Bytes, byteValues, fourByteValues}
+use Rattle.grammar.specs.Fields.{writeNum, decimal, formNumber, message, decimalDigits}
 use Rattle.grammar.specs.Turns.{withCr, proposalLine}
-use Rattle.grammar.specs.Transfers.{partOf, blocksOut, headerOut, checksum, writeFramed, writePlain}
+use Rattle.grammar.specs.Transfers.{partOf, blocksOut, headerOut, checksum, writeFramed, writePlain, dataMax}
+use Rattle.grammar.specs.Ascii.{char}
 use Rattle.mail.specs.Mail.{proposalOf, transferOf}
 use Rattle.layout.specs.Layout.{byteAt, le4At, fieldIn, entryAt, recordOf}
 use Rattle.layout.proofs.Laws.{le4-small}
 use Rattle.layout.proofs.Places.{part-in}
 use Rattle.places.specs.Places.{recordLen, recordForm, recordFrom, recordAt, recordTo, recordBid, recordSizeAt, callMax, atMax, bidMax}
-use Rattle.record_text.specs.Texts.{headingIn, bodyIn}
+use Rattle.record_text.specs.Texts.{headingIn, bodyIn, fileForm}
 use Rattle.record_text.proofs.Laws.{part-short, part-octets, of-message, of-file, of-plain, of-none}
+use Rattle.text_length.specs.Lengths.{besideProposal, besidePlain, besideFramed, blockHeads}
 
 -- ---------------------------------------------------------------- transfers
 
-blocks-length : (f : ℕ) (x : Bytes) → length x ≤ f → length (blocksOut f x) ≡ length x + 2 * ((length x + 255) / 256)
+blocks-length : (f : ℕ) (x : Bytes) → length x ≤ f → length (blocksOut f x) ≡ length x + blockHeads (length x)
 blocks-length zero [] h = refl
 blocks-length zero (a ∷ x) h = absurd (omega arith)
 blocks-length (suc f) [] h = refl
 blocks-length (suc f) (a ∷ x) h =
-    let d : length (drop 256 (a ∷ x)) ≡ length (a ∷ x) - 256 = length-drop 256 (a ∷ x) in
-    let t : length (take 256 (a ∷ x)) ≡ min 256 (length (a ∷ x)) = length-take 256 (a ∷ x) in
-    let i = blocks-length f (drop 256 (a ∷ x)) (omega arith) in
-    let j = length-append (take 256 (a ∷ x)) (blocksOut f (drop 256 (a ∷ x))) in
+    let d : length (drop dataMax (a ∷ x)) ≡ length (a ∷ x) - dataMax = length-drop dataMax (a ∷ x) in
+    let t : length (take dataMax (a ∷ x)) ≡ min dataMax (length (a ∷ x)) = length-take dataMax (a ∷ x) in
+    let i = blocks-length f (drop dataMax (a ∷ x)) (omega arith) in
+    let j = length-append (take dataMax (a ∷ x)) (blocksOut f (drop dataMax (a ∷ x))) in
     omega arith
 
-pub framed-length : (h x : Bytes) → length (writeFramed h x) ≡ 7 + length h + length x + 2 * ((length x + 255) / 256)
+pub framed-length : (h x : Bytes) → length (writeFramed h x) ≡ besideFramed + length h + length x + blockHeads (length x)
 framed-length h x = simp length-append (omega (arith, blocks-length (length x) x (omega arith)))
 
-pub plain-length : (h x : Bytes) → length (writePlain h x) ≡ 3 + length h + length x
+pub plain-length : (h x : Bytes) → length (writePlain h x) ≡ besidePlain + length h + length x
 plain-length h x = simp length-append (omega arith)
 
 -- ---------------------------------------------------------------- an entry is whole or there is none
@@ -70,38 +72,38 @@ module _ (table titles names bodies : Bytes) (i : ℕ) {r : Bytes} (e : r ≡ en
   of-entry q = q ∙ ap (λ (c : Bytes). length (transferOf (recordOf titles names bodies c))) e
 
   -- there is no record
-  pub none-length : length r < recordLen → 3 ≡ length (transferOf (recordOf titles names bodies (entryAt recordLen table i)))
+  pub none-length : length r < recordLen → besidePlain ≡ length (transferOf (recordOf titles names bodies (entryAt recordLen table i)))
   none-length h =
       of-entry (ap length (of-none titles names bodies) ∙ ap (λ (c : Bytes). length (transferOf (recordOf titles names bodies c))) (sym (entry-none table i e h)))
 
   module _ {h x : Bytes} (t : h ≡ headingIn titles names r) (q : x ≡ bodyIn bodies r) where
-    pub message-length : {n : ℕ} → byteAt r recordForm ≡ 1 → n ≡ 7 + length h + length x + 2 * ((length x + 255) / 256)
+    pub message-length : {n : ℕ} → byteAt r recordForm ≡ formNumber message → n ≡ besideFramed + length h + length x + blockHeads (length x)
         → n ≡ length (transferOf (recordOf titles names bodies (entryAt recordLen table i)))
     message-length f k = of-entry (k ∙ sym (framed-length h x) ∙ ap length (of-message titles names bodies r t q f))
 
-    pub file-length : {n : ℕ} → byteAt r recordForm ≡ 2 → n ≡ 7 + length h + length x + 2 * ((length x + 255) / 256)
+    pub file-length : {n : ℕ} → byteAt r recordForm ≡ fileForm → n ≡ besideFramed + length h + length x + blockHeads (length x)
         → n ≡ length (transferOf (recordOf titles names bodies (entryAt recordLen table i)))
     file-length f k = of-entry (k ∙ sym (framed-length h x) ∙ ap length (of-file titles names bodies r t q f))
 
-    pub other-length : (byteAt r recordForm ≡ 1 → ⊥) → (byteAt r recordForm ≡ 2 → ⊥)
-        → 3 + length h + length x ≡ length (transferOf (recordOf titles names bodies (entryAt recordLen table i)))
+    pub other-length : (byteAt r recordForm ≡ formNumber message → ⊥) → (byteAt r recordForm ≡ fileForm → ⊥)
+        → besidePlain + length h + length x ≡ length (transferOf (recordOf titles names bodies (entryAt recordLen table i)))
     other-length f g = of-entry (sym (plain-length h x) ∙ ap length (of-plain titles names bodies r t q f g))
 
 -- ---------------------------------------------------------------- digits
 
 -- a turn of the loop: the last digit is counted
-pub digits-more : (n rest before : ℕ) → 1 ≤ before → 10 ≤ rest → length (writeNum 10 n) + before ≡ 9 + length (writeNum (before + 1) rest)
-    → length (writeNum 10 n) + (before - 1) ≡ 9 + length (writeNum (before - 1 + 1) (rest / 10))
+pub digits-more : (n rest before : ℕ) → 1 ≤ before → 10 ≤ rest → length (writeNum decimalDigits n) + before ≡ decimalDigits - 1 + length (writeNum (before + 1) rest)
+    → length (writeNum decimalDigits n) + (before - 1) ≡ decimalDigits - 1 + length (writeNum (before - 1 + 1) (rest / 10))
 unfolding writeNum
 digits-more n rest before g k e =
     let z : before - 1 + 1 ≡ before = omega arith in
     let m : length (writeNum (before + 1) rest) ≡ length (writeNum before (rest / 10)) + 1 =
-    rw (add-one before, le-ltb rest 10 k) (length-append (writeNum before (rest / 10)) ((48 + rest % 10) ∷ [])) in
+    rw (add-one before, le-ltb rest 10 k) (length-append (writeNum before (rest / 10)) ((char "0" + rest % 10) ∷ [])) in
     rw z (omega (arith, e, m))
 
 -- the digit that is left at the end
-pub digits-end : (n rest before : ℕ) → before ≤ 9 → rest < 10 → length (writeNum 10 n) + before ≡ 9 + length (writeNum (before + 1) rest)
-    → 10 - before ≡ length (writeNum 10 n)
+pub digits-end : (n rest before : ℕ) → before ≤ decimalDigits - 1 → rest < 10 → length (writeNum decimalDigits n) + before ≡ decimalDigits - 1 + length (writeNum (before + 1) rest)
+    → decimalDigits - before ≡ length (writeNum decimalDigits n)
 unfolding writeNum
 digits-end n rest before g k e =
     let m : length (writeNum (before + 1) rest) ≡ 1 = rw (add-one before, lt-ltb rest 10 k) in
@@ -115,16 +117,16 @@ field-most n at r e = (ap length e, omega (arith, ap length e, part-short r (at 
 
 module _ (table : Bytes) (i : ℕ) {r : Bytes} (e : r ≡ entryAt recordLen table i) where
   line-length : length (withCr (proposalLine (proposalOf (recordOf [] [] [] r))))
-      ≡ 10 + length (fieldIn callMax recordFrom r) + length (fieldIn atMax recordAt r) + length (fieldIn callMax recordTo r) + length (fieldIn bidMax recordBid r) + length (decimal (le4At r recordSizeAt))
+      ≡ besideProposal + length (fieldIn callMax recordFrom r) + length (fieldIn atMax recordAt r) + length (fieldIn callMax recordTo r) + length (fieldIn bidMax recordBid r) + length (decimal (le4At r recordSizeAt))
   unfolding proposalLine
   line-length = simp length-append (omega arith)
 
-  pub size-small : ((j : ℕ) → byteAt table j < 256) → {s : ℕ} → s ≡ le4At r recordSizeAt → s < 4294967296
+  pub size-small : ((j : ℕ) → byteAt table j < byteValues) → {s : ℕ} → s ≡ le4At r recordSizeAt → s < fourByteValues
   size-small o q =
       omega (arith, q, ap (λ (c : Bytes). le4At c recordSizeAt) e, le4-small (entryAt recordLen table i) (λ j. part-octets table o (i * recordLen) recordLen j) recordSizeAt)
 
   pub proposal-length : {a b c d s n : ℕ} → a ≡ length (fieldIn callMax recordFrom r) → b ≡ length (fieldIn atMax recordAt r) → c ≡ length (fieldIn callMax recordTo r)
       → d ≡ length (fieldIn bidMax recordBid r) → s ≡ le4At r recordSizeAt → n ≡ length (decimal s)
-      → 10 + a + b + c + d + n ≡ length (withCr (proposalLine (proposalOf (recordOf [] [] [] (entryAt recordLen table i)))))
+      → besideProposal + a + b + c + d + n ≡ length (withCr (proposalLine (proposalOf (recordOf [] [] [] (entryAt recordLen table i)))))
   proposal-length e₁ e₂ e₃ e₄ e₅ q =
       rw (q, e₁, e₂, e₃, e₄, e₅) (sym line-length ∙ ap (λ (c : Bytes). length (withCr (proposalLine (proposalOf (recordOf [] [] [] c))))) e)

@@ -1,16 +1,21 @@
 // How long our lines and transfers are, without writing them.
+use decimal::MOST_DIGITS;
 use layout::entry;
 use layout::field;
 use number_read::number4;
+use transfer_step::BLOCK_DATA;
+use transfer_step::BLOCK_HEAD;
 ghost use mathlib.Core.Path.{_≡_};
 ghost use mathlib.Core.List.{[]};
-ghost use Prim.Native.Nat.{_+_, _*_, _/_, _≤_};
+ghost use Prim.Native.Nat.{_+_, _-_, _≤_};
 ghost use lib.ListN.{length};
-ghost use Rattle.grammar.specs.Fields.{decimal};
+ghost use Rattle.grammar.specs.Fields.{decimal, bodyLimit, decimalDigits};
 ghost use Rattle.grammar.specs.Turns.{withCr, proposalLine};
 ghost use Rattle.mail.specs.Mail.{proposalOf, transferOf};
 ghost use Rattle.layout.specs.Layout.{fieldIn, entryAt, recordOf};
 ghost use Rattle.places.specs.Places.{recordLen};
+ghost use Rattle.grammar.specs.Bytes.{byteValues};
+ghost use Rattle.text_length.specs.Lengths.{besideFramed, blockHeads};
 
 // Our SID, the prompt, and `FF`, `FQ` or `F>`, each with its CR.
 pub const SID: usize = 14;
@@ -33,12 +38,18 @@ const PLAIN: usize = 3;
 
 const FRAMED: usize = 7;
 
+// The most data bytes of a block that is not whole.
+const LESS_THAN_BLOCK: usize = BLOCK_DATA - 1;
+
+// The last place of a number's digits.
+const LAST_DIGIT: usize = MOST_DIGITS - 1;
+
 // A framed transfer with a heading and a body of so many bytes: blocks of 256 data bytes and a shorter last one.
 fn framed(heading: usize, body: usize) -> usize
-    requires { ⌜ (heading ≤ 255) × (body ≤ 65535) ⌝ }
-    ensures { λ r. ⌜ r ≡ 7 + heading + body + 2 * ((body + 255) / 256) ⌝ }
+    requires { ⌜ (heading ≤ byteValues - 1) × (body ≤ bodyLimit) ⌝ }
+    ensures { λ r. ⌜ r ≡ besideFramed + heading + body + blockHeads body ⌝ }
 {
-    FRAMED + heading + body + 2 * ((body + 255) / 256)
+    FRAMED + heading + body + BLOCK_HEAD * ((body + LESS_THAN_BLOCK) / BLOCK_DATA)
 }
 
 // The transfer of the record at this place of the table.
@@ -63,15 +74,15 @@ pub fn transfer<'a>(table: &[u8], i: u8, titles: &'a [u8], names: &'a [u8], bodi
 
 // The decimal digits of a size.
 fn digits(size: u32) -> usize
-    ensures { λ r. ⌜ (r ≡ length (decimal size)) × (r ≤ 10) ⌝ }
+    ensures { λ r. ⌜ (r ≡ length (decimal size)) × (r ≤ decimalDigits) ⌝ }
 {
-    let mut before = 9usize;
+    let mut before = LAST_DIGIT;
     let mut rest = size;
     while 10 <= rest {
         rest = rest / 10;
         before -= 1;
     }
-    10 - before
+    MOST_DIGITS - before
 }
 
 // A field of at most n bytes.

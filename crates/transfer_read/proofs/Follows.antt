@@ -9,10 +9,10 @@ use lib.Dec.{eqb, ltb, leb}
 use lib.ListN.{length, take, set, length-set}
 use lib.Seq.{take-suc-set}
 use borrow.Author.Tests.{ne-eqb, ltb-true}
-use Rattle.grammar.specs.Bytes.{Bytes, CR, SP, CTRLZ}
+use Rattle.grammar.specs.Bytes.{Bytes, CR, SP, CTRLZ, byteValues, NUL, SOH, STX, EOT}
 use Rattle.grammar.specs.Fields.{headingByte}
-use Rattle.grammar.specs.Transfers.{byteSum, sumRight}
-use Rattle.grammar.specs.Scan.{Scan, inTitle, inBody, inMark, atStart, atLen, inHead, inOff, inData, atSize, atSum, Scanned, goes, got, malformed, wrongSum, noRoom, scanByte, scanOn, bodyOf}
+use Rattle.grammar.specs.Transfers.{byteSum, sumRight, besideLeast}
+use Rattle.grammar.specs.Scan.{Scan, inTitle, inBody, inMark, atStart, atLen, inHead, inOff, inData, atSize, atSum, Scanned, goes, got, malformed, wrongSum, noRoom, scanByte, scanOn, bodyOf, besideMost, lenLeast, lenMost}
 use Rattle.grammar.proofs.Basics.{by-test, and2, snoc-length}
 use Rattle.grammar.proofs.TransferBack.{sum-wraps, right-wraps}
 use Rattle.transfer_step.specs.declared.Reader.{Reader}
@@ -21,6 +21,8 @@ use Rattle.transfer_step.specs.declared.Outcome.the-variants.{Whole, Malformed,
 use Rattle.transfer_step.specs.Step.{goesOn, reader, at, headingMore, onward, ended, titleStep, bodyStep, markStep, beginStep, lengthStep, headingStep, offsetStep, dataStep, sizeStep, sumStep, stepAt, stepOf}
 use Rattle.transfer_read.specs.Feed.{Run, run, after, headingPut, storePut, feedOf}
 use Rattle.transfer_read.specs.Meaning.{headingSoFar, numbersOf, placeOf, steppedOf, outcomeOf, Stands, Ended, FedAs}
+use Rattle.transfer_step.specs.Names.{bodyPlace, markPlace, lengthPlace, headingPlace, offsetPlace, dataPlace, sizePlace, checksumPlace, nowhere, toHeading, toBody, offsetDigit, headerNuls}
+use Rattle.places.specs.Places.{headingMax}
 
 -- ---------------------------------------------------------------- the numbers
 
@@ -36,44 +38,44 @@ unfolding stepOf stepAt titleStep bodyStep markStep beginStep lengthStep heading
 step-scan room (inTitle t) b =
     let r = numbersOf (inTitle t) in
     two (inTitle t) b (eqb b CR) _ _ _ _
-    (λ e. two (inTitle t) b (eqb (length t) 0) (ended r Malformed) (onward (at 1 r) 0) malformed (goes (inBody t [])) (λ _. refl) (λ _. rw e))
-    (λ e. two (inTitle t) b (headingByte b && ltb (length t) 80) (onward (headingMore r) 1) (ended r Malformed) (goes (inTitle (t ++ (b ∷ [])))) malformed (λ _. rw (e, snoc-length t b)) (λ _. refl))
+    (λ e. two (inTitle t) b (eqb (length t) 0) (ended r Malformed) (onward (at bodyPlace r) 0) malformed (goes (inBody t [])) (λ _. refl) (λ _. rw e))
+    (λ e. two (inTitle t) b (headingByte b && ltb (length t) headingMax) (onward (headingMore r) toHeading) (ended r Malformed) (goes (inTitle (t ++ (b ∷ [])))) malformed (λ _. rw (e, snoc-length t b)) (λ _. refl))
 step-scan room (inBody t x) b =
     let r = numbersOf (inBody t x) in
-    two (inBody t x) b (eqb b CTRLZ) (onward (at 2 r) 0) _ (goes (inMark t x)) _
+    two (inBody t x) b (eqb b CTRLZ) (onward (at markPlace r) 0) _ (goes (inMark t x)) _
     (λ e. rw e)
-    (λ e. two (inBody t x) b (ltb (length x) room) (onward (reader 1 0 (length t) 0 0 0 (length x + 1)) 2) (ended r NoRoom) (goes (inBody t (x ++ (b ∷ [])))) noRoom (λ _. rw (e, snoc-length x b)) (λ _. refl))
+    (λ e. two (inBody t x) b (ltb (length x) room) (onward (reader 1 0 (length t) 0 0 0 (length x + 1)) toBody) (ended r NoRoom) (goes (inBody t (x ++ (b ∷ [])))) noRoom (λ _. rw (e, snoc-length x b)) (λ _. refl))
 step-scan room (inMark t x) b =
     let r = numbersOf (inMark t x) in
     two (inMark t x) b (eqb b CR) (ended r Whole) _ (got t x) _ (λ _. refl)
-    (λ _. two (inMark t x) b (eqb b SP) (onward r 0) (ended r Malformed) (goes (inMark t x)) malformed (λ _. refl) (λ _. refl))
-step-scan room atStart b = two atStart b (eqb b 1) (onward (at 4 (numbersOf atStart)) 0) (ended (numbersOf atStart) Malformed) (goes atLen) malformed (λ _. refl) (λ _. refl)
+    (λ _. two (inMark t x) b (eqb b SP) (onward r nowhere) (ended r Malformed) (goes (inMark t x)) malformed (λ _. refl) (λ _. refl))
+step-scan room atStart b = two atStart b (eqb b SOH) (onward (at lengthPlace (numbersOf atStart)) 0) (ended (numbersOf atStart) Malformed) (goes atLen) malformed (λ _. refl) (λ _. refl)
 step-scan room atLen b =
-    two atLen b (leb 4 b && leb b 88) (onward (reader 5 b 0 0 0 0 0) 0) (ended (numbersOf atLen) Malformed) (goes (inHead b [])) malformed (λ _. refl) (λ _. refl)
+    two atLen b (leb lenLeast b && leb b lenMost) (onward (reader headingPlace b 0 0 0 0 0) nowhere) (ended (numbersOf atLen) Malformed) (goes (inHead b [])) malformed (λ _. refl) (λ _. refl)
 step-scan room (inHead len h) b =
     let r = numbersOf (inHead len h) in
-    two (inHead len h) b (eqb b 0) _ _ _ _
-    (λ e. two (inHead len h) b (eqb (length h) 0 || ltb (length h + 8) len) (ended r Malformed) (onward (at 6 r) 0) malformed (goes (inOff len h [])) (λ _. refl) (λ _. rw e))
-    (λ e. two (inHead len h) b (headingByte b && (ltb (length h) 80 && ltb (length h + 3) len)) (onward (headingMore r) 1) (ended r Malformed) (goes (inHead len (h ++ (b ∷ [])))) malformed (λ _. rw (e, snoc-length h b)) (λ _. refl))
+    two (inHead len h) b (eqb b NUL) _ _ _ _
+    (λ e. two (inHead len h) b (eqb (length h) 0 || ltb (length h + besideMost) len) (ended r Malformed) (onward (at offsetPlace r) 0) malformed (goes (inOff len h [])) (λ _. refl) (λ _. rw e))
+    (λ e. two (inHead len h) b (headingByte b && (ltb (length h) headingMax && ltb (length h + besideLeast) len)) (onward (headingMore r) toHeading) (ended r Malformed) (goes (inHead len (h ++ (b ∷ [])))) malformed (λ _. rw (e, snoc-length h b)) (λ _. refl))
 step-scan room (inOff len h o) b =
     let r = numbersOf (inOff len h o) in
-    two (inOff len h o) b (eqb b 0) _ _ _ _
-    (λ _. two (inOff len h o) b (eqb len (length h + length o + 2)) (onward (reader 7 0 (length h) 0 0 0 0) 0) (ended r Malformed) (goes (inData h [] 0)) malformed (λ _. refl) (λ _. refl))
-    (λ _. two (inOff len h o) b (eqb b 48 && ltb (length h + length o + 2) len) (onward (reader 6 len (length h) (length o + 1) 0 0 0) 0) (ended r Malformed) (goes (inOff len h (o ++ (b ∷ [])))) malformed (λ _. rw (snoc-length o b)) (λ _. refl))
+    two (inOff len h o) b (eqb b NUL) _ _ _ _
+    (λ _. two (inOff len h o) b (eqb len (length h + length o + headerNuls)) (onward (reader dataPlace 0 (length h) 0 0 0 0) nowhere) (ended r Malformed) (goes (inData h [] 0)) malformed (λ _. refl) (λ _. refl))
+    (λ _. two (inOff len h o) b (eqb b offsetDigit && ltb (length h + length o + headerNuls) len) (onward (reader offsetPlace len (length h) (length o + 1) 0 0 0) nowhere) (ended r Malformed) (goes (inOff len h (o ++ (b ∷ [])))) malformed (λ _. rw (snoc-length o b)) (λ _. refl))
 step-scan room (inData h x zero) b =
     let r = numbersOf (inData h x zero) in
-    two (inData h x zero) b (eqb b 2) (onward (at 8 r) 0) _ (goes (atSize h x)) _ (λ _. refl)
-    (λ _. two (inData h x zero) b (eqb b 4) (onward (at 9 r) 0) (ended r Malformed) (goes (atSum h x)) malformed (λ _. refl) (λ _. refl))
+    two (inData h x zero) b (eqb b STX) (onward (at sizePlace r) 0) _ (goes (atSize h x)) _ (λ _. refl)
+    (λ _. two (inData h x zero) b (eqb b EOT) (onward (at checksumPlace r) 0) (ended r Malformed) (goes (atSum h x)) malformed (λ _. refl) (λ _. refl))
 step-scan room (inData h x (suc k)) b =
     let r = numbersOf (inData h x (suc k)) in
     let e : suc k - 1 ≡ k = omega arith in
     rw (ne-eqb (suc k) 0 (λ z. omega arith))
-    (two (inData h x (suc k)) b (ltb (length x) room) (onward (reader 7 0 (length h) 0 (suc k - 1) ((byteSum x % 256 + b) % 256) (length x + 1)) 2) (ended r NoRoom)
+    (two (inData h x (suc k)) b (ltb (length x) room) (onward (reader dataPlace 0 (length h) 0 (suc k - 1) ((byteSum x % byteValues + b) % byteValues) (length x + 1)) toBody) (ended r NoRoom)
     (goes (inData h (x ++ (b ∷ [])) k)) noRoom (λ _. rw (snoc-length x b, sum-wraps x b, e)) (λ _. refl))
 step-scan room (atSize h x) b = refl
 step-scan room (atSum h x) b =
     let r = numbersOf (atSum h x) in
-    rw (right-wraps x b) (two (atSum h x) b (eqb ((byteSum x % 256 + b) % 256) 0) (ended r Whole) (ended r WrongSum) (got h x) wrongSum (λ _. refl) (λ _. refl))
+    rw (right-wraps x b) (two (atSum h x) b (eqb ((byteSum x % byteValues + b) % byteValues) 0) (ended r Whole) (ended r WrongSum) (got h x) wrongSum (λ _. refl) (λ _. refl))
 
 -- ---------------------------------------------------------------- the bytes so far
 
@@ -82,7 +84,7 @@ Grows : ℕ → Scan → ℕ → Scanned → Type 0
 Grows room sc b (goes sc′) =
     (headingSoFar sc′ ≡ cond (eqb (placeOf sc b) 1) (headingSoFar sc ++ (b ∷ [])) (headingSoFar sc))
     × (bodyOf sc′ ≡ cond (eqb (placeOf sc b) 2) (bodyOf sc ++ (b ∷ [])) (bodyOf sc))
-    × (length (headingSoFar sc′) ≤ 80) × (length (bodyOf sc′) ≤ room)
+    × (length (headingSoFar sc′) ≤ headingMax) × (length (bodyOf sc′) ≤ room)
 Grows room sc b (got h x) = (h ≡ headingSoFar sc) × (x ≡ bodyOf sc)
 Grows room sc b malformed = Unit {0}
 Grows room sc b wrongSum = Unit {0}
@@ -91,14 +93,14 @@ Grows room sc b noRoom = Unit {0}
 snoc-fits : (w : Bytes) (b n : ℕ) → ltb (length w) n ≡ true → length (w ++ (b ∷ [])) ≤ n
 snoc-fits w b n e = omega (arith, snoc-length w b, ltb-true (length w) n e)
 
-grows : (room : ℕ) (sc : Scan) (b : ℕ) → length (headingSoFar sc) ≤ 80 → length (bodyOf sc) ≤ room → Grows room sc b (scanByte room sc b)
+grows : (room : ℕ) (sc : Scan) (b : ℕ) → length (headingSoFar sc) ≤ headingMax → length (bodyOf sc) ≤ room → Grows room sc b (scanByte room sc b)
 unfolding Grows
 grows room (inTitle t) b k l =
     let P = Grows room (inTitle t) b in
     by-test P (eqb b CR)
     (λ e. by-test P (eqb (length t) 0) (λ _. tt) (λ _. (rw e, rw e, k, l)))
-    (λ e. by-test P (headingByte b && ltb (length t) 80)
-    (λ f. (rw e, rw e, snoc-fits t b 80 ((and2 (headingByte b) (ltb (length t) 80) f) .1), l)) (λ _. tt))
+    (λ e. by-test P (headingByte b && ltb (length t) headingMax)
+    (λ f. (rw e, rw e, snoc-fits t b headingMax ((and2 (headingByte b) (ltb (length t) headingMax) f) .1), l)) (λ _. tt))
 grows room (inBody t x) b k l =
     let P = Grows room (inBody t x) b in
     by-test P (eqb b CTRLZ) (λ e. (rw e, rw e, k, l))
@@ -106,25 +108,25 @@ grows room (inBody t x) b k l =
 grows room (inMark t x) b k l =
     let P = Grows room (inMark t x) b in
     by-test P (eqb b CR) (λ _. (refl, refl)) (λ _. by-test P (eqb b SP) (λ _. (refl, refl, k, l)) (λ _. tt))
-grows room atStart b k l = by-test (Grows room atStart b) (eqb b 1) (λ _. (refl, refl, k, l)) (λ _. tt)
-grows room atLen b k l = by-test (Grows room atLen b) (leb 4 b && leb b 88) (λ _. (refl, refl, k, l)) (λ _. tt)
+grows room atStart b k l = by-test (Grows room atStart b) (eqb b SOH) (λ _. (refl, refl, k, l)) (λ _. tt)
+grows room atLen b k l = by-test (Grows room atLen b) (leb lenLeast b && leb b lenMost) (λ _. (refl, refl, k, l)) (λ _. tt)
 grows room (inHead len h) b k l =
     let P = Grows room (inHead len h) b in
-    by-test P (eqb b 0)
-    (λ e. by-test P (eqb (length h) 0 || ltb (length h + 8) len) (λ _. tt) (λ _. (rw e, rw e, k, l)))
-    (λ e. by-test P (headingByte b && (ltb (length h) 80 && ltb (length h + 3) len))
+    by-test P (eqb b NUL)
+    (λ e. by-test P (eqb (length h) 0 || ltb (length h + besideMost) len) (λ _. tt) (λ _. (rw e, rw e, k, l)))
+    (λ e. by-test P (headingByte b && (ltb (length h) headingMax && ltb (length h + besideLeast) len))
     (λ f.
-    let g = (and2 (headingByte b) (ltb (length h) 80 && ltb (length h + 3) len) f) .1 in
-    (rw e, rw e, snoc-fits h b 80 ((and2 (ltb (length h) 80) (ltb (length h + 3) len) g) .0), l))
+    let g = (and2 (headingByte b) (ltb (length h) headingMax && ltb (length h + besideLeast) len) f) .1 in
+    (rw e, rw e, snoc-fits h b headingMax ((and2 (ltb (length h) headingMax) (ltb (length h + besideLeast) len) g) .0), l))
     (λ _. tt))
 grows room (inOff len h o) b k l =
     let P = Grows room (inOff len h o) b in
-    by-test P (eqb b 0)
-    (λ _. by-test P (eqb len (length h + length o + 2)) (λ _. (refl, refl, k, l)) (λ _. tt))
-    (λ _. by-test P (eqb b 48 && ltb (length h + length o + 2) len) (λ _. (refl, refl, k, l)) (λ _. tt))
+    by-test P (eqb b NUL)
+    (λ _. by-test P (eqb len (length h + length o + headerNuls)) (λ _. (refl, refl, k, l)) (λ _. tt))
+    (λ _. by-test P (eqb b offsetDigit && ltb (length h + length o + headerNuls) len) (λ _. (refl, refl, k, l)) (λ _. tt))
 grows room (inData h x zero) b k l =
     let P = Grows room (inData h x zero) b in
-    by-test P (eqb b 2) (λ _. (refl, refl, k, l)) (λ _. by-test P (eqb b 4) (λ _. (refl, refl, k, l)) (λ _. tt))
+    by-test P (eqb b STX) (λ _. (refl, refl, k, l)) (λ _. by-test P (eqb b EOT) (λ _. (refl, refl, k, l)) (λ _. tt))
 grows room (inData h x (suc n)) b k l =
     by-test (Grows room (inData h x (suc n)) b) (ltb (length x) room) (λ f. (refl, refl, k, snoc-fits x b room f)) (λ _. tt)
 grows room (atSize h x) b k l = (refl, refl, k, l)
@@ -181,12 +183,12 @@ stands-on room hd st sc sc′ b k g =
     let store = k .store in
     record {
       numbers = refl;
-      heading = rw (head-of sc′) (begins (eqb p 1) (r .head) b (headingSoFar sc) (headingSoFar sc′) hd (head-of sc) (k .heading) (g .0) (omega arith));
-      body = rw (body-of sc′) (begins (eqb p 2) (r .body) b (bodyOf sc) (bodyOf sc′) st (body-of sc) (k .body) (g .1) (omega arith));
+      heading = rw (head-of sc′) (begins (eqb p toHeading) (r .head) b (headingSoFar sc) (headingSoFar sc′) hd (head-of sc) (k .heading) (g .0) (omega arith));
+      body = rw (body-of sc′) (begins (eqb p toBody) (r .body) b (bodyOf sc) (bodyOf sc′) st (body-of sc) (k .body) (g .1) (omega arith));
       short = rw (head-of sc′) short;
       fits = rw (body-of sc′) fits;
-      array = length-put (eqb p 1) hd (r .head) b ∙ array;
-      store = rw (length-put (eqb p 2) st (r .body) b) store;
+      array = length-put (eqb p toHeading) hd (r .head) b ∙ array;
+      store = rw (length-put (eqb p toBody) st (r .body) b) store;
     }
 
 -- ---------------------------------------------------------------- a portion
@@ -279,7 +281,7 @@ stands-fed room (b ∷ bs) hd st sc k =
     let fits = k .fits in
     subst (λ (s : Stepped). FedAs room sc (b ∷ bs) (Turned room (numbersOf sc) b bs hd st s) (scanOn room (scanByte room sc b) bs)) (sym (step-scan room sc b))
     (turned room sc b bs hd st (scanByte room sc b) refl k
-    (grows room sc b (subst (λ (n : ℕ). n ≤ 80) (head-of sc) short) (subst (λ (n : ℕ). n ≤ room) (body-of sc) fits))
+    (grows room sc b (subst (λ (n : ℕ). n ≤ headingMax) (head-of sc) short) (subst (λ (n : ℕ). n ≤ room) (body-of sc) fits))
     (λ sc′ hd′ st′ h. stands-fed room bs hd′ st′ sc′ h))
 
 -- A PORTION FOLLOWS THE SCAN: where a reader and its buffers stand as the scan sc, feeding any bytes comes to what the scan of the same

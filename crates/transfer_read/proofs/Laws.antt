@@ -11,28 +11,29 @@ use Rattle.grammar.specs.Bytes.{Bytes}
 use Rattle.transfer_step.specs.declared.Reader.{Reader}
 use Rattle.transfer_step.specs.declared.Stepped.{Stepped}
 use Rattle.transfer_step.specs.declared.Outcome.the-variants.{More}
+use Rattle.transfer_step.specs.Names.{toHeading, toBody}
 use Rattle.transfer_step.specs.Step.{goesOn, stepOf}
 use Rattle.transfer_read.specs.Feed.{Run, run, after, headingPut, storePut, feedOf}
 
 -- where a step's byte goes
 module _ (put : ℕ) (r : Reader) (b : ℕ) (l : Bytes) where
-  pub to-heading : put ≡ 1 → headingPut put r b l ≡ set l (r .head) b
+  pub to-heading : put ≡ toHeading → headingPut put r b l ≡ set l (r .head) b
   unfolding headingPut
   to-heading e = rw e
 
-  pub heading-stays : (put ≡ 1 → ⊥) → headingPut put r b l ≡ l
+  pub heading-stays : (put ≡ toHeading → ⊥) → headingPut put r b l ≡ l
   unfolding headingPut
-  heading-stays n = rw (ne-eqb put 1 n)
+  heading-stays n = rw (ne-eqb put toHeading n)
 
-  pub to-body : put ≡ 2 → storePut put r b l ≡ set l (r .body) b
+  pub to-body : put ≡ toBody → storePut put r b l ≡ set l (r .body) b
   unfolding storePut
   to-body e = rw e
 
-  pub store-stays : (put ≡ 2 → ⊥) → storePut put r b l ≡ l
+  pub store-stays : (put ≡ toBody → ⊥) → storePut put r b l ≡ l
   unfolding storePut
-  store-stays n = rw (ne-eqb put 2 n)
+  store-stays n = rw (ne-eqb put toBody n)
 
-  pub store-stays-1 : put ≡ 1 → storePut put r b l ≡ l
+  pub store-stays-1 : put ≡ toHeading → storePut put r b l ≡ l
   unfolding storePut
   store-stays-1 e = rw e
 

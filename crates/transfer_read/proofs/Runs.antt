@@ -10,7 +10,7 @@ use lib.Dec.{eqb, ltb}
 use lib.ListN.{length, getD, take, drop, set, length-take, length-drop, take-append-drop, drop-of-length-le}
 use lib.Seq.{sets, sets-eq, take-all, take-take, drop-drop, drop-cons, length-take-le}
 use borrow.Author.Tests.{eq-eqb, ne-eqb, lt-ltb, eqb-true, ltb-true}
-use Rattle.grammar.specs.Bytes.{Bytes, CTRLZ}
+use Rattle.grammar.specs.Bytes.{Bytes, CTRLZ, byteValues}
 use Rattle.grammar.specs.Transfers.{byteSum}
 use Rattle.grammar.proofs.Basics.{Lacks}
 use Rattle.buffer.specs.Put.{wrote}
@@ -20,30 +20,31 @@ use Rattle.transfer_step.specs.Step.{reader, bodyStep, dataStep, stepAt, stepOf
 use Rattle.transfer_read.specs.Feed.{Run, run, after, headingPut, storePut, feedOf}
 use Rattle.transfer_read.specs.Straight.{beforeMark, straightOf, along}
 use Rattle.transfer_read.proofs.Laws.{after-zero, after-after}
+use Rattle.transfer_step.specs.Names.{bodyPlace, dataPlace}
 
 -- ---------------------------------------------------------------- a block
 
 -- the reading after the bytes w of a block
 abbrev past : Reader → Bytes → Reader
-past r w = reader 7 (r .len) (r .head) (r .off) (r .left - length w) ((r .sum + byteSum w) % 256) (r .body + length w)
+past r w = reader dataPlace (r .len) (r .head) (r .off) (r .left - length w) ((r .sum + byteSum w) % byteValues) (r .body + length w)
 
 past-past : (r : Reader) (x : ℕ) (w : Bytes) → past (past r (x ∷ [])) w ≡ past r (x ∷ w)
 past-past r x w =
     let a : r .left - 1 - length w ≡ r .left - suc (length w) = omega arith in
-    let b : ((r .sum + (x + 0)) % 256 + byteSum w) % 256 ≡ (r .sum + (x + byteSum w)) % 256 = omega arith in
+    let b : ((r .sum + (x + 0)) % byteValues + byteSum w) % byteValues ≡ (r .sum + (x + byteSum w)) % byteValues = omega arith in
     let c : r .body + 1 + length w ≡ r .body + suc (length w) = omega arith in
     rw (a, b, c)
 
-data-one : (room : ℕ) (r : Reader) (x : ℕ) (bs hd st : Bytes) → r .place ≡ 7 → 1 ≤ r .left → r .body < room
+data-one : (room : ℕ) (r : Reader) (x : ℕ) (bs hd st : Bytes) → r .place ≡ dataPlace → 1 ≤ r .left → r .body < room
     → feedOf room r (x ∷ bs) hd st ≡ after 1 (feedOf room (past r (x ∷ [])) bs hd (set st (r .body) x))
 unfolding feedOf stepOf stepAt dataStep headingPut storePut
 data-one room r x bs hd st e l h =
-    let a : (r .sum + (x + 0)) % 256 ≡ (r .sum + x) % 256 = omega arith in
+    let a : (r .sum + (x + 0)) % byteValues ≡ (r .sum + x) % byteValues = omega arith in
     rw (e, ne-eqb (r .left) 0 (λ z. omega arith), lt-ltb (r .body) room h, a)
 
 -- the sum is kept modulo 256, at the latest after one byte
 abbrev Summed : Reader → Bytes → Type 0
-Summed r [] = r .sum < 256
+Summed r [] = r .sum < byteValues
 Summed r (x ∷ w) = Unit {0}
 
 summed-past : (r : Reader) (x : ℕ) (w : Bytes) → Summed (past r (x ∷ [])) w
@@ -58,11 +59,11 @@ one-more : (n : ℕ) (u : Run) → after 1 (after n u) ≡ after (suc n) u
 one-more n u = let e : 1 + n ≡ suc n = omega arith in after-after 1 n u ∙ ap (λ (k : ℕ). after k u) e
 
 -- the bytes w of a block, one by one
-data-run : (room : ℕ) (r : Reader) (w bs hd st : Bytes) → r .place ≡ 7 → Summed r w → length w ≤ r .left → r .body + length w ≤ room
+data-run : (room : ℕ) (r : Reader) (w bs hd st : Bytes) → r .place ≡ dataPlace → Summed r w → length w ≤ r .left → r .body + length w ≤ room
     → feedOf room r (w ++ bs) hd st ≡ after (length w) (feedOf room (past r w) bs hd (sets st (r .body) w))
 data-run room r [] bs hd st e s l h =
     let a : r .left - 0 ≡ r .left = omega arith in
-    let b : (r .sum + 0) % 256 ≡ r .sum = omega arith in
+    let b : (r .sum + 0) % byteValues ≡ r .sum = omega arith in
     let c : r .body + 0 ≡ r .body = omega arith in
     rw (a, b, c, ← e) (sym (after-zero (feedOf room r bs hd st)))
 data-run room r (x ∷ w) bs hd st e s l h =
@@ -121,10 +122,10 @@ mark-lacks (x ∷ l) = go (eqb x CTRLZ) refl (mark-lacks l)
 pub record Straight (room : ℕ) (r : Reader) (bs : Bytes) (n : ℕ) : Type 0 where
   pub within : n ≤ length bs
   pub fits : r .body + n ≤ room
-  pub block : r .place ≡ 7 → n ≤ r .left
+  pub block : r .place ≡ dataPlace → n ≤ r .left
   pub feeds : (hd st : Bytes) → feedOf room r bs hd st ≡ after n (feedOf room (along r (take n bs)) (drop n bs) hd (sets st (r .body) (take n bs)))
 
-along-block : (r : Reader) (w : Bytes) → r .place ≡ 7 → past r w ≡ along r w
+along-block : (r : Reader) (w : Bytes) → r .place ≡ dataPlace → past r w ≡ along r w
 unfolding along
 along-block r w e = rw e
 
@@ -146,7 +147,7 @@ module _ (room : ℕ) (r : Reader) (bs : Bytes) (n : ℕ) (w : n ≤ length bs) 
       ∙ (ap (λ (k : ℕ). after k (feedOf room q (drop n bs) hd (sets st (r .body) (take n bs)))) taken
       ∙ ap (λ (t : Reader). after n (feedOf room t (drop n bs) hd (sets st (r .body) (take n bs)))) e))
 
-  a-block : 1 ≤ n → r .place ≡ 7 → n ≤ r .left → Straight room r bs n
+  a-block : 1 ≤ n → r .place ≡ dataPlace → n ≤ r .left → Straight room r bs n
   a-block h e l =
       let t = taken in
       record {
@@ -172,23 +173,23 @@ module _ (room : ℕ) (r : Reader) (bs : Bytes) (n : ℕ) (w : n ≤ length bs) 
 -- A RUN IS ITS STEPS: what `straight` counts may be stored at once.
 pub straight-run : (room : ℕ) (r : Reader) (bs : Bytes) → 1 ≤ straightOf room r bs → Straight room r bs (straightOf room r bs)
 unfolding straightOf
-straight-run room r bs = go (ltb (r .body) room) (eqb (r .place) 7) (eqb (r .place) 1) refl refl refl
+straight-run room r bs = go (ltb (r .body) room) (eqb (r .place) dataPlace) (eqb (r .place) bodyPlace) refl refl refl
   where
     m : ℕ
     m = min (room - r .body) (length bs)
 
-    go : (a b c : Bool) → ltb (r .body) room ≡ a → eqb (r .place) 7 ≡ b → eqb (r .place) 1 ≡ c
+    go : (a b c : Bool) → ltb (r .body) room ≡ a → eqb (r .place) dataPlace ≡ b → eqb (r .place) bodyPlace ≡ c
         → 1 ≤ cond a (cond b (min (r .left) m) (cond c (beforeMark (take m bs)) 0)) 0
         → Straight room r bs (cond a (cond b (min (r .left) m) (cond c (beforeMark (take m bs)) 0)) 0)
     go true true c e f g h =
         let k = ltb-true (r .body) room e in
-        a-block room r bs (min (r .left) m) (omega arith) (omega arith) h (eqb-true (r .place) 7 f) (omega arith)
+        a-block room r bs (min (r .left) m) (omega arith) (omega arith) h (eqb-true (r .place) dataPlace f) (omega arith)
     go true false true e f g h =
         let k = ltb-true (r .body) room e in
         let n = beforeMark (take m bs) in
         let l = mark-within (take m bs) in
         let t = length-take m bs in
-        a-body room r bs n (omega arith) (omega arith) (eqb-true (r .place) 1 g)
+        a-body room r bs n (omega arith) (omega arith) (eqb-true (r .place) bodyPlace g)
         (subst (Lacks CTRLZ) (take-take n m bs (omega arith)) (mark-lacks (take m bs)))
     go true false false e f g h = let z : ⊥ = omega arith in absurd z
     go false b c e f g h = let z : ⊥ = omega arith in absurd z
@@ -214,20 +215,20 @@ pub wrote-sets : (d : Bytes) (at : ℕ) (p : Bytes) → at + length p ≤ length
 wrote-sets d at p h = sym (sets-eq p d at h ∙ append-assoc (take at d) p (drop (at + length p) d))
 
 -- the wrapping sums
-pub block-along : (r : Reader) (w : Bytes) (k s : ℕ) → r .place ≡ 7 → k ≡ byteSum w % 256 → s ≡ (r .sum + k) % 256
+pub block-along : (r : Reader) (w : Bytes) (k s : ℕ) → r .place ≡ dataPlace → k ≡ byteSum w % byteValues → s ≡ (r .sum + k) % byteValues
     → reader (r .place) (r .len) (r .head) (r .off) (r .left - length w) s (r .body + length w) ≡ along r w
 unfolding along
-block-along r w k s e f g = let a : s ≡ (r .sum + byteSum w) % 256 = omega arith in rw (eq-eqb (r .place) 7 e, a)
+block-along r w k s e f g = let a : s ≡ (r .sum + byteSum w) % byteValues = omega arith in rw (eq-eqb (r .place) dataPlace e, a)
 
-pub body-along : (r : Reader) (w : Bytes) → (r .place ≡ 7 → ⊥)
+pub body-along : (r : Reader) (w : Bytes) → (r .place ≡ dataPlace → ⊥)
     → reader (r .place) (r .len) (r .head) (r .off) (r .left) (r .sum) (r .body + length w) ≡ along r w
 unfolding along
-body-along r w n = rw (ne-eqb (r .place) 7 n)
+body-along r w n = rw (ne-eqb (r .place) dataPlace n)
 
 -- one byte of a block
-pub byte-along : (r : Reader) (b s : ℕ) → r .place ≡ 7 → s ≡ (r .sum + b) % 256
+pub byte-along : (r : Reader) (b s : ℕ) → r .place ≡ dataPlace → s ≡ (r .sum + b) % byteValues
     → reader (r .place) (r .len) (r .head) (r .off) (r .left - 1) s (r .body + 1) ≡ along r (b ∷ [])
-byte-along r b s e g = block-along r (b ∷ []) (b % 256) s e (let z : b + 0 ≡ b = omega arith in rw z) (omega arith)
+byte-along r b s e g = block-along r (b ∷ []) (b % byteValues) s e (let z : b + 0 ≡ b = omega arith in rw z) (omega arith)
 
 -- ---------------------------------------------------------------- for a turn of the loop in `feed` that carries n bytes
 
@@ -253,7 +254,7 @@ module _ (room : ℕ) (t : Reader) (input : Bytes) (i n : ℕ) (h : i < length i
   pub run-fits : t .body + length (take (i + n - i) (drop i input)) ≤ room
   run-fits = let f = this-run .fits in let l = part-length in omega arith
 
-  pub run-block : t .place ≡ 7 → length (take (i + n - i) (drop i input)) ≤ t .left
+  pub run-block : t .place ≡ dataPlace → length (take (i + n - i) (drop i input)) ≤ t .left
   run-block q = let f = this-run .block q in let l = part-length in omega arith
 
   pub feed-run : (hd st st′ : Bytes) (t′ : Reader) → t′ ≡ along t (take (i + n - i) (drop i input)) → st′ ≡ sets st (t .body) (take (i + n - i) (drop i input))
@@ -272,7 +273,7 @@ module _ (room : ℕ) (r : Reader) (bs : Bytes) (n : ℕ) (e : n ≡ straightOf 
   pub all-fit : r .body + length bs ≤ room
   all-fit = omega (arith, whole-run .fits)
 
-  pub all-block : r .place ≡ 7 → length bs ≤ r .left
+  pub all-block : r .place ≡ dataPlace → length bs ≤ r .left
   all-block k = let f = whole-run .block k in omega arith
 
   pub all-run : (hd st st′ : Bytes) (t : Reader) → t ≡ along r bs → st′ ≡ sets st (r .body) bs

@@ -11,6 +11,7 @@ use lib.Seq.{take-take, drop-drop, take-set-le, drop-set-lt}
 use Rattle.grammar.specs.Bytes.{Bytes}
 use Rattle.transfer_step.specs.declared.Reader.{Reader}
 use Rattle.transfer_step.specs.declared.Stepped.{Stepped}
+use Rattle.transfer_step.specs.Names.{toHeading, toBody}
 use Rattle.transfer_step.specs.Step.{goesOn, stepOf}
 use Rattle.grammar.proofs.Basics.{by-cond}
 use Rattle.transfer_step.proofs.Ways.{by-ways}
@@ -46,8 +47,8 @@ kept-then i j k a b c p q =
 
 -- where the heading and the body end after a byte
 record Moves (r : Reader) (s : Stepped) : Type 0 where
-  pub head : cond (eqb (s .put) 1) (r .head + 1) (r .head) ≡ s .reader .head
-  pub body : cond (eqb (s .put) 2) (r .body + 1) (r .body) ≡ s .reader .body
+  pub head : cond (eqb (s .put) toHeading) (r .head + 1) (r .head) ≡ s .reader .head
+  pub body : cond (eqb (s .put) toBody) (r .body + 1) (r .body) ≡ s .reader .body
 
 moves : (room : ℕ) (r : Reader) (b : ℕ) → Moves r (stepOf room r b)
 moves room r b =
@@ -74,14 +75,14 @@ heading-kept : (room : ℕ) (r : Reader) (b : ℕ) (hd : Bytes)
 unfolding headingPut
 heading-kept room r b hd =
     let s = stepOf room r b in
-    subst (λ (j : ℕ). Kept (r .head) j hd (cond (eqb (s .put) 1) (set hd (r .head) b) hd)) (moves room r b .head) (put-kept (eqb (s .put) 1) (r .head) b hd)
+    subst (λ (j : ℕ). Kept (r .head) j hd (cond (eqb (s .put) toHeading) (set hd (r .head) b) hd)) (moves room r b .head) (put-kept (eqb (s .put) toHeading) (r .head) b hd)
 
 store-kept : (room : ℕ) (r : Reader) (b : ℕ) (st : Bytes)
     → Kept (r .body) (stepOf room r b .reader .body) st (storePut (stepOf room r b .put) r b st)
 unfolding storePut
 store-kept room r b st =
     let s = stepOf room r b in
-    subst (λ (j : ℕ). Kept (r .body) j st (cond (eqb (s .put) 2) (set st (r .body) b) st)) (moves room r b .body) (put-kept (eqb (s .put) 2) (r .body) b st)
+    subst (λ (j : ℕ). Kept (r .body) j st (cond (eqb (s .put) toBody) (set st (r .body) b) st)) (moves room r b .body) (put-kept (eqb (s .put) toBody) (r .body) b st)
 
 -- ---------------------------------------------------------------- a portion
 

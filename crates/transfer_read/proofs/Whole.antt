@@ -21,16 +21,17 @@ use Rattle.transfer_read.specs.Feed.{Run, roomOf, feedOf}
 use Rattle.transfer_read.specs.Meaning.{Stands, Ended, Received, contents, FedAs, feedEach, joined}
 use Rattle.transfer_read.proofs.Portions.{feed-each}
 use Rattle.transfer_read.proofs.Follows.{feed-stands}
+use Rattle.places.specs.Places.{headingMax}
 
 -- `start` stands as the scan does before the first byte, over any store.
-pub start-stands : (f : Form) (hd st : Bytes) → length hd ≡ 80 → Stands (roomOf st) (startOf (formNumber f)) hd st (scanFrom f)
+pub start-stands : (f : Form) (hd st : Bytes) → length hd ≡ headingMax → Stands (roomOf st) (startOf (formNumber f)) hd st (scanFrom f)
 start-stands plain hd st e = record { numbers = refl; heading = refl; body = refl; short = omega arith; fits = omega arith; array = e; store = omega arith }
 start-stands message hd st e = record { numbers = refl; heading = refl; body = refl; short = omega arith; fits = omega arith; array = e; store = omega arith }
 start-stands file hd st e = record { numbers = refl; heading = refl; body = refl; short = omega arith; fits = omega arith; array = e; store = omega arith }
 
 -- FEEDING IS THE SCAN: from `start`, with a heading's array of 80 bytes and any store, feeding any bytes gives the outcome, the heading and
 -- the body that the scan of these bytes gives, and counts the bytes up to the outcome. (What else lies in the buffers: feed-untouched.)
-pub feed-scan : (f : Form) (bs hd st : Bytes) → length hd ≡ 80
+pub feed-scan : (f : Form) (bs hd st : Bytes) → length hd ≡ headingMax
     → FedAs (roomOf st) (scanFrom f) bs (feedOf (roomOf st) (startOf (formNumber f)) bs hd st) (scan (roomOf st) f bs)
 feed-scan f bs hd st e = feed-stands (roomOf st) (startOf (formNumber f)) bs hd st (scanFrom f) (start-stands f hd st e)
 
@@ -42,7 +43,7 @@ fed-number room sc bs u wrongSum k = ap outcomeNumber (k .outcome)
 fed-number room sc bs u noRoom k = ap outcomeNumber (k .outcome)
 
 -- 01's number of what feeding reports is the scan's: 0, 8, 9 or 10.
-pub feed-number : (f : Form) (bs hd st : Bytes) → length hd ≡ 80
+pub feed-number : (f : Form) (bs hd st : Bytes) → length hd ≡ headingMax
     → outcomeNumber (feedOf (roomOf st) (startOf (formNumber f)) bs hd st .fed .outcome) ≡ scannedNumber (scan (roomOf st) f bs)
 feed-number f bs hd st e =
     let room = roomOf st in
@@ -73,7 +74,7 @@ last-byte room f bs h x t y u e k = go (k .rest) refl
 
 -- EVERY RIGHT TRANSFER THAT FITS IS RECEIVED, in any portions: feeding ends with Whole exactly at the last byte, with the heading and the
 -- body of the whole reader in the buffers.
-pub feed-whole : (f : Form) (bs h x hd st : Bytes) → parse f bs ≡ some (record { heading = h; body = x; right = true }) → length hd ≡ 80 → length x ≤ roomOf st
+pub feed-whole : (f : Form) (bs h x hd st : Bytes) → parse f bs ≡ some (record { heading = h; body = x; right = true }) → length hd ≡ headingMax → length x ≤ roomOf st
     → (xs : Bytes) (ps : List Bytes) → xs ++ joined ps ≡ bs
     → Received (length bs) h x (feedEach (roomOf st) (feedOf (roomOf st) (startOf (formNumber f)) xs hd st) ps)
 feed-whole f bs h x hd st e l m xs ps q =
@@ -110,7 +111,7 @@ fed-right room f bs u noRoom k e = never e (inr (inr (inr (k .outcome))))
 
 -- WHAT IS REPORTED AS WHOLE IS A RIGHT TRANSFER: the bytes counted are one for the whole reader, with what lies in the buffers as its
 -- heading and its body.
-pub feed-right : (f : Form) (bs hd st : Bytes) → length hd ≡ 80 → feedOf (roomOf st) (startOf (formNumber f)) bs hd st .fed .outcome ≡ Whole
+pub feed-right : (f : Form) (bs hd st : Bytes) → length hd ≡ headingMax → feedOf (roomOf st) (startOf (formNumber f)) bs hd st .fed .outcome ≡ Whole
     → parse f (take (feedOf (roomOf st) (startOf (formNumber f)) bs hd st .fed .count) bs) ≡ some (contents (feedOf (roomOf st) (startOf (formNumber f)) bs hd st))
 feed-right f bs hd st l e =
     let room = roomOf st in

@@ -10,6 +10,8 @@ use Rattle.transfer_step.specs.declared.Reader.{Reader}
 use Rattle.transfer_read.specs.declared.Fed.{Fed}
 use Rattle.transfer_step.specs.declared.Outcome.the-variants.{More}
 use Rattle.transfer_step.specs.Step.{goesOn, stepOf}
+use Rattle.transfer_step.specs.Names.{toHeading, toBody}
+use Rattle.grammar.specs.Fields.{bodyLimit}
 
 -- What a portion comes to, with the heading's array and the store as they are then.
 pub record Run : Type 0 where
@@ -22,15 +24,15 @@ run f hd st = record { fed = f; heading = hd; store = st }
 
 -- How many bytes a store takes of a body: "A body has at most 65,535 bytes".
 abbrev pub roomOf : Bytes → ℕ
-roomOf st = min (length st) 65535
+roomOf st = min (length st) bodyLimit
 
 -- The heading's array after a byte: at index head of the reading before it. (`set` past the end changes nothing.)
 unfoldable pub headingPut : ℕ → Reader → ℕ → Bytes → Bytes
-headingPut put r b hd = cond (eqb put 1) (set hd (r .head) b) hd
+headingPut put r b hd = cond (eqb put toHeading) (set hd (r .head) b) hd
 
 -- The store after a byte: at index body of the reading before it.
 unfoldable pub storePut : ℕ → Reader → ℕ → Bytes → Bytes
-storePut put r b st = cond (eqb put 2) (set st (r .body) b) st
+storePut put r b st = cond (eqb put toBody) (set st (r .body) b) st
 
 -- The same after n bytes more.
 abbrev pub after : ℕ → Run → Run

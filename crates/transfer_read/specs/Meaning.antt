@@ -5,7 +5,7 @@ use mathlib.Core.List.{List, [], _∷_, _++_}
 use Prim.Native.Nat.{ℕ, zero, suc, _+_, _%_, _≤_}
 use lib.Dec.{eqb}
 use lib.ListN.{length, take, drop}
-use Rattle.grammar.specs.Bytes.{Bytes, CR, CTRLZ}
+use Rattle.grammar.specs.Bytes.{Bytes, CR, CTRLZ, byteValues, NUL}
 use Rattle.grammar.specs.Transfers.{Parsed, byteSum}
 use Rattle.grammar.specs.Scan.{Scan, inTitle, inBody, inMark, atStart, atLen, inHead, inOff, inData, atSize, atSum, Scanned, goes, got, malformed, wrongSum, noRoom, scanByte, scanOn, bodyOf}
 use Rattle.transfer_step.specs.declared.Reader.{Reader}
@@ -14,6 +14,8 @@ use Rattle.transfer_step.specs.declared.Outcome.{Outcome}
 use Rattle.transfer_step.specs.declared.Outcome.the-variants.{More, Whole, Malformed, WrongSum, NoRoom}
 use Rattle.transfer_step.specs.Step.{goesOn, reader, onward, ended}
 use Rattle.transfer_read.specs.Feed.{Run, after, feedOf}
+use Rattle.transfer_step.specs.Names.{titlePlace, bodyPlace, markPlace, startPlace, lengthPlace, headingPlace, offsetPlace, dataPlace, sizePlace, checksumPlace, nowhere, toHeading, toBody}
+use Rattle.places.specs.Places.{headingMax}
 
 -- ---------------------------------------------------------------- one byte
 
@@ -32,30 +34,30 @@ headingSoFar (atSum h x) = h
 
 -- A scan in numbers: place, L, bytes of heading, of offset, of the block to come, sum of the data modulo 256, bytes of the body.
 abbrev pub numbersOf : Scan → Reader
-numbersOf (inTitle t) = reader 0 0 (length t) 0 0 0 0
-numbersOf (inBody t x) = reader 1 0 (length t) 0 0 0 (length x)
-numbersOf (inMark t x) = reader 2 0 (length t) 0 0 0 (length x)
-numbersOf atStart = reader 3 0 0 0 0 0 0
-numbersOf atLen = reader 4 0 0 0 0 0 0
-numbersOf (inHead len h) = reader 5 len (length h) 0 0 0 0
-numbersOf (inOff len h o) = reader 6 len (length h) (length o) 0 0 0
-numbersOf (inData h x k) = reader 7 0 (length h) 0 k (byteSum x % 256) (length x)
-numbersOf (atSize h x) = reader 8 0 (length h) 0 0 (byteSum x % 256) (length x)
-numbersOf (atSum h x) = reader 9 0 (length h) 0 0 (byteSum x % 256) (length x)
+numbersOf (inTitle t) = reader titlePlace 0 (length t) 0 0 0 0
+numbersOf (inBody t x) = reader bodyPlace 0 (length t) 0 0 0 (length x)
+numbersOf (inMark t x) = reader markPlace 0 (length t) 0 0 0 (length x)
+numbersOf atStart = reader startPlace 0 0 0 0 0 0
+numbersOf atLen = reader lengthPlace 0 0 0 0 0 0
+numbersOf (inHead len h) = reader headingPlace len (length h) 0 0 0 0
+numbersOf (inOff len h o) = reader offsetPlace len (length h) (length o) 0 0 0
+numbersOf (inData h x k) = reader dataPlace 0 (length h) 0 k (byteSum x % byteValues) (length x)
+numbersOf (atSize h x) = reader sizePlace 0 (length h) 0 0 (byteSum x % byteValues) (length x)
+numbersOf (atSum h x) = reader checksumPlace 0 (length h) 0 0 (byteSum x % byteValues) (length x)
 
--- Where a byte goes at which the scan goes on: 0 nowhere, 1 to the heading, 2 to the body.
+-- Where a byte goes at which the scan goes on.
 abbrev pub placeOf : Scan → ℕ → ℕ
-placeOf (inTitle t) b = cond (eqb b CR) 0 1
-placeOf (inBody t x) b = cond (eqb b CTRLZ) 0 2
-placeOf (inMark t x) b = 0
-placeOf atStart b = 0
-placeOf atLen b = 0
-placeOf (inHead len h) b = cond (eqb b 0) 0 1
-placeOf (inOff len h o) b = 0
-placeOf (inData h x zero) b = 0
-placeOf (inData h x (suc k)) b = 2
-placeOf (atSize h x) b = 0
-placeOf (atSum h x) b = 0
+placeOf (inTitle t) b = cond (eqb b CR) nowhere toHeading
+placeOf (inBody t x) b = cond (eqb b CTRLZ) nowhere toBody
+placeOf (inMark t x) b = nowhere
+placeOf atStart b = nowhere
+placeOf atLen b = nowhere
+placeOf (inHead len h) b = cond (eqb b NUL) nowhere toHeading
+placeOf (inOff len h o) b = nowhere
+placeOf (inData h x zero) b = nowhere
+placeOf (inData h x (suc k)) b = toBody
+placeOf (atSize h x) b = nowhere
+placeOf (atSum h x) b = nowhere
 
 -- The code's name for each outcome of the scan.
 abbrev pub outcomeOf : Scanned → Outcome
@@ -80,9 +82,9 @@ pub record Stands (room : ℕ) (r : Reader) (hd st : Bytes) (sc : Scan) : Type 0
   pub numbers : r ≡ numbersOf sc
   pub heading : take (r .head) hd ≡ headingSoFar sc
   pub body : take (r .body) st ≡ bodyOf sc
-  pub short : r .head ≤ 80
+  pub short : r .head ≤ headingMax
   pub fits : r .body ≤ room
-  pub array : length hd ≡ 80
+  pub array : length hd ≡ headingMax
   pub store : room ≤ length st
 
 -- A portion bs, read from the scan sc on, that has come to an outcome o: at which byte, where the reading stood before it,

@@ -12,22 +12,24 @@ ghost use lib.Seq.{sets};
 ghost use Rattle.transfer_step.specs.Step.{stepOf, goesOn};
 ghost use Rattle.transfer_read.specs.Straight.{beforeMark, straightOf, along};
 ghost use Rattle.transfer_read.specs.Feed.{headingPut, storePut, roomOf, feedOf, run, RunsOn};
+ghost use Rattle.transfer_step.specs.Names.{dataPlace};
+ghost use Rattle.grammar.specs.Fields.{bodyLimit};
 
 // The places where bytes of a body come.
-const BODY: u8 = 1;
+const BODY: u8 = transfer_step::BODY;
 
-const DATA: u8 = 7;
+const DATA: u8 = transfer_step::DATA;
 
 // The byte that ends a plain body.
-const CTRL_Z: u8 = 26;
+const CTRL_Z: u8 = transfer_step::CTRL_Z;
 
 // The most bytes of a body.
-const BODY_LIMIT: usize = 65535;
+const BODY_LIMIT: usize = places::BODY_MAX as usize;
 
 // Where a byte goes.
-const TO_HEADING: u8 = 1;
+const TO_HEADING: u8 = transfer_step::TO_HEADING;
 
-const TO_BODY: u8 = 2;
+const TO_BODY: u8 = transfer_step::TO_BODY;
 
 // A portion's outcome, the reading after it, and how many bytes were read, a refused one and the last one of a transfer included.
 pub struct Fed {
@@ -76,7 +78,7 @@ fn keep(s: Stepped, r: Reader, b: u8, heading: &mut [u8], store: &mut [u8])
 
 // How many bytes a store of this size takes of a body.
 fn room_of(size: usize) -> u32
-    ensures { λ r. ⌜ r ≡ min size 65535 ⌝ }
+    ensures { λ r. ⌜ r ≡ min size bodyLimit ⌝ }
 {
     if size < BODY_LIMIT {
         return size as u32;
@@ -117,7 +119,7 @@ fn straight(r: Reader, rest: &[u8], room: u32) -> usize
 
 // Stores such bytes, and reads on past them.
 fn carry(r: Reader, bytes: &[u8], store: &mut [u8]) -> Reader
-    requires { ⌜ (r .body + length (now bytes) ≤ roomOf (now store)) × (r .place ≡ 7 → length (now bytes) ≤ r .left) ⌝ }
+    requires { ⌜ (r .body + length (now bytes) ≤ roomOf (now store)) × (r .place ≡ dataPlace → length (now bytes) ≤ r .left) ⌝ }
     ensures { λ t. ⌜ (t ≡ along r (now (bytes .entry))) × (now (store .exit) ≡ sets (now (store .entry)) (r .body) (now (bytes .entry))) ⌝ }
 {
     buffer::put_whole(store, r.body as usize, bytes);
@@ -134,7 +136,7 @@ fn carry(r: Reader, bytes: &[u8], store: &mut [u8]) -> Reader
 
 // The same for one such byte, without the loops that many need: most links bring bytes one by one.
 fn carry_byte(r: Reader, b: u8, store: &mut [u8]) -> Reader
-    requires { ⌜ (r .body + 1 ≤ roomOf (now store)) × (r .place ≡ 7 → 1 ≤ r .left) ⌝ }
+    requires { ⌜ (r .body + 1 ≤ roomOf (now store)) × (r .place ≡ dataPlace → 1 ≤ r .left) ⌝ }
     ensures { λ t. ⌜ (t ≡ along r (b ∷ [])) × (now (store .exit) ≡ sets (now (store .entry)) (r .body) (b ∷ [])) ⌝ }
 {
     let at = r.body as usize;

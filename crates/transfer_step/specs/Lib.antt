@@ -1,2 +1,3 @@
 -- One byte of a transfer, in numbers.
+pub mod Names
 pub mod Step

@@ -7,7 +7,7 @@ ghost use Rattle.transfer_step.specs.Step.{startOf, titleStep, bodyStep,
 // The places: what the next byte is, or is of.
 const TITLE: u8 = 0;
 
-const BODY: u8 = 1;
+pub const BODY: u8 = 1;
 
 const MARK: u8 = 2;
 
@@ -19,45 +19,58 @@ const HEADING: u8 = 5;
 
 const OFFSET: u8 = 6;
 
-const DATA: u8 = 7;
+pub const DATA: u8 = 7;
 
 const SIZE: u8 = 8;
 
 const CHECKSUM: u8 = 9;
 
 // The bytes that a plain transfer is marked by, and those of a framed one.
-const CR: u8 = 13;
+const CR: u8 = b'\r';
 
-const SPACE: u8 = 32;
+const SPACE: u8 = b' ';
 
-const CTRL_Z: u8 = 26;
+pub const CTRL_Z: u8 = 26;
 
 const NUL: u8 = 0;
 
-const SOH: u8 = 1;
+pub const SOH: u8 = 1;
 
-const STX: u8 = 2;
+pub const STX: u8 = 2;
 
-const EOT: u8 = 4;
+pub const EOT: u8 = 4;
 
 // The most bytes of a title or a file name.
-const HEADING_LIMIT: u8 = 80;
+const HEADING_LIMIT: u8 = places::HEADING_MAX;
+
+// The most digits of an offset.
+const OFFSET_DIGITS: u32 = 6;
+
+// The NULs after heading and offset.
+const HEADER_NULS: u32 = 2;
 
 // L counts a heading of 1 to 80 bytes, an offset of 1 to 6 digits, and 2; so past the heading it counts 3 to 8.
-const LENGTH_LEAST: u8 = 4;
+const LENGTH_LEAST: u8 = 1 + 1 + HEADER_NULS as u8;
 
-const LENGTH_MOST: u8 = 88;
+const LENGTH_MOST: u8 = HEADING_LIMIT + OFFSET_MOST as u8;
 
-const OFFSET_LEAST: u32 = 3;
+pub const OFFSET_LEAST: u32 = 1 + HEADER_NULS;
 
-const OFFSET_MOST: u32 = 8;
+const OFFSET_MOST: u32 = OFFSET_DIGITS + HEADER_NULS;
+
+// A block: `02`, n, and so many bytes of data at most.
+pub const BLOCK_HEAD: usize = 2;
+
+pub const BLOCK_DATA: usize = 256;
+
+const FULL_BLOCK: u16 = BLOCK_DATA as u16;
 
 // Where a byte goes.
 const NOWHERE: u8 = 0;
 
-const TO_HEADING: u8 = 1;
+pub const TO_HEADING: u8 = 1;
 
-const TO_BODY: u8 = 2;
+pub const TO_BODY: u8 = 2;
 
 // The reading so far in numbers. place: 0 title, 1 body, 2 mark, 3 start, 4 L, 5 heading, 6 offset, 7 data or block, 8 n, any other: checksum.
 // len: L; head, off, body: bytes of heading, offset and body so far; left: bytes of the block to come; sum: data bytes' sum modulo 256.
@@ -244,7 +257,7 @@ fn offset(r: Reader, b: u8) -> Stepped
 {
     let mut t = r;
     let len = r.len as u32;
-    let header = (r.head as u32) + (r.off as u32) + 2;
+    let header = (r.head as u32) + (r.off as u32) + HEADER_NULS;
     if b == NUL {
         if len == header {
             t.place = DATA;
@@ -296,7 +309,7 @@ fn size(r: Reader, b: u8) -> Stepped
     let mut t = r;
     t.place = DATA;
     if b == 0 {
-        t.left = 256;
+        t.left = FULL_BLOCK;
         return on(t, NOWHERE);
     }
     t.left = b as u16;

@@ -1,12 +1,25 @@
 // Our transfers, resumed at any byte with any room: the text at the cursor, what of it isn't passed over and fits. Nothing is judged.
 use buffer::Cursor;
 use part::part;
+use transfer_step::BLOCK_DATA;
+use transfer_step::BLOCK_HEAD;
 ghost use Prim.Native.Nat.{_+_, _*_, _%_, _≤_, _<_, min};
 ghost use mathlib.Core.Path.{_≡_};
 ghost use mathlib.Core.List.{[], _∷_};
 ghost use lib.ListN.{length};
-ghost use Rattle.grammar.specs.Transfers.{writePlain, writeFramed, headerOut, blocksOut, checksum, partOf, headingOf};
+ghost use Rattle.grammar.specs.Transfers.{writePlain, writeFramed, headerOut, blocksOut, checksum, partOf, headingOf, dataMax};
 ghost use Rattle.buffer.specs.Put.{Puts};
+ghost use Rattle.grammar.specs.Bytes.{byteValues, STX, EOT};
+ghost use Rattle.transfer_step.specs.Names.{blockBytes};
+
+// Bytes of a whole block, of which BLOCK_DATA are data.
+const WHOLE_BLOCK: usize = BLOCK_HEAD + BLOCK_DATA;
+
+// What L counts beside the heading: the offset `0`, and the NULs.
+const BESIDE_HEADING: usize = transfer_step::OFFSET_LEAST as usize;
+
+// How many values a byte has.
+const BYTE_VALUES: usize = 256;
 
 // A plain transfer: title, CR, body, 0x1A, CR.
 pub fn write_plain(buf: &mut [u8], c: Cursor, title: &[u8], body: &[u8]) -> Cursor
@@ -19,9 +32,9 @@ pub fn write_plain(buf: &mut [u8], c: Cursor, title: &[u8], body: &[u8]) -> Curs
 
 // A length in one byte, modulo 256.
 fn length_byte(n: usize) -> u8
-    ensures { λ r. ⌜ r ≡ n % 256 ⌝ }
+    ensures { λ r. ⌜ r ≡ n % byteValues ⌝ }
 {
-    (n % 256) as u8
+    (n % BYTE_VALUES) as u8
 }
 
 // The header: 01, L, heading, 00, offset `0`, 00.
@@ -29,17 +42,17 @@ fn put_header(buf: &mut [u8], c: Cursor, heading: &[u8]) -> Cursor
     ensures { λ r. ⌜ Puts (now (buf .entry)) c (headerOut (now (heading .entry))) r (now (buf .exit)) ⌝ }
 {
     let n = heading.len();
-    let c1 = buffer::put_byte(buf, c, 1);
-    let c2 = buffer::put_byte(buf, c1, length_byte(n % 256 + 3));
+    let c1 = buffer::put_byte(buf, c, transfer_step::SOH);
+    let c2 = buffer::put_byte(buf, c1, length_byte(n % BYTE_VALUES + BESIDE_HEADING));
     let c3 = buffer::put(buf, c2, heading);
     buffer::put(buf, c3, b"\x000\x00")
 }
 
 // One block: 02, n, data.
 fn put_block(buf: &mut [u8], c: Cursor, bytes: &[u8]) -> Cursor
-    ensures { λ r. ⌜ Puts (now (buf .entry)) c (2 ∷ length (now (bytes .entry)) % 256 ∷ now (bytes .entry)) r (now (buf .exit)) ⌝ }
+    ensures { λ r. ⌜ Puts (now (buf .entry)) c (STX ∷ length (now (bytes .entry)) % byteValues ∷ now (bytes .entry)) r (now (buf .exit)) ⌝ }
 {
-    let d = buffer::put_byte(buf, c, 2);
+    let d = buffer::put_byte(buf, c, transfer_step::STX);
     let e = buffer::put_byte(buf, d, length_byte(bytes.len()));
     buffer::put(buf, e, bytes)
 }
@@ -47,10 +60,10 @@ fn put_block(buf: &mut [u8], c: Cursor, bytes: &[u8]) -> Cursor
 // Where the block that starts at i ends.
 fn block_end(i: usize, len: usize) -> usize
     requires { ⌜ i < len ⌝ }
-    ensures { λ r. ⌜ r ≡ min (i + 256) len ⌝ }
+    ensures { λ r. ⌜ r ≡ min (i + dataMax) len ⌝ }
 {
-    if 256 < len - i {
-        return i + 256;
+    if BLOCK_DATA < len - i {
+        return i + BLOCK_DATA;
     }
     len
 }
@@ -80,10 +93,10 @@ fn put_blocks(buf: &mut [u8], c: Cursor, body: &[u8]) -> Cursor
 
 // How many whole blocks of a body lie in the bytes that are passed over: 258 bytes a block, of which 256 are data.
 fn passed_blocks(skip: usize, len: usize) -> usize
-    ensures { λ r. ⌜ (258 * r ≤ skip) × (256 * r ≤ len) ⌝ }
+    ensures { λ r. ⌜ (blockBytes * r ≤ skip) × (dataMax * r ≤ len) ⌝ }
 {
-    let k = skip / 258;
-    let n = len / 256;
+    let k = skip / WHOLE_BLOCK;
+    let n = len / BLOCK_DATA;
     if k < n {
         return k;
     }
@@ -100,19 +113,19 @@ fn put_body(buf: &mut [u8], c: Cursor, body: &[u8]) -> Cursor
         return Cursor { at: at, skip: 0 };
     }
     let k = passed_blocks(skip, body.len());
-    let i = 256 * k;
+    let i = BLOCK_DATA * k;
     let d = Cursor {
         at: at,
-        skip: skip - 258 * k,
+        skip: skip - WHOLE_BLOCK * k,
     };
     put_blocks(buf, d, &body[i..])
 }
 
 // The end: 04, checksum. The sum is taken only where its byte is written.
 fn put_end(buf: &mut [u8], c: Cursor, body: &[u8]) -> Cursor
-    ensures { λ r. ⌜ Puts (now (buf .entry)) c (4 ∷ checksum (now (body .entry)) ∷ []) r (now (buf .exit)) ⌝ }
+    ensures { λ r. ⌜ Puts (now (buf .entry)) c (EOT ∷ checksum (now (body .entry)) ∷ []) r (now (buf .exit)) ⌝ }
 {
-    let d = buffer::put_byte(buf, c, 4);
+    let d = buffer::put_byte(buf, c, transfer_step::EOT);
     let at = d.at;
     let skip = d.skip;
     if buf.len() <= at {

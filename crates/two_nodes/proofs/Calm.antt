@@ -10,7 +10,8 @@ use lib.Dec.{eqb, ltb}
 use lib.ListN.{length}
 use borrow.Author.Tests.{eqb-true, eq-eqb}
 use Rattle.grammar.specs.Bytes.{Bytes, CR, LF, CTRLZ, every}
-use Rattle.grammar.specs.Fields.{Form, plain, message, file, headingByte, isHeading, isBody}
+use Rattle.grammar.specs.Refusals.{badChecksum}
+use Rattle.grammar.specs.Fields.{Form, plain, message, file, headingByte, isHeading, isBody, headingMax}
 use Rattle.grammar.specs.Lines.{LineByte, dropped, ends, grows, overruns, lineByte, trim, isComment, isPrompt}
 use Rattle.grammar.specs.Sid.{readSid, hasFeature, framed}
 use Rattle.grammar.specs.Turns.{Proposal, TurnLine, saysFF, saysFQ, endsBlock, notAllowed, proposes, readTurnLine, proposalLine, fixedText, ourSid, protocolError, checksumError, withCr}
@@ -36,9 +37,9 @@ Calm (goesOn p m o) = headLf o ≡ false
 -- ---------------------------------------------------------------- what we say
 
 heading-calm : (h r : Bytes) → isHeading h ≡ true → headLf (h ++ r) ≡ false
-heading-calm [] r e = absurd (let z = field-is headingByte 80 [] e .least in omega arith)
+heading-calm [] r e = absurd (let z = field-is headingByte headingMax [] e .least in omega arith)
 heading-calm (x ∷ h) r e =
-    not-so (eqb x LF) (λ k. no-both (headingByte x) ((and2 (headingByte x) (every headingByte h) (field-is headingByte 80 (x ∷ h) e .class)) .0) (ap headingByte (eqb-true x LF k)))
+    not-so (eqb x LF) (λ k. no-both (headingByte x) ((and2 (headingByte x) (every headingByte h) (field-is headingByte headingMax (x ∷ h) e .class)) .0) (ap headingByte (eqb-true x LF k)))
 
 transfer-calm : (f : Form) (h x r : Bytes) → sendable f h x ≡ true → headLf (writeTransfer f h x ++ r) ≡ false
 unfolding writeTransfer
@@ -73,7 +74,7 @@ fs-only ss = refl
 
 error-calm : (n : ℕ) → headLf (errorText n) ≡ false
 unfolding errorText
-error-calm n = by-cond (λ (o : Bytes). headLf o ≡ false) (isSilent n) refl (go (eqb n 9))
+error-calm n = by-cond (λ (o : Bytes). headLf o ≡ false) (isSilent n) refl (go (eqb n badChecksum))
   where
     go : (c : Bool) → headLf (withCr (fixedText (cond c checksumError protocolError))) ≡ false
     go true = refl

@@ -13,8 +13,8 @@ use lib.ListN.{length, length-append, length-map}
 use Rattle.grammar.specs.Bytes.{Bytes, CR, null}
 use Rattle.grammar.specs.Ascii.{text}
 use Rattle.grammar.specs.Fields.{Form, plain, message, file}
-use Rattle.grammar.specs.Sid.{readSid, hasFeature, framed}
-use Rattle.grammar.specs.Turns.{Proposal, inMode, proposable, readTurnLine, proposalLine, fixedText, ourSid, ourPrompt, ourFF, ourFQ, ourEnd, withCr}
+use Rattle.grammar.specs.Sid.{readSid, hasFeature, framed, letterF}
+use Rattle.grammar.specs.Turns.{Proposal, inMode, proposable, readTurnLine, proposalLine, fixedText, ourSid, ourPrompt, ourFF, ourFQ, ourEnd, withCr, blockLimit}
 use Rattle.grammar.specs.Answers.{Sign, accept, decline, defer, readFs, fsLine, fixedLine, ourProposal, OurLine}
 use Rattle.grammar.specs.Transfers.{sendable, writeTransfer, readTransfer, Content}
 use Rattle.grammar.specs.Scan.{scanFrom}
@@ -136,7 +136,7 @@ transfer-head message h x e = (refl, λ r. refl)
 transfer-head file h x e = (refl, λ r. refl)
 
 -- the features of our SID
-sid-features : (fs : List ℕ) × (readSid (fixedText ourSid) ≡ some fs) × (hasFeature 5 fs ≡ true) × (framed fs ≡ true)
+sid-features : (fs : List ℕ) × (readSid (fixedText ourSid) ≡ some fs) × (hasFeature letterF fs ≡ true) × (framed fs ≡ true)
 unfolding readSid
 sid-features =
     (0 ∷ 2 ∷ 0 ∷ 0 ∷ 0 ∷ 1 ∷ 0 ∷ 1 ∷ 0 ∷ 0 ∷ 0 ∷ 0 ∷ 0 ∷ 0 ∷ 0 ∷ 0 ∷ 0 ∷ 0 ∷ 0 ∷ 0 ∷ 0 ∷ 0 ∷ 0 ∷ 0 ∷ 0 ∷ 0 ∷ 1 ∷ [], refl, refl, refl)
@@ -260,7 +260,7 @@ module _ (E F : Shelf) (SE : Sound E) (SF : Sound F) (s t : List ℕ) (p : Phase
           (inl (fs-handed (turnMarks n) fn refl (marks-claims n a c) (withSign accept block (answersTo F (n .inbox) block)) refl)))
 
       -- the proposals at js, and F>
-      block-heard : (js : List ℕ) (ps : List Proposal) (raw : Bytes) (cr : Bool) → AllFit true (proposalsAt (E .table) js) → length ps + length js ≤ 5
+      block-heard : (js : List ℕ) (ps : List Proposal) (raw : Bytes) (cr : Bool) → AllFit true (proposalsAt (E .table) js) → length ps + length js ≤ blockLimit
           → ps ++ proposalsAt (E .table) js ≡ block → Hears F P R Q (begun (awaitsTurn ff ps raw) n cr []) (blockText (E .table) js)
       block-heard [] ps raw cr f l k =
           subst (λ (x : List Proposal). Hears F P R Q (begun (awaitsTurn ff x raw) n cr []) (withCr (fixedText ourEnd))) (sym (sym (append-nil ps) ∙ k)) (end-heard raw cr)
@@ -285,8 +285,8 @@ module _ (E F : Shelf) (SE : Sound E) (SF : Sound F) (s t : List ℕ) (p : Phase
       fits : (is : List ℕ) → proposed E m ≡ is → AllFit true (proposalsAt (E .table) is)
       fits is d = subst (λ (l : List ℕ). AllFit true (proposalsAt (E .table) l)) d (subst (λ (x : Bool). AllFit x (proposalsAt (E .table) (proposed E m))) fm (S .fit m))
 
-      few : (is : List ℕ) → proposed E m ≡ is → length is ≤ 5
-      few is d = subst (λ (l : List ℕ). length l ≤ 5) d (S .few m)
+      few : (is : List ℕ) → proposed E m ≡ is → length is ≤ blockLimit
+      few is d = subst (λ (l : List ℕ). length l ≤ blockLimit) d (S .few m)
 
       go : (ff : Bool) (is : List ℕ) → proposed E m ≡ is → p ≡ turnAwaits ff is → (ff ≡ true → proposed F n ≡ [])
           → Hears F P R Q (begun (awaitsTurn ff [] []) n cr []) (turnSaid E ff is)
@@ -314,8 +314,8 @@ module _ (E F : Shelf) (SE : Sound E) (SF : Sound F) (s t : List ℕ) (p : Phase
     in-order : rising (i ∷ is) ≡ true
     in-order = ap rising own ∙ block-exact (F .table) (n .framed) (n .states) (n .deferred) .order
 
-    few : length (i ∷ is) ≤ 5
-    few = subst (λ (l : List ℕ). length l ≤ 5) (sym own) (sound F (SF .table) .few n)
+    few : length (i ∷ is) ≤ blockLimit
+    few = subst (λ (l : List ℕ). length l ≤ blockLimit) (sym own) (sound F (SF .table) .few n)
 
     one-each : length ss ≡ length (i ∷ is)
     one-each = one-sign-each E (m .inbox) (proposalsAt (F .table) (i ∷ is)) ∙ length-map (i ∷ is) (λ (k : ℕ). proposalOf (recordAt (F .table) k))

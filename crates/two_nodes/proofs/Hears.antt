@@ -12,7 +12,7 @@ use lib.ListN.{length, length-append}
 use borrow.Author.Tests.{lt-ltb}
 use Rattle.grammar.specs.Bytes.{Bytes, CR, LF}
 use Rattle.grammar.specs.Fields.{Form, plain, message, file}
-use Rattle.grammar.specs.Lines.{ends, grows, overruns}
+use Rattle.grammar.specs.Lines.{ends, grows, overruns, lineLimit}
 use Rattle.grammar.specs.Turns.{Proposal, fixedText, protocolError, withCr}
 use Rattle.grammar.specs.Errors.{errorText}
 use Rattle.grammar.specs.Transfers.{Content, parse, readTransfer, valid}
@@ -68,15 +68,15 @@ module _ (E : Shelf) (P : Memory → Type 0) (R : Type 0) (Q : Session → Type 
   listens : (cr : Bool) (u : Bytes) → Listening P (begun a m cr u)
   listens cr u = record { live = refl; silent = refl; claims = h }
 
-  pub grown : (cr : Bool) (w : Bytes) (b : ℕ) → cr && eqb b LF ≡ false → eqb b CR ≡ false → length w + 1 ≤ 256
+  pub grown : (cr : Bool) (w : Bytes) (b : ℕ) → cr && eqb b LF ≡ false → eqb b CR ≡ false → length w + 1 ≤ lineLimit
       → step E (begun a m cr w) b ≡ moved (begun a m false (w ++ (b ∷ [])))
   grown cr w b d e l =
       line-step E (begun a m cr w) b a (record { kept = d; silent = refl }) refl
-      ∙ ap (λ (c : Bool). lineMoved E a (begun a m cr w) b (cond c ends (cond (ltb (length w) 256) grows overruns))) e
-      ∙ ap (λ (c : Bool). lineMoved E a (begun a m cr w) b (cond c grows overruns)) (lt-ltb (length w) 256 (omega arith))
+      ∙ ap (λ (c : Bool). lineMoved E a (begun a m cr w) b (cond c ends (cond (ltb (length w) lineLimit) grows overruns))) e
+      ∙ ap (λ (c : Bool). lineMoved E a (begun a m cr w) b (cond c grows overruns)) (lt-ltb (length w) lineLimit (omega arith))
 
   -- the bytes v of a line, after u
-  rest-of-line : (v u : Bytes) (cr : Bool) (later : Bytes) → Lacks CR v → length u + length v ≤ 256 → cr && headLf v ≡ false
+  rest-of-line : (v u : Bytes) (cr : Bool) (later : Bytes) → Lacks CR v → length u + length v ≤ lineLimit → cr && headLf v ≡ false
       → ((c : Bool) → Heard E P R Q (step E (begun a m c (u ++ v)) CR .session) later) → Hears E P R Q (begun a m cr u) (v ++ CR ∷ later)
   rest-of-line [] u cr later k l z c = (
     listens cr u,

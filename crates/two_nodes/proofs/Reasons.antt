@@ -8,6 +8,8 @@ use native.Mathlib.Omega.{arith}
 use lib.Dec.{eqb}
 use lib.ListN.{length, length-append}
 use Rattle.grammar.specs.Bytes.{Bytes, CR, LF}
+use Rattle.grammar.specs.Refusals.{bytesWait, lineNotAllowed}
+use Rattle.grammar.specs.Lines.{lineLimit}
 use Rattle.grammar.specs.Turns.{fixedText, protocolError, readTurnLine, notAllowed, withCr}
 use Rattle.grammar.specs.Answers.{fixedLine, level0}
 use Rattle.grammar.proofs.Basics.{no-both, and-false, snoc-cons, Lacks, all-lacks}
@@ -75,12 +77,12 @@ module _ (E : Shelf) (m : Memory) where
       (g .memory ∙ e, λ x y. no-both (after E (refused s k .session) es .afterCr) y (g .afterCr))
 
   -- bytes of ours wait: 11
-  early : (cr : Bool) (u o : Bytes) (x b : ℕ) → eqb b LF ≡ false → step E (awaits cr u (x ∷ o)) b ≡ refused (awaits cr u (x ∷ o)) 11
+  early : (cr : Bool) (u o : Bytes) (x b : ℕ) → eqb b LF ≡ false → step E (awaits cr u (x ∷ o)) b ≡ refused (awaits cr u (x ∷ o)) bytesWait
   early cr u o x b n =
       ap (λ (c : Bool). cond c (moved (withAfterCr false (awaits cr u (x ∷ o)))) (freeStep E (x ∷ o) (awaits cr u (x ∷ o)) b)) (and-false cr (eqb b LF) n)
 
   -- the CR: no line of a turn, 5
-  told : (cr : Bool) → step E (awaits cr line []) CR ≡ refused (awaits cr line []) 5
+  told : (cr : Bool) → step E (awaits cr line []) CR ≡ refused (awaits cr line []) lineNotAllowed
   told cr =
       let g = good-line (fixedLine protocolError) tt in
       let r : readTurnLine (m .framed) line ≡ notAllowed = error-read (m .framed) level0 0 protocolError isProtocol .2 in
@@ -90,23 +92,23 @@ module _ (E : Shelf) (m : Memory) where
       (ap (isAllowed false []) r))
 
   -- WHATEVER IT TAKES OF THE LINE: u has come, w is to come before the CR
-  pub hears-why : (es : List Event) (cr : Bool) (u w o : Bytes) → u ++ w ≡ line → length u + length w ≤ 256 → Lacks CR w → Lacks LF w
+  pub hears-why : (es : List Event) (cr : Bool) (u w o : Bytes) → u ++ w ≡ line → length u + length w ≤ lineLimit → Lacks CR w → Lacks LF w
       → Possible E (awaits cr u o) es → Begins (tookIn es) (withCr w) → Spared (after E (awaits cr u o) es)
   hears-why [] cr u w o e l c f h b = (refl, λ x y. let z : _≡_ {A = ℕ} 0 1 = cc in omega arith)
   hears-why (gave x ∷ es) cr u w o e l c f h b = hears-why es cr u w (rest o) e l c f (h .1) b
   hears-why (took x ∷ es) cr u [] (y ∷ o) e l c f h b =
       let k = tail-begins x CR (tookIn es) [] b in
       let s = early cr u o y x (ap (λ (n : ℕ). eqb n LF) (k .0)) in
-      subst (λ (t : Stepped). Possible E (t .session) es → Spared (after E (t .session) es)) (sym s) (λ p. refused-spared (awaits cr u (y ∷ o)) refl 11 es p) (h .1)
+      subst (λ (t : Stepped). Possible E (t .session) es → Spared (after E (t .session) es)) (sym s) (λ p. refused-spared (awaits cr u (y ∷ o)) refl bytesWait es p) (h .1)
   hears-why (took x ∷ es) cr u (z ∷ w) (y ∷ o) e l c f h b =
       let k = tail-begins x z (tookIn es) (withCr w) b in
       let s = early cr u o y x (ap (λ (n : ℕ). eqb n LF) (k .0) ∙ f .0) in
-      subst (λ (t : Stepped). Possible E (t .session) es → Spared (after E (t .session) es)) (sym s) (λ p. refused-spared (awaits cr u (y ∷ o)) refl 11 es p) (h .1)
+      subst (λ (t : Stepped). Possible E (t .session) es → Spared (after E (t .session) es)) (sym s) (λ p. refused-spared (awaits cr u (y ∷ o)) refl bytesWait es p) (h .1)
   hears-why (took x ∷ es) cr u [] [] e l c f h b =
       let k = tail-begins x CR (tookIn es) [] b in
-      let s : step E (awaits cr u []) x ≡ refused (awaits cr line []) 5 =
+      let s : step E (awaits cr u []) x ≡ refused (awaits cr line []) lineNotAllowed =
       ap (λ (v : Bytes). step E (awaits cr v []) x) (sym (append-nil u) ∙ e) ∙ ap (step E (awaits cr line [])) (k .0) ∙ told cr in
-      subst (λ (t : Stepped). Possible E (t .session) es → Spared (after E (t .session) es)) (sym s) (λ p. refused-spared (awaits cr line []) refl 5 es p) (h .1)
+      subst (λ (t : Stepped). Possible E (t .session) es → Spared (after E (t .session) es)) (sym s) (λ p. refused-spared (awaits cr line []) refl lineNotAllowed es p) (h .1)
   hears-why (took x ∷ es) cr u (z ∷ w) [] e l c f h b =
       let k = tail-begins x z (tookIn es) (withCr w) b in
       let n = length-append u (z ∷ []) in
@@ -119,5 +121,5 @@ abbrev notLf : ℕ → Bool
 notLf b = not (eqb b LF)
 
 -- the line is short, and lacks CR and LF
-pub line-whole : (length line ≤ 256) × Lacks CR line × Lacks LF line
+pub line-whole : (length line ≤ lineLimit) × Lacks CR line × Lacks LF line
 line-whole = (omega arith, good-line (fixedLine protocolError) tt .whole, all-lacks notLf LF line refl refl)

@@ -1,12 +1,10 @@
 -- TWO NODES OVER LENT MEMORY. Idea: the memory after a list of calls represents the session on lists (crates/lent), so each end is an end on lists; the
 -- claims there (crates/two_nodes) are about the same states, messages and bytes.
 use mathlib.Core.Path.{_≡_, refl, sym, ap, _∙_, subst}
-use mathlib.Core.Bool.{Bool, true, false, cond, not, _&&_}
-use mathlib.Core.List.{List, [], _∷_, _++_, map, append-assoc, append-nil}
+use mathlib.Core.Bool.{Bool, true, false, cond}
+use mathlib.Core.List.{List, [], _∷_, _++_, map, append-assoc}
 use Prim.Native.Nat.{ℕ, zero, suc, _<_}
 use native.Mathlib.Omega.{arith}
-use native.Mathlib.Nat.{le-of-suc-le-suc, not-suc-le-zero}
-use lib.Dec.{eqb}
 use lib.ListN.{length, getD}
 use Rattle.grammar.specs.Bytes.{Bytes}
 use Rattle.grammar.specs.Transfers.{sendable}
@@ -21,15 +19,14 @@ use Rattle.session_memory.specs.State.{loadOf}
 use Rattle.give.specs.declared.Reply.{Reply}
 use Rattle.log.specs.Log.{Event}
 use Rattle.demand3.specs.Demand as on-lists-run
-use Rattle.entries.specs.Decoded.{recordsOf, knownBids, placeCount, recordCount, entries}
+use Rattle.entries.specs.Decoded.{recordsOf, knownBids, placeCount, recordCount}
 use Rattle.marking.specs.States.{statesOf}
 use Rattle.entries.proofs.Laws.{entries-length}
 use Rattle.layout.specs.Layout.{recordSize, recordOf}
-use Rattle.represents.specs.Represents.{messagesOf}
 use Rattle.main_theorem.specs.Demand2.{callOf}
-use Rattle.main_theorem.specs.Calls.{Buffer, OpenCall, fixedIn, lentIn, receives, received, messageCount, openedBy}
+use Rattle.main_theorem.specs.Calls.{Buffer, fixedIn, receives, received, isCaller}
 use Rattle.main_theorem.specs.Demand2.{shelfIn}
-use Rattle.main_theorem.specs.Demand3.{CallsOn, finally, traced}
+use Rattle.main_theorem.specs.Demand3.{CallsOn, finally}
 use Rattle.main_theorem.proofs.Accepted.{table-good, table-sendable}
 use Rattle.main_theorem.proofs.Opening.{accepted}
 use Rattle.main_theorem.proofs.Demand2.{demand-2-lent}
@@ -43,13 +40,13 @@ use Rattle.two_nodes.specs.Session as on-lists-end
 use Rattle.two_nodes.specs.Series.{Node, Meeting, shelfOf, afterward, series, AllLinked, copies}
 use Rattle.two_nodes.specs.Series as on-lists
 use Rattle.two_nodes.proofs.Series.{two-nodes}
-use Rattle.two_nodes_lent.specs.Boxes.{Box, records, states, statesAfter, kept, events, CarriesOver, Visit, Chain, last, keptHere, keptThere, FqComes, NoneLeft, Parted, AllParted, Settled, TwoNodes, Claim}
+use Rattle.two_nodes_lent.specs.Boxes.{Box, records, states, statesAfter, kept, events, CarriesOver, Visit, Chain, last, keptHere, keptThere, FqComes, NoneLeft, Parted, AllParted, Settled, Claim}
 
 -- ---------------------------------------------------------------- one end
 
 -- the end on lists
 abbrev endOf : Box → End
-endOf x = record { shelf = shelfIn (x .opening); caller = eqb (x .opening .role) 1; states = states x; calls = map callOf (x .calls) }
+endOf x = record { shelf = shelfIn (x .opening); caller = isCaller (x .opening); states = states x; calls = map callOf (x .calls) }
 
 states-are : (x : Box) → statesAfter x ≡ on-lists-end.ran (endOf x) .memory .states
 states-are x = states-held (x .opening) (x .opens) (x .calls)
@@ -96,7 +93,7 @@ nodeOf x ms = record { table = records x; states = states x; known = knownBids (
 abbrev meetingOf : Visit → Meeting
 meetingOf v =
     record {
-      calls = eqb (v .here .opening .role) 1;
+      calls = isCaller (v .here .opening);
       placesHere = placeCount (v .here .opening .inbox .bytes);
       bytesHere = length (v .here .opening .store .bytes);
       callsHere = map callOf (v .here .calls);
@@ -186,7 +183,7 @@ at-last (w ∷ ws) v k l h =
 
 -- the session on lists after these calls
 abbrev sessionOf : (x : Box) → CallsOn (x .opening) → Session
-sessionOf x cs = (on-lists-run.run (shelfIn (x .opening)) (opened (eqb (x .opening .role) 1) (states x)) (map callOf cs)) .0
+sessionOf x cs = (on-lists-run.run (shelfIn (x .opening)) (opened (isCaller (x .opening)) (states x)) (map callOf cs)) .0
 
 answers-are : (x : Box) (cs : CallsOn (x .opening)) (b : Buffer)
     → received (fixedIn (x .opening)) (finally (x .opening) cs) (b .bytes) .reply .answer ≡ receive (shelfIn (x .opening)) (sessionOf x cs) (b .bytes) .answer
@@ -234,7 +231,7 @@ fq-on-lists : (x : Box) → FqComes x → on-lists-end.FqArrives (endOf x)
 unfolding nothing
 fq-on-lists x h =
     let E : Shelf = shelfIn (x .opening) in
-    let s : Session = opened (eqb (x .opening .role) 1) (states x) in
+    let s : Session = opened (isCaller (x .opening)) (states x) in
     let u : Session = sessionOf x (h .before) in
     record {
       before = map callOf (h .before);

@@ -5,7 +5,7 @@ use mathlib.Core.List.{List, [], _∷_, _++_}
 use mathlib.Core.Logic.{inl, inr}
 use Prim.Native.Nat.{ℕ, zero, suc, _<_}
 use native.Mathlib.Omega.{arith}
-use lib.Dec.{eqb, ltb}
+use lib.Dec.{eqb}
 use lib.ListN.{length, getD}
 use borrow.Author.Tests.{lt-ltb}
 use Rattle.grammar.specs.Bytes.{Bytes}
@@ -14,16 +14,15 @@ use Rattle.grammar.specs.Turns.{inMode}
 use Rattle.grammar.proofs.Basics.{no-both, or2}
 use Rattle.mail.specs.Mail.{Record, Message, recordAt}
 use Rattle.session.specs.Choices.{Shelf, among, recordBids, messageBids, haveBid}
-use Rattle.entries.specs.Decoded.{knownBids}
 use Rattle.main_theorem.specs.Demand2.{shelfIn}
-use Rattle.demand2.specs.OurTurn.{mayPropose}
 use Rattle.demand2.proofs.OurAnswers.{among-in}
 use Rattle.two_nodes.specs.Fates.{messageFor, Has}
 use Rattle.two_nodes.specs.Once.{hasBid, EachNew, KeptOnce}
 use Rattle.two_nodes.specs.Series.{copies}
+use Rattle.phase.specs.Phase.{stateWaiting}
 use Rattle.two_nodes.proofs.Series.{among-same, at-most-one}
 use Rattle.two_nodes_lent.specs.Boxes.{Box, records, statesAfter, Visit, NoneLeft, Parted, AllParted, Settled}
-use Rattle.two_nodes_lent.specs.InWords.{messageAt, Arrived, HasIt, inTable, inKnown, inKept, Means, flagOf, WhyWaiting, plainText, deferredNow, Waiting, Farewell, AllFarewells, NeverTwice, InWords, ClaimInWords}
+use Rattle.two_nodes_lent.specs.InWords.{messageAt, Arrived, HasIt, inTable, inKnown, inKept, Means, flagOf, WhyWaiting, plainText, deferredNow, Waiting, Farewell, AllFarewells, NeverTwice, ClaimInWords}
 use Rattle.two_nodes_lent.proofs.Boxes.{two-nodes-lent}
 
 -- ---------------------------------------------------------------- forwarded
@@ -79,7 +78,7 @@ waiting : (x : Box) → NoneLeft x → Waiting x
 waiting x h i k e =
     go (recordAt (records x) i .form) (eqb (flagOf x i) 0) refl refl
     (sym
-    (ap (λ (c : Bool). c && (inMode true (recordAt (records x) i .form) && (eqb (getD (statesAfter x) i 0) 0 && eqb (flagOf x i) 0))) (lt-ltb i (length (records x)) k)
+    (ap (λ (c : Bool). c && (inMode true (recordAt (records x) i .form) && (eqb (getD (statesAfter x) i 0) stateWaiting && eqb (flagOf x i) 0))) (lt-ltb i (length (records x)) k)
     ∙ ap (λ (n : ℕ). inMode true (recordAt (records x) i .form) && (eqb n 0 && eqb (flagOf x i) 0)) e)
     ∙ h i)
   where

@@ -1,18 +1,16 @@
 -- TWO NODES OVER LENT MEMORY: any number of sessions between two hosts of the library, each dropped at whatever byte. The proof is proofs/Boxes.
 use mathlib.Core.Path.{_≡_}
-use mathlib.Core.Bool.{Bool, true, false, not}
-use mathlib.Core.List.{List, [], _∷_, _++_, map}
+use mathlib.Core.Bool.{true, false, not}
+use mathlib.Core.List.{List, [], _∷_, _++_}
 use Prim.Native.Nat.{ℕ}
-use lib.Dec.{eqb}
-use lib.ListN.{length, getD}
+use lib.ListN.{getD}
 use Rattle.mail.specs.Mail.{Record, Message, recordAt}
 use Rattle.session.specs.Choices.{messageBids, haveBid}
 use Rattle.log.specs.Log.{Event}
-use Rattle.entries.specs.Decoded.{recordsOf, knownBids, placeCount}
+use Rattle.entries.specs.Decoded.{recordsOf, knownBids}
 use Rattle.marking.specs.States.{statesOf}
 use Rattle.represents.specs.Represents.{messagesOf}
-use Rattle.main_theorem.specs.Demand2.{callOf}
-use Rattle.main_theorem.specs.Calls.{Buffer, OpenCall, fixedIn, receives, received, messageCount, openedBy, statesIn}
+use Rattle.main_theorem.specs.Calls.{Buffer, OpenCall, fixedIn, receives, received, messageCount, openedBy, statesIn, isCaller}
 use Rattle.grammar.specs.Refusals.{sessionEnded}
 use Rattle.session_memory.specs.State.{loadOf}
 use Rattle.demand2.specs.OurTurn.{mayPropose}
@@ -22,6 +20,7 @@ use Rattle.two_nodes.specs.Link.{Linked}
 use Rattle.two_nodes.specs.Fates.{messageFor, Has}
 use Rattle.two_nodes.specs.Once.{KeptOnce}
 use Rattle.two_nodes.specs.Series.{copies}
+use Rattle.phase.specs.Phase.{stateWaiting, stateForwarded, stateDeclined}
 
 -- One end of one session: an accepted open, and the calls after it.
 pub record Box : Type 0 where
@@ -63,7 +62,7 @@ pub record CarriesOver (x y : Box) : Type 0 where
 pub record Visit : Type 0 where
   pub here : Box
   pub there : Box
-  pub roles : eqb (there .opening .role) 1 ≡ not (eqb (here .opening .role) 1)
+  pub roles : isCaller (there .opening) ≡ not (isCaller (here .opening))
   pub linked : Linked (events here) (events there)
 
 -- "one after another"
@@ -110,9 +109,9 @@ AllParted v (w ∷ ws) = Parted v × AllParted w ws
 
 -- Of the records of x, which waited at the start: x is its first end, z its last, y the other's first, ms all that the other has kept.
 pub record Settled (x z y : Box) (ms : List Message) : Type 0 where
-  pub forwarded : (i : ℕ) → getD (states x) i 0 ≡ 0 → getD (statesAfter z) i 0 ≡ 1
+  pub forwarded : (i : ℕ) → getD (states x) i 0 ≡ stateWaiting → getD (statesAfter z) i 0 ≡ stateForwarded
       → Has (messageFor (recordAt (records x) i)) ms × (copies (recordAt (records x) i .bid) ms ≡ 1)
-  pub declined : (i : ℕ) → getD (states x) i 0 ≡ 0 → getD (statesAfter z) i 0 ≡ 2
+  pub declined : (i : ℕ) → getD (states x) i 0 ≡ stateWaiting → getD (statesAfter z) i 0 ≡ stateDeclined
       → haveBid (shelfIn (y .opening)) ms [] (recordAt (records x) i .bid) ≡ true
 
 pub record TwoNodes (v : Visit) (ws : List Visit) : Type 0 where

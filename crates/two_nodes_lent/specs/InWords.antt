@@ -17,6 +17,7 @@ use Rattle.main_theorem.specs.Demand2.{shelfIn}
 use Rattle.main_theorem.specs.Demand3.{finally}
 use Rattle.two_nodes.specs.Once.{hasBid}
 use Rattle.two_nodes.specs.Series.{copies}
+use Rattle.phase.specs.Phase.{stateWaiting, stateForwarded, stateDeclined}
 use Rattle.two_nodes_lent.specs.Boxes.{Box, records, states, statesAfter, Visit, Chain, last, keptHere, keptThere, FqComes}
 
 abbrev pub noMessage : Message
@@ -55,8 +56,8 @@ pub data HasIt (b : Bytes) (table : List Record) (known : List Bytes) (ms : List
 -- Of the records of one node that waited at the start. x: its end of the first session, z: of the last; y: the other's of the first; ms: all that the
 -- other has kept.
 pub record Means (x z y : Box) (ms : List Message) : Type 0 where
-  pub forwarded : (i : ℕ) → getD (states x) i 0 ≡ 0 → getD (statesAfter z) i 0 ≡ 1 → Arrived (recordAt (records x) i) ms
-  pub declined : (i : ℕ) → getD (states x) i 0 ≡ 0 → getD (statesAfter z) i 0 ≡ 2
+  pub forwarded : (i : ℕ) → getD (states x) i 0 ≡ stateWaiting → getD (statesAfter z) i 0 ≡ stateForwarded → Arrived (recordAt (records x) i) ms
+  pub declined : (i : ℕ) → getD (states x) i 0 ≡ stateWaiting → getD (statesAfter z) i 0 ≡ stateDeclined
       → HasIt (recordAt (records x) i .bid) (records y) (knownBids (y .opening .known .bytes)) ms
 
 -- The deferral flag of a record in session memory.
@@ -69,7 +70,7 @@ pub data WhyWaiting (x : Box) (i : ℕ) : Type 0 where
   deferredNow : eqb (flagOf x i) 0 ≡ false → WhyWaiting x i
 
 abbrev pub Waiting : Box → Type 0
-Waiting x = (i : ℕ) → i < length (records x) → getD (statesAfter x) i 0 ≡ 0 → WhyWaiting x i
+Waiting x = (i : ℕ) → i < length (records x) → getD (statesAfter x) i 0 ≡ stateWaiting → WhyWaiting x i
 
 -- FQ came at one end: so it is at both.
 pub record Farewell (v : Visit) : Type 0 where

@@ -19,6 +19,7 @@ use Rattle.session_memory.specs.Session.{Session}
 use Rattle.session_memory.proofs.Laws.{array-in, array-length}
 use Rattle.waiting.specs.Waiting.{proposalAt, firstText, blockText, sendingText, thenText, waitingOf}
 use Rattle.waiting.specs.Pieces.{joined, blockPieces, sendingPieces, thenPieces, piecesOf}
+use Rattle.phase.specs.Phase.{blockLimit, pieceNone, pieceFF, pieceFQ, pieceBlock}
 
 -- ---------------------------------------------------------------- put together
 
@@ -35,24 +36,23 @@ sending-joined table titles names bodies [] = refl
 sending-joined table titles names bodies (i ∷ is) =
     ap (λ (r : Bytes). transferOf (recordOf titles names bodies (entryAt recordSize table i)) ++ r) (sending-joined table titles names bodies is)
 
-then-joined : (then : ℕ) (ours sending : Five) (table titles names bodies : Bytes)
-    → joined (thenPieces then ours sending table titles names bodies) ≡ thenText then ours sending table titles names bodies
+then-joined : (s : Session) (table titles names bodies : Bytes) → joined (thenPieces (s .say .then) s table titles names bodies) ≡ thenText s table titles names bodies
 unfolding thenPieces thenText joined
-then-joined then ours sending table titles names bodies = go (eqb then 0) (eqb then 1) (eqb then 2) (eqb then 3) refl refl refl refl
+then-joined s table titles names bodies = go (eqb (s .say .then) pieceNone) (eqb (s .say .then) pieceFF) (eqb (s .say .then) pieceFQ) (eqb (s .say .then) pieceBlock) refl refl refl refl
   where
-    go : (a b c d : Bool) → eqb then 0 ≡ a → eqb then 1 ≡ b → eqb then 2 ≡ c → eqb then 3 ≡ d
-        → joined (thenPieces then ours sending table titles names bodies) ≡ thenText then ours sending table titles names bodies
+    go : (a b c d : Bool) → eqb (s .say .then) pieceNone ≡ a → eqb (s .say .then) pieceFF ≡ b → eqb (s .say .then) pieceFQ ≡ c → eqb (s .say .then) pieceBlock ≡ d
+        → joined (thenPieces (s .say .then) s table titles names bodies) ≡ thenText s table titles names bodies
     go true b c d e f g h = rw e
     go false true c d e f g h = rw (e, f)
     go false false true d e f g h = rw (e, f, g)
-    go false false false true e f g h = simp (e, f, g, h) (block-joined table (held ours))
-    go false false false false e f g h = simp (e, f, g, h) (sending-joined table titles names bodies (held sending))
+    go false false false true e f g h = simp (e, f, g, h) (block-joined table (held (s .now .ours)))
+    go false false false false e f g h = simp (e, f, g, h) (sending-joined table titles names bodies (held (s .keep .sending)))
 
 -- THE PIECES ARE WHAT WAITS
 pub pieces-joined : (s : Session) (table titles names bodies : Bytes) → joined (piecesOf s table titles names bodies) ≡ waitingOf s table titles names bodies
 unfolding piecesOf waitingOf joined
 pieces-joined s table titles names bodies =
-    ap (λ (r : Bytes). firstText (s .say .first) (s .say .signs) ++ r) (then-joined (s .say .then) (s .now .ours) (s .keep .sending) table titles names bodies)
+    ap (λ (r : Bytes). firstText s ++ r) (then-joined s table titles names bodies)
 
 -- ---------------------------------------------------------------- from one piece on
 
@@ -68,31 +68,31 @@ module _ (ps : List Bytes) (k : ℕ) where
 -- ---------------------------------------------------------------- up to five numbers
 
 -- the first of up to five numbers, clipped as the code clips them
-pub held-clipped : (n : ℕ) (l : List ℕ) → length l ≡ 5 → take (min 5 n) l ≡ take n l
-held-clipped n l e = go (ltb n 5) refl
+pub held-clipped : (n : ℕ) (l : List ℕ) → length l ≡ blockLimit → take (min blockLimit n) l ≡ take n l
+held-clipped n l e = go (ltb n blockLimit) refl
   where
-    go : (b : Bool) → ltb n 5 ≡ b → take (min 5 n) l ≡ take n l
-    go true q = let h = ltb-true n 5 q in let m : min 5 n ≡ n = omega arith in rw m
+    go : (b : Bool) → ltb n blockLimit ≡ b → take (min blockLimit n) l ≡ take n l
+    go true q = let h = ltb-true n blockLimit q in let m : min blockLimit n ≡ n = omega arith in rw m
     go false q =
-        let h = ltb-false n 5 q in
-        let m : min 5 n ≡ 5 = omega arith in
-        rw m (take-all 5 l (omega arith) ∙ sym (take-all n l (omega arith)))
+        let h = ltb-false n blockLimit q in
+        let m : min blockLimit n ≡ blockLimit = omega arith in
+        rw m (take-all blockLimit l (omega arith) ∙ sym (take-all n l (omega arith)))
 
-pub held-in-use : (f : Five) (n : ℕ) → n ≡ min 5 (f .count) → length (f .items) ≡ 5 → take n (f .items) ≡ held f
+pub held-in-use : (f : Five) (n : ℕ) → n ≡ min blockLimit (f .count) → length (f .items) ≡ blockLimit → take n (f .items) ≡ held f
 held-in-use f n e h = ap (λ (m : ℕ). take m (f .items)) e ∙ held-clipped (f .count) (f .items) h
 
 -- up to five numbers where they stand in session memory: their count, then they
-module _ (sm : Bytes) (a : ℕ) (h : a + 6 ≤ length sm) where
-  pub item-read : (k : ℕ) → 1 ≤ k → k ≤ 5 → byteAt sm (a + k) ≡ getD (fiveAt sm a .items) (k - 1) 0
+module _ (sm : Bytes) (a : ℕ) (h : a + (1 + blockLimit) ≤ length sm) where
+  pub item-read : (k : ℕ) → 1 ≤ k → k ≤ blockLimit → byteAt sm (a + k) ≡ getD (fiveAt sm a .items) (k - 1) 0
   item-read k m n =
       let e : a + 1 + (k - 1) ≡ a + k = omega arith in
-      sym (ap (λ (l : Bytes). getD l (k - 1) 0) (array-in 5 sm (a + 1) (omega arith)) ∙ getD-take 5 (drop (a + 1) sm) (k - 1) 0 (omega arith)
+      sym (ap (λ (l : Bytes). getD l (k - 1) 0) (array-in blockLimit sm (a + 1) (omega arith)) ∙ getD-take blockLimit (drop (a + 1) sm) (k - 1) 0 (omega arith)
       ∙ getD-drop (a + 1) sm (k - 1) 0 ∙ ap (byteAt sm) e)
 
-  pub held-read : (n : ℕ) → n ≡ min 5 (byteAt sm a) → take n (drop (a + 1) sm) ≡ held (fiveAt sm a)
+  pub held-read : (n : ℕ) → n ≡ min blockLimit (byteAt sm a) → take n (drop (a + 1) sm) ≡ held (fiveAt sm a)
   held-read n q =
-      sym (take-take n 5 (drop (a + 1) sm) (omega arith)) ∙ ap (take n) (sym (array-in 5 sm (a + 1) (omega arith)))
-      ∙ held-in-use (fiveAt sm a) n q (array-length 5 sm (a + 1))
+      sym (take-take n blockLimit (drop (a + 1) sm) (omega arith)) ∙ ap (take n) (sym (array-in blockLimit sm (a + 1) (omega arith)))
+      ∙ held-in-use (fiveAt sm a) n q (array-length blockLimit sm (a + 1))
 
 -- ---------------------------------------------------------------- how many
 
@@ -106,48 +106,48 @@ unfolding sendingPieces
 sending-count table titles names bodies [] = refl
 sending-count table titles names bodies (i ∷ is) = omega (arith, sending-count table titles names bodies is)
 
-held-length : (f : Five) (n : ℕ) → n ≡ min 5 (f .count) → length (f .items) ≡ 5 → length (held f) ≡ n
+held-length : (f : Five) (n : ℕ) → n ≡ min blockLimit (f .count) → length (f .items) ≡ blockLimit → length (held f) ≡ n
 held-length f n q h = length-take (f .count) (f .items) ∙ (omega arith)
 
 -- the pieces after the first, by the number of what is said
-module _ (ours sending : Five) (table titles names bodies : Bytes) where
+module _ (s : Session) (table titles names bodies : Bytes) where
   abbrev after : ℕ → List Bytes
-  after n = thenPieces n ours sending table titles names bodies
+  after n = thenPieces n s table titles names bodies
 
-  after-fixed : (n : ℕ) → (n ≡ 0 → ⊥) → n < 3 → length (after n) ≡ 1
+  after-fixed : (n : ℕ) → (n ≡ 0 → ⊥) → n < pieceBlock → length (after n) ≡ 1
   unfolding thenPieces
   after-fixed zero z h = absurd (z refl)
   after-fixed (suc zero) z h = refl
   after-fixed (suc (suc zero)) z h = refl
   after-fixed (suc (suc (suc n))) z h = absurd (omega arith)
 
-  after-block : (n : ℕ) → n ≡ 3 → after n ≡ blockPieces table (held ours)
+  after-block : (n : ℕ) → n ≡ pieceBlock → after n ≡ blockPieces table (held (s .now .ours))
   unfolding thenPieces
   after-block n e = ap after e
 
-  after-sending : (n : ℕ) → 3 ≤ n → (n ≡ 3 → ⊥) → after n ≡ sendingPieces table titles names bodies (held sending)
+  after-sending : (n : ℕ) → pieceBlock ≤ n → (n ≡ pieceBlock → ⊥) → after n ≡ sendingPieces table titles names bodies (held (s .keep .sending))
   unfolding thenPieces
-  after-sending n g m = rw (ne-eqb n 0 (λ e. omega arith), ne-eqb n 1 (λ e. omega arith), ne-eqb n 2 (λ e. omega arith), ne-eqb n 3 m)
+  after-sending n g m = rw (ne-eqb n pieceNone (λ e. omega arith), ne-eqb n pieceFF (λ e. omega arith), ne-eqb n pieceFQ (λ e. omega arith), ne-eqb n pieceBlock m)
 
 module _ (s : Session) (table titles names bodies : Bytes) where
-  pub count-none : s .say .then ≡ 0 → 1 ≡ length (piecesOf s table titles names bodies)
+  pub count-none : s .say .then ≡ pieceNone → 1 ≡ length (piecesOf s table titles names bodies)
   unfolding piecesOf thenPieces
-  count-none e = rw (eq-eqb (s .say .then) 0 e)
+  count-none e = rw (eq-eqb (s .say .then) pieceNone e)
 
-  pub count-fixed : (s .say .then ≡ 0 → ⊥) → s .say .then < 3 → 2 ≡ length (piecesOf s table titles names bodies)
+  pub count-fixed : (s .say .then ≡ pieceNone → ⊥) → s .say .then < pieceBlock → 2 ≡ length (piecesOf s table titles names bodies)
   unfolding piecesOf
-  count-fixed n h = omega (arith, after-fixed (s .now .ours) (s .keep .sending) table titles names bodies (s .say .then) n h)
+  count-fixed n h = omega (arith, after-fixed s table titles names bodies (s .say .then) n h)
 
-  pub count-block : s .say .then ≡ 3 → {n : ℕ} → n ≡ min 5 (s .now .ours .count) → length (s .now .ours .items) ≡ 5 → n + 2 ≡ length (piecesOf s table titles names bodies)
+  pub count-block : s .say .then ≡ pieceBlock → {n : ℕ} → n ≡ min blockLimit (s .now .ours .count) → length (s .now .ours .items) ≡ blockLimit → n + 2 ≡ length (piecesOf s table titles names bodies)
   unfolding piecesOf
   count-block e {n} q h =
-      omega (arith, ap length (after-block (s .now .ours) (s .keep .sending) table titles names bodies (s .say .then) e), block-count table (held (s .now .ours)), held-length (s .now .ours) n q h)
+      omega (arith, ap length (after-block s table titles names bodies (s .say .then) e), block-count table (held (s .now .ours)), held-length (s .now .ours) n q h)
 
-  pub count-sending : 3 ≤ s .say .then → (s .say .then ≡ 3 → ⊥) → {n : ℕ} → n ≡ min 5 (s .keep .sending .count) → length (s .keep .sending .items) ≡ 5
+  pub count-sending : pieceBlock ≤ s .say .then → (s .say .then ≡ pieceBlock → ⊥) → {n : ℕ} → n ≡ min blockLimit (s .keep .sending .count) → length (s .keep .sending .items) ≡ blockLimit
       → n + 1 ≡ length (piecesOf s table titles names bodies)
   unfolding piecesOf
   count-sending g m {n} q h =
-      omega (arith, ap length (after-sending (s .now .ours) (s .keep .sending) table titles names bodies (s .say .then) g m), sending-count table titles names bodies (held (s .keep .sending)), held-length (s .keep .sending) n q h)
+      omega (arith, ap length (after-sending s table titles names bodies (s .say .then) g m), sending-count table titles names bodies (held (s .keep .sending)), held-length (s .keep .sending) n q h)
 
 -- ---------------------------------------------------------------- which is which
 
@@ -166,7 +166,7 @@ module _ (table : Bytes) where
   block-last (i ∷ is) zero h = absurd (omega arith)
   block-last (i ∷ is) (suc j) h = block-last is j (omega arith)
 
-  module _ (ours : Five) (h : length (ours .items) ≡ 5) (k : ℕ) (p : 1 ≤ k) {n : ℕ} (q : n ≡ min 5 (ours .count)) where
+  module _ (ours : Five) (h : length (ours .items) ≡ blockLimit) (k : ℕ) (p : 1 ≤ k) {n : ℕ} (q : n ≡ min blockLimit (ours .count)) where
     pub block-end : n < k → k - 1 < length (blockPieces table (held ours)) → getD (blockPieces table (held ours)) (k - 1) [] ≡ withCr (fixedText ourEnd)
     block-end g b = block-last (held ours) (k - 1) (omega (arith, block-count table (held ours), held-length ours n q h))
 
@@ -190,7 +190,7 @@ getD-past p ps zero h = absurd (omega arith)
 getD-past p ps (suc k) h = let e : suc k - 1 ≡ k = omega arith in ap (λ (j : ℕ). getD ps j []) (sym e)
 
 module _ (s : Session) (table titles names bodies : Bytes) where
-  pub piece-first : getD (piecesOf s table titles names bodies) 0 [] ≡ firstText (s .say .first) (s .say .signs)
+  pub piece-first : getD (piecesOf s table titles names bodies) 0 [] ≡ firstText s
   unfolding piecesOf
   piece-first = refl
 
@@ -198,45 +198,45 @@ module _ (s : Session) (table titles names bodies : Bytes) where
     one : 1 ≤ k
     one = omega (arith, p)
 
-    past : getD (piecesOf s table titles names bodies) k [] ≡ getD (thenPieces (s .say .then) (s .now .ours) (s .keep .sending) table titles names bodies) (k - 1) []
+    past : getD (piecesOf s table titles names bodies) k [] ≡ getD (thenPieces (s .say .then) s table titles names bodies) (k - 1) []
     unfolding piecesOf
-    past = getD-past (firstText (s .say .first) (s .say .signs)) (thenPieces (s .say .then) (s .now .ours) (s .keep .sending) table titles names bodies) k one
+    past = getD-past (firstText s) (thenPieces (s .say .then) s table titles names bodies) k one
 
-    bound : k - 1 < length (thenPieces (s .say .then) (s .now .ours) (s .keep .sending) table titles names bodies)
+    bound : k - 1 < length (thenPieces (s .say .then) s table titles names bodies)
     unfolding piecesOf
     bound = omega (arith, one)
 
     -- a fixed line: the only piece after the first
-    pub piece-fixed : (n : ℕ) → (n ≡ 0 → ⊥) → n < 3 → s .say .then ≡ n
-        → getD (piecesOf s table titles names bodies) k [] ≡ getD (thenPieces n (s .now .ours) (s .keep .sending) table titles names bodies) 0 []
+    pub piece-fixed : (n : ℕ) → (n ≡ 0 → ⊥) → n < pieceBlock → s .say .then ≡ n
+        → getD (piecesOf s table titles names bodies) k [] ≡ getD (thenPieces n s table titles names bodies) 0 []
     piece-fixed n z h e =
-        let f : length (thenPieces n (s .now .ours) (s .keep .sending) table titles names bodies) ≡ 1 = after-fixed (s .now .ours) (s .keep .sending) table titles names bodies n z h in
-        let g : k - 1 ≡ 0 = omega (arith, bound, f, ap (λ (m : ℕ). length (thenPieces m (s .now .ours) (s .keep .sending) table titles names bodies)) e) in
-        past ∙ ap (λ (m : ℕ). getD (thenPieces m (s .now .ours) (s .keep .sending) table titles names bodies) (k - 1) []) e
-        ∙ ap (λ (j : ℕ). getD (thenPieces n (s .now .ours) (s .keep .sending) table titles names bodies) j []) g
+        let f : length (thenPieces n s table titles names bodies) ≡ 1 = after-fixed s table titles names bodies n z h in
+        let g : k - 1 ≡ 0 = omega (arith, bound, f, ap (λ (m : ℕ). length (thenPieces m s table titles names bodies)) e) in
+        past ∙ ap (λ (m : ℕ). getD (thenPieces m s table titles names bodies) (k - 1) []) e
+        ∙ ap (λ (j : ℕ). getD (thenPieces n s table titles names bodies) j []) g
 
-    pub piece-FF : s .say .then ≡ 1 → withCr (fixedText ourFF) ≡ getD (piecesOf s table titles names bodies) k []
+    pub piece-FF : s .say .then ≡ pieceFF → withCr (fixedText ourFF) ≡ getD (piecesOf s table titles names bodies) k []
     unfolding thenPieces
     piece-FF e = sym (piece-fixed 1 (λ z. omega arith) (omega arith) e)
 
-    pub piece-FQ : s .say .then ≡ 2 → withCr (fixedText ourFQ) ≡ getD (piecesOf s table titles names bodies) k []
+    pub piece-FQ : s .say .then ≡ pieceFQ → withCr (fixedText ourFQ) ≡ getD (piecesOf s table titles names bodies) k []
     unfolding thenPieces
     piece-FQ e = sym (piece-fixed 2 (λ z. omega arith) (omega arith) e)
 
     -- a piece of our block
-    pub piece-block : s .say .then ≡ 3 → getD (blockPieces table (held (s .now .ours))) (k - 1) [] ≡ getD (piecesOf s table titles names bodies) k []
-    piece-block e = sym (past ∙ ap (λ (ps : List Bytes). getD ps (k - 1) []) (after-block (s .now .ours) (s .keep .sending) table titles names bodies (s .say .then) e))
+    pub piece-block : s .say .then ≡ pieceBlock → getD (blockPieces table (held (s .now .ours))) (k - 1) [] ≡ getD (piecesOf s table titles names bodies) k []
+    piece-block e = sym (past ∙ ap (λ (ps : List Bytes). getD ps (k - 1) []) (after-block s table titles names bodies (s .say .then) e))
 
-    pub bound-block : s .say .then ≡ 3 → (1 ≤ k) × (k - 1 < length (blockPieces table (held (s .now .ours))))
-    bound-block e = (one, omega (arith, bound, ap length (after-block (s .now .ours) (s .keep .sending) table titles names bodies (s .say .then) e)))
+    pub bound-block : s .say .then ≡ pieceBlock → (1 ≤ k) × (k - 1 < length (blockPieces table (held (s .now .ours))))
+    bound-block e = (one, omega (arith, bound, ap length (after-block s table titles names bodies (s .say .then) e)))
 
     -- a transfer
-    module _ (g : 3 ≤ s .say .then) (m : s .say .then ≡ 3 → ⊥) (h : length (s .keep .sending .items) ≡ 5) where
+    module _ (g : pieceBlock ≤ s .say .then) (m : s .say .then ≡ pieceBlock → ⊥) (h : length (s .keep .sending .items) ≡ blockLimit) where
       sent : k - 1 < length (held (s .keep .sending))
       sent =
-          omega (arith, bound, ap length (after-sending (s .now .ours) (s .keep .sending) table titles names bodies (s .say .then) g m), sending-count table titles names bodies (held (s .keep .sending)))
+          omega (arith, bound, ap length (after-sending s table titles names bodies (s .say .then) g m), sending-count table titles names bodies (held (s .keep .sending)))
 
-      pub bound-sent : (1 ≤ k) × (k ≤ 5)
+      pub bound-sent : (1 ≤ k) × (k ≤ blockLimit)
       bound-sent = (one, omega (arith, sent, length-take (s .keep .sending .count) (s .keep .sending .items)))
 
       pub piece-sent : transferOf (recordOf titles names bodies (entryAt recordSize table (getD (s .keep .sending .items) (k - 1) 0)))
@@ -244,6 +244,6 @@ module _ (s : Session) (table titles names bodies : Bytes) where
       piece-sent =
           let c : k - 1 < s .keep .sending .count = omega (arith, sent, length-take (s .keep .sending .count) (s .keep .sending .items)) in
           sym
-          (past ∙ ap (λ (ps : List Bytes). getD ps (k - 1) []) (after-sending (s .now .ours) (s .keep .sending) table titles names bodies (s .say .then) g m)
+          (past ∙ ap (λ (ps : List Bytes). getD ps (k - 1) []) (after-sending s table titles names bodies (s .say .then) g m)
           ∙ sending-item table titles names bodies (held (s .keep .sending)) (k - 1) sent
           ∙ ap (λ (i : ℕ). transferOf (recordOf titles names bodies (entryAt recordSize table i))) (getD-take (s .keep .sending .count) (s .keep .sending .items) (k - 1) 0 c))

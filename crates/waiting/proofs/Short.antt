@@ -9,10 +9,10 @@ use lib.Dec.{eqb, leb, ltb}
 use lib.ListN.{length, take, drop, length-append, length-take, length-drop, List·getD-eq-default}
 use lib.Seq.{getD-take, getD-drop}
 use borrow.Author.Tests.{ltb-true, ltb-false}
-use Rattle.grammar.specs.Bytes.{Bytes}
-use Rattle.grammar.specs.Fields.{Form, plain, message, file}
+use Rattle.grammar.specs.Bytes.{Bytes, byteValues}
+use Rattle.grammar.specs.Fields.{Form, plain, message, file, bodyLimit}
 use Rattle.grammar.specs.Turns.{proposalLine, withCr}
-use Rattle.grammar.specs.Transfers.{partOf, writeTransfer, blocksOut}
+use Rattle.grammar.specs.Transfers.{partOf, writeTransfer, blocksOut, dataMax}
 use Rattle.grammar.proofs.Basics.{by-cond}
 use Rattle.grammar.proofs.Fields.{num-field}
 use Rattle.mail.specs.Mail.{Record, headingFor, transferOf, proposalLines, turnText}
@@ -24,6 +24,7 @@ use Rattle.session_memory.specs.State.{held}
 use Rattle.session_memory.specs.declared.Five.{Five}
 use Rattle.session_memory.specs.Session.{Session}
 use Rattle.places.specs.Places.{callMax, atMax, bidMax, recordLen, recordFrom, recordAt, recordTo, recordBid, recordTitle, recordTitleLength, recordName, recordNameLength, recordBody, recordBodyLength}
+use Rattle.phase.specs.Phase.{pieceNone, pieceSidAndPrompt, pieceSid, pieceProtocolError, pieceChecksumError, pieceFF, pieceFQ, pieceBlock, blockLimit}
 use Rattle.waiting.specs.Waiting.{proposalAt, firstText, blockText, sendingText, thenText, waitingOf}
 
 -- ---------------------------------------------------------------- parts, fields and lists of five
@@ -31,19 +32,35 @@ use Rattle.waiting.specs.Waiting.{proposalAt, firstText, blockText, send
 field-short : (n at : ℕ) (s : Bytes) → length (fieldIn n at s) ≤ n
 field-short n at s = omega (arith, part-short s (at + 1) (min n (byteAt s at)))
 
-held-short : (f : Five) → length (f .items) ≡ 5 → length (held f) ≤ 5
+-- Bounds that all of these keep, with room to spare.
+abbrev pub lineBound : ℕ
+lineBound = 90
+
+abbrev pub firstBound : ℕ
+firstBound = 20
+
+abbrev pub transferBound : ℕ
+transferBound = 200000
+
+abbrev pub thenBound : ℕ
+thenBound = 10 * transferBound
+
+abbrev pub waitingBound : ℕ
+waitingBound = firstBound + thenBound
+
+held-short : (f : Five) → length (f .items) ≡ blockLimit → length (held f) ≤ blockLimit
 held-short f h = simp length-take (omega arith)
 
 -- ---------------------------------------------------------------- a line, a transfer
 
-line-short : (table : Bytes) (i : ℕ) → length (withCr (proposalLine (proposalAt table i))) ≤ 90
+line-short : (table : Bytes) (i : ℕ) → length (withCr (proposalLine (proposalAt table i))) ≤ lineBound
 unfolding proposalLine
 line-short table i =
     let c = entryAt recordSize table i in
     let d = num-field 9 (proposalAt table i .size) .most in
     simp length-append (omega (arith, field-short callMax recordFrom c, field-short atMax recordAt c, field-short callMax recordTo c, field-short bidMax recordBid c))
 
-lines-short : (table : Bytes) (is : List ℕ) → length (proposalLines (map (proposalAt table) is)) ≤ 90 * length is
+lines-short : (table : Bytes) (is : List ℕ) → length (proposalLines (map (proposalAt table) is)) ≤ lineBound * length is
 lines-short table [] = omega arith
 lines-short table (i ∷ is) =
     omega (arith, length-append (withCr (proposalLine (proposalAt table i))) (proposalLines (map (proposalAt table) is)), lines-short table is, line-short table i)
@@ -52,66 +69,66 @@ blocks-short : (f : ℕ) (x : Bytes) → length (blocksOut f x) ≤ 3 * length x
 blocks-short zero x = omega arith
 blocks-short (suc f) [] = omega arith
 blocks-short (suc f) (b ∷ x) =
-    simp length-append (omega (arith, blocks-short f (drop 256 (b ∷ x)), length-drop 256 (b ∷ x), length-take 256 (b ∷ x)))
+    simp length-append (omega (arith, blocks-short f (drop dataMax (b ∷ x)), length-drop dataMax (b ∷ x), length-take dataMax (b ∷ x)))
 
-pub transfer-short : (f : Form) (h x : Bytes) → length h ≤ 255 → length x ≤ 65535 → length (writeTransfer f h x) ≤ 200000
+pub transfer-short : (f : Form) (h x : Bytes) → length h ≤ byteValues - 1 → length x ≤ bodyLimit → length (writeTransfer f h x) ≤ transferBound
 unfolding writeTransfer
 transfer-short plain h x k l = simp length-append (omega arith)
 transfer-short message h x k l = simp length-append (omega (arith, blocks-short (length x) x))
 transfer-short file h x k l = simp length-append (omega (arith, blocks-short (length x) x))
 
-pub heading-short : (f : Form) (r : Record) → length (r .title) ≤ 255 → length (r .name) ≤ 255 → length (headingFor f r) ≤ 255
+pub heading-short : (f : Form) (r : Record) → length (r .title) ≤ byteValues - 1 → length (r .name) ≤ byteValues - 1 → length (headingFor f r) ≤ byteValues - 1
 heading-short plain r t n = t
 heading-short message r t n = t
 heading-short file r t n = n
 
 -- of any table of bytes
-pub record-short : (table titles names bodies : Bytes) → ((i : ℕ) → byteAt table i < 256) → (i : ℕ)
-    → length (transferOf (recordOf titles names bodies (entryAt recordSize table i))) ≤ 200000
+pub record-short : (table titles names bodies : Bytes) → ((i : ℕ) → byteAt table i < byteValues) → (i : ℕ)
+    → length (transferOf (recordOf titles names bodies (entryAt recordSize table i))) ≤ transferBound
 record-short table titles names bodies o i =
     let c : Bytes = entryAt recordSize table i in
     let r : Record = recordOf titles names bodies c in
-    let b : (j : ℕ) → byteAt c j < 256 = part-octets table o (i * recordLen) recordLen in
-    let t : length (r .title) ≤ 255 = omega (arith, part-short titles (le4At c recordTitle) (byteAt c recordTitleLength), b recordTitleLength) in
-    let n : length (r .name) ≤ 255 = omega (arith, part-short names (le4At c recordName) (byteAt c recordNameLength), b recordNameLength) in
-    let x : length (r .body) ≤ 65535 = omega (arith, part-short bodies (le4At c recordBody) (le2At c recordBodyLength), le2-small c b recordBodyLength) in
+    let b : (j : ℕ) → byteAt c j < byteValues = part-octets table o (i * recordLen) recordLen in
+    let t : length (r .title) ≤ byteValues - 1 = omega (arith, part-short titles (le4At c recordTitle) (byteAt c recordTitleLength), b recordTitleLength) in
+    let n : length (r .name) ≤ byteValues - 1 = omega (arith, part-short names (le4At c recordName) (byteAt c recordNameLength), b recordNameLength) in
+    let x : length (r .body) ≤ bodyLimit = omega (arith, part-short bodies (le4At c recordBody) (le2At c recordBodyLength), le2-small c b recordBodyLength) in
     transfer-short (r .form) (headingFor (r .form) r) (r .body) (heading-short (r .form) r t n) x
 
 -- ---------------------------------------------------------------- all that waits
 
-first-short : (first : ℕ) (signs : Five) → length (signs .items) ≡ 5 → length (firstText first signs) ≤ 20
+first-short : (s : Session) → length (s .say .signs .items) ≡ blockLimit → length (firstText s) ≤ firstBound
 unfolding firstText fsText
-first-short first signs h =
-    let P : Bytes → Type 0 = λ l. length l ≤ 20 in
-    by-cond P (eqb first 0) (omega arith)
-    (by-cond P (eqb first 1) (omega arith)
-    (by-cond P (eqb first 2) (omega arith)
-    (by-cond P (eqb first 4) (omega arith)
-    (by-cond P (eqb first 5) (omega arith)
-    (simp length-append (omega (arith, held-short signs h)))))))
+first-short s h =
+    let P : Bytes → Type 0 = λ l. length l ≤ firstBound in
+    by-cond P (eqb (s .say .first) pieceNone) (omega arith)
+    (by-cond P (eqb (s .say .first) pieceSidAndPrompt) (omega arith)
+    (by-cond P (eqb (s .say .first) pieceSid) (omega arith)
+    (by-cond P (eqb (s .say .first) pieceProtocolError) (omega arith)
+    (by-cond P (eqb (s .say .first) pieceChecksumError) (omega arith)
+    (simp length-append (omega (arith, held-short (s .say .signs) h)))))))
 
-module _ (table titles names bodies : Bytes) (short : (i : ℕ) → length (transferOf (recordOf titles names bodies (entryAt recordSize table i))) ≤ 200000) where
-  sending-short : (is : List ℕ) → length (sendingText table titles names bodies is) ≤ 200000 * length is
+module _ (table titles names bodies : Bytes) (short : (i : ℕ) → length (transferOf (recordOf titles names bodies (entryAt recordSize table i))) ≤ transferBound) where
+  sending-short : (is : List ℕ) → length (sendingText table titles names bodies is) ≤ transferBound * length is
   unfolding sendingText
   sending-short [] = omega arith
   sending-short (i ∷ is) = simp length-append (omega (arith, short i, sending-short is))
 
-  then-short : (then : ℕ) (ours sending : Five) → length (ours .items) ≡ 5 → length (sending .items) ≡ 5
-      → length (thenText then ours sending table titles names bodies) ≤ 2000000
+  then-short : (s : Session) → length (s .now .ours .items) ≡ blockLimit → length (s .keep .sending .items) ≡ blockLimit
+      → length (thenText s table titles names bodies) ≤ thenBound
   unfolding thenText blockText turnText
-  then-short then ours sending f g =
-      let P : Bytes → Type 0 = λ l. length l ≤ 2000000 in
-      by-cond P (eqb then 0) (omega arith)
-      (by-cond P (eqb then 1) (omega arith)
-      (by-cond P (eqb then 2) (omega arith)
-      (by-cond P (eqb then 3)
-      (simp length-append (omega (arith, lines-short table (held ours), held-short ours f)))
-      (omega (arith, sending-short (held sending), held-short sending g)))))
+  then-short s f g =
+      let P : Bytes → Type 0 = λ l. length l ≤ thenBound in
+      by-cond P (eqb (s .say .then) pieceNone) (omega arith)
+      (by-cond P (eqb (s .say .then) pieceFF) (omega arith)
+      (by-cond P (eqb (s .say .then) pieceFQ) (omega arith)
+      (by-cond P (eqb (s .say .then) pieceBlock)
+      (simp length-append (omega (arith, lines-short table (held (s .now .ours)), held-short (s .now .ours) f)))
+      (omega (arith, sending-short (held (s .keep .sending)), held-short (s .keep .sending) g)))))
 
   -- THE LAW
-  pub waiting-short : (s : Session) → length (s .now .ours .items) ≡ 5 → length (s .say .signs .items) ≡ 5 → length (s .keep .sending .items) ≡ 5
-      → length (waitingOf s table titles names bodies) ≤ 2000020
+  pub waiting-short : (s : Session) → length (s .now .ours .items) ≡ blockLimit → length (s .say .signs .items) ≡ blockLimit → length (s .keep .sending .items) ≡ blockLimit
+      → length (waitingOf s table titles names bodies) ≤ waitingBound
   unfolding waitingOf
   waiting-short s f g h =
       simp length-append
-      (omega (arith, first-short (s .say .first) (s .say .signs) g, then-short (s .say .then) (s .now .ours) (s .keep .sending) f h))
+      (omega (arith, first-short s g, then-short s f h))

@@ -9,7 +9,6 @@ use Rattle.grammar.specs.Turns.{fixedText, withCr, proposalLine, ourFF, ourFQ, 
 use Rattle.mail.specs.Mail.{transferOf}
 use Rattle.layout.specs.Layout.{entryAt, recordSize, recordOf}
 use Rattle.session_memory.specs.State.{held}
-use Rattle.session_memory.specs.declared.Five.{Five}
 use Rattle.session_memory.specs.Session.{Session}
 use Rattle.phase.specs.Phase.{pieceNone, pieceFF, pieceFQ, pieceBlock}
 use Rattle.waiting.specs.Waiting.{proposalAt, firstText}
@@ -29,15 +28,15 @@ sendingPieces table titles names bodies [] = []
 sendingPieces table titles names bodies (i ∷ is) =
     transferOf (recordOf titles names bodies (entryAt recordSize table i)) ∷ sendingPieces table titles names bodies is
 
-unfoldable pub thenPieces : ℕ → Five → Five → Bytes → Bytes → Bytes → Bytes → List Bytes
-thenPieces then ours sending table titles names bodies =
-    cond (eqb then pieceNone) []
-    (cond (eqb then pieceFF) (withCr (fixedText ourFF) ∷ [])
-    (cond (eqb then pieceFQ) (withCr (fixedText ourFQ) ∷ [])
-    (cond (eqb then pieceBlock) (blockPieces table (held ours))
-    (sendingPieces table titles names bodies (held sending)))))
+-- the pieces after the first, by this number
+unfoldable pub thenPieces : ℕ → Session → Bytes → Bytes → Bytes → Bytes → List Bytes
+thenPieces n s table titles names bodies =
+    cond (eqb n pieceNone) []
+    (cond (eqb n pieceFF) (withCr (fixedText ourFF) ∷ [])
+    (cond (eqb n pieceFQ) (withCr (fixedText ourFQ) ∷ [])
+    (cond (eqb n pieceBlock) (blockPieces table (held (s .now .ours)))
+    (sendingPieces table titles names bodies (held (s .keep .sending))))))
 
 -- ALL PIECES THAT WAIT
 unfoldable pub piecesOf : Session → Bytes → Bytes → Bytes → Bytes → List Bytes
-piecesOf s table titles names bodies =
-    firstText (s .say .first) (s .say .signs) ∷ thenPieces (s .say .then) (s .now .ours) (s .keep .sending) table titles names bodies
+piecesOf s table titles names bodies = firstText s ∷ thenPieces (s .say .then) s table titles names bodies

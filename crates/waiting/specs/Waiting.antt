@@ -14,7 +14,6 @@ use Rattle.places.specs.Places.{recordTitle, recordName}
 use Rattle.record_text.specs.Texts.{fileForm}
 use Rattle.our_line.specs.Lines.{fsText}
 use Rattle.session_memory.specs.State.{held}
-use Rattle.session_memory.specs.declared.Five.{Five}
 use Rattle.session_memory.specs.Session.{Session}
 
 -- The proposal of the record at a place of the table.
@@ -25,15 +24,18 @@ proposalAt table i = mail.proposalOf (recordOf [] [] [] (entryAt recordSize tabl
 abbrev pub headingPlace : ℕ → ℕ
 headingPlace form = cond (eqb form fileForm) recordName recordTitle
 
--- What is said first; any number without a name of its own: the FS line of our signs
-unfoldable pub firstText : ℕ → Five → Bytes
-firstText first signs =
-    cond (eqb first pieceNone) []
-    (cond (eqb first pieceSidAndPrompt) (withCr (fixedText ourSid) ++ withCr (fixedText ourPrompt))
-    (cond (eqb first pieceSid) (withCr (fixedText ourSid))
-    (cond (eqb first pieceProtocolError) (withCr (fixedText protocolError))
-    (cond (eqb first pieceChecksumError) (withCr (fixedText checksumError))
-    (fsText (held signs))))))
+-- What is said first by this number; any without a name of its own: the FS line of our signs
+abbrev pub firstBy : ℕ → Session → Bytes
+firstBy n s =
+    cond (eqb n pieceNone) []
+    (cond (eqb n pieceSidAndPrompt) (withCr (fixedText ourSid) ++ withCr (fixedText ourPrompt))
+    (cond (eqb n pieceSid) (withCr (fixedText ourSid))
+    (cond (eqb n pieceProtocolError) (withCr (fixedText protocolError))
+    (cond (eqb n pieceChecksumError) (withCr (fixedText checksumError))
+    (fsText (held (s .say .signs)))))))
+
+unfoldable pub firstText : Session → Bytes
+firstText s = firstBy (s .say .first) s
 
 -- "one to five proposals and `F>`"
 unfoldable pub blockText : Bytes → List ℕ → Bytes
@@ -45,16 +47,18 @@ sendingText table titles names bodies [] = []
 sendingText table titles names bodies (i ∷ is) =
     mail.transferOf (recordOf titles names bodies (entryAt recordSize table i)) ++ sendingText table titles names bodies is
 
--- What is said after it; any number without a name of its own: the transfers of the records being sent
-unfoldable pub thenText : ℕ → Five → Five → Bytes → Bytes → Bytes → Bytes → Bytes
-thenText then ours sending table titles names bodies =
-    cond (eqb then pieceNone) []
-    (cond (eqb then pieceFF) (withCr (fixedText ourFF))
-    (cond (eqb then pieceFQ) (withCr (fixedText ourFQ))
-    (cond (eqb then pieceBlock) (blockText table (held ours))
-    (sendingText table titles names bodies (held sending)))))
+-- What is said after it by this number; any without a name of its own: the transfers of the records being sent
+abbrev pub thenBy : ℕ → Session → Bytes → Bytes → Bytes → Bytes → Bytes
+thenBy n s table titles names bodies =
+    cond (eqb n pieceNone) []
+    (cond (eqb n pieceFF) (withCr (fixedText ourFF))
+    (cond (eqb n pieceFQ) (withCr (fixedText ourFQ))
+    (cond (eqb n pieceBlock) (blockText table (held (s .now .ours)))
+    (sendingText table titles names bodies (held (s .keep .sending))))))
+
+unfoldable pub thenText : Session → Bytes → Bytes → Bytes → Bytes → Bytes
+thenText s table titles names bodies = thenBy (s .say .then) s table titles names bodies
 
 -- All that waits, given bytes included.
 unfoldable pub waitingOf : Session → Bytes → Bytes → Bytes → Bytes → Bytes
-waitingOf s table titles names bodies =
-    firstText (s .say .first) (s .say .signs) ++ thenText (s .say .then) (s .now .ours) (s .keep .sending) table titles names bodies
+waitingOf s table titles names bodies = firstText s ++ thenText s table titles names bodies

@@ -5,10 +5,11 @@ ghost use lib.ListN.{length};
 ghost use Rattle.grammar.specs.Bytes.{Bytes};
 ghost use Rattle.session_memory.specs.State.{sessionSize, loadOf};
 ghost use Rattle.waiting.specs.Pieces.{piecesOf};
+ghost use Rattle.phase.specs.Phase.{blockLimit};
 
 // How many of up to five numbers are in use.
 pub fn in_use(count: u8) -> u8
-    ensures { λ r. ⌜ r ≡ min 5 count ⌝ }
+    ensures { λ r. ⌜ r ≡ min blockLimit count ⌝ }
 {
     if count < phase::BLOCK_LIMIT {
         return count;

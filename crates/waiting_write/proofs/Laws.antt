@@ -6,9 +6,11 @@ use native.Mathlib.Omega.{arith}
 use lib.ListN.{length, getD, take, drop}
 use Rattle.grammar.specs.Bytes.{Bytes}
 use Rattle.grammar.specs.Transfers.{writePlain, writeFramed}
+use Rattle.grammar.specs.Fields.{message, file, formNumber}
 use Rattle.mail.specs.Mail.{transferOf}
 use Rattle.layout.specs.Layout.{byteAt, entryAt, recordOf}
 use Rattle.places.specs.Places.{recordLen, recordForm, signsAt}
+use Rattle.phase.specs.Phase.{blockLimit}
 use Rattle.buffer.specs.Put.{Puts, putBytes, putCursor}
 use Rattle.buffer.specs.declared.Cursor.{Cursor}
 use Rattle.buffer.proofs.Laws.{cursor, after-cursor, after-bytes, puts-as, puts-full}
@@ -20,7 +22,7 @@ use Rattle.waiting.specs.Pieces.{joined}
 use Rattle.waiting.proofs.Pieces.{pieces-more, pieces-end, held-read}
 
 -- the signs in use, where they stand in session memory
-pub signs-read : (sm : Bytes) → signsAt + 6 ≤ length sm → {n : ℕ} → n ≡ min 5 (byteAt sm signsAt)
+pub signs-read : (sm : Bytes) → signsAt + (1 + blockLimit) ≤ length sm → {n : ℕ} → n ≡ min blockLimit (byteAt sm signsAt)
     → take (signsAt + 1 + n - (signsAt + 1)) (drop (signsAt + 1) sm) ≡ held (fiveAt sm signsAt)
 signs-read sm h {n} q =
     let e : signsAt + 1 + n - (signsAt + 1) ≡ n = omega arith in
@@ -36,13 +38,13 @@ module _ (table titles names bodies : Bytes) (i : ℕ) {r : Bytes} (e : r ≡ en
   none-text h = of-entry (of-none titles names bodies ∙ ap (λ (c : Bytes). transferOf (recordOf titles names bodies c)) (sym (entry-none table i e h)))
 
   module _ {h x : Bytes} (t : h ≡ headingIn titles names r) (q : x ≡ bodyIn bodies r) where
-    pub message-text : byteAt r recordForm ≡ 1 → writeFramed h x ≡ transferOf (recordOf titles names bodies (entryAt recordLen table i))
+    pub message-text : byteAt r recordForm ≡ formNumber message → writeFramed h x ≡ transferOf (recordOf titles names bodies (entryAt recordLen table i))
     message-text f = of-entry (of-message titles names bodies r t q f)
 
-    pub file-text : byteAt r recordForm ≡ 2 → writeFramed h x ≡ transferOf (recordOf titles names bodies (entryAt recordLen table i))
+    pub file-text : byteAt r recordForm ≡ formNumber file → writeFramed h x ≡ transferOf (recordOf titles names bodies (entryAt recordLen table i))
     file-text f = of-entry (of-file titles names bodies r t q f)
 
-    pub plain-text : (byteAt r recordForm ≡ 1 → ⊥) → (byteAt r recordForm ≡ 2 → ⊥)
+    pub plain-text : (byteAt r recordForm ≡ formNumber message → ⊥) → (byteAt r recordForm ≡ formNumber file → ⊥)
         → writePlain h x ≡ transferOf (recordOf titles names bodies (entryAt recordLen table i))
     plain-text f g = of-entry (of-plain titles names bodies r t q f g)
 

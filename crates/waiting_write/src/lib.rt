@@ -77,7 +77,7 @@ fn write_transfer<'a>(
 // The first piece.
 fn write_first(buf: &mut [u8], c: Cursor, sm: &[u8]) -> Cursor
     requires { ⌜ length (now sm) ≡ sessionSize ⌝ }
-    ensures { λ d. ⌜ Puts (now (buf .entry)) c (firstText (loadOf (now (sm .entry)) .say .first) (loadOf (now (sm .entry)) .say .signs)) d (now (buf .exit)) ⌝ }
+    ensures { λ d. ⌜ Puts (now (buf .entry)) c (firstText (loadOf (now (sm .entry)))) d (now (buf .exit)) ⌝ }
 {
     let first = sm[places::FIRST];
     if first == phase::PIECE_NONE {

@@ -11,23 +11,56 @@ abbrev pub flag : Bool → ℕ
 flag true = 1
 flag false = 0
 
--- A class of bytes by its number: 0 from and to, 1 BID, 2 title or name, 3 digit, 4 SID author, any other: SID data.
+-- A class of bytes by its number: from and to, BID, title or name, digit, SID author, any other: SID data.
+abbrev pub callClass : ℕ
+callClass = 0
+
+abbrev pub bidClass : ℕ
+bidClass = 1
+
+abbrev pub headingClass : ℕ
+headingClass = 2
+
+abbrev pub digitClass : ℕ
+digitClass = 3
+
+abbrev pub authorClass : ℕ
+authorClass = 4
+
 unfoldable pub classBy : ℕ → Class
 classBy k =
-    cond (eqb k 0) Class.Call
-    (cond (eqb k 1) Class.Bid
-    (cond (eqb k 2) Class.Heading
-    (cond (eqb k 3) Class.Digit
-    (cond (eqb k 4) Class.Author
+    cond (eqb k callClass) Class.Call
+    (cond (eqb k bidClass) Class.Bid
+    (cond (eqb k headingClass) Class.Heading
+    (cond (eqb k digitClass) Class.Digit
+    (cond (eqb k authorClass) Class.Author
     Class.Data))))
 
--- A field's rule by its number: 0 from and to, 1 at, 2 BID, 3 title or name, 4 size, 5 plain body, any other: packed body.
+-- A field's rule by its number: from and to, at, BID, title or name, size, plain body, any other: packed body.
+abbrev pub callRule : ℕ
+callRule = 0
+
+abbrev pub atRule : ℕ
+atRule = 1
+
+abbrev pub bidRule : ℕ
+bidRule = 2
+
+abbrev pub headingRule : ℕ
+headingRule = 3
+
+abbrev pub sizeRule : ℕ
+sizeRule = 4
+
+abbrev pub bodyRule : ℕ
+bodyRule = 5
+
 unfoldable pub fieldIs : ℕ → Bytes → Bool
 fieldIs k w =
-    cond (eqb k 0) (isCall w)
-    (cond (eqb k 1) (isAt w)
-    (cond (eqb k 2) (isBid w)
-    (cond (eqb k 3) (isHeading w)
-    (cond (eqb k 4) (isSize w)
-    (cond (eqb k 5) (isBody plain w)
+    cond (eqb k callRule) (isCall w)
+    (cond (eqb k atRule) (isAt w)
+    (cond (eqb k bidRule) (isBid w)
+    (cond (eqb k headingRule) (isHeading w)
+    (cond (eqb k sizeRule) (isSize w)
+    (cond (eqb k bodyRule) (isBody plain w)
     (isBody message w))))))

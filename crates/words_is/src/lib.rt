@@ -18,16 +18,45 @@ fn flag_of(b: bool) -> u8
     0
 }
 
+// The classes of bytes by number; any other: SID data.
+const CALL_CLASS: u8 = 0;
+
+const BID_CLASS: u8 = 1;
+
+const HEADING_CLASS: u8 = 2;
+
+const DIGIT_CLASS: u8 = 3;
+
+const AUTHOR_CLASS: u8 = 4;
+
+// The field rules by number; any other: packed body.
+const CALL_RULE: u8 = 0;
+
+const AT_RULE: u8 = 1;
+
+const BID_RULE: u8 = 2;
+
+const HEADING_RULE: u8 = 3;
+
+const SIZE_RULE: u8 = 4;
+
+const BODY_RULE: u8 = 5;
+
+// The forms whose bodies these rules are about.
+const PLAIN: u8 = phase::FORM_PLAIN;
+
+const MESSAGE: u8 = phase::FORM_MESSAGE;
+
 // The class with this number.
 fn class_of(k: u8) -> Class
     ensures { λ r. ⌜ r ≡ classBy k ⌝ }
 {
     match k {
-        0 => Class::Call,
-        1 => Class::Bid,
-        2 => Class::Heading,
-        3 => Class::Digit,
-        4 => Class::Author,
+        CALL_CLASS => Class::Call,
+        BID_CLASS => Class::Bid,
+        HEADING_CLASS => Class::Heading,
+        DIGIT_CLASS => Class::Digit,
+        AUTHOR_CLASS => Class::Author,
         _ => Class::Data,
     }
 }
@@ -56,13 +85,13 @@ fn is_field(kind: u8, s: &[u8]) -> bool
     ensures { λ r. ⌜ r ≡ fieldIs kind (now (s .entry)) ⌝ }
 {
     match kind {
-        0 => field::is_call(s),
-        1 => field::is_at(s),
-        2 => field::is_bid(s),
-        3 => field::is_heading(s),
-        4 => is_size(s),
-        5 => field::is_body(0, s),
-        _ => field::is_body(1, s),
+        CALL_RULE => field::is_call(s),
+        AT_RULE => field::is_at(s),
+        BID_RULE => field::is_bid(s),
+        HEADING_RULE => field::is_heading(s),
+        SIZE_RULE => is_size(s),
+        BODY_RULE => field::is_body(PLAIN, s),
+        _ => field::is_body(MESSAGE, s),
     }
 }
 

@@ -3,7 +3,7 @@ use mathlib.Core.Path.{_≡_}
 use mathlib.Core.Bool.{Bool, not}
 use mathlib.Core.Option.{Option, none, some}
 use mathlib.Core.List.{List, [], _∷_}
-use Prim.Native.Nat.{ℕ}
+use Prim.Native.Nat.{ℕ, _-_}
 use lib.Dec.{eqb}
 use lib.ListN.{replicate}
 use Rattle.grammar.specs.Bytes.{Bytes}
@@ -22,25 +22,52 @@ use Rattle.proposal.specs.Meaning.{Within}
 abbrev pub holds : ℕ → Bool
 holds n = not (eqb n 0)
 
--- What a byte does where a line is awaited: 0 it is dropped, 1 it ends the line, 2 it is one byte more, 3 it is the 257th.
+-- What a byte does where a line is awaited: it is dropped, it ends the line, it is one byte more, it is the 257th.
+abbrev pub codeDropped : ℕ
+codeDropped = 0
+
+abbrev pub codeEnds : ℕ
+codeEnds = 1
+
+abbrev pub codeGrows : ℕ
+codeGrows = 2
+
+abbrev pub codeOverruns : ℕ
+codeOverruns = 3
+
 abbrev pub lineByteCode : LineByte → ℕ
-lineByteCode dropped = 0
-lineByteCode ends = 1
-lineByteCode grows = 2
-lineByteCode overruns = 3
+lineByteCode dropped = codeDropped
+lineByteCode ends = codeEnds
+lineByteCode grows = codeGrows
+lineByteCode overruns = codeOverruns
 
 -- The 27 levels of a SID; zeros where the line is none.
 abbrev pub sidLevels : Option (List ℕ) → List ℕ
 sidLevels none = noFeatures
 sidLevels (some fs) = fs
 
--- What a line says in a turn: 0 FF, 1 FQ, 2 F>, 3 a proposal, 4 F> with a checksum; 01's number of a line that is not allowed.
+-- What a line says in a turn: FF, FQ, F>, a proposal, F> with a checksum; 01's number of a line that is not allowed.
+abbrev pub codeFF : ℕ
+codeFF = 0
+
+abbrev pub codeFQ : ℕ
+codeFQ = 1
+
+abbrev pub codeEnd : ℕ
+codeEnd = 2
+
+abbrev pub codeProposal : ℕ
+codeProposal = 3
+
+abbrev pub codeSummed : ℕ
+codeSummed = 4
+
 abbrev pub turnLineCode : TurnLine → ℕ
-turnLineCode saysFF = 0
-turnLineCode saysFQ = 1
-turnLineCode endsBlock = 2
-turnLineCode (proposes p) = 3
-turnLineCode (endsSummed h) = 4
+turnLineCode saysFF = codeFF
+turnLineCode saysFQ = codeFQ
+turnLineCode endsBlock = codeEnd
+turnLineCode (proposes p) = codeProposal
+turnLineCode (endsSummed h) = codeSummed
 turnLineCode notAllowed = turnLineNumber notAllowed
 
 -- The eleven numbers of a proposal: form, type, start and end of from, at, to and BID, and size.
@@ -64,12 +91,16 @@ pub record Numbers (l : Bytes) (p : Proposal) (out : List ℕ) : Type 0 where
   pub toLies : Lies l (p .to) to
   pub bidLies : Lies l (p .bid) bid
 
+-- So many they are.
+abbrev pub numberCount : ℕ
+numberCount = 11
+
 abbrev pub zeros : List ℕ
-zeros = replicate 11 0
+zeros = replicate numberCount 0
 
 -- A checksum behind F>, and zeros.
 abbrev pub summedNumbers : ℕ → List ℕ
-summedNumbers h = h ∷ replicate 10 0
+summedNumbers h = h ∷ replicate (numberCount - 1) 0
 
 -- The eleven numbers of what a line says: those of a proposal, a checksum, else zeros.
 abbrev pub NumbersOf : Bytes → TurnLine → List ℕ → Type 0
@@ -90,8 +121,8 @@ endNumbers (Hex.Value h) = summedNumbers h
 endNumbers Hex.Other = zeros
 
 abbrev pub endCode : Hex → ℕ
-endCode (Hex.Value h) = 4
-endCode Hex.Other = 2
+endCode (Hex.Value h) = codeSummed
+endCode Hex.Other = codeEnd
 
 abbrev pub toldNumbers : told.TurnLine → List ℕ
 toldNumbers told.TurnLine.FF = zeros
@@ -101,8 +132,8 @@ toldNumbers told.TurnLine.NotAllowed = zeros
 toldNumbers (told.TurnLine.Proposed p) = proposalNumbers p
 
 abbrev pub toldCode : told.TurnLine → ℕ
-toldCode told.TurnLine.FF = 0
-toldCode told.TurnLine.FQ = 1
+toldCode told.TurnLine.FF = codeFF
+toldCode told.TurnLine.FQ = codeFQ
 toldCode (told.TurnLine.End check) = endCode check
-toldCode (told.TurnLine.Proposed p) = 3
-toldCode told.TurnLine.NotAllowed = 5
+toldCode (told.TurnLine.Proposed p) = codeProposal
+toldCode told.TurnLine.NotAllowed = turnLineNumber notAllowed

@@ -13,6 +13,34 @@ ghost use Rattle.line.specs.Byte.{lineByteIs};
 ghost use Rattle.fs_line.specs.Answers.{answerNumber, answerSigns};
 ghost use Rattle.words_read.specs.Numbers.{holds, lineByteCode, sidLevels, turnLineCode, NumbersOf, proposalNumbers, endNumbers, endCode, toldNumbers, toldCode};
 
+// What a byte does where a line is awaited.
+const DROPPED: u8 = 0;
+
+const ENDS: u8 = 1;
+
+const GROWS: u8 = 2;
+
+const OVERRUNS: u8 = 3;
+
+// What a line says in a turn.
+const SAYS_FF: u8 = 0;
+
+const SAYS_FQ: u8 = 1;
+
+const ENDS_BLOCK: u8 = 2;
+
+const PROPOSES: u8 = 3;
+
+const ENDS_SUMMED: u8 = 4;
+
+const NOT_ALLOWED: u8 = refusal::LINE_NOT_ALLOWED;
+
+// The numbers of a proposal.
+const NUMBERS: usize = 11;
+
+// The signs of an FS line.
+const SIGNS: usize = phase::BLOCK_LIMIT as usize;
+
 // How many bytes of a line are judged: all but the spaces at its end.
 #[no_mangle]
 pub extern "C" fn words_trimmed(line: &[u8]) -> usize
@@ -26,10 +54,10 @@ fn line_byte_code(does: LineByte) -> u8
     ensures { λ r. ⌜ r ≡ lineByteCode (lineByteIs does) ⌝ }
 {
     match does {
-        LineByte::Dropped => 0,
-        LineByte::Ends => 1,
-        LineByte::Grows => 2,
-        LineByte::Overruns => 3,
+        LineByte::Dropped => DROPPED,
+        LineByte::Ends => ENDS,
+        LineByte::Grows => GROWS,
+        LineByte::Overruns => OVERRUNS,
     }
 }
 
@@ -43,7 +71,7 @@ pub extern "C" fn words_line_byte(after_cr: u8, len: usize, b: u8) -> u8
 
 // What a line, its spaces at the end removed, says as a SID: 01's number, and the 27 levels.
 #[no_mangle]
-pub extern "C" fn words_read_sid(line: &[u8], levels: &mut [u8; 27]) -> u8
+pub extern "C" fn words_read_sid(line: &[u8], levels: &mut [u8; features::PLACES]) -> u8
     ensures { λ r. ⌜ (r ≡ sidNumber (readSid (now (line .entry)))) × (now (levels .exit) ≡ sidLevels (readSid (now (line .entry)))) ⌝ }
 {
     let read = sid::read_sid(line);
@@ -54,7 +82,7 @@ pub extern "C" fn words_read_sid(line: &[u8], levels: &mut [u8; 27]) -> u8
 }
 
 // Form, type, start and end of from, at, to and BID, and size.
-fn proposal_numbers(p: Proposal) -> [u64; 11]
+fn proposal_numbers(p: Proposal) -> [u64; NUMBERS]
     ensures { λ r. ⌜ r ≡ proposalNumbers p ⌝ }
 {
     [
@@ -73,12 +101,12 @@ fn proposal_numbers(p: Proposal) -> [u64; 11]
 }
 
 // F>: its checksum stands first.
-fn end_numbers(check: Hex) -> [u64; 11]
+fn end_numbers(check: Hex) -> [u64; NUMBERS]
     ensures { λ r. ⌜ r ≡ endNumbers check ⌝ }
 {
     match check {
         Hex::Value(h) => [h as u64, 0, 0, 0, 0, 0, 0, 0, 0, 0, 0],
-        Hex::Other => [0u64; 11],
+        Hex::Other => [0u64; NUMBERS],
     }
 }
 
@@ -87,20 +115,20 @@ fn end_code(check: Hex) -> u8
     ensures { λ r. ⌜ r ≡ endCode check ⌝ }
 {
     match check {
-        Hex::Value(_h) => 4,
-        Hex::Other => 2,
+        Hex::Value(_h) => ENDS_SUMMED,
+        Hex::Other => ENDS_BLOCK,
     }
 }
 
 // The numbers of a proposal, or the checksum behind F>; zeros for any other line.
-fn told_numbers(told: TurnLine) -> [u64; 11]
+fn told_numbers(told: TurnLine) -> [u64; NUMBERS]
     ensures { λ r. ⌜ r ≡ toldNumbers told ⌝ }
 {
     match told {
-        TurnLine::FF => [0u64; 11],
-        TurnLine::FQ => [0u64; 11],
+        TurnLine::FF => [0u64; NUMBERS],
+        TurnLine::FQ => [0u64; NUMBERS],
         TurnLine::End(check) => end_numbers(check),
-        TurnLine::NotAllowed => [0u64; 11],
+        TurnLine::NotAllowed => [0u64; NUMBERS],
         TurnLine::Proposed(p) => proposal_numbers(p),
     }
 }
@@ -110,17 +138,17 @@ fn told_code(told: TurnLine) -> u8
     ensures { λ r. ⌜ r ≡ toldCode told ⌝ }
 {
     match told {
-        TurnLine::FF => 0,
-        TurnLine::FQ => 1,
+        TurnLine::FF => SAYS_FF,
+        TurnLine::FQ => SAYS_FQ,
         TurnLine::End(check) => end_code(check),
-        TurnLine::Proposed(_p) => 3,
-        TurnLine::NotAllowed => 5,
+        TurnLine::Proposed(_p) => PROPOSES,
+        TurnLine::NotAllowed => NOT_ALLOWED,
     }
 }
 
 // What a line, its spaces at the end removed, says in a turn, and a proposal's numbers or a block's checksum. framed: 0 plain mode, else framed mode.
 #[no_mangle]
-pub extern "C" fn words_read_turn_line(line: &[u8], framed: u8, out: &mut [u64; 11]) -> u8
+pub extern "C" fn words_read_turn_line(line: &[u8], framed: u8, out: &mut [u64; NUMBERS]) -> u8
     ensures { λ r. ⌜ (r ≡ turnLineCode (readTurnLine (holds framed) (now (line .entry)))) × NumbersOf (now (line .entry)) (readTurnLine (holds framed) (now (line .entry))) (now (out .exit)) ⌝ }
 {
     let told = proposal::read_turn_line(line, framed != 0);
@@ -130,7 +158,12 @@ pub extern "C" fn words_read_turn_line(line: &[u8], framed: u8, out: &mut [u64; 
 
 // What a line, its spaces at the end removed, says where FS to so many proposals is awaited: 01's number, and the sign bytes.
 #[no_mangle]
-pub extern "C" fn words_read_fs(level: u8, line: &[u8], proposals: usize, signs: &mut [u8; 5]) -> u8
+pub extern "C" fn words_read_fs(
+    level: u8,
+    line: &[u8],
+    proposals: usize,
+    signs: &mut [u8; SIGNS],
+) -> u8
     ensures { λ r. ⌜ (r ≡ answerNumber level proposals (now (line .entry))) × (now (signs .exit) ≡ answerSigns level proposals (now (line .entry))) ⌝ }
 {
     let answers = fs_line::read_fs(line, proposals, level);

@@ -1,9 +1,9 @@
 -- A transfer under way as eight numbers, and a portion's outcome as a number, for callers from C and Rust.
 use mathlib.Core.Path.{_≡_}
 use mathlib.Core.List.{List, [], _∷_, _++_}
-use Prim.Native.Nat.{ℕ, _%_}
+use Prim.Native.Nat.{ℕ, _*_, _%_}
 use lib.ListN.{length, take, drop, getD}
-use Rattle.grammar.specs.Bytes.{Bytes}
+use Rattle.grammar.specs.Bytes.{Bytes, byteValues, twoByteValues, fourByteValues}
 use Rattle.grammar.specs.Refusals.{badTransfer, badChecksum, storeFull}
 use Rattle.transfer_step.specs.declared.Reader.{Reader}
 use Rattle.transfer_step.specs.declared.Outcome.{Outcome}
@@ -15,10 +15,33 @@ use Rattle.transfer_read.specs.Feed.{Run, feedOf, roomOf}
 abbrev pub stateOf : Reader → ℕ → List ℕ
 stateOf r n = r .place ∷ r .len ∷ r .head ∷ r .off ∷ r .body ∷ r .left ∷ r .sum ∷ n ∷ []
 
+-- The places of these numbers.
+abbrev pub placeNumber : ℕ
+placeNumber = 0
+
+abbrev pub lengthNumber : ℕ
+lengthNumber = 1
+
+abbrev pub headNumber : ℕ
+headNumber = 2
+
+abbrev pub offsetNumber : ℕ
+offsetNumber = 3
+
+abbrev pub bodyNumber : ℕ
+bodyNumber = 4
+
+abbrev pub leftNumber : ℕ
+leftNumber = 5
+
+abbrev pub sumNumber : ℕ
+sumNumber = 6
+
 -- The reader that such numbers stand for, each taken modulo what its field holds.
 unfoldable pub readerBy : List ℕ → Reader
 readerBy s =
-    reader (getD s 0 0 % 256) (getD s 1 0 % 256) (getD s 2 0 % 256) (getD s 3 0 % 256) (getD s 5 0 % 65536) (getD s 6 0 % 256) (getD s 4 0 % 4294967296)
+    reader (getD s placeNumber 0 % byteValues) (getD s lengthNumber 0 % byteValues) (getD s headNumber 0 % byteValues) (getD s offsetNumber 0 % byteValues)
+    (getD s leftNumber 0 % twoByteValues) (getD s sumNumber 0 % byteValues) (getD s bodyNumber 0 % fourByteValues)
 
 -- 0 goes on, 1 whole, else 01's number of the refusal.
 abbrev pub outcomeCode : Outcome → ℕ

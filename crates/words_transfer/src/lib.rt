@@ -8,9 +8,42 @@ ghost use Prim.Native.Nat.{_%_};
 ghost use Rattle.grammar.specs.Transfers.{checksum, headingOf};
 ghost use Rattle.transfer_step.specs.Step.{startOf};
 ghost use Rattle.words_transfer.specs.State.{stateOf, readerBy, outcomeCode, portion, Leaves, Copied};
+ghost use Rattle.grammar.specs.Bytes.{byteValues};
+
+// A transfer under way as so many numbers, by their places; the last: how many bytes were consumed.
+const STATE: usize = 8;
+
+const PLACE: usize = 0;
+
+const LENGTH: usize = 1;
+
+const HEAD: usize = 2;
+
+const OFFSET: usize = 3;
+
+const BODY: usize = 4;
+
+const LEFT: usize = 5;
+
+const SUM: usize = 6;
+
+// How many values a byte has, and numbers of two and four bytes.
+const BYTE_VALUES: u64 = 256;
+
+const TWO_BYTE_VALUES: u64 = BYTE_VALUES * BYTE_VALUES;
+
+const FOUR_BYTE_VALUES: u64 = TWO_BYTE_VALUES * TWO_BYTE_VALUES;
+
+// The heading's array.
+const HEADING: usize = places::HEADING_MAX as usize;
+
+// Outcomes beside refusals.
+const GOES_ON: u8 = 0;
+
+const WHOLE: u8 = 1;
 
 // The numbers of a reader, and how many bytes were consumed.
-fn state_of(r: Reader, count: usize) -> [u64; 8]
+fn state_of(r: Reader, count: usize) -> [u64; STATE]
     ensures { λ s. ⌜ s ≡ stateOf r count ⌝ }
 {
     [
@@ -27,23 +60,23 @@ fn state_of(r: Reader, count: usize) -> [u64; 8]
 
 // A number modulo 256.
 fn low_byte(n: u64) -> u8
-    ensures { λ r. ⌜ r ≡ n % 256 ⌝ }
+    ensures { λ r. ⌜ r ≡ n % byteValues ⌝ }
 {
-    (n % 256) as u8
+    (n % BYTE_VALUES) as u8
 }
 
 // The reader that the numbers of a state stand for, each taken modulo what its field holds.
-fn reader_by(s: [u64; 8]) -> Reader
+fn reader_by(s: [u64; STATE]) -> Reader
     ensures { λ r. ⌜ r ≡ readerBy s ⌝ }
 {
     Reader {
-        place: low_byte(s[0]),
-        len: low_byte(s[1]),
-        head: low_byte(s[2]),
-        off: low_byte(s[3]),
-        left: (s[5] % 65536) as u16,
-        sum: low_byte(s[6]),
-        body: (s[4] % 4294967296) as u32,
+        place: low_byte(s[PLACE]),
+        len: low_byte(s[LENGTH]),
+        head: low_byte(s[HEAD]),
+        off: low_byte(s[OFFSET]),
+        left: (s[LEFT] % TWO_BYTE_VALUES) as u16,
+        sum: low_byte(s[SUM]),
+        body: (s[BODY] % FOUR_BYTE_VALUES) as u32,
     }
 }
 
@@ -52,17 +85,17 @@ fn outcome_code(o: Outcome) -> u8
     ensures { λ r. ⌜ r ≡ outcomeCode o ⌝ }
 {
     match o {
-        Outcome::More => 0,
-        Outcome::Whole => 1,
-        Outcome::Malformed => 8,
-        Outcome::WrongSum => 9,
-        Outcome::NoRoom => 10,
+        Outcome::More => GOES_ON,
+        Outcome::Whole => WHOLE,
+        Outcome::Malformed => refusal::BAD_TRANSFER,
+        Outcome::WrongSum => refusal::BAD_CHECKSUM,
+        Outcome::NoRoom => refusal::STORE_FULL,
     }
 }
 
 // The state before a transfer's first byte. form: 0 plain, any other number framed.
 #[no_mangle]
-pub extern "C" fn words_transfer_start(form: u8, state: &mut [u64; 8])
+pub extern "C" fn words_transfer_start(form: u8, state: &mut [u64; STATE])
     ensures { λ _. ⌜ now (state .exit) ≡ stateOf (startOf form) 0 ⌝ }
 {
     *state = state_of(transfer_step::start(form), 0);
@@ -71,9 +104,9 @@ pub extern "C" fn words_transfer_start(form: u8, state: &mut [u64; 8])
 // Reads a portion, up to its end or an outcome: 0 goes on, 1 whole, 8, 9, 10 refused. The heading goes to `heading`, the body to `store`.
 #[no_mangle]
 pub extern "C" fn words_transfer_feed(
-    state: &mut [u64; 8],
+    state: &mut [u64; STATE],
     input: &[u8],
-    heading: &mut [u8; 80],
+    heading: &mut [u8; HEADING],
     store: &mut [u8],
 ) -> u8
     ensures { λ r. ⌜ Leaves (portion (now (state .entry)) (now (input .entry)) (now (heading .entry)) (now (store .entry))) r (now (state .exit)) (now (heading .exit)) (now (store .exit)) ⌝ }

@@ -18,10 +18,25 @@ cursor place skip = record { at = place; skip = skip }
 abbrev pub Writes : Bytes → ℕ → ℕ → Bytes → ℕ → Bytes → Type 0
 Writes d place skip p n e = (n ≡ length (cut (length d - place) skip p)) × (e ≡ putBytes d (cursor place skip) p)
 
--- The lines that never differ by their numbers: 0 our SID, 1 the prompt, 2 FF, 3 FQ, any other F>.
-unfoldable pub fixedBy : ℕ → FixedLine
-fixedBy k = cond (eqb k 0) ourSid (cond (eqb k 1) ourPrompt (cond (eqb k 2) ourFF (cond (eqb k 3) ourFQ ourEnd)))
+-- The lines that never differ by their numbers: our SID, the prompt, FF, FQ, F>, and any other number as F>.
+abbrev pub sidLine : ℕ
+sidLine = 0
 
--- The text of such a line with its CR; nothing for a number from 5 on.
+abbrev pub promptLine : ℕ
+promptLine = 1
+
+abbrev pub ffLine : ℕ
+ffLine = 2
+
+abbrev pub fqLine : ℕ
+fqLine = 3
+
+abbrev pub endLine : ℕ
+endLine = 4
+
+unfoldable pub fixedBy : ℕ → FixedLine
+fixedBy k = cond (eqb k sidLine) ourSid (cond (eqb k promptLine) ourPrompt (cond (eqb k ffLine) ourFF (cond (eqb k fqLine) ourFQ ourEnd)))
+
+-- The text of such a line with its CR; nothing for a number past that of F>.
 unfoldable pub fixedBytes : ℕ → Bytes
-fixedBytes k = cond (ltb 4 k) [] (withCr (fixedText (fixedBy k)))
+fixedBytes k = cond (ltb endLine k) [] (withCr (fixedText (fixedBy k)))

@@ -8,25 +8,36 @@ ghost use Rattle.grammar.specs.Transfers.{writePlain, writeFramed};
 ghost use Rattle.our_line.specs.Lines.{fixedIs, proposalIs, fsText};
 ghost use Rattle.words_write.specs.Written.{Writes, fixedBy, fixedBytes};
 
-// The line with this number; F> for any number from 4 on.
+// The lines that never differ by number: our SID, the prompt, FF, FQ and F>.
+const SID: u8 = 0;
+
+const PROMPT: u8 = 1;
+
+const FF: u8 = 2;
+
+const FQ: u8 = 3;
+
+const END: u8 = 4;
+
+// The line with this number; F> for any number from its own on.
 fn fixed_of(which: u8) -> Fixed
     ensures { λ r. ⌜ fixedIs r ≡ fixedBy which ⌝ }
 {
     match which {
-        0 => Fixed::Sid,
-        1 => Fixed::Prompt,
-        2 => Fixed::FF,
-        3 => Fixed::FQ,
+        SID => Fixed::Sid,
+        PROMPT => Fixed::Prompt,
+        FF => Fixed::FF,
+        FQ => Fixed::FQ,
         _ => Fixed::End,
     }
 }
 
-// One of the lines that never differ, with its CR: 0 our SID, 1 the prompt, 2 FF, 3 FQ, 4 F>; nothing for any other number.
+// One of the lines that never differ, with its CR; nothing for any other number.
 #[no_mangle]
 pub extern "C" fn words_write_fixed(which: u8, buf: &mut [u8], place: usize, skip: usize) -> usize
     ensures { λ r. ⌜ Writes (now (buf .entry)) place skip (fixedBytes which) r (now (buf .exit)) ⌝ }
 {
-    if 4 < which {
+    if END < which {
         return 0;
     }
     let after = our_line::write_fixed(fixed_of(which), buf, Cursor { at: place, skip });

@@ -5,7 +5,7 @@ use lib.Seq.{length-take-le}
 use borrow.Author.Tests.{ne-eqb}
 use Rattle.phase.specs.Phase.{phaseCalledSid, phaseCallerSid, phasePrompt, phaseTurn, phaseFs}
 use Rattle.places.specs.Places.{headingAt}
-use Rattle.numbers.specs.Whole.{awaitOf, keepOf}
+use Rattle.numbers.specs.Whole.{withDeferred, withBlock, sessionOf}
 use Rattle.line_effect.specs.Judge.{judgeOf}
 use Rattle.awaited_line.proofs.Laws.{line-in, sid-in, past-sid, judging, as-it-was, on-deferred, on-block}
 use borrow.Author.Needs.{needs}
@@ -23,7 +23,7 @@ unfolding judgeOf
 returns c =
     let a = c .before .before .before .before .before .before .before .before .args in
     let f = judging (a .line .now) (a .sum) (a .table .now) (a .known .now) (a .inbox .now) (a .store) in
-    as-it-was (a .s) (a .mem .now) (c .before .before .before .before .before .before .before .before .pre) (c .went .result) f (λ block deferred. rw (sym (c .before .before .is-comment .ensures) ∙ c .before .if1 .taken) (c .went .ensures block deferred))
+    as-it-was (a .s) (a .mem .now) (c .before .before .before .before .before .before .before .before .pre) (c .went .result) f (λ x. rw (sym (c .before .before .is-comment .ensures) ∙ c .before .if1 .taken) (c .went .ensures x))
 
 sid-line-requires : tie.Need-sid-line-requires
 sid-line-requires c κs = search needs
@@ -33,7 +33,7 @@ returns-2 c =
     let a = c .before .before .before .before .before .before .before .before .before .args in
     let f = judging (a .line .now) (a .sum) (a .table .now) (a .known .now) (a .inbox .now) (a .store) in
     as-it-was (a .s) (a .mem .now) (c .before .before .before .before .before .before .before .before .before .pre) (c .sid-line .result) f
-    (λ block deferred. line-in (awaitOf (a .s .now) block) (a .s .say) (keepOf (a .s .keep) deferred) (a .s .reader) (a .line .now) (a .sum) (a .table .now) (a .known .now) (a .inbox .now) (a .store) _ (a .s .now .phase) _ refl (c .before .before .before .is-comment .ensures) (c .before .before .if1 .left) (sid-in (awaitOf (a .s .now) block) (a .s .say) (keepOf (a .s .keep) deferred) (a .s .reader) (a .line .now) (a .sum) (a .table .now) (a .known .now) (a .inbox .now) (a .store) _ (a .s .now .phase) (c .before .if2 .taken) (c .sid-line .ensures block deferred)))
+    (λ x. line-in (sessionOf (a .s) x) (a .line .now) (a .sum) (a .table .now) (a .known .now) (a .inbox .now) (a .store) _ (a .s .now .phase) _ refl (c .before .before .before .is-comment .ensures) (c .before .before .if1 .left) (sid-in (sessionOf (a .s) x) (a .line .now) (a .sum) (a .table .now) (a .known .now) (a .inbox .now) (a .store) _ (a .s .now .phase) (c .before .if2 .taken) (c .sid-line .ensures x)))
 
 text-line-requires : tie.Need-text-line-requires
 text-line-requires c κs = search needs
@@ -67,7 +67,7 @@ returns-3 c =
     let a = c .before .before .before .before .before .before .before .before .before .before .args in
     let f = judging (a .line .now) (a .sum) (a .table .now) (a .known .now) (a .inbox .now) (a .store) in
     as-it-was (a .s) (a .mem .now) (c .before .before .before .before .before .before .before .before .before .before .pre) (c .text-line .result) f
-    (λ block deferred. line-in (awaitOf (a .s .now) block) (a .s .say) (keepOf (a .s .keep) deferred) (a .s .reader) (a .line .now) (a .sum) (a .table .now) (a .known .now) (a .inbox .now) (a .store) _ phasePrompt _ (c .before .match .keys1) (c .before .before .before .before .is-comment .ensures) (c .before .before .before .if1 .left) (c .text-line .ensures block deferred))
+    (λ x. line-in (sessionOf (a .s) x) (a .line .now) (a .sum) (a .table .now) (a .known .now) (a .inbox .now) (a .store) _ phasePrompt _ (c .before .match .keys1) (c .before .before .before .before .is-comment .ensures) (c .before .before .before .if1 .left) (c .text-line .ensures x))
 
 same-length : tie.Need-same-length
 same-length c = search needs
@@ -77,7 +77,7 @@ returns-4 c =
     let a = c .before .before .before .before .before .before .before .before .before .before .before .before .before .args in
     let f = judging (a .line .now) (a .sum) (a .table .now) (a .known .now) (a .inbox .now) (a .store) in
     on-block (a .s) (a .mem .now) (c .before .before .before .before .before .before .before .before .before .before .before .before .before .pre) (c .before .before .turn-line .result) f _ (c .before .mem .given .0)
-    (λ deferred. line-in (awaitOf (a .s .now) _) (a .s .say) (keepOf (a .s .keep) deferred) (a .s .reader) (a .line .now) (a .sum) (a .table .now) (a .known .now) (a .inbox .now) (a .store) _ phaseTurn _ (c .before .before .before .before .match .keys2) (c .before .before .before .before .before .before .before .is-comment .ensures) (c .before .before .before .before .before .before .if1 .left) (c .before .before .turn-line .ensures deferred))
+    (λ x. line-in (sessionOf (a .s) (withBlock _ x)) (a .line .now) (a .sum) (a .table .now) (a .known .now) (a .inbox .now) (a .store) _ phaseTurn _ (c .before .before .before .before .match .keys2) (c .before .before .before .before .before .before .before .is-comment .ensures) (c .before .before .before .before .before .before .if1 .left) (c .before .before .turn-line .ensures x))
 
 same-length-2 : tie.Need-same-length-2
 same-length-2 c = search needs
@@ -87,7 +87,7 @@ returns-5 c =
     let a = c .before .before .before .before .before .before .before .before .before .before .before .before .before .args in
     let f = judging (a .line .now) (a .sum) (a .table .now) (a .known .now) (a .inbox .now) (a .store) in
     on-deferred (a .s) (a .mem .now) (c .before .before .before .before .before .before .before .before .before .before .before .before .before .pre) (c .before .before .answer-line .result) f _ (c .before .mem2 .given .0)
-    (λ block. line-in (awaitOf (a .s .now) block) (a .s .say) (keepOf (a .s .keep) _) (a .s .reader) (a .line .now) (a .sum) (a .table .now) (a .known .now) (a .inbox .now) (a .store) _ phaseFs _ (c .before .before .before .before .match .keys3) (c .before .before .before .before .before .before .before .is-comment .ensures) (c .before .before .before .before .before .before .if1 .left) (c .before .before .answer-line .ensures block))
+    (λ x. line-in (sessionOf (a .s) (withDeferred _ x)) (a .line .now) (a .sum) (a .table .now) (a .known .now) (a .inbox .now) (a .store) _ phaseFs _ (c .before .before .before .before .match .keys3) (c .before .before .before .before .before .before .before .is-comment .ensures) (c .before .before .before .before .before .before .if1 .left) (c .before .before .answer-line .ensures x))
 
 returns-6 : tie.Need-returns-6
 returns-6 c =
@@ -95,7 +95,7 @@ returns-6 c =
     let f = judging (a .line .now) (a .sum) (a .table .now) (a .known .now) (a .inbox .now) (a .store) in
     let past = c .before .before .if2 .left in
     as-it-was (a .s) (a .mem .now) (c .before .before .before .before .before .before .before .before .before .before .pre) (c .refusal .result) f
-    (λ block deferred. line-in (awaitOf (a .s .now) block) (a .s .say) (keepOf (a .s .keep) deferred) (a .s .reader) (a .line .now) (a .sum) (a .table .now) (a .known .now) (a .inbox .now) (a .store) _ (a .s .now .phase) _ refl (c .before .before .before .before .is-comment .ensures) (c .before .before .before .if1 .left) (rw (past-sid (a .s .now .phase) phaseCalledSid (omega arith) past, past-sid (a .s .now .phase) phaseCallerSid (omega arith) past, ne-eqb _ _ (c .before .match .rest .0 .0 .1), ne-eqb _ _ (c .before .match .rest .0 .1), ne-eqb _ _ (c .before .match .rest .1)) (c .refusal .ensures block deferred)))
+    (λ x. line-in (sessionOf (a .s) x) (a .line .now) (a .sum) (a .table .now) (a .known .now) (a .inbox .now) (a .store) _ (a .s .now .phase) _ refl (c .before .before .before .before .is-comment .ensures) (c .before .before .before .if1 .left) (rw (past-sid (a .s .now .phase) phaseCalledSid (omega arith) past, past-sid (a .s .now .phase) phaseCallerSid (omega arith) past, ne-eqb _ _ (c .before .match .rest .0 .0 .1), ne-eqb _ _ (c .before .match .rest .0 .1), ne-eqb _ _ (c .before .match .rest .1)) (c .refusal .ensures x)))
 
 pub judge-spec : {M : Type 1} → statement M
 judge-spec =

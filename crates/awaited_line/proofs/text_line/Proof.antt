@@ -2,7 +2,8 @@
 use mathlib.Core.Path.{sym, ap, _∙_}
 use Rattle.line_effect.specs.declared.Marks.{Marks}
 use Rattle.phase.specs.Phase.{ourTurn, pieceSid}
-use Rattle.numbers.specs.Whole.{awaitOf, keepOf}
+use Rattle.session_memory.specs.Setters.{withSay}
+use Rattle.numbers.specs.Whole.{sessionOf}
 use Rattle.line_effect.specs.Judge.{judged, saysFirst, textLine}
 use borrow.Author.Needs.{needs}
 use Rattle.awaited_line.proofs.text_line.Statement.{statement}
@@ -16,17 +17,17 @@ unmarked-requires c κs = search needs
 
 returns : tie.Need-returns
 unfolding textLine
-returns c = λ block deferred.
+returns c = λ x.
     let a = c .before .before .before .before .before .args in
     rw (sym (c .before .before .before .is-prompt .ensures) ∙ c .before .before .if1 .taken)
-    (ap (λ (m : Marks). judged 0 ourTurn m (awaitOf (a .s .now) block) (saysFirst pieceSid (a .s .say)) (keepOf (a .s .keep) deferred) (a .s .reader)) (c .unmarked .ensures))
+    (ap (λ (m : Marks). judged 0 ourTurn m (withSay (saysFirst pieceSid (a .s .say)) (sessionOf (a .s) x))) (c .unmarked .ensures))
 
 went-requires : tie.Need-went-requires
 went-requires c κs = search needs
 
 returns-2 : tie.Need-returns-2
 unfolding textLine
-returns-2 c = λ block deferred. rw (sym (c .before .before .is-prompt .ensures) ∙ c .before .if1 .left) (c .went .ensures block deferred)
+returns-2 c = λ x. rw (sym (c .before .before .is-prompt .ensures) ∙ c .before .if1 .left) (c .went .ensures x)
 
 pub text-line-spec : {M : Type 1} → statement M
 text-line-spec =

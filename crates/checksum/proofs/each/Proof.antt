@@ -8,9 +8,10 @@ use Rattle.grammar.specs.Transfers.{byteSum}
 use Rattle.checksum.proofs.Laws.{starts, byte-more, bytes-all}
 use Rattle.checksum.proofs.each.Statement.{statement}
 use Rattle.checksum.proofs.each.Tie as tie
+use Rattle.grammar.specs.Bytes.{byteValues}
 
 abbrev Inv-loop : tie.InvT-loop
-Inv-loop t s r₀ i₀ r i = (i ≤ length s) × (r ≡ (t + byteSum (take i s)) % 256)
+Inv-loop t s r₀ i₀ r i = (i ≤ length s) × (r ≡ (t + byteSum (take i s)) % byteValues)
 
 abbrev μ-loop : tie.MeasureT-loop
 μ-loop t s r₀ i₀ r i = length s - i

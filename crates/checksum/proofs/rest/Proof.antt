@@ -7,6 +7,7 @@ use borrow.Author.Needs.{needs}
 use Rattle.checksum.proofs.Laws.{none-more, whole-rounds, rest-sum}
 use Rattle.checksum.proofs.rest.Statement.{statement}
 use Rattle.checksum.proofs.rest.Tie as tie
+use Rattle.checksum.specs.Lanes.{roundSize}
 
 returns : tie.Need-returns
 returns c = none-more (c .before .before .args .s .now) (c .before .before .args .t) (omega arith) (c .if1 .taken)
@@ -23,7 +24,7 @@ sub-whole c = search needs
 slice-aggregate-rounds : tie.Need-slice-aggregate-rounds
 slice-aggregate-rounds c =
     let s = c .before .before .before .before .args .s .now in
-    sym (length-take-le (length s - length s % 8) s (omega arith))
+    sym (length-take-le (length s - length s % roundSize) s (omega arith))
 
 rounds-requires : tie.Need-rounds-requires
 rounds-requires c κs = whole-rounds (c .before .before .before .before .args .s .now)
@@ -43,7 +44,7 @@ each-requires-2 c κs = search needs
 returns-3 : tie.Need-returns-3
 returns-3 c =
     let s = c .before .before .before .before .before .before .before .args .s .now in
-    rest-sum s (length s - length s % 8) _ _ _ (c .before .before .rounds .ensures) (c .each2 .ensures)
+    rest-sum s (length s - length s % roundSize) _ _ _ (c .before .before .rounds .ensures) (c .each2 .ensures)
 
 pub rest-spec : {M : Type 1} → statement M
 rest-spec =

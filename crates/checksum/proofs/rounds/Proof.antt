@@ -4,13 +4,14 @@ use mathlib.Core.Path.{_≡_, refl}
 use lib.ListN.{length, take}
 use borrow.Author.Needs.{needs}
 use Rattle.grammar.specs.Transfers.{byteSum}
-use Rattle.checksum.specs.Lanes.{lanesSum}
+use Rattle.checksum.specs.Lanes.{lanesSum, roundSize}
 use Rattle.checksum.proofs.Laws.{rounds-more, rounds-all}
 use Rattle.checksum.proofs.rounds.Statement.{statement}
 use Rattle.checksum.proofs.rounds.Tie as tie
+use Rattle.grammar.specs.Bytes.{byteValues}
 
 abbrev Inv-loop : tie.InvT-loop
-Inv-loop t s u₀ i₀ u i = (i ≤ length s) × (i % 8 ≡ 0) × (lanesSum u % 256 ≡ byteSum (take i s) % 256)
+Inv-loop t s u₀ i₀ u i = (i ≤ length s) × (i % roundSize ≡ 0) × (lanesSum u % byteValues ≡ byteSum (take i s) % byteValues)
 
 abbrev μ-loop : tie.MeasureT-loop
 μ-loop t s u₀ i₀ u i = length s - i
@@ -43,7 +44,7 @@ loop-again : tie.Need-loop-again Inv-loop μ-loop
 loop-again c =
     let l = c .before .before .before .loop in
     let a = c .before .before .before .before .before .before .args in
-    (search needs, search needs, rounds-more (a .s .now) (l .i) (length (a .s .now) - l .i) 8 (lanesSum (l .u)) (lanesSum (c .round .result)) (search needs) (l .inv .2) (c .round .ensures))
+    (search needs, search needs, rounds-more (a .s .now) (l .i) (length (a .s .now) - l .i) roundSize (lanesSum (l .u)) (lanesSum (c .round .result)) (search needs) (l .inv .2) (c .round .ensures))
 
 folded-requires : tie.Need-folded-requires Inv-loop μ-loop
 folded-requires c κs = search needs

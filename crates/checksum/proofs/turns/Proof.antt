@@ -4,13 +4,14 @@ use mathlib.Core.Path.{_≡_, refl}
 use lib.ListN.{length, take}
 use borrow.Author.Needs.{needs}
 use Rattle.grammar.specs.Transfers.{byteSum}
-use Rattle.checksum.specs.Lanes.{fourSum}
+use Rattle.checksum.specs.Lanes.{fourSum, turnSize}
 use Rattle.checksum.proofs.Laws.{four-empty, rounds-more, turns-end, turns-all}
 use Rattle.checksum.proofs.turns.Statement.{statement}
 use Rattle.checksum.proofs.turns.Tie as tie
+use Rattle.grammar.specs.Bytes.{byteValues}
 
 abbrev Inv-loop : tie.InvT-loop
-Inv-loop s last f₀ i₀ f i = (i ≤ length s) × (i % 32 ≡ 0) × (fourSum f % 256 ≡ byteSum (take i s) % 256)
+Inv-loop s last f₀ i₀ f i = (i ≤ length s) × (i % turnSize ≡ 0) × (fourSum f % byteValues ≡ byteSum (take i s) % byteValues)
 
 abbrev μ-loop : tie.MeasureT-loop
 μ-loop s last f₀ i₀ f i = length s - i
@@ -55,7 +56,7 @@ loop-again : tie.Need-loop-again Inv-loop μ-loop
 loop-again c =
     let l = c .before .before .before .loop in
     let s = c .before .before .before .before .before .before .before .before .before .args .s .now in
-    (search needs, search needs, rounds-more s (l .i) (length s - l .i) 32 (fourSum (l .f)) _ (search needs) (l .inv .2) (c .turn .ensures))
+    (search needs, search needs, rounds-more s (l .i) (length s - l .i) turnSize (fourSum (l .f)) _ (search needs) (l .inv .2) (c .turn .ensures))
 
 folded-requires : tie.Need-folded-requires Inv-loop μ-loop
 folded-requires c κs = search needs
@@ -82,7 +83,7 @@ returns : tie.Need-returns Inv-loop μ-loop
 returns c =
     let l = c .before .before .before .before .before .before .before .before .loop in
     let s = c .before .before .before .before .before .before .before .before .before .before .before .before .before .before .args .s .now in
-    let at : l .i ≡ length s - length s % 32 = turns-end s (l .i) (search needs) (l .inv .0) (l .inv .1) (search needs) in (
+    let at : l .i ≡ length s - length s % turnSize = turns-end s (l .i) (search needs) (l .inv .0) (l .inv .1) (search needs) in (
       at,
       turns-all s (l .i) (l .f) _ _ _ _ _ _ _ (l .inv .2)
           (c .before .before .before .before .before .before .folded .ensures) (c .before .before .before .before .before .folded2 .ensures) (c .before .before .before .before .add .ensures) (c .before .before .before .folded3 .ensures) (c .before .before .folded4 .ensures) (c .before .add2 .ensures) (c .add3 .ensures),

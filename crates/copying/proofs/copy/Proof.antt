@@ -9,10 +9,11 @@ use borrow.Author.Needs.{needs}
 use Rattle.copying.proofs.Laws.{copy-part}
 use Rattle.copying.proofs.copy.Statement.{statement}
 use Rattle.copying.proofs.copy.Tie as tie
+use Rattle.copying.specs.Eight.{strideSize}
 
 abbrev Inv-loop : tie.InvT-loop
 Inv-loop dst₀ src n whole i₀ dst i =
-    (i ≤ whole) × (i % 32 ≡ 0) × (n ≤ length dst₀) × (n ≤ length src) × (length dst ≡ length dst₀) × (dst ≡ take i src ++ drop i dst₀)
+    (i ≤ whole) × (i % strideSize ≡ 0) × (n ≤ length dst₀) × (n ≤ length src) × (length dst ≡ length dst₀) × (dst ≡ take i src ++ drop i dst₀)
 
 abbrev μ-loop : tie.MeasureT-loop
 μ-loop dst₀ src n whole i₀ dst i = whole - i
@@ -54,7 +55,7 @@ loop-again : tie.Need-loop-again Inv-loop μ-loop
 loop-again c =
     let l = c .before .before .before .before .before .before .loop in
     let a = c .before .before .before .before .before .before .before .before .before .args in
-    let m = copy-part (a .src .now) (a .dst .now) (l .dst) (l .i) 32 _ (l .inv .5) (omega arith) (omega arith) (c .before .before .copy-turn .ensures) in
+    let m = copy-part (a .src .now) (a .dst .now) (l .dst) (l .i) strideSize _ (l .inv .5) (omega arith) (omega arith) (c .before .before .copy-turn .ensures) in
     (omega arith, omega arith, l .inv .2, l .inv .3, search needs, m)
 
 sub-copy-each : tie.Need-sub-copy-each Inv-loop μ-loop

@@ -9,6 +9,7 @@ use Rattle.grammar.specs.Bytes.{Bytes}
 use Rattle.copying.proofs.Laws.{copy-part}
 use Rattle.copying.proofs.copy_round.Statement.{statement}
 use Rattle.copying.proofs.copy_round.Tie as tie
+use Rattle.copying.specs.Eight.{halfSize}
 
 read-requires : tie.Need-read-requires
 read-requires c κs = search needs
@@ -46,9 +47,9 @@ same-length c = search needs
 returns : tie.Need-returns
 returns c =
     let a = c .before .before .before .before .before .before .before .before .before .before .before .before .before .args in
-    let x : c .before .before .before .before .before .before .write .last .0 ≡ take 8 (a .src .now) ++ drop 8 (a .dst .now) = c .before .before .before .before .before .before .write .ensures ∙ ap (λ (l : Bytes). l ++ drop 8 (a .dst .now)) (c .before .before .before .before .before .before .before .before .before .before .read .ensures) in
-    copy-part (a .src .now) (a .dst .now) _ 8 8 _ x (omega arith) (omega arith)
-    (c .before .before .write2 .ensures ∙ ap (λ (l : Bytes). l ++ drop 8 (take (length (c .before .before .before .before .before .before .write .last .0) - 8) (drop 8 (c .before .before .before .before .before .before .write .last .0)))) (c .before .before .before .before .before .before .before .before .read2 .ensures))
+    let x : c .before .before .before .before .before .before .write .last .0 ≡ take halfSize (a .src .now) ++ drop halfSize (a .dst .now) = c .before .before .before .before .before .before .write .ensures ∙ ap (λ (l : Bytes). l ++ drop halfSize (a .dst .now)) (c .before .before .before .before .before .before .before .before .before .before .read .ensures) in
+    copy-part (a .src .now) (a .dst .now) _ halfSize halfSize _ x (omega arith) (omega arith)
+    (c .before .before .write2 .ensures ∙ ap (λ (l : Bytes). l ++ drop halfSize (take (length (c .before .before .before .before .before .before .write .last .0) - halfSize) (drop halfSize (c .before .before .before .before .before .before .write .last .0)))) (c .before .before .before .before .before .before .before .before .read2 .ensures))
 
 pub copy-round-spec : {M : Type 1} → statement M
 copy-round-spec =

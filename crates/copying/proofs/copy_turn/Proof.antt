@@ -4,6 +4,7 @@ use borrow.Author.Needs.{needs}
 use Rattle.copying.proofs.Laws.{copy-part}
 use Rattle.copying.proofs.copy_turn.Statement.{statement}
 use Rattle.copying.proofs.copy_turn.Tie as tie
+use Rattle.copying.specs.Eight.{pairSize}
 
 copy-round-requires : tie.Need-copy-round-requires
 copy-round-requires c κs = search needs
@@ -35,7 +36,7 @@ same-length c = search needs
 returns : tie.Need-returns
 returns c =
     let a = c .before .before .before .before .before .before .before .before .before .before .before .args in
-    copy-part (a .src .now) (a .dst .now) _ 16 16 _ (c .before .before .before .before .before .before .before .copy-round .ensures) (omega arith) (omega arith) (c .before .before .copy-round2 .ensures)
+    copy-part (a .src .now) (a .dst .now) _ pairSize pairSize _ (c .before .before .before .before .before .before .before .copy-round .ensures) (omega arith) (omega arith) (c .before .before .copy-round2 .ensures)
 
 pub copy-turn-spec : {M : Type 1} → statement M
 copy-turn-spec =

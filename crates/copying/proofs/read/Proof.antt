@@ -4,6 +4,7 @@ use borrow.Author.Needs.{needs}
 use Rattle.copying.proofs.Laws.{firstOnes, first-ones}
 use Rattle.copying.proofs.read.Statement.{statement}
 use Rattle.copying.proofs.read.Tie as tie
+use Rattle.copying.specs.Eight.{halfSize}
 
 shared-slice-read-t3 : tie.Need-shared-slice-read-t3
 shared-slice-read-t3 c = search needs
@@ -31,7 +32,7 @@ shared-slice-read-t17 c = search needs
 
 returns : tie.Need-returns
 unfolding firstOnes
-returns c = first-ones (c .before .before .before .before .before .before .before .before .args .src .now) 8 (omega arith)
+returns c = first-ones (c .before .before .before .before .before .before .before .before .args .src .now) halfSize (omega arith)
 
 pub read-spec : {M : Type 1} → statement M
 read-spec =

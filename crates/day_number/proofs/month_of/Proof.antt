@@ -5,12 +5,13 @@ use Prim.Native.Nat.{_-_}
 use Rattle.day_number.proofs.Laws.{Months, months-all, month-found, month-later, month-last}
 use Rattle.day_number.proofs.month_of.Statement.{statement}
 use Rattle.day_number.proofs.month_of.Tie as tie
+use Rattle.dates.specs.Dates.{lastMonth}
 
 abbrev Inv-loop : tie.InvT-loop
 Inv-loop leap day month₀ month = Months leap day month
 
 abbrev μ-loop : tie.MeasureT-loop
-μ-loop leap day month₀ month = 12 - month
+μ-loop leap day month₀ month = lastMonth - month
 
 loop-holds : tie.Need-loop-holds Inv-loop μ-loop
 loop-holds c = months-all (c .args .leap) (c .args .day)

@@ -1,24 +1,24 @@
 -- The loop's invariant: the digits of the number are those of what is left, in at + 1 places at most, and then the bytes after at. The measure is at.
-use Prim.Native.Nat.{_≤_, _<_, _+_, _^_}
+use Prim.Native.Nat.{_≤_, _<_, _+_, _^_, _-_}
 use mathlib.Core.Path.{_≡_, sym}
 use mathlib.Core.List.{_++_, append-nil}
 use native.Mathlib.Omega.{arith}
 use lib.ListN.{length, drop, length-set}
 use borrow.Author.Needs.{needs}
-use Rattle.grammar.specs.Fields.{writeNum}
+use Rattle.grammar.specs.Fields.{writeNum, decimalDigits}
 use Rattle.decimal.proofs.Laws.{digits-more, digits-end, digits-left}
 use Rattle.decimal.proofs.digits.Statement.{statement}
 use Rattle.decimal.proofs.digits.Tie as tie
 
 abbrev Inv-loop : tie.InvT-loop
 Inv-loop n bytes₀ at₀ rest₀ bytes at rest =
-    (at ≤ 9) × (length bytes ≡ 10) × (rest < 10 ^ (at + 1)) × (writeNum 10 n ≡ writeNum (at + 1) rest ++ drop (at + 1) bytes)
+    (at ≤ decimalDigits - 1) × (length bytes ≡ decimalDigits) × (rest < 10 ^ (at + 1)) × (writeNum decimalDigits n ≡ writeNum (at + 1) rest ++ drop (at + 1) bytes)
 
 abbrev μ-loop : tie.MeasureT-loop
 μ-loop n bytes₀ at₀ rest₀ bytes at rest = at
 
 loop-holds : tie.Need-loop-holds Inv-loop μ-loop
-loop-holds c = (search needs, search needs, search needs, sym (append-nil (writeNum 10 (c .args .n))))
+loop-holds c = (search needs, search needs, search needs, sym (append-nil (writeNum decimalDigits (c .args .n))))
 
 last-digit-requires : tie.Need-last-digit-requires Inv-loop μ-loop
 last-digit-requires c κs = search needs

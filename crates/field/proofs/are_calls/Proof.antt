@@ -5,6 +5,7 @@ use native.Mathlib.Omega.{arith}
 use lib.ListN.{length, drop}
 use borrow.Author.Needs.{needs}
 use Rattle.grammar.specs.Fields.{allCalls, parts}
+use Rattle.grammar.specs.Ascii.{char}
 use Rattle.span.proofs.Laws.{found-within}
 use Rattle.field.proofs.Laws.{calls-stop, calls-end, calls-more}
 use Rattle.field.proofs.are_calls.Statement.{statement}
@@ -31,7 +32,7 @@ part-is-call-start c = search needs
 part-is-call-end : tie.Need-part-is-call-end Inv-loop μ-loop
 part-is-call-end c =
     let e = c .find-from .ensures in
-    let m = found-within (c .before .before .before .args .s .now) (c .before .loop .a) 46 (c .before .loop .inv .0) in
+    let m = found-within (c .before .before .before .args .s .now) (c .before .loop .a) (char ".") (c .before .loop .inv .0) in
     omega (arith, e, m)
 
 is-call-requires : tie.Need-is-call-requires Inv-loop μ-loop

@@ -3,13 +3,14 @@ use Prim.Native.Nat.{_≤_, _-_, _*_, _/_}
 use mathlib.Core.Path.{_≡_, refl}
 use native.Mathlib.Omega.{arith}
 use borrow.Author.Needs.{needs}
-use Rattle.form_test.specs.Form.{usedFrom}
+use Rattle.form_test.specs.Form.{usedFrom, roundLength}
 use Rattle.form_test.proofs.Laws.{rounds-used, all-used}
 use Rattle.form_test.proofs.used_by.Statement.{statement}
 use Rattle.form_test.proofs.used_by.Tie as tie
+use Rattle.grammar.specs.Fields.{bodyLimit}
 
 abbrev Inv-loop : tie.InvT-loop
-Inv-loop inbox n rounds total₀ k₀ total k = (k ≤ rounds) × (rounds ≡ n / 8) × (total ≤ 65535 * (8 * k)) × (total ≡ usedFrom inbox 0 (8 * k))
+Inv-loop inbox n rounds total₀ k₀ total k = (k ≤ rounds) × (rounds ≡ n / roundLength) × (total ≤ bodyLimit * (roundLength * k)) × (total ≡ usedFrom inbox 0 (roundLength * k))
 
 abbrev μ-loop : tie.MeasureT-loop
 μ-loop inbox n rounds total₀ k₀ total k = rounds - k

@@ -1,6 +1,6 @@
 -- Whether the reader gives a number.
 use Rattle.fs_effect.proofs.Laws.{answer-no, answer-yes}
-use Rattle.numbers.specs.Whole.{awaitOf, keepOf}
+use Rattle.numbers.specs.Whole.{withDeferred, sessionOf}
 use borrow.Author.Needs.{needs}
 use Rattle.fs_effect.proofs.answer_line.Statement.{statement}
 use Rattle.fs_effect.proofs.answer_line.Tie as tie
@@ -15,9 +15,9 @@ refusal-requires : tie.Need-refusal-requires
 refusal-requires c κs = search needs
 
 returns : tie.Need-returns
-returns c = λ block.
+returns c = λ x.
     let a = c .before .before .before .before .before .before .before .before .args in
-    answer-no (awaitOf (a .s .now) block) (a .s .say) (keepOf (a .s .keep) (a .deferred .now)) (a .s .reader) (a .line .now) _ _ (c .before .before .before .read-fs .ensures .0) (c .before .if1 .taken) (c .refusal .ensures block (a .deferred .now))
+    answer-no (sessionOf (a .s) (withDeferred (a .deferred .now) x)) (a .line .now) _ _ (c .before .before .before .read-fs .ensures .0) (c .before .if1 .taken) (c .refusal .ensures (withDeferred (a .deferred .now) x))
 
 answer-taken-requires : tie.Need-answer-taken-requires
 answer-taken-requires c κs = search needs
@@ -26,9 +26,9 @@ same-length : tie.Need-same-length
 same-length c = search needs
 
 returns-2 : tie.Need-returns-2
-returns-2 c = λ block.
+returns-2 c = λ x.
     let a = c .before .before .before .before .before .before .before .before .before .before .before .before .args in
-    answer-yes (awaitOf (a .s .now) block) (a .s .say) (keepOf (a .s .keep) (a .deferred .now)) (a .s .reader) (a .line .now) _ _ (c .before .before .before .before .before .before .before .read-fs .ensures .0) (c .before .before .before .before .before .if1 .left) _ (c .before .before .before .before .before .before .before .read-fs .ensures .1) (c .before .before .answer-taken .ensures block)
+    answer-yes (sessionOf (a .s) (withDeferred (a .deferred .now) x)) (a .line .now) _ _ (c .before .before .before .before .before .before .before .read-fs .ensures .0) (c .before .before .before .before .before .if1 .left) _ (c .before .before .before .before .before .before .before .read-fs .ensures .1) (c .before .before .answer-taken .ensures x)
 
 pub answer-line-spec : {M : Type 1} → statement M
 answer-line-spec =

@@ -1,6 +1,6 @@
 -- Each call is a part of the definition, whatever the block is.
 use Rattle.fs_effect.proofs.Laws.{taken}
-use Rattle.numbers.specs.Whole.{awaitOf, keepOf}
+use Rattle.numbers.specs.Whole.{withDeferred, sessionOf}
 use borrow.Author.Needs.{needs}
 use Rattle.fs_effect.proofs.answer_taken.Statement.{statement}
 use Rattle.fs_effect.proofs.answer_taken.Tie as tie
@@ -21,10 +21,10 @@ same-length : tie.Need-same-length
 same-length c = search needs
 
 returns : tie.Need-returns
-returns c = λ block.
+returns c = λ x.
     let a = c .before .before .before .before .before .before .before .before .before .before .before .before .before .before .before .args in
     let g = c .before .before .before .before .before .before .before .before .before .before .by-signs .ensures in
-    taken (a .signs) (awaitOf (a .s .now) block) (a .s .say) (keepOf (a .s .keep) (a .deferred .now)) (a .s .reader) _ _ _ _ _ _ (g .1) (g .0) (g .2) (c .before .before .before .before .before .deferring .ensures) (c .before .to-turn .ensures block) (c .transfers-after .ensures)
+    taken (a .signs) (sessionOf (a .s) (withDeferred (a .deferred .now) x)) _ _ _ _ _ _ (g .1) (g .0) (g .2) (c .before .before .before .before .before .deferring .ensures) (c .before .to-turn .ensures x) (c .transfers-after .ensures)
 
 pub answer-taken-spec : {M : Type 1} → statement M
 answer-taken-spec =

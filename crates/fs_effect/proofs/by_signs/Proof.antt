@@ -4,6 +4,7 @@ use Prim.Native.Nat.{_-_}
 use native.Mathlib.Omega.{arith}
 use lib.ListN.{length}
 use Rattle.grammar.specs.Answers.{accept, decline, defer, writeSign}
+use Rattle.phase.specs.Phase.{blockLimit}
 use borrow.Author.Needs.{needs}
 use Rattle.fs_effect.proofs.Laws.{Sorted, pick-start, sort-room, sort-more, sort-end}
 use Rattle.fs_effect.proofs.by_signs.Statement.{statement}
@@ -37,7 +38,7 @@ element-copy-out-answered-by : tie.Need-element-copy-out-answered-by Inv-loop μ
 element-copy-out-answered-by c = search needs
 
 answered-by-requires : tie.Need-answered-by-requires Inv-loop μ-loop
-answered-by-requires c κs = let a = c .before .before .before .before .before .before .before .args in let l : length (a .t2) ≡ 5 = search needs in sort-room (a .t1) (a .t2) (c .before .before .loop .a) (c .before .before .loop .i) _ (c .before .before .before .before .before .before .count-of .ensures .0) (c .before .before .loop .inv) (c .before .loop-test .taken) (omega (arith, l, c .before .loop-test .taken, c .before .before .before .before .before .before .count-of .ensures .1)) (c .before .before .before .before .before .before .count-of .ensures .1)
+answered-by-requires c κs = let a = c .before .before .before .before .before .before .before .args in let l : length (a .t2) ≡ blockLimit = search needs in sort-room (a .t1) (a .t2) (c .before .before .loop .a) (c .before .before .loop .i) _ (c .before .before .before .before .before .before .count-of .ensures .0) (c .before .before .loop .inv) (c .before .loop-test .taken) (omega (arith, l, c .before .loop-test .taken, c .before .before .before .before .before .before .count-of .ensures .1)) (c .before .before .before .before .before .before .count-of .ensures .1)
 
 add-i : tie.Need-add-i Inv-loop μ-loop
 add-i c = search needs
@@ -46,7 +47,7 @@ loop-less : tie.Need-loop-less Inv-loop μ-loop
 loop-less c = search needs
 
 loop-again : tie.Need-loop-again Inv-loop μ-loop
-loop-again c = let a = c .before .before .before .before .before .before .before .before .args in let l : length (a .t2) ≡ 5 = search needs in sort-more (a .t1) (a .t2) (c .before .before .before .loop .a) (c .before .before .before .loop .i) _ (c .before .before .before .before .before .before .before .count-of .ensures .0) (c .before .before .before .loop .inv) (c .before .before .loop-test .taken) (omega (arith, l, c .before .before .loop-test .taken, c .before .before .before .before .before .before .before .count-of .ensures .1)) (c .before .before .before .before .before .before .before .count-of .ensures .1) _ (c .answered-by .ensures)
+loop-again c = let a = c .before .before .before .before .before .before .before .before .args in let l : length (a .t2) ≡ blockLimit = search needs in sort-more (a .t1) (a .t2) (c .before .before .before .loop .a) (c .before .before .before .loop .i) _ (c .before .before .before .before .before .before .before .count-of .ensures .0) (c .before .before .before .loop .inv) (c .before .before .loop-test .taken) (omega (arith, l, c .before .before .loop-test .taken, c .before .before .before .before .before .before .before .count-of .ensures .1)) (c .before .before .before .before .before .before .before .count-of .ensures .1) _ (c .answered-by .ensures)
 
 returns : tie.Need-returns Inv-loop μ-loop
 returns c = let a = c .before .before .before .before .before .before .args in sort-end (a .t1) (a .t2) (c .before .loop .a) (c .before .loop .i) _ (c .before .before .before .before .before .count-of .ensures .0) (c .before .loop .inv) (c .loop-test .left)

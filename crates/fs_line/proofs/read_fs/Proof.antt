@@ -6,6 +6,7 @@ use Rattle.grammar.proofs.Basics.{to-end}
 use Rattle.fs_line.proofs.Laws.{fs-not, fs-wrong, over-five, too-short, no-space, fs-signs}
 use Rattle.fs_line.proofs.read_fs.Statement.{statement}
 use Rattle.fs_line.proofs.read_fs.Tie as tie
+use Rattle.fs_line.specs.Answers.{fsLength}
 
 begins-fs-requires : tie.Need-begins-fs-requires
 begins-fs-requires c κs = search needs
@@ -62,7 +63,7 @@ returns-5 : tie.Need-returns-5
 returns-5 c = let a = c .before .before .before .before .before .before .before .before .before .args in
     let e = sym (c .before .before .before .before .before .before .before .begins-fs .ensures) ∙ not-false _ (c .before .before .before .before .before .before .if1 .left) in
     let w = fs-signs (a .level) (a .n) (a .line .now) (c .before .before .before .before .before .if2 .left) (c .before .before .before .before .if3 .left) e (c .before .before .if4 .left) in
-    rw (w .0, w .1, ← to-end (a .line .now) 3) (c .read-signs .ensures)
+    rw (w .0, w .1, ← to-end (a .line .now) fsLength) (c .read-signs .ensures)
 
 pub read-fs-spec : {M : Type 1} → statement M
 read-fs-spec =

@@ -8,9 +8,10 @@ use Rattle.grammar.proofs.Basics.{to-end}
 use Rattle.fs_line.proofs.Laws.{Read, read-start, read-stop, read-more, read-over, read-end, within}
 use Rattle.fs_line.proofs.read_signs.Statement.{statement}
 use Rattle.fs_line.proofs.read_signs.Tie as tie
+use Rattle.grammar.specs.Turns.{blockLimit}
 
 abbrev Inv-loop : tie.InvT-loop
-Inv-loop s n level signs₀ at₀ i₀ signs at i = (i ≤ n) × (at ≤ length s) × (length signs ≡ 5) × Read level n s signs at i
+Inv-loop s n level signs₀ at₀ i₀ signs at i = (i ≤ n) × (at ≤ length s) × (length signs ≡ blockLimit) × Read level n s signs at i
 
 abbrev μ-loop : tie.MeasureT-loop
 μ-loop s n level signs₀ at₀ i₀ signs at i = n - i

@@ -3,6 +3,7 @@ use mathlib.Core.Path.{ap}
 use Prim.Native.Nat.{_+_}
 use lib.ListN.{length}
 use Rattle.places.specs.Places.{signsAt}
+use Rattle.phase.specs.Phase.{blockLimit}
 use Rattle.session_memory.specs.State.{loadOf, loadSay}
 use Rattle.session_memory.proofs.Laws.{array-length}
 use Rattle.waiting.proofs.Said.{first-none, first-both, first-sid, first-protocol, first-checksum}
@@ -16,26 +17,26 @@ shared-slice-read-first c = search needs
 
 returns : tie.Need-returns
 unfolding loadOf loadSay
-returns c = let a = c .before .before .before .args in ap length (first-none ((loadOf (a .sm .now)) .say .first) ((loadOf (a .sm .now)) .say .signs) (c .if1 .taken))
+returns c = let a = c .before .before .before .args in ap length (first-none (loadOf (a .sm .now)) (c .if1 .taken))
 
 add-result : tie.Need-add-result
 add-result c = search needs
 
 returns-2 : tie.Need-returns-2
 unfolding loadOf loadSay
-returns-2 c = let a = c .before .before .before .before .args in ap length (first-both ((loadOf (a .sm .now)) .say .first) ((loadOf (a .sm .now)) .say .signs) (c .if2 .taken))
+returns-2 c = let a = c .before .before .before .before .args in ap length (first-both (loadOf (a .sm .now)) (c .if2 .taken))
 
 returns-3 : tie.Need-returns-3
 unfolding loadOf loadSay
-returns-3 c = let a = c .before .before .before .before .before .args in ap length (first-sid ((loadOf (a .sm .now)) .say .first) ((loadOf (a .sm .now)) .say .signs) (c .if3 .taken))
+returns-3 c = let a = c .before .before .before .before .before .args in ap length (first-sid (loadOf (a .sm .now)) (c .if3 .taken))
 
 returns-4 : tie.Need-returns-4
 unfolding loadOf loadSay
-returns-4 c = let a = c .before .before .before .before .before .before .args in ap length (first-protocol ((loadOf (a .sm .now)) .say .first) ((loadOf (a .sm .now)) .say .signs) (c .if4 .taken))
+returns-4 c = let a = c .before .before .before .before .before .before .args in ap length (first-protocol (loadOf (a .sm .now)) (c .if4 .taken))
 
 returns-5 : tie.Need-returns-5
 unfolding loadOf loadSay
-returns-5 c = let a = c .before .before .before .before .before .before .before .args in ap length (first-checksum ((loadOf (a .sm .now)) .say .first) ((loadOf (a .sm .now)) .say .signs) (c .if5 .taken))
+returns-5 c = let a = c .before .before .before .before .before .before .before .args in ap length (first-checksum (loadOf (a .sm .now)) (c .if5 .taken))
 
 shared-slice-read-in-use : tie.Need-shared-slice-read-in-use
 shared-slice-read-in-use c = search needs
@@ -51,7 +52,7 @@ add-result-2 c = search needs
 
 returns-6 : tie.Need-returns-6
 unfolding loadOf loadSay
-returns-6 c = let a = c .before .before .before .before .before .before .before .before .before .args in signs-length ((loadOf (a .sm .now)) .say .first) ((loadOf (a .sm .now)) .say .signs) (array-length 5 (a .sm .now) (signsAt + 1)) (c .before .before .before .before .before .before .if1 .left) (c .before .before .before .before .before .if2 .left) (c .before .before .before .before .if3 .left) (c .before .before .before .if4 .left) (c .before .before .if5 .left) (c .in-use .ensures)
+returns-6 c = let a = c .before .before .before .before .before .before .before .before .before .args in signs-length (loadOf (a .sm .now)) (array-length blockLimit (a .sm .now) (signsAt + 1)) (c .before .before .before .before .before .before .if1 .left) (c .before .before .before .before .before .if2 .left) (c .before .before .before .before .if3 .left) (c .before .before .before .if4 .left) (c .before .before .if5 .left) (c .in-use .ensures)
 
 pub first-length-spec : {M : Type 1} → statement M
 first-length-spec =

@@ -26,7 +26,7 @@ byte-at-requires : tie.Need-byte-at-requires
 byte-at-requires c κs = search needs
 
 returns : tie.Need-returns
-returns c = let a = c .before .before .before .before .before .args in plain-by (a .s) (a .mem .now) _ _ (c .before .before .before .before .before .pre) (c .before .entry .ensures) (c .byte-at .ensures)
+returns c = let a = c .before .before .before .before .before .args in plain-by (a .s) (a .mem .now) _ _ (c .before .entry .ensures) (c .byte-at .ensures)
 
 pub is-plain-spec : {M : Type 1} → statement M
 is-plain-spec =

@@ -14,7 +14,7 @@ add-k-2 : tie.Need-add-k-2
 add-k-2 c = search needs
 
 returns : tie.Need-returns
-returns c deferred heading line block = refl
+returns c a = refl
 
 pub kept-keep-spec : {M : Type 1} → statement M
 kept-keep-spec = tie.close (tie.spec add-k cast-k add-k-2 returns)

@@ -1,6 +1,6 @@
 -- Our turn, or the next transfer.
 use mathlib.Core.Path.{_∙_}
-use Rattle.numbers.specs.Whole.{deferredIn, headingIn, lineIn, blockIn, wholeOf}
+use Rattle.numbers.specs.Whole.{arraysIn, wholeOf}
 use Rattle.kept_message.proofs.Laws.{next-turn, next-transfer, reader-by}
 use borrow.Author.Needs.{needs}
 use Rattle.kept_message.proofs.next_judged.Statement.{statement}
@@ -17,7 +17,7 @@ unfolding wholeOf
 returns c =
     let a = c .before .before .before .before .args in
     let m = a .mem .now in
-    next-turn (wholeOf (a .s) m) (a .next) _ (c .before .before .kept-keep .ensures (deferredIn m) (headingIn m) (lineIn m) (blockIn m)) _ (c .unmarked .ensures) (c .before .if1 .taken)
+    next-turn (wholeOf (a .s) m) (a .next) _ (c .before .before .kept-keep .ensures (arraysIn m)) _ (c .unmarked .ensures) (c .before .if1 .taken)
 
 to-transfer-requires : tie.Need-to-transfer-requires
 to-transfer-requires c κs = search needs
@@ -42,8 +42,8 @@ unfolding wholeOf
 returns-2 c =
     let a = c .before .before .before .before .before .before .before .before .args in
     let m = a .mem .now in
-    c .went .ensures (blockIn m) (deferredIn m)
-    ∙ next-transfer (wholeOf (a .s) m) (a .next) _ (c .before .before .before .before .before .before .kept-keep .ensures (deferredIn m) (headingIn m) (lineIn m) (blockIn m)) _ _ (c .before .before .before .before .before .if1 .left) (c .before .before .before .to-transfer .ensures (blockIn m)) (reader-by (a .s) m (a .next) _ (c .before .before .before .before .before .before .before .before .pre .1) (c .before .reader-for .ensures (a .s .now)))
+    c .went .ensures (arraysIn m)
+    ∙ next-transfer (wholeOf (a .s) m) (a .next) _ (c .before .before .before .before .before .before .kept-keep .ensures (arraysIn m)) _ _ (c .before .before .before .before .before .if1 .left) (c .before .before .before .to-transfer .ensures (arraysIn m)) (reader-by (a .s) m (a .next) _ (c .before .reader-for .ensures (a .s .now) (arraysIn m)))
 
 pub next-judged-spec : {M : Type 1} → statement M
 next-judged-spec =

@@ -1,11 +1,11 @@
--- What the copied line comes to is settled on the arrays as they stand then; that is what the definition says of the arrays before.
+-- The copied line is that of the state; what it comes to is settled.
 use mathlib.Core.Path.{_≡_, sym, ap, _∙_}
 use native.Mathlib.Omega.{arith}
 use lib.ListN.{length}
 use lib.Seq.{length-take-le}
 use Rattle.grammar.specs.Lines.{lineLimit}
-use Rattle.receive_defined.proofs.InPlace.{ends-in}
-use Rattle.line_byte.proofs.Laws.{line-length, line-is, judged-as}
+use Rattle.numbers.specs.Whole.{wholeOf}
+use Rattle.line_byte.proofs.Laws.{line-length, line-is, ends-by}
 use borrow.Author.Needs.{needs}
 use Rattle.line_byte.proofs.ends.Statement.{statement}
 use Rattle.line_byte.proofs.ends.Tie as tie
@@ -38,7 +38,13 @@ same-length-2 : tie.Need-same-length-2
 same-length-2 c = search needs
 
 returns : tie.Need-returns
-returns c = ends-in (c .before .before .before .before .before .before .before .before .before .before .before .before .before .before .before .before .before .before .before .args .s) (c .before .before .before .before .before .before .before .before .before .before .before .before .before .before .before .before .before .before .before .args .mem .now) _ (c .before .before .before .before .before .before .before .before .before .before .before .before .before .before .before .before .before .before .before .pre) (c .before .before .before .before .before .before .mem .given ∙ c .before .before .before .before .before .before .before .before .before .before .before .before .before .before .before .before .before .before .before .pre) (c .before .before .before .before .before .before .before .judged .result) (c .before .before .before .before .before .before .before .before .before .before .before .before .before .before .before .before .before .before .before .args .table .now) (c .before .before .before .before .before .before .before .before .before .before .before .before .before .before .before .before .before .before .before .args .known .now) (c .before .before .before .before .before .before .before .before .before .before .before .before .before .before .before .before .before .before .before .args .inbox .now) (c .before .before .before .before .before .before .before .before .before .before .before .before .before .before .before .before .before .before .before .args .store) (judged-as (c .before .before .before .before .before .before .before .before .before .before .before .before .before .before .before .before .before .before .before .args .s) (c .before .before .before .before .before .before .before .before .before .before .before .before .before .before .before .before .before .before .before .args .mem .now) _ (c .before .before .before .before .before .before .before .judged .result) (c .before .before .before .before .before .before .before .before .before .before .before .before .before .before .before .before .before .before .before .args .table .now) (c .before .before .before .before .before .before .before .before .before .before .before .before .before .before .before .before .before .before .before .args .known .now) (c .before .before .before .before .before .before .before .before .before .before .before .before .before .before .before .before .before .before .before .args .inbox .now) (c .before .before .before .before .before .before .before .before .before .before .before .before .before .before .before .before .before .before .before .args .store) _ _ (line-is (c .before .before .before .before .before .before .before .before .before .before .before .before .before .before .before .before .before .before .before .args .mem .now) _ _ (c .before .before .before .before .before .before .before .before .before .before .before .before .before .before .before .before .before .before .before .args .s .line .len) (c .before .before .before .before .before .before .before .before .before .before .before .before .before .before .before .before .before .before .before .pre) (c .before .before .before .before .before .before .before .before .before .before .before .before .before .line-of .ensures) (c .before .before .before .before .before .before .before .before .before .before .before .at-most .ensures)) (c .before .before .before .before .before .before .before .judged .ensures)) _ _ _ (c .before .before .settle .ensures)
+unfolding wholeOf
+returns c =
+    let a = c .before .before .before .before .before .before .before .before .before .before .before .before .before .before .before .before .before .before .before .args in
+    let pre = c .before .before .before .before .before .before .before .before .before .before .before .before .before .before .before .before .before .before .before .pre in
+    ends-by _ (wholeOf (a .s) (a .mem .now)) (a .table .now) (a .known .now) (a .inbox .now) (a .store) _
+    (line-is (a .mem .now) _ _ (a .s .line .len) pre (c .before .before .before .before .before .before .before .before .before .before .before .before .before .line-of .ensures) (c .before .before .before .before .before .before .before .before .before .before .before .at-most .ensures))
+    (c .before .before .before .before .before .before .before .judged .ensures) _ (c .before .before .settle .ensures)
 
 pub ends-spec : {M : Type 1} → statement M
 ends-spec =

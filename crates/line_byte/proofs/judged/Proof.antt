@@ -1,6 +1,7 @@
 -- The line up to its last byte that is no space, and the sum of all of it.
 use mathlib.Core.Path.{sym}
 use lib.Seq.{length-take-le}
+use Rattle.numbers.specs.Whole.{wholeOf}
 use Rattle.line_byte.proofs.Laws.{judged-by}
 use borrow.Author.Needs.{needs}
 use Rattle.line_byte.proofs.judged.Statement.{statement}
@@ -24,7 +25,7 @@ same-length c = search needs
 returns : tie.Need-returns
 returns c =
     let a = c .before .before .before .before .before .before .before .before .before .before .before .before .args in
-    judged-by (a .s) (a .mem .now) _ (c .before .before .judge .result) (a .table .now) (a .known .now) (a .inbox .now) (a .store) (a .line .now) _ _ (c .before .before .before .before .before .before .trimmed .ensures .0) (c .before .before .before .before .before .line-sum .ensures) (c .before .before .judge .ensures)
+    judged-by _ (wholeOf (a .s) (a .mem .now)) (a .table .now) (a .known .now) (a .inbox .now) (a .store) (a .line .now) _ _ (c .before .before .before .before .before .before .trimmed .ensures .0) (c .before .before .before .before .before .line-sum .ensures) (c .before .before .judge .ensures)
 
 pub judged-spec : {M : Type 1} → statement M
 judged-spec =

@@ -4,7 +4,7 @@ use Rattle.line_effect.proofs.marks_of.Statement.{statement}
 use Rattle.line_effect.proofs.marks_of.Tie as tie
 
 returns : tie.Need-returns
-returns c = λ deferred. refl
+returns c = λ a. refl
 
 pub marks-of-spec : {M : Type 1} → statement M
 marks-of-spec = tie.close (tie.spec returns)

@@ -18,7 +18,7 @@ start-requires c κs = search needs
 
 returns : tie.Need-returns
 unfolding readerFor
-returns c = λ w. rw (← c .before .before .entry .ensures, ← c .before .byte-at .ensures) (c .start .ensures)
+returns c = λ w a. rw (← c .before .before .entry .ensures, ← c .before .byte-at .ensures) (c .start .ensures)
 
 pub reader-for-spec : {M : Type 1} → statement M
 reader-for-spec =

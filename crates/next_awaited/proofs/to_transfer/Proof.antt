@@ -4,7 +4,7 @@ use Rattle.next_awaited.proofs.to_transfer.Statement.{statement}
 use Rattle.next_awaited.proofs.to_transfer.Tie as tie
 
 returns : tie.Need-returns
-returns c block = refl
+returns c a = refl
 
 pub to-transfer-spec : {M : Type 1} → statement M
 to-transfer-spec = tie.close (tie.spec returns)

@@ -4,7 +4,7 @@ use Rattle.next_awaited.proofs.to_turn.Statement.{statement}
 use Rattle.next_awaited.proofs.to_turn.Tie as tie
 
 returns : tie.Need-returns
-returns c block = refl
+returns c a = refl
 
 pub to-turn-spec : {M : Type 1} → statement M
 to-turn-spec = tie.close (tie.spec returns)

@@ -1,4 +1,3 @@
-use Rattle.session_memory.proofs.Laws.{same-terms}
 use borrow.Author.Needs.{needs}
 use Rattle.numbers.proofs.load_terms.Statement.{statement}
 use Rattle.numbers.proofs.load_terms.Tie as tie
@@ -10,7 +9,7 @@ byte-requires-2 : tie.Need-byte-requires-2
 byte-requires-2 c κs = search needs
 
 returns : tie.Need-returns
-returns c = same-terms (c .before .byte .ensures) (c .byte2 .ensures)
+returns c = rw (c .before .byte .ensures, c .byte2 .ensures)
 
 pub load-terms-spec : {M : Type 1} → statement M
 load-terms-spec = tie.close (tie.spec byte-requires byte-requires-2 returns)

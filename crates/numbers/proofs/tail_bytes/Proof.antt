@@ -1,4 +1,4 @@
-use Rattle.numbers.proofs.Laws.{tail-are}
+use Rattle.session_memory.specs.State.{tailOut}
 use borrow.Author.Needs.{needs}
 use Rattle.numbers.proofs.tail_bytes.Statement.{statement}
 use Rattle.numbers.proofs.tail_bytes.Tie as tie
@@ -22,7 +22,8 @@ array-read-t17 : tie.Need-array-read-t17
 array-read-t17 c = search needs
 
 returns : tie.Need-returns
-returns c = tail-are (c .before .before .before .args .h) (c .bytes4 .ensures)
+unfolding tailOut
+returns c = rw (c .bytes4 .ensures)
 
 pub tail-bytes-spec : {M : Type 1} → statement M
 tail-bytes-spec =

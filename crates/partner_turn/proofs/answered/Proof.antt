@@ -1,5 +1,5 @@
 -- Whether there is an accepted proposal.
-use Rattle.numbers.specs.Whole.{awaitOf, keepOf}
+use Rattle.numbers.specs.Whole.{withBlock, sessionOf}
 use Rattle.partner_turn.proofs.Laws.{answered-none, answered-some}
 use borrow.Author.Needs.{needs}
 use Rattle.partner_turn.proofs.answered.Statement.{statement}
@@ -12,7 +12,7 @@ whole-turn-requires : tie.Need-whole-turn-requires
 whole-turn-requires c κs = search needs
 
 returns : tie.Need-returns
-returns c = λ deferred. let a = c .before .before .before .before .before .args in answered-none (a .signs) (awaitOf (a .s .now) (a .block .now)) (a .s .say) (keepOf (a .s .keep) deferred) (a .s .reader) _ _ (c .before .before .next-accepted .ensures) (c .before .if1 .taken) (c .whole-turn .ensures (a .block .now) deferred)
+returns c = λ x. let a = c .before .before .before .before .before .args in answered-none (a .signs) (sessionOf (a .s) (withBlock (a .block .now) x)) _ _ (c .before .before .next-accepted .ensures) (c .before .if1 .taken) (c .whole-turn .ensures (withBlock (a .block .now) x))
 
 to-transfer-requires : tie.Need-to-transfer-requires
 to-transfer-requires c κs = search needs
@@ -24,9 +24,9 @@ whole-turn-requires-2 : tie.Need-whole-turn-requires-2
 whole-turn-requires-2 c κs = search needs
 
 returns-2 : tie.Need-returns-2
-returns-2 c = λ deferred.
+returns-2 c = λ x.
     let a = c .before .before .before .before .before .before .before .before .args in
-    answered-some (a .signs) (awaitOf (a .s .now) (a .block .now)) (a .s .say) (keepOf (a .s .keep) deferred) (a .s .reader) _ _ (c .before .before .before .before .before .next-accepted .ensures) (c .before .before .before .before .if1 .left) _ _ (c .before .before .to-transfer .ensures (a .block .now)) (c .before .reader-for .ensures (a .s .now)) (c .whole-turn2 .ensures (a .block .now) deferred)
+    answered-some (a .signs) (sessionOf (a .s) (withBlock (a .block .now) x)) _ _ (c .before .before .before .before .before .next-accepted .ensures) (c .before .before .before .before .if1 .left) _ _ (c .before .before .to-transfer .ensures (withBlock (a .block .now) x)) (c .before .reader-for .ensures (a .s .now) x) (c .whole-turn2 .ensures (withBlock (a .block .now) x))
 
 pub answered-spec : {M : Type 1} → statement M
 answered-spec =

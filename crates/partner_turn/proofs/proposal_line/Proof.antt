@@ -1,6 +1,6 @@
 -- A sixth is refused; else the block gets it, its form by its number.
 use borrow.Author.Tests.{le-ltb}
-use Rattle.numbers.specs.Whole.{awaitOf, keepOf}
+use Rattle.numbers.specs.Whole.{withBlock, sessionOf}
 use Rattle.line_effect.specs.Judge.{proposalLine}
 use Rattle.partner_turn.proofs.Laws.{proposed}
 use borrow.Author.Needs.{needs}
@@ -12,7 +12,7 @@ refusal-requires c κs = search needs
 
 returns : tie.Need-returns
 unfolding proposalLine
-returns c = λ deferred. rw (le-ltb _ _ (c .before .if1 .taken)) (c .refusal .ensures (c .before .before .before .before .before .args .block .now) deferred)
+returns c = λ x. rw (le-ltb _ _ (c .before .if1 .taken)) (c .refusal .ensures (withBlock (c .before .before .before .before .before .args .block .now) x))
 
 cast-n : tie.Need-cast-n
 cast-n c = search needs
@@ -39,9 +39,9 @@ same-length : tie.Need-same-length
 same-length c = search needs
 
 returns-2 : tie.Need-returns-2
-returns-2 c = λ deferred.
+returns-2 c = λ x.
     let a = c .before .before .before .before .before .before .before .before .before .before .before .before .before .args in
-    proposed (awaitOf (a .s .now) (a .block .now)) (a .s .say) (keepOf (a .s .keep) deferred) (a .s .reader) (a .line .now) (a .sum) _ (a .p) _ _ (c .before .before .before .before .before .before .before .before .before .before .before .before .before .pre .form) (c .before .before .before .before .before .before .before .before .before .if1 .left) (c .before .wrapping-add-u8 .ensures) (c .before .before .before .before .before .before .with-proposal .ensures) (c .went .ensures _ deferred)
+    proposed (sessionOf (a .s) (withBlock (a .block .now) x)) (a .line .now) (a .sum) _ (a .p) _ _ (c .before .before .before .before .before .before .before .before .before .before .before .before .before .pre .form) (c .before .before .before .before .before .before .before .before .before .if1 .left) (c .before .wrapping-add-u8 .ensures) (c .before .before .before .before .before .before .with-proposal .ensures) (c .went .ensures (withBlock _ x))
 
 pub proposal-line-spec : {M : Type 1} → statement M
 proposal-line-spec =

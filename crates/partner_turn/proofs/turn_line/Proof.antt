@@ -1,7 +1,7 @@
 -- Each case of what the line says.
 use Rattle.proposal.specs.declared.TurnLine.{TurnLine}
 use Rattle.proposal.proofs.Laws.{lies-as}
-use Rattle.numbers.specs.Whole.{awaitOf, keepOf}
+use Rattle.numbers.specs.Whole.{withBlock, sessionOf}
 use Rattle.partner_turn.proofs.Laws.{turn-by}
 use borrow.Author.Needs.{needs}
 use Rattle.partner_turn.proofs.turn_line.Statement.{statement}
@@ -41,35 +41,35 @@ proposal-line-requires : tie.Need-proposal-line-requires
 proposal-line-requires c κs = lies-as (c .before .before .before .before .before .before .before .before .before .before .args .line .now) _ _ (c .before .before .r2 .given .1) (c .before .before .before .before .read-turn-line .ensures .1)
 
 returns : tie.Need-returns
-returns c = λ deferred.
+returns c = λ x.
     let a = c .before .before .before .before .before .before .before .before .before .args in
-    turn-by (awaitOf (a .s .now) (a .block .now)) (a .s .say) (keepOf (a .s .keep) deferred) (a .s .reader) (a .line .now) (a .sum) (a .table .now) (a .known .now) (a .inbox .now) (a .store) _ _ TurnLine.FF (c .before .enum-told .given .1) (c .before .before .before .read-turn-line .ensures .0) (c .ff-line .ensures (a .block .now) deferred)
+    turn-by (sessionOf (a .s) (withBlock (a .block .now) x)) (a .line .now) (a .sum) (a .table .now) (a .known .now) (a .inbox .now) (a .store) _ _ TurnLine.FF (c .before .enum-told .given .1) (c .before .before .before .read-turn-line .ensures .0) (c .ff-line .ensures (withBlock (a .block .now) x))
 
 returns-2 : tie.Need-returns-2
-returns-2 c = λ deferred.
+returns-2 c = λ x.
     let a = c .before .before .before .before .before .before .before .before .before .args in
-    turn-by (awaitOf (a .s .now) (a .block .now)) (a .s .say) (keepOf (a .s .keep) deferred) (a .s .reader) (a .line .now) (a .sum) (a .table .now) (a .known .now) (a .inbox .now) (a .store) _ _ TurnLine.FQ (c .before .enum-told2 .given .1) (c .before .before .before .read-turn-line .ensures .0) (c .fq-line .ensures (a .block .now) deferred)
+    turn-by (sessionOf (a .s) (withBlock (a .block .now) x)) (a .line .now) (a .sum) (a .table .now) (a .known .now) (a .inbox .now) (a .store) _ _ TurnLine.FQ (c .before .enum-told2 .given .1) (c .before .before .before .read-turn-line .ensures .0) (c .fq-line .ensures (withBlock (a .block .now) x))
 
 same-length : tie.Need-same-length
 same-length c = search needs
 
 returns-3 : tie.Need-returns-3
-returns-3 c = λ deferred.
+returns-3 c = λ x.
     let a = c .before .before .before .before .before .before .before .before .before .before .before .args in
-    turn-by (awaitOf (a .s .now) (a .block .now)) (a .s .say) (keepOf (a .s .keep) deferred) (a .s .reader) (a .line .now) (a .sum) (a .table .now) (a .known .now) (a .inbox .now) (a .store) _ _ _ (c .before .before .before .r .given .1) (c .before .before .before .before .before .read-turn-line .ensures .0) (c .end-line .ensures deferred (a .sum))
+    turn-by (sessionOf (a .s) (withBlock (a .block .now) x)) (a .line .now) (a .sum) (a .table .now) (a .known .now) (a .inbox .now) (a .store) _ _ _ (c .before .before .before .r .given .1) (c .before .before .before .before .before .read-turn-line .ensures .0) (c .end-line .ensures x (a .sum))
 
 returns-4 : tie.Need-returns-4
-returns-4 c = λ deferred.
+returns-4 c = λ x.
     let a = c .before .before .before .before .before .before .before .before .before .args in
-    turn-by (awaitOf (a .s .now) (a .block .now)) (a .s .say) (keepOf (a .s .keep) deferred) (a .s .reader) (a .line .now) (a .sum) (a .table .now) (a .known .now) (a .inbox .now) (a .store) _ _ TurnLine.NotAllowed (c .before .enum-told3 .given .1) (c .before .before .before .read-turn-line .ensures .0) (c .refusal .ensures (a .block .now) deferred)
+    turn-by (sessionOf (a .s) (withBlock (a .block .now) x)) (a .line .now) (a .sum) (a .table .now) (a .known .now) (a .inbox .now) (a .store) _ _ TurnLine.NotAllowed (c .before .enum-told3 .given .1) (c .before .before .before .read-turn-line .ensures .0) (c .refusal .ensures (withBlock (a .block .now) x))
 
 same-length-2 : tie.Need-same-length-2
 same-length-2 c = search needs
 
 returns-5 : tie.Need-returns-5
-returns-5 c = λ deferred.
+returns-5 c = λ x.
     let a = c .before .before .before .before .before .before .before .before .before .before .before .before .before .args in
-    turn-by (awaitOf (a .s .now) (a .block .now)) (a .s .say) (keepOf (a .s .keep) deferred) (a .s .reader) (a .line .now) (a .sum) (a .table .now) (a .known .now) (a .inbox .now) (a .store) _ _ _ (c .before .before .before .before .before .r2 .given .1) (c .before .before .before .before .before .before .before .read-turn-line .ensures .0) (c .before .before .proposal-line .ensures deferred)
+    turn-by (sessionOf (a .s) (withBlock (a .block .now) x)) (a .line .now) (a .sum) (a .table .now) (a .known .now) (a .inbox .now) (a .store) _ _ _ (c .before .before .before .before .before .r2 .given .1) (c .before .before .before .before .before .before .before .read-turn-line .ensures .0) (c .before .before .proposal-line .ensures x)
 
 pub turn-line-spec : {M : Type 1} → statement M
 turn-line-spec =

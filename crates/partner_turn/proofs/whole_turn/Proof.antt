@@ -10,7 +10,7 @@ marks-of-requires : tie.Need-marks-of-requires
 marks-of-requires c κs = search needs
 
 returns : tie.Need-returns
-returns c = λ block deferred. rw (← c .marks-of .ensures deferred, ← c .before .marked .ensures deferred)
+returns c = λ x. rw (← c .marks-of .ensures x, ← c .before .marked .ensures x)
 
 pub whole-turn-spec : {M : Type 1} → statement M
 whole-turn-spec = tie.close (tie.spec marked-requires marks-of-requires returns)

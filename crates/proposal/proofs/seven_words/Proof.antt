@@ -5,12 +5,13 @@ use borrow.Author.Needs.{needs}
 use Rattle.proposal.proofs.Laws.{Read, read-start, read-more, read-few, read-many, read-seven}
 use Rattle.proposal.proofs.seven_words.Statement.{statement}
 use Rattle.proposal.proofs.seven_words.Tie as tie
+use Rattle.proposal.specs.Meaning.{fieldCount}
 
 abbrev Inv-loop : tie.InvT-loop
 Inv-loop line w₀ place₀ i₀ w place i = Read line w place i
 
 abbrev μ-loop : tie.MeasureT-loop
-μ-loop line w₀ place₀ i₀ w place i = 7 - i
+μ-loop line w₀ place₀ i₀ w place i = fieldCount - i
 
 loop-holds : tie.Need-loop-holds Inv-loop μ-loop
 loop-holds c = read-start _ _ refl

@@ -7,12 +7,13 @@ use borrow.Author.Needs.{needs}
 use Rattle.proposal.proofs.Laws.{summed-length, summed-none, summed-pair}
 use Rattle.proposal.proofs.summed_end.Statement.{statement}
 use Rattle.proposal.proofs.summed_end.Tie as tie
+use Rattle.proposal.specs.Meaning.{endLength}
 
 returns : tie.Need-returns
 returns c = summed-length (c .before .before .args .line .now) (c .if1 .taken)
 
 slice-aggregate-is-word : tie.Need-slice-aggregate-is-word
-slice-aggregate-is-word c = sym (length-take-le 3 (c .before .before .before .args .line .now) (omega (arith, c .before .if1 .left)))
+slice-aggregate-is-word c = sym (length-take-le endLength (c .before .before .before .args .line .now) (omega (arith, c .before .if1 .left)))
 
 slice-aggregate-is-word-2 : tie.Need-slice-aggregate-is-word-2
 slice-aggregate-is-word-2 c = search needs

@@ -1,5 +1,6 @@
 use mathlib.Core.Path.{_∙_}
 use borrow.Author.Needs.{needs}
+use Rattle.grammar.specs.Ascii.{char}
 use Rattle.route_read.proofs.Laws.{as-second, as-first}
 use Rattle.route_scan.proofs.Laws.{begins-fits}
 use Rattle.route_read.proofs.either_form.Statement.{statement}
@@ -14,7 +15,7 @@ add-second-form c = search needs
 second-form-requires : tie.Need-second-form-requires
 second-form-requires c κs =
     let a = c .before .before .before .args in
-    begins-fits (a .line .now) (a .at) 64 58 _ (c .before .begins-at .ensures) (c .if1 .taken)
+    begins-fits (a .line .now) (a .at) (char "@") (char ":") _ (c .before .begins-at .ensures) (c .if1 .taken)
 
 returns : tie.Need-returns
 returns c =

@@ -4,6 +4,7 @@ use Prim.Native.Nat.{_-_, _+_}
 use lib.ListN.{length, drop}
 use Rattle.route_scan.proofs.Laws.{mark-more, mark-stop, mark-end, begins-fits}
 use borrow.Author.Needs.{needs}
+use Rattle.grammar.specs.Ascii.{char}
 use Rattle.route.specs.Routes.{markEnd}
 use Rattle.route_scan.proofs.behind_mark.Statement.{statement}
 use Rattle.route_scan.proofs.behind_mark.Tie as tie
@@ -22,7 +23,7 @@ begins-at-requires c κs = search needs
 
 add-result : tie.Need-add-result Inv-loop μ-loop
 add-result c =
-    let m = begins-fits (c .before .before .before .before .before .args .line .now) (c .before .before .before .loop .i) 35 58 _ (c .before .begins-at .ensures) (c .if1 .taken) in
+    let m = begins-fits (c .before .before .before .before .before .args .line .now) (c .before .before .before .loop .i) (char "#") (char ":") _ (c .before .begins-at .ensures) (c .if1 .taken) in
     search (needs, m)
 
 returns : tie.Need-returns Inv-loop μ-loop

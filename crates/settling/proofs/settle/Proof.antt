@@ -1,5 +1,5 @@
 -- Marks first, then our turn.
-use Rattle.numbers.specs.Whole.{awaitOf, blockIn, wholeOf}
+use Rattle.numbers.specs.Whole.{awaitOf, arraysIn, wholeOf}
 use Rattle.line_effect.specs.Verdict.{judgedIn}
 use Rattle.settling.proofs.Laws.{settle-no, settle-yes, tallied-are}
 use borrow.Author.Needs.{needs}
@@ -10,7 +10,7 @@ refused-requires : tie.Need-refused-requires
 refused-requires c κs = search needs
 
 returns : tie.Need-returns
-returns c = settle-no (wholeOf (c .before .before .before .before .before .args .s) (c .before .before .before .before .before .args .mem .now)) (judgedIn (c .before .before .before .before .before .args .v) (c .before .before .before .before .before .args .mem .now)) (c .before .before .before .before .before .args .after-cr) (c .before .before .before .before .before .args .table .now) _ (c .before .if1 .taken) (c .refused .ensures (c .before .before .before .before .before .args .mem .now))
+returns c = settle-no (judgedIn (c .before .before .before .before .before .before .args .v) (c .before .before .before .before .before .before .args .mem .now)) (c .before .before .before .before .before .before .args .after-cr) (c .before .before .before .before .before .before .args .table .now) _ (c .before .if1 .taken) (c .refused .ensures (c .before .before .before .before .before .before .args .mem .now))
 
 mark-all-requires : tie.Need-mark-all-requires
 mark-all-requires c κs = search needs
@@ -39,12 +39,11 @@ same-length c = search (needs, c .before .before .before .before .before .before
 returns-2 : tie.Need-returns-2
 unfolding wholeOf
 returns-2 c =
-    let a = c .before .before .before .before .before .before .before .before .before .before .before .before .before .before .before .before .before .before .args in
-    let s = wholeOf (a .s) (a .mem .now) in
+    let a = c .before .before .before .before .before .before .before .before .before .before .before .before .before .before .before .before .before .before .before .before .args in
     let j = judgedIn (a .v) (a .mem .now) in
     rw (c .showing .ensures)
-    (settle-yes s j (a .after-cr) (a .table .now) (wholeOf (c .before .before .before .before .before .before .spoken .result) (a .mem .now)) _ _ (c .before .before .before .before .before .before .before .before .before .before .before .before .before .before .if1 .left) (c .before .before .before .before .before .before .before .before .before .before .mark-all .ensures) (c .before .before .before .before .before .before .spoken .ensures (a .s))
-    (tallied-are (a .s .tally) j (awaitOf (c .before .before .before .before .before .before .spoken .result .now) (blockIn (a .mem .now))) _ (c .before .before .before .before .before .sheet-marked .ensures) (c .before .before .before .before .proposes .ensures (blockIn (a .mem .now))) (c .before .before .before .with-proposed .ensures) (c .before .recounted .ensures)))
+    (settle-yes j (a .after-cr) (a .table .now) (wholeOf (c .before .before .before .before .before .before .spoken .result) (a .mem .now)) _ _ (c .before .before .before .before .before .before .before .before .before .before .before .before .before .before .before .if1 .left) (c .before .before .before .before .before .before .before .before .before .before .mark-all .ensures) (c .before .before .before .before .before .before .spoken .ensures)
+    (tallied-are j (awaitOf (c .before .before .before .before .before .before .spoken .result .now) (arraysIn (a .mem .now))) _ (c .before .before .before .before .before .sheet-marked .ensures) (c .before .before .before .before .proposes .ensures (arraysIn (a .mem .now))) (c .before .before .before .with-proposed .ensures) (c .before .recounted .ensures)))
 
 pub settle-spec : {M : Type 1} → statement M
 settle-spec =

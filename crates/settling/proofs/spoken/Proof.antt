@@ -12,7 +12,7 @@ after-line-requires : tie.Need-after-line-requires
 after-line-requires c κs = search needs
 
 returns : tie.Need-returns
-returns c = λ s. spoken-no (c .before .before .before .before .before .before .args .v) (c .before .before .before .before .before .before .args .after-cr) (c .before .before .before .before .before .before .args .mem .now) (c .before .before .before .before .before .before .args .table .now) s (c .before .if1 .taken) (c .after-line .ensures)
+returns c = spoken-no (c .before .before .before .before .before .before .args .v) (c .before .before .before .before .before .before .args .after-cr) (c .before .before .before .before .before .before .args .mem .now) (c .before .before .before .before .before .before .args .table .now) (c .before .if1 .taken) (c .after-line .ensures)
 
 slice-aggregate-speak : tie.Need-slice-aggregate-speak
 slice-aggregate-speak c = sym (length-take-le headingAt (c .before .before .before .before .before .before .args .mem .now) (omega (arith, c .before .before .before .before .before .before .pre)))
@@ -24,7 +24,7 @@ after-line-requires-2 : tie.Need-after-line-requires-2
 after-line-requires-2 c κs = search needs
 
 returns-2 : tie.Need-returns-2
-returns-2 c = λ s. spoken-yes (c .before .before .before .before .before .before .before .before .before .args .v) (c .before .before .before .before .before .before .before .before .before .args .after-cr) (c .before .before .before .before .before .before .before .before .before .args .mem .now) (c .before .before .before .before .before .before .before .before .before .args .table .now) s (c .before .before .before .before .if1 .left) (c .before .speak .ensures) (c .after-line2 .ensures)
+returns-2 c = spoken-yes (c .before .before .before .before .before .before .before .before .before .args .v) (c .before .before .before .before .before .before .before .before .before .args .after-cr) (c .before .before .before .before .before .before .before .before .before .args .mem .now) (c .before .before .before .before .before .before .before .before .before .args .table .now) (c .before .before .before .before .if1 .left) (c .before .speak .ensures) (c .after-line2 .ensures)
 
 pub spoken-spec : {M : Type 1} → statement M
 spoken-spec =

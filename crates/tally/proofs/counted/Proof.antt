@@ -5,6 +5,7 @@ use Prim.Native.Nat.{_≤_, _-_}
 use native.Mathlib.Omega.{arith}
 use borrow.Author.Needs.{needs}
 use Rattle.places.specs.Places.{recordSizeAt}
+use Rattle.mail.specs.Mail.{recordLimit}
 use Rattle.entries.specs.Decoded.{recordCount}
 use Rattle.entries.proofs.Laws.{size-small}
 use Rattle.tally.proofs.Laws.{Counting, counting-none, counting-pass, counting-add, counted-all, few-records}
@@ -12,7 +13,7 @@ use Rattle.tally.proofs.counted.Statement.{statement}
 use Rattle.tally.proofs.counted.Tie as tie
 
 abbrev Inv-loop : tie.InvT-loop
-Inv-loop partner table sheet n waiting₀ sizes₀ i₀ waiting sizes i = (i ≤ n) × (n ≤ 64) × Counting partner table n waiting sizes i
+Inv-loop partner table sheet n waiting₀ sizes₀ i₀ waiting sizes i = (i ≤ n) × (n ≤ recordLimit) × Counting partner table n waiting sizes i
 
 abbrev μ-loop : tie.MeasureT-loop
 μ-loop partner table sheet n waiting₀ sizes₀ i₀ waiting sizes i = n - i

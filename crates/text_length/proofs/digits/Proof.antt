@@ -1,10 +1,10 @@
 -- The loop's invariant: the digits of the size are those of what is left, in before + 1 places at most, and those counted. The measure is before.
-use Prim.Native.Nat.{_≤_, _<_, _+_, _^_}
+use Prim.Native.Nat.{_≤_, _<_, _+_, _^_, _-_}
 use mathlib.Core.Path.{_≡_}
 use native.Mathlib.Omega.{arith}
 use lib.ListN.{length}
 use borrow.Author.Needs.{needs}
-use Rattle.grammar.specs.Fields.{writeNum}
+use Rattle.grammar.specs.Fields.{writeNum, decimalDigits}
 use Rattle.decimal.proofs.Laws.{digits-left}
 use Rattle.text_length.proofs.Laws.{digits-more, digits-end}
 use Rattle.text_length.proofs.digits.Statement.{statement}
@@ -12,7 +12,7 @@ use Rattle.text_length.proofs.digits.Tie as tie
 
 abbrev Inv-loop : tie.InvT-loop
 Inv-loop size before₀ rest₀ before rest =
-    (before ≤ 9) × (rest < 10 ^ (before + 1)) × (length (writeNum 10 size) + before ≡ 9 + length (writeNum (before + 1) rest))
+    (before ≤ decimalDigits - 1) × (rest < 10 ^ (before + 1)) × (length (writeNum decimalDigits size) + before ≡ decimalDigits - 1 + length (writeNum (before + 1) rest))
 
 abbrev μ-loop : tie.MeasureT-loop
 μ-loop size before₀ rest₀ before rest = before

@@ -2,6 +2,7 @@
 use mathlib.Core.List.{[], _∷_}
 use borrow.Author.Needs.{needs}
 use Rattle.grammar.specs.Transfers.{checksum}
+use Rattle.grammar.specs.Bytes.{EOT}
 use Rattle.buffer.proofs.Laws.{puts-then, puts-full, puts-past}
 use Rattle.transfer_write.proofs.put_end.Statement.{statement}
 use Rattle.transfer_write.proofs.put_end.Tie as tie
@@ -17,7 +18,7 @@ returns c =
     let a = c .before .before .before .before .before .before .before .args in
     let p = c .before .before .before .put-byte in
     let s = checksum (a .body .now) ∷ [] in
-    puts-then (a .buf .now) (a .c) (4 ∷ []) s (p .ensures) (puts-full (p .last .0) (p .result) s (c .if1 .taken))
+    puts-then (a .buf .now) (a .c) (EOT ∷ []) s (p .ensures) (puts-full (p .last .0) (p .result) s (c .if1 .taken))
 
 same-length-2 : tie.Need-same-length-2
 same-length-2 c = search needs
@@ -27,7 +28,7 @@ returns-2 c =
     let a = c .before .before .before .before .before .before .before .before .args in
     let p = c .before .before .before .before .put-byte in
     let s = checksum (a .body .now) ∷ [] in
-    puts-then (a .buf .now) (a .c) (4 ∷ []) s (p .ensures) (puts-past (p .last .0) (p .result) s (c .before .if1 .left) (c .if2 .taken))
+    puts-then (a .buf .now) (a .c) (EOT ∷ []) s (p .ensures) (puts-past (p .last .0) (p .result) s (c .before .if1 .left) (c .if2 .taken))
 
 checksum-requires : tie.Need-checksum-requires
 checksum-requires c κs = search needs
@@ -42,7 +43,7 @@ returns-3 : tie.Need-returns-3
 returns-3 c =
     let a = c .before .before .before .before .before .before .before .before .before .before .before .before .before .args in
     let s = checksum (a .body .now) ∷ [] in
-    puts-then (a .buf .now) (a .c) (4 ∷ []) s (c .before .before .before .before .before .before .before .before .before .put-byte .ensures) (rw (← c .before .before .before .checksum .ensures .0) (c .before .before .put-byte2 .ensures))
+    puts-then (a .buf .now) (a .c) (EOT ∷ []) s (c .before .before .before .before .before .before .before .before .before .put-byte .ensures) (rw (← c .before .before .before .checksum .ensures .0) (c .before .before .put-byte2 .ensures))
 
 pub put-end-spec : {M : Type 1} → statement M
 put-end-spec =

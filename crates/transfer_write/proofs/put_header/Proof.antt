@@ -2,10 +2,12 @@
 use mathlib.Core.Path.{_∙_}
 use mathlib.Core.List.{[], _∷_}
 use borrow.Author.Needs.{needs}
+use Rattle.grammar.specs.Bytes.{NUL}
 use Rattle.buffer.proofs.Laws.{puts-then}
 use Rattle.transfer_write.proofs.Laws.{length-wraps}
 use Rattle.transfer_write.proofs.put_header.Statement.{statement}
 use Rattle.transfer_write.proofs.put_header.Tie as tie
+use Rattle.transfer_step.specs.Names.{offsetDigit}
 
 put-byte-requires : tie.Need-put-byte-requires
 put-byte-requires c κs = search needs
@@ -37,7 +39,7 @@ returns c =
     let e = c .before .before .before .before .before .before .before .before .before .before .before .before .length-byte .ensures ∙ length-wraps _ in
     let start = puts-then (a .buf .now) (a .c) (1 ∷ []) _ (c .before .before .before .before .before .before .before .before .before .before .before .before .before .before .before .before .put-byte .ensures) (c .before .before .before .before .before .before .before .before .before .before .before .put-byte2 .ensures) in
     let on = puts-then (a .buf .now) (a .c) _ (a .heading .now) start (c .before .before .before .before .before .before .before .put .ensures) in
-    rw (← e) (puts-then (a .buf .now) (a .c) _ (0 ∷ 48 ∷ 0 ∷ []) on (c .before .before .put2 .ensures))
+    rw (← e) (puts-then (a .buf .now) (a .c) _ (NUL ∷ offsetDigit ∷ NUL ∷ []) on (c .before .before .put2 .ensures))
 
 pub put-header-spec : {M : Type 1} → statement M
 put-header-spec =

@@ -2,6 +2,7 @@
 use mathlib.Core.List.{[], _∷_, _++_}
 use borrow.Author.Needs.{needs}
 use Rattle.grammar.specs.Transfers.{headerOut, checksum}
+use Rattle.grammar.specs.Bytes.{EOT}
 use Rattle.buffer.proofs.Laws.{puts-as, puts-then}
 use Rattle.transfer_write.proofs.Laws.{blocksOf, framed-text}
 use Rattle.transfer_write.proofs.write_framed.Statement.{statement}
@@ -26,7 +27,7 @@ returns c =
     let x = blocksOf (a .body .now) in
     let p = puts-then (a .buf .now) (a .c) h x (c .before .before .before .before .before .before .before .before .before .before .put-header .ensures) (c .before .before .before .before .before .before .put-body .ensures) in
     puts-as (a .buf .now) (a .c) (framed-text (a .heading .now) (a .body .now))
-    (puts-then (a .buf .now) (a .c) (h ++ x) (4 ∷ checksum (a .body .now) ∷ []) p (c .before .before .put-end .ensures))
+    (puts-then (a .buf .now) (a .c) (h ++ x) (EOT ∷ checksum (a .body .now) ∷ []) p (c .before .before .put-end .ensures))
 
 pub write-framed-spec : {M : Type 1} → statement M
 write-framed-spec =

@@ -7,6 +7,7 @@ use Rattle.waiting.proofs.Pieces.{count-none, count-fixed, count-block,
 use borrow.Author.Needs.{needs}
 use Rattle.waiting.proofs.piece_count.Statement.{statement}
 use Rattle.waiting.proofs.piece_count.Tie as tie
+use Rattle.phase.specs.Phase.{blockLimit}
 
 shared-slice-read-then : tie.Need-shared-slice-read-then
 shared-slice-read-then c = search needs
@@ -30,7 +31,7 @@ add-result c = search needs
 
 returns-3 : tie.Need-returns-3
 unfolding loadOf loadAwait loadSay loadKeep
-returns-3 c = λ table titles names bodies. count-block (loadOf (c .before .before .before .before .before .before .before .args .sm .now)) table titles names bodies (c .before .before .if3 .taken) (c .in-use .ensures) (array-length 5 (c .before .before .before .before .before .before .before .args .sm .now) (oursAt + 1))
+returns-3 c = λ table titles names bodies. count-block (loadOf (c .before .before .before .before .before .before .before .args .sm .now)) table titles names bodies (c .before .before .if3 .taken) (c .in-use .ensures) (array-length blockLimit (c .before .before .before .before .before .before .before .args .sm .now) (oursAt + 1))
 
 shared-slice-read-in-use-2 : tie.Need-shared-slice-read-in-use-2
 shared-slice-read-in-use-2 c = search needs
@@ -43,7 +44,7 @@ add-result-2 c = search needs
 
 returns-4 : tie.Need-returns-4
 unfolding loadOf loadAwait loadSay loadKeep
-returns-4 c = λ table titles names bodies. count-sending (loadOf (c .before .before .before .before .before .before .before .args .sm .now)) table titles names bodies (c .before .before .before .if2 .left) (c .before .before .if3 .left) (c .in-use2 .ensures) (array-length 5 (c .before .before .before .before .before .before .before .args .sm .now) (sendingAt + 1))
+returns-4 c = λ table titles names bodies. count-sending (loadOf (c .before .before .before .before .before .before .before .args .sm .now)) table titles names bodies (c .before .before .before .if2 .left) (c .before .before .if3 .left) (c .in-use2 .ensures) (array-length blockLimit (c .before .before .before .before .before .before .before .args .sm .now) (sendingAt + 1))
 
 pub piece-count-spec : {M : Type 1} → statement M
 piece-count-spec =

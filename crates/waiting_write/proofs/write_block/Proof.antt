@@ -3,6 +3,7 @@ use mathlib.Core.Path.{_≡_, sym}
 use Prim.Native.Nat.{_+_}
 use native.Mathlib.Omega.{arith}
 use Rattle.places.specs.Places.{oursAt}
+use Rattle.phase.specs.Phase.{blockLimit}
 use Rattle.buffer.proofs.Laws.{puts-as}
 use Rattle.session_memory.specs.State.{loadOf, loadAwait, fiveAt}
 use Rattle.session_memory.proofs.Laws.{array-length}
@@ -26,7 +27,7 @@ same-length c = search needs
 
 returns : tie.Need-returns
 unfolding loadOf loadAwait
-returns c = let a = c .before .before .before .before .before .before .before .before .before .before .args in let p = c .before .before .before .before .before .before .before .before .before .before .pre in puts-as (a .buf .now) (a .c) (sym (block-end (a .table .now) (fiveAt (a .sm .now) oursAt) (array-length 5 (a .sm .now) (oursAt + 1)) (a .k) (p .1 .0) (c .before .before .before .before .before .in-use .ensures) (c .before .before .before .before .if1 .taken) (p .1 .1))) (c .before .before .write-fixed .ensures)
+returns c = let a = c .before .before .before .before .before .before .before .before .before .before .args in let p = c .before .before .before .before .before .before .before .before .before .before .pre in puts-as (a .buf .now) (a .c) (sym (block-end (a .table .now) (fiveAt (a .sm .now) oursAt) (array-length blockLimit (a .sm .now) (oursAt + 1)) (a .k) (p .1 .0) (c .before .before .before .before .before .in-use .ensures) (c .before .before .before .before .if1 .taken) (p .1 .1))) (c .before .before .write-fixed .ensures)
 
 add-i : tie.Need-add-i
 add-i c = search needs

@@ -19,7 +19,7 @@ same-length c = search needs
 
 returns : tie.Need-returns
 unfolding loadOf loadSay
-returns c = let a = c .before .before .before .before .before .before .before .before .args in puts-as (a .buf .now) (a .c) (first-none (loadOf (a .sm .now) .say .first) (loadOf (a .sm .now) .say .signs) (c .before .before .before .before .if1 .taken)) (c .before .before .write-nothing .ensures)
+returns c = let a = c .before .before .before .before .before .before .before .before .args in puts-as (a .buf .now) (a .c) (first-none (loadOf (a .sm .now)) (c .before .before .before .before .if1 .taken)) (c .before .before .write-nothing .ensures)
 
 write-fixed-requires : tie.Need-write-fixed-requires
 write-fixed-requires c κs = search needs
@@ -32,7 +32,7 @@ same-length-2 c = search needs
 
 returns-2 : tie.Need-returns-2
 unfolding loadOf loadSay
-returns-2 c = let a = c .before .before .before .before .before .before .before .before .before .before .before .before .before .args in puts-as (a .buf .now) (a .c) (first-both (loadOf (a .sm .now) .say .first) (loadOf (a .sm .now) .say .signs) (c .before .before .before .before .before .before .before .before .if2 .taken)) (puts-then _ _ _ _ (c .before .before .before .before .before .before .write-fixed .ensures) (c .before .before .write-fixed2 .ensures))
+returns-2 c = let a = c .before .before .before .before .before .before .before .before .before .before .before .before .before .args in puts-as (a .buf .now) (a .c) (first-both (loadOf (a .sm .now)) (c .before .before .before .before .before .before .before .before .if2 .taken)) (puts-then _ _ _ _ (c .before .before .before .before .before .before .write-fixed .ensures) (c .before .before .write-fixed2 .ensures))
 
 write-fixed-requires-3 : tie.Need-write-fixed-requires-3
 write-fixed-requires-3 c κs = search needs
@@ -42,7 +42,7 @@ same-length-3 c = search needs
 
 returns-3 : tie.Need-returns-3
 unfolding loadOf loadSay
-returns-3 c = let a = c .before .before .before .before .before .before .before .before .before .before .args in puts-as (a .buf .now) (a .c) (first-sid (loadOf (a .sm .now) .say .first) (loadOf (a .sm .now) .say .signs) (c .before .before .before .before .if3 .taken)) (c .before .before .write-fixed3 .ensures)
+returns-3 c = let a = c .before .before .before .before .before .before .before .before .before .before .args in puts-as (a .buf .now) (a .c) (first-sid (loadOf (a .sm .now)) (c .before .before .before .before .if3 .taken)) (c .before .before .write-fixed3 .ensures)
 
 write-fixed-requires-4 : tie.Need-write-fixed-requires-4
 write-fixed-requires-4 c κs = search needs
@@ -52,7 +52,7 @@ same-length-4 c = search needs
 
 returns-4 : tie.Need-returns-4
 unfolding loadOf loadSay
-returns-4 c = let a = c .before .before .before .before .before .before .before .before .before .before .before .args in puts-as (a .buf .now) (a .c) (first-protocol (loadOf (a .sm .now) .say .first) (loadOf (a .sm .now) .say .signs) (c .before .before .before .before .if4 .taken)) (c .before .before .write-fixed4 .ensures)
+returns-4 c = let a = c .before .before .before .before .before .before .before .before .before .before .before .args in puts-as (a .buf .now) (a .c) (first-protocol (loadOf (a .sm .now)) (c .before .before .before .before .if4 .taken)) (c .before .before .write-fixed4 .ensures)
 
 write-fixed-requires-5 : tie.Need-write-fixed-requires-5
 write-fixed-requires-5 c κs = search needs
@@ -62,7 +62,7 @@ same-length-5 c = search needs
 
 returns-5 : tie.Need-returns-5
 unfolding loadOf loadSay
-returns-5 c = let a = c .before .before .before .before .before .before .before .before .before .before .before .before .args in puts-as (a .buf .now) (a .c) (first-checksum (loadOf (a .sm .now) .say .first) (loadOf (a .sm .now) .say .signs) (c .before .before .before .before .if5 .taken)) (c .before .before .write-fixed5 .ensures)
+returns-5 c = let a = c .before .before .before .before .before .before .before .before .before .before .before .before .args in puts-as (a .buf .now) (a .c) (first-checksum (loadOf (a .sm .now)) (c .before .before .before .before .if5 .taken)) (c .before .before .write-fixed5 .ensures)
 
 add-start : tie.Need-add-start
 add-start c = search needs
@@ -96,7 +96,7 @@ same-length-6 c = search needs
 
 returns-6 : tie.Need-returns-6
 unfolding loadOf loadSay
-returns-6 c = let a = c .before .before .before .before .before .before .before .before .before .before .before .before .before .before .before .args in puts-as (a .buf .now) (a .c) (first-signs (loadOf (a .sm .now) .say .first) (loadOf (a .sm .now) .say .signs) (c .before .before .before .before .before .before .before .before .before .before .before .if1 .left) (c .before .before .before .before .before .before .before .before .before .before .if2 .left) (c .before .before .before .before .before .before .before .before .before .if3 .left) (c .before .before .before .before .before .before .before .before .if4 .left) (c .before .before .before .before .before .before .before .if5 .left) (signs-read (a .sm .now) (omega (arith, c .before .before .before .before .before .before .before .before .before .before .before .before .before .before .before .pre)) (c .before .before .before .before .before .in-use .ensures))) (c .before .before .write-fs .ensures)
+returns-6 c = let a = c .before .before .before .before .before .before .before .before .before .before .before .before .before .before .before .args in puts-as (a .buf .now) (a .c) (first-signs (loadOf (a .sm .now)) (c .before .before .before .before .before .before .before .before .before .before .before .if1 .left) (c .before .before .before .before .before .before .before .before .before .before .if2 .left) (c .before .before .before .before .before .before .before .before .before .if3 .left) (c .before .before .before .before .before .before .before .before .if4 .left) (c .before .before .before .before .before .before .before .if5 .left) (signs-read (a .sm .now) (omega (arith, c .before .before .before .before .before .before .before .before .before .before .before .before .before .before .before .pre)) (c .before .before .before .before .before .in-use .ensures))) (c .before .before .write-fs .ensures)
 
 pub write-first-spec : {M : Type 1} → statement M
 write-first-spec =

@@ -1,5 +1,4 @@
--- What open is called with, in one record: its role, the partner and the eight buffers. They are lists of bytes of whatever length and content; nothing is
--- assumed of them. What a request lends besides, or has open told, joins here.
+-- What lies in the buffers that open is lent, as read.
 use mathlib.Core.List.{List, []}
 use Prim.Native.Nat.{ℕ}
 use lib.ListN.{getD}
@@ -8,25 +7,7 @@ use Rattle.mail.specs.Mail.{Record, recordAt}
 use Rattle.layout.specs.Layout.{entryAt, recordSize, knownSize}
 use Rattle.entries.specs.Decoded.{recordsOf, knownBids}
 use Rattle.marking.specs.States.{statesOf}
-use Rattle.open.specs.Opening.{Opened, openOf}
-
-pub record Lending : Type 0 where
-  pub role : ℕ
-  pub partner : ℕ
-  pub session : Bytes
-  pub table : Bytes
-  pub titles : Bytes
-  pub names : Bytes
-  pub bodies : Bytes
-  pub known : Bytes
-  pub inbox : Bytes
-  pub store : Bytes
-
--- What the call answers, and session memory after it. The other buffers are lent to be read: it writes none of them.
-abbrev pub openOn : Lending → Opened
-openOn L = openOf (L .role) (L .partner) (L .session) (L .table) (L .titles) (L .names) (L .bodies) (L .known) (L .inbox) (L .store)
-
--- ---------------------------------------------------------------- what lies there
+use Rattle.open.specs.Lending.{Lending}
 
 -- The records of the table; each as read, its state for partner p, and the bytes where it stands.
 abbrev pub recordsIn : Lending → List Record
