@@ -94,14 +94,9 @@ copied m e h f =
 -- ---------------------------------------------------------------- the line's end
 
 -- a line judged without the spaces at its end, by what was handed on: these bytes and this sum
-module _ (j : Judged) (s : Session) (table known inbox : Bytes) (store : ℕ) where
-  pub judged-by : (l t : Bytes) (n : ℕ) → t ≡ trim l → n ≡ lineSum l → j ≡ judgeOf t n s table known inbox store → j ≡ judgeOf (trim l) (lineSum l) s table known inbox store
-  judged-by l t n q z h = h ∙ ap (λ (x : Bytes). judgeOf x n s table known inbox store) q ∙ ap (λ (x : ℕ). judgeOf (trim l) x s table known inbox store) z
-
-  -- the line l is that of the state, and what it comes to is settled
-  pub ends-by : (l : Bytes) → l ≡ take (s .line .len) (s .line .bytes) → j ≡ judgeOf (trim l) (lineSum l) s table known inbox store → (r : Settled) → r ≡ settleOf j true table
-      → r ≡ lineMoved ends s CR table known inbox store
-  ends-by l q h r f = f ∙ ap (λ (x : Judged). settleOf x true table) (h ∙ ap (λ (x : Bytes). judgeOf (trim x) (lineSum x) s table known inbox store) q)
+pub judged-by : (j : Judged) (s : Session) (table known inbox : Bytes) (store : ℕ) (l t : Bytes) (n : ℕ) → t ≡ trim l → n ≡ lineSum l → j ≡ judgeOf t n s table known inbox store
+    → j ≡ judgeOf (trim l) (lineSum l) s table known inbox store
+judged-by j s table known inbox store l t n q z h = h ∙ ap (λ (x : Bytes). judgeOf x n s table known inbox store) q ∙ ap (λ (x : ℕ). judgeOf (trim l) x s table known inbox store) z
 
 -- ---------------------------------------------------------------- the sum of a line
 

@@ -5,7 +5,8 @@ use lib.ListN.{length}
 use lib.Seq.{length-take-le}
 use Rattle.grammar.specs.Lines.{lineLimit}
 use Rattle.numbers.specs.Whole.{wholeOf}
-use Rattle.line_byte.proofs.Laws.{line-length, line-is, ends-by}
+use Rattle.receive_defined.proofs.Lines.{ends-by}
+use Rattle.line_byte.proofs.Laws.{line-length, line-is}
 use borrow.Author.Needs.{needs}
 use Rattle.line_byte.proofs.ends.Statement.{statement}
 use Rattle.line_byte.proofs.ends.Tie as tie
