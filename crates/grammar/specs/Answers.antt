@@ -16,13 +16,13 @@ pub data Sign : Type 0 where
   accept decline defer : Sign
 
 abbrev pub plusSign : ℕ
-plusSign = 43
+plusSign = char "+"
 
 abbrev pub minusSign : ℕ
-minusSign = 45
+minusSign = char "-"
 
 abbrev pub equalSign : ℕ
-equalSign = 61
+equalSign = char "="
 
 abbrev pub signOf : ℕ → Option Sign
 signOf b = cond (eqb b plusSign) (some accept) (cond (eqb b minusSign) (some decline) (cond (eqb b equalSign) (some defer) none))

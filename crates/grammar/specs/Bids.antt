@@ -4,13 +4,14 @@ use mathlib.Core.Path.{_≡_}
 use Prim.Native.Nat.{ℕ, _+_, _≤_, _<_}
 use lib.ListN.{length, getD}
 use Rattle.grammar.specs.Bytes.{Bytes}
+use Rattle.grammar.specs.Ascii.{char}
 
 -- The capital letters; a small one stands so much further on.
 abbrev pub capitalA : ℕ
-capitalA = 65
+capitalA = char "A"
 
 abbrev pub capitalZ : ℕ
-capitalZ = 90
+capitalZ = char "Z"
 
 abbrev pub toSmall : ℕ
 toSmall = 32

@@ -10,6 +10,7 @@ use lib.ListN.{length, getD, take, drop, drop-of-length-le}
 use lib.Seq.{drop-cons, take-suc}
 use borrow.Author.Tests.{eq-eqb, ne-eqb, eqb-true, eqb-false}
 use Rattle.grammar.specs.Bytes.{Bytes, SP, null}
+use Rattle.grammar.specs.Ascii.{char}
 use Rattle.grammar.specs.Lines.{trim, isComment, isPrompt}
 
 -- ---------------------------------------------------------------- an LF that is not dropped
@@ -54,7 +55,7 @@ unfolding isComment
 comment-empty [] h = refl
 comment-empty (x ∷ l) h = let z : ⊥ = omega arith in absurd z
 
-pub comment-first : (l : Bytes) → 1 ≤ length l → eqb (getD l 0 0) 59 ≡ isComment l
+pub comment-first : (l : Bytes) → 1 ≤ length l → eqb (getD l 0 0) (char ";") ≡ isComment l
 unfolding isComment
 comment-first [] h = let z : ⊥ = omega arith in absurd z
 comment-first (x ∷ l) h = refl
@@ -74,11 +75,11 @@ null-drop (x ∷ y ∷ l) (suc i) h = suc-eqb (length (y ∷ l)) i ∙ null-drop
         go false e = let z = eqb-false a (b + 1) e in ne-eqb (suc a) (suc b + 1) (λ q. z (omega arith))
 
 module _ (l : Bytes) (i : ℕ) (h : i < length l) where
-  pub prompt-more : (getD l i 0 ≡ 62 → ⊥) → isPrompt (drop i l) ≡ isPrompt (drop (i + 1) l)
+  pub prompt-more : (getD l i 0 ≡ char ">" → ⊥) → isPrompt (drop i l) ≡ isPrompt (drop (i + 1) l)
   unfolding isPrompt
   prompt-more e = rw (drop-cons l i 0 h, ne-eqb _ _ e, add-one i)
 
-  pub prompt-stop : getD l i 0 ≡ 62 → eqb (length l) (i + 1) ≡ isPrompt (drop i l)
+  pub prompt-stop : getD l i 0 ≡ char ">" → eqb (length l) (i + 1) ≡ isPrompt (drop i l)
   unfolding isPrompt
   prompt-stop e = rw (drop-cons l i 0 h, eq-eqb _ _ e) (null-drop l i h)
 

@@ -10,7 +10,7 @@ use lib.Dec.{eqb, leb, ltb}
 use lib.ListN.{length, getD, take, drop, length-append}
 use borrow.Author.Tests.{eq-eqb, le-leb, lt-ltb, leb-true}
 use Rattle.grammar.specs.Bytes.{Bytes, SP}
-use Rattle.grammar.specs.Fields.{isCall, isAt, isBid, callByte, bidByte, digit, readFrom, readSize}
+use Rattle.grammar.specs.Fields.{isCall, isAt, isBid, callByte, callMax, bidByte, bidMax, digit, readFrom, readSize}
 use Rattle.grammar.proofs.Basics.{Field, field-is, by-test, both, Lacks, all-lacks}
 use Rattle.grammar.proofs.Fields.{at-field, atByte}
 use Rattle.span.specs.Places.{upto}
@@ -261,14 +261,14 @@ quote-front w r h = ap (λ (k : ℕ). drop (suc k) (w ++ QUOTE ∷ r)) (upto-mid
 
 call-lacks : (w : Bytes) → isCall w ≡ true → Lacks SP w
 unfolding isCall
-call-lacks w e = all-lacks callByte SP w refl ((field-is callByte 6 w e) .class)
+call-lacks w e = all-lacks callByte SP w refl ((field-is callByte callMax w e) .class)
 
 at-lacks : (w : Bytes) → isAt w ≡ true → Lacks SP w
 at-lacks w e = all-lacks atByte SP w refl ((at-field w e) .class)
 
 bid-lacks : (w : Bytes) → isBid w ≡ true → Lacks SP w
 unfolding isBid
-bid-lacks w e = all-lacks bidByte SP w refl ((field-is bidByte 12 w e) .class)
+bid-lacks w e = all-lacks bidByte SP w refl ((field-is bidByte bidMax w e) .class)
 
 long-lacks : (w : Bytes) → isLong w ≡ true → Lacks SP w
 unfolding isLong

@@ -7,6 +7,7 @@ use Prim.Native.Nat.{ℕ, suc, _+_}
 use lib.Dec.{eqb, ltb, leb}
 use lib.ListN.{length, getD, take, drop}
 use Rattle.grammar.specs.Bytes.{Bytes, SP, isSome}
+use Rattle.grammar.specs.Ascii.{char}
 use Rattle.grammar.specs.Fields.{hexDigit, readSize}
 use Rattle.span.specs.Places.{upto}
 use Rattle.text_line.specs.TextLines.{bodyLines}
@@ -58,10 +59,10 @@ memberBy (breaks n) = dropped n
 
 -- The flags of one letter that are handled, as they stand: V, M.
 abbrev pub flagV : ℕ
-flagV = 86
+flagV = char "V"
 
 abbrev pub flagM : ℕ
-flagM = 77
+flagM = char "M"
 
 -- A record by its flag. Its data begin behind a flag of one byte and two spaces.
 abbrev pub dataPlace : ℕ

@@ -17,7 +17,7 @@ returns-2 : tie.Need-returns-2
 returns-2 c =
     let s = c .before .skip-spaces .ensures in
     let w = c .find-from .ensures in
-    let i = found-within (c .before .before .before .before .args .line .now) _ 32 (s .3) in
+    let i = found-within (c .before .before .before .before .args .line .now) _ SP (s .3) in
     (next-word _ (c .before .before .before .before .args .at) _ _ (s .0) (s .1) (s .3) w, omega (arith, w), omega (arith, w, i))
 
 pub next-field-spec : {M : Type 1} → statement M
