@@ -11,7 +11,7 @@ use lib.Seq.{length-take-le}
 use borrow.Author.Tests.{eq-eqb, ne-eqb, eqb-false}
 use Rattle.grammar.specs.Bytes.{Bytes}
 use Rattle.grammar.specs.Refusals.{noForwarding}
-use Rattle.grammar.specs.Lines.{isComment}
+use Rattle.grammar.specs.Lines.{trim, isComment}
 use Rattle.grammar.specs.Sid.{hasFeature, framed, levelInForce, letterF}
 use Rattle.sid.specs.declared.Sid.{Sid}
 use Rattle.sid.specs.Meaning.{sidOf}
@@ -60,16 +60,16 @@ module _ (s : Session) where
         rw (q, f, g) (sid-yes o r e n)
 
   -- any line by the phase
-  module _ (ln : Bytes) (n : ℕ) (table known inbox : Bytes) (store : ℕ) (j : Judged) where
-    pub line-in : (p : ℕ) (b : Bool) → s .now .phase ≡ p → b ≡ isComment ln → b ≡ false → j ≡ lineIn p ln n s table known inbox store → j ≡ judgeOf ln n s table known inbox store
+  module _ (ln : Bytes) (table known inbox : Bytes) (store : ℕ) (j : Judged) where
+    pub line-in : (p : ℕ) → s .now .phase ≡ p → isComment (trim ln) ≡ false → j ≡ lineIn p ln s table known inbox store → j ≡ judgeOf ln s table known inbox store
     unfolding judgeOf
-    line-in p b e c z f = rw (sym c ∙ z) (f ∙ ap (λ (q : ℕ). lineIn q ln n s table known inbox store) (sym e))
+    line-in p e z f = rw z (f ∙ ap (λ (q : ℕ). lineIn q ln s table known inbox store) (sym e))
 
     -- a SID is awaited in the first two phases
-    pub sid-in : (p : ℕ) → p < phasePrompt → j ≡ sidLine ln s → j ≡ lineIn p ln n s table known inbox store
+    pub sid-in : (p : ℕ) → p < phasePrompt → j ≡ sidLine (trim ln) s → j ≡ lineIn p ln s table known inbox store
     sid-in p l f = go (eqb p phaseCalledSid) refl
       where
-        go : (b : Bool) → eqb p phaseCalledSid ≡ b → j ≡ lineIn p ln n s table known inbox store
+        go : (b : Bool) → eqb p phaseCalledSid ≡ b → j ≡ lineIn p ln s table known inbox store
         go true q = rw q f
         go false q = let z = eqb-false p phaseCalledSid q in rw (q, eq-eqb p phaseCallerSid (omega arith)) f
 
@@ -79,9 +79,17 @@ past-sid p q l g = ne-eqb p q (λ k. omega arith)
 
 -- ---------------------------------------------------------------- on the arrays where they stand
 
--- the line, whose sum is n, judged beside the table, the known BIDs, the inbox and a store of this size
-abbrev pub judging : Bytes → ℕ → Bytes → Bytes → Bytes → ℕ → Session → Judged
-judging ln n table known inbox store s = judgeOf ln n s table known inbox store
+-- the line as it came, judged beside the table, the known BIDs, the inbox and a store of this size
+abbrev pub judging : Bytes → Bytes → Bytes → Bytes → ℕ → Session → Judged
+judging ln table known inbox store s = judgeOf ln s table known inbox store
+
+-- a test of the line without the spaces at its end, by what was tested
+pub told : (ln w : Bytes) (b c : Bool) → w ≡ trim ln → b ≡ isComment w → b ≡ c → isComment (trim ln) ≡ c
+told ln w b c e f g = sym (ap isComment e) ∙ sym f ∙ g
+
+-- a rule of a line on what was handed to it
+pub trimmed-by : (ln w : Bytes) (f : Bytes → Judged) (j : Judged) → w ≡ trim ln → j ≡ f w → j ≡ f (trim ln)
+trimmed-by ln w f j e g = g ∙ ap f e
 
 module _ (s : Numbers) (m : Bytes) (n : length m ≡ arraysLen) (v : Verdict) (f : Session → Judged) where
   -- nothing was lent

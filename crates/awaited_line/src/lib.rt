@@ -52,11 +52,10 @@ fn text_line(line: &[u8], s: Numbers) -> Verdict
     went(s)
 }
 
-// The line, without the spaces at its end, by what is awaited; sum: that of the line as received, its CR included. mem: the state's arrays; a line of the partner's turn may change the block, an FS
+// The line as it came, without its CR, by what is awaited. mem: the state's arrays; a line of the partner's turn may change the block, an FS
 // line the flags of deferred records.
 pub fn judge(
     line: &[u8],
-    sum: u8,
     s: Numbers,
     mem: &mut [u8],
     table: &[u8],
@@ -65,21 +64,21 @@ pub fn judge(
     store: usize,
 ) -> Verdict
     requires { ⌜ length (now mem) ≡ arraysLen ⌝ }
-    ensures { λ r. ⌜ judgedIn r (now (mem .exit)) ≡ judgeOf (now (line .entry)) sum (wholeOf s (now (mem .entry))) (now (table .entry)) (now (known .entry)) (now (inbox .entry)) store ⌝ }
+    ensures { λ r. ⌜ judgedIn r (now (mem .exit)) ≡ judgeOf (now (line .entry)) (wholeOf s (now (mem .entry))) (now (table .entry)) (now (known .entry)) (now (inbox .entry)) store ⌝ }
 {
-    if line::is_comment(line) {
+    let n = line::trimmed(line);
+    if line::is_comment(&line[..n]) {
         return went(s);
     }
     let awaited = s.now.phase;
     // a SID, whoever called; one call of its reader, so that it has no frame of its own on the stack
     if awaited < phase::PROMPT {
-        return sid_line(line, s);
+        return sid_line(&line[..n], s);
     }
     match awaited {
-        phase::PROMPT => text_line(line, s),
+        phase::PROMPT => text_line(&line[..n], s),
         phase::TURN => partner_turn::turn_line(
             line,
-            sum,
             s,
             &mut mem[places::BLOCK..places::AFTER_BLOCK],
             table,
@@ -87,7 +86,7 @@ pub fn judge(
             inbox,
             store,
         ),
-        phase::FS => fs_effect::answer_line(line, s, &mut mem[..places::HEADING]),
+        phase::FS => fs_effect::answer_line(&line[..n], s, &mut mem[..places::HEADING]),
         _ => refusal(refusal::LINE_NOT_ALLOWED, s),
     }
 }

@@ -11,7 +11,7 @@ use borrow.Author.Tests.{eqb-true}
 use Rattle.grammar.specs.Bytes.{Bytes, LF, isSome, byteValues}
 use Rattle.grammar.specs.Ascii.{text}
 use Rattle.grammar.specs.Fields.{after}
-use Rattle.grammar.specs.Lines.{LineByte, dropped, ends, grows, overruns, lineByte, isComment, isPrompt}
+use Rattle.grammar.specs.Lines.{LineByte, dropped, ends, grows, overruns, lineByte, trim, isComment, isPrompt}
 use Rattle.grammar.specs.Sid.{readSid, hasFeature, letterF}
 use Rattle.grammar.specs.Turns.{TurnLine, saysFF, saysFQ, endsBlock, notAllowed, proposes, endsSummed, readTurnLine, blockLimit}
 use Rattle.grammar.specs.Answers.{readFs}
@@ -26,7 +26,7 @@ use Rattle.transfer_read.specs.Feed.{roomOf}
 use Rattle.session_memory.specs.State.{loadOf}
 use Rattle.session_memory.specs.Session.{Session}
 use Rattle.our_answer.specs.Answers.{answersOf}
-use Rattle.line_effect.specs.Judge.{sidRead, sidLine, textLine, nextAccepted, endLine, summedLine, proposalLine, ffLine, fqLine, turnRead, turnLine, answerLine, judgeOf}
+use Rattle.line_effect.specs.Judge.{sidRead, sidLine, textLine, nextAccepted, endLine, summedLine, proposalLine, ffLine, fqLine, lineSum, turnRead, turnLine, answerLine, judgeOf}
 use Rattle.line_effect.specs.Judged.{Judged}
 use Rattle.waiting.specs.Waiting.{waitingOf}
 use Rattle.pending.specs.Pending.{waits, overOf}
@@ -53,8 +53,7 @@ number-other v n ln =
     by-cond Other (ltb blockLimit n) (by-cond Other (isSome (after (text "FS") ln)) refl refl)
     (by-cond Other (isSome (readFs v n ln)) refl (by-cond Other (isSome (after (text "FS") ln)) refl refl))
 
--- n: the sum of the line
-module _ (n : ℕ) (s : Session) (table known inbox : Bytes) (store : ℕ) where
+module _ (s : Session) (table known inbox : Bytes) (store : ℕ) where
   sid-other : (o : Option (List ℕ)) → OtherJ (sidRead o s)
   sid-other none = refl
   sid-other (some fs) = by-cond OtherJ (hasFeature letterF fs) refl refl
@@ -63,25 +62,25 @@ module _ (n : ℕ) (s : Session) (table known inbox : Bytes) (store : ℕ) where
   unfolding endLine
   end-other = by-cond OtherJ (eqb (s .now .proposals) 0) refl (by-cond OtherJ (eqb (nextAccepted (answersOf (s .now) (s .keep) table known inbox store) 0) noProposal) refl refl)
 
-  turn-other : (l : TurnLine) → OtherJ (turnRead l n s table known inbox store)
+  turn-other : (n : ℕ) (l : TurnLine) → OtherJ (turnRead l n s table known inbox store)
   unfolding ffLine fqLine summedLine proposalLine
-  turn-other saysFF = by-cond OtherJ (eqb (s .now .proposals) 0) (by-cond OtherJ (s .now .ff) refl refl) refl
-  turn-other saysFQ = by-cond OtherJ (eqb (s .now .proposals) 0) (by-cond OtherJ (s .now .ff) refl refl) refl
-  turn-other endsBlock = end-other
-  turn-other notAllowed = refl
-  turn-other (proposes q) = by-cond OtherJ (ltb (s .now .proposals) blockLimit) refl refl
-  turn-other (endsSummed h) = by-cond OtherJ (eqb (s .now .proposals) 0) refl (by-cond OtherJ (eqb ((s .now .sum + h) % byteValues) 0) end-other refl)
+  turn-other n saysFF = by-cond OtherJ (eqb (s .now .proposals) 0) (by-cond OtherJ (s .now .ff) refl refl) refl
+  turn-other n saysFQ = by-cond OtherJ (eqb (s .now .proposals) 0) (by-cond OtherJ (s .now .ff) refl refl) refl
+  turn-other n endsBlock = end-other
+  turn-other n notAllowed = refl
+  turn-other n (proposes q) = by-cond OtherJ (ltb (s .now .proposals) blockLimit) refl refl
+  turn-other n (endsSummed h) = by-cond OtherJ (eqb (s .now .proposals) 0) refl (by-cond OtherJ (eqb ((s .now .sum + h) % byteValues) 0) end-other refl)
 
-  judge-other : (ln : Bytes) → OtherJ (judgeOf ln n s table known inbox store)
+  judge-other : (ln : Bytes) → OtherJ (judgeOf ln s table known inbox store)
   unfolding judgeOf sidLine textLine turnLine answerLine
   judge-other ln =
-      by-cond OtherJ (isComment ln) refl
-      (by-cond OtherJ (eqb (s .now .phase) phaseCalledSid) (sid-other (readSid ln))
-      (by-cond OtherJ (eqb (s .now .phase) phaseCallerSid) (sid-other (readSid ln))
-      (by-cond OtherJ (eqb (s .now .phase) phasePrompt) (by-cond OtherJ (isPrompt ln) refl refl)
-      (by-cond OtherJ (eqb (s .now .phase) phaseTurn) (turn-other (readTurnLine (s .keep .framed) ln))
+      by-cond OtherJ (isComment (trim ln)) refl
+      (by-cond OtherJ (eqb (s .now .phase) phaseCalledSid) (sid-other (readSid (trim ln)))
+      (by-cond OtherJ (eqb (s .now .phase) phaseCallerSid) (sid-other (readSid (trim ln)))
+      (by-cond OtherJ (eqb (s .now .phase) phasePrompt) (by-cond OtherJ (isPrompt (trim ln)) refl refl)
+      (by-cond OtherJ (eqb (s .now .phase) phaseTurn) (turn-other (lineSum ln) (readTurnLine (s .keep .framed) (trim ln)))
       (by-cond OtherJ (eqb (s .now .phase) phaseFs)
-      (by-cond OtherJ (eqb (answerNumber (s .keep .terms .level) (s .now .ours .count) ln) 0) refl (number-other (s .keep .terms .level) (s .now .ours .count) ln)) refl)))))
+      (by-cond OtherJ (eqb (answerNumber (s .keep .terms .level) (s .now .ours .count) (trim ln)) 0) refl (number-other (s .keep .terms .level) (s .now .ours .count) (trim ln))) refl)))))
 
 settle-other : (j : Judged) (p : Bool) (table : Bytes) → OtherJ j → Other (settleOf j p table .answer)
 unfolding settleOf
@@ -93,7 +92,7 @@ line-other s b table known inbox store = go (lineByte false (s .line .len) b)
   where
     go : (l : LineByte) → Other (lineMoved l s b table known inbox store .answer)
     go dropped = refl
-    go ends = settle-other _ true table (judge-other _ s table known inbox store _)
+    go ends = settle-other _ true table (judge-other s table known inbox store _)
     go grows = refl
     go overruns = refl
 

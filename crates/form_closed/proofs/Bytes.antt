@@ -10,7 +10,7 @@ use lib.ListN.{length, take, drop, length-drop, length-set}
 use borrow.Author.Tests.{eqb-true, ltb-true}
 use Rattle.grammar.specs.Bytes.{Bytes, CR, LF, byteValues}
 use Rattle.grammar.specs.Refusals.{lineTooLong, badTransfer, badChecksum, storeFull, bytesWait}
-use Rattle.grammar.specs.Lines.{LineByte, ends, grows, overruns, trim, lineLimit}
+use Rattle.grammar.specs.Lines.{LineByte, ends, grows, overruns, lineLimit}
 use Rattle.grammar.specs.Fields.{bodyLimit}
 use Rattle.grammar.proofs.Basics.{no-both}
 use Rattle.transfer_step.specs.declared.Stepped.{Stepped}
@@ -20,7 +20,7 @@ use Rattle.transfer_step.specs.Step.{stepOf}
 use Rattle.transfer_read.specs.Feed.{headingPut, roomOf}
 use Rattle.transfer_read.proofs.Room.{step-within}
 use Rattle.session_memory.specs.Session.{Session}
-use Rattle.line_effect.specs.Judge.{lineSum, judgeOf}
+use Rattle.line_effect.specs.Judge.{judgeOf}
 use Rattle.waiting.specs.Waiting.{waitingOf, firstText, thenText}
 use Rattle.pending.specs.Pending.{waits}
 use Rattle.receive_defined.specs.Receiving.{Cs, cs, moved, refusedOf, Settled, lineMoved, lineStepOf, reading, transferMoved, transferStep, transferStepOf, lfDropped, lineByteOf, byteOf, run, stops, receiveFrom}
@@ -139,8 +139,8 @@ module _ (F : Fixed) (nt ni ns : ℕ) (c : Cs) (b : ℕ) (G : Good F nt ni ns c)
       go : (d e : Bool) → ltb (c .session .line .len) lineLimit ≡ e
           → Good F nt ni ns (cs (out (cond d ends (cond e grows overruns)) .session) (out (cond d ends (cond e grows overruns)) .table) (c .inbox) (c .store))
       go true e q =
-          settle-ok F nt ni ns (judgeOf (trim l) (lineSum l) s (c .table) known (c .inbox) (length (c .store))) true (c .inbox) (c .store) (c .table) (G .lent)
-          (judge-ok (c .table) known (c .inbox) (c .store) s (session-ok G) (G .awaited) (waits-none (s .say) E .0) (waits-none (s .say) E .1) (trim l) (lineSum l))
+          settle-ok F nt ni ns (judgeOf l s (c .table) known (c .inbox) (length (c .store))) true (c .inbox) (c .store) (c .table) (G .lent)
+          (judge-ok (c .table) known (c .inbox) (c .store) s (session-ok G) (G .awaited) (waits-none (s .say) E .0) (waits-none (s .say) E .1) l)
       go false true q =
           good-by
           (ok-line (session-ok G) (record {

@@ -7,7 +7,7 @@ use Prim.Native.Nat.{ℕ, suc, _+_, _<_}
 use lib.Dec.{eqb}
 use lib.ListN.{length, take, drop}
 use Rattle.grammar.specs.Bytes.{Bytes, LF}
-use Rattle.grammar.specs.Lines.{LineByte, dropped, ends, grows, overruns, lineByte, trim}
+use Rattle.grammar.specs.Lines.{LineByte, dropped, ends, grows, overruns, lineByte}
 use Rattle.grammar.proofs.Basics.{by-cond}
 use Rattle.places.specs.Places.{partners}
 use Rattle.transfer_step.specs.declared.Outcome.{Outcome}
@@ -19,7 +19,7 @@ use Rattle.session_memory.specs.State.{held}
 use Rattle.session_memory.specs.Session.{Keep, Session}
 use Rattle.marking.specs.States.{markAll, StatesOnly}
 use Rattle.marking.proofs.States.{only-same, only-then, only-mark}
-use Rattle.line_effect.specs.Judge.{lineSum, nextAccepted, judgeOf}
+use Rattle.line_effect.specs.Judge.{nextAccepted, judgeOf}
 use Rattle.line_effect.specs.Judged.{Judged}
 use Rattle.line_effect.proofs.Kept.{judge-kept}
 use Rattle.our_turn.specs.Turn.{chooseOf, speakOf}
@@ -73,7 +73,7 @@ module _ (p : ℕ) (column : p < partners) (t : Bytes) where
   line-one s b known inbox store e dropped = in-same 0 s e
   line-one s b known inbox store e ends =
       let w = take (s .line .len) (s .line .bytes) in
-      settle-one (judgeOf (trim w) (lineSum w) s t known inbox store) true (judge-kept s (lineSum w) t known inbox store (trim w) .partner ∙ e)
+      settle-one (judgeOf w s t known inbox store) true (judge-kept s t known inbox store w .partner ∙ e)
   line-one s b known inbox store e grows = in-same 0 (longer s b) e
   line-one s b known inbox store e overruns = in-same _ (refusedOf _ s) e
 

@@ -14,7 +14,7 @@ use Rattle.grammar.specs.Bytes.{Bytes, byteValues}
 use Rattle.grammar.specs.Refusals.{notSid, noForwarding, lineNotAllowed, proposalCount, wrongBlockSum}
 use Rattle.grammar.proofs.Basics.{no-both, by-cond, by-test}
 use Rattle.grammar.specs.Fields.{formNumber}
-use Rattle.grammar.specs.Lines.{isComment, isPrompt}
+use Rattle.grammar.specs.Lines.{trim, isComment, isPrompt}
 use Rattle.grammar.specs.Sid.{readSid, hasFeature, framed, levelInForce, letterF}
 use Rattle.grammar.proofs.Levels.{lower-than-both}
 use Rattle.grammar.specs.Turns.{Proposal, TurnLine, saysFF, saysFQ, endsBlock, notAllowed, proposes, endsSummed, readTurnLine, blockLimit}
@@ -33,7 +33,7 @@ use Rattle.session_memory.specs.Session.{Session}
 use Rattle.session_memory.specs.Setters.{withReader, withNow, withSay, withKeep, withReading}
 use Rattle.our_answer.specs.Answers.{answersOf}
 use Rattle.entries.specs.Decoded.{placeCount}
-use Rattle.line_effect.specs.Judge.{noMarks, judged, refusal, wentOn, inPhase, toTurn, toTransfer, saysFirst, saysThen, saysSigns, inMode, sends, sidRead, sidLine, textLine, turnMarks, settledKeep, wholeTurn, nextAccepted, readerFor, answered, endLine, summedLine, withProposal, proposalLine, ffLine, fqLine, turnRead, turnLine, picked, flagged, transfersAfter, answerTaken, answerLine, judgeOf}
+use Rattle.line_effect.specs.Judge.{noMarks, judged, refusal, wentOn, inPhase, toTurn, toTransfer, saysFirst, saysThen, saysSigns, inMode, sends, sidRead, sidLine, textLine, turnMarks, settledKeep, wholeTurn, nextAccepted, readerFor, answered, endLine, summedLine, withProposal, proposalLine, ffLine, fqLine, lineSum, turnRead, turnLine, picked, flagged, transfersAfter, answerTaken, answerLine, judgeOf}
 use Rattle.line_effect.specs.Judged.{Judged}
 use Rattle.line_effect.specs.declared.Marks.{Marks}
 use Rattle.form_test.specs.Form.{pluses, isLast}
@@ -176,17 +176,16 @@ module _ (table known inbox store : Bytes) (s : Session) (G : SessionOk inbox st
       by-cond Ok (eqb (w .proposals) 0) (same proposalCount)
       (answered-ok (answersOf w k table known inbox (length store)) (answers-ok w k table known inbox (length store) (G .now .proposals) (G .box .placed)))
 
-  -- n: the sum of the line
-  turn-ok : (ln : Bytes) (n : ℕ) → w .phase ≡ phaseTurn → Ok (turnLine ln n s table known inbox (length store))
+  turn-ok : (ln : Bytes) → w .phase ≡ phaseTurn → Ok (turnLine ln s table known inbox (length store))
   unfolding turnLine summedLine
-  turn-ok ln n p = go (readTurnLine (k .framed) ln) (turn-read-ok (k .framed) ln)
+  turn-ok ln p = go (readTurnLine (k .framed) (trim ln)) (turn-read-ok (k .framed) (trim ln))
     where
-      go : (t : TurnLine) → TurnOk (k .framed) t → Ok (turnRead t n s table known inbox (length store))
+      go : (t : TurnLine) → TurnOk (k .framed) t → Ok (turnRead t (lineSum ln) s table known inbox (length store))
       go saysFF h = ff-ok
       go saysFQ h = fq-ok
       go endsBlock h = end-ok
       go notAllowed h = same lineNotAllowed
-      go (proposes q) h = proposal-ok (k .framed) q n h p
+      go (proposes q) h = proposal-ok (k .framed) q (lineSum ln) h p
       go (endsSummed h) z = by-cond Ok (eqb (w .proposals) 0) (same proposalCount) (by-cond Ok (eqb ((w .sum + h) % byteValues) 0) end-ok (same wrongBlockSum))
 
   taken-ok : (ss : Bytes) → Ok (answerTaken ss s)
@@ -214,13 +213,12 @@ module _ (table known inbox store : Bytes) (s : Session) (G : SessionOk inbox st
   unfolding answerLine
   answer-ok ln = by-cond Ok (eqb (answerNumber (k .terms .level) (w .ours .count) ln) 0) (taken-ok (answerSigns (k .terms .level) (w .ours .count) ln)) (same _)
 
-  -- n: the sum of the line
-  pub judge-ok : (ln : Bytes) (n : ℕ) → Ok (judgeOf ln n s table known inbox (length store))
+  pub judge-ok : (ln : Bytes) → Ok (judgeOf ln s table known inbox (length store))
   unfolding judgeOf
-  judge-ok ln n =
-      by-cond Ok (isComment ln) (same 0)
-      (by-test Ok (eqb (w .phase) phaseCalledSid) (λ e. let z = eqb-true (w .phase) phaseCalledSid e in sid-ok ln (A .quiet (λ u. omega arith) (omega arith)))
-      (λ p. by-test Ok (eqb (w .phase) phaseCallerSid) (λ e. let z = eqb-true (w .phase) phaseCallerSid e in sid-ok ln (A .quiet (λ u. omega arith) (omega arith)))
-      (λ p. by-test Ok (eqb (w .phase) phasePrompt) (λ e. let z = eqb-true (w .phase) phasePrompt e in text-ok ln (A .quiet (λ u. omega arith) (omega arith)))
-      (λ p. by-test Ok (eqb (w .phase) phaseTurn) (λ e. turn-ok ln n (eqb-true (w .phase) phaseTurn e))
-      (λ p. by-cond Ok (eqb (w .phase) phaseFs) (answer-ok ln) (same lineNotAllowed))))))
+  judge-ok ln =
+      by-cond Ok (isComment (trim ln)) (same 0)
+      (by-test Ok (eqb (w .phase) phaseCalledSid) (λ e. let z = eqb-true (w .phase) phaseCalledSid e in sid-ok (trim ln) (A .quiet (λ u. omega arith) (omega arith)))
+      (λ p. by-test Ok (eqb (w .phase) phaseCallerSid) (λ e. let z = eqb-true (w .phase) phaseCallerSid e in sid-ok (trim ln) (A .quiet (λ u. omega arith) (omega arith)))
+      (λ p. by-test Ok (eqb (w .phase) phasePrompt) (λ e. let z = eqb-true (w .phase) phasePrompt e in text-ok (trim ln) (A .quiet (λ u. omega arith) (omega arith)))
+      (λ p. by-test Ok (eqb (w .phase) phaseTurn) (λ e. turn-ok ln (eqb-true (w .phase) phaseTurn e))
+      (λ p. by-cond Ok (eqb (w .phase) phaseFs) (answer-ok (trim ln)) (same lineNotAllowed))))))

@@ -2,16 +2,14 @@
 use mathlib.Core.Path.{_≡_, refl, sym, ap, _∙_, subst}
 use mathlib.Core.Bool.{Bool, true, false, cond}
 use mathlib.Core.List.{[], _∷_, _++_, append-nil}
-use Prim.Native.Nat.{ℕ, _+_, _%_, _<_, _≤_, min}
+use Prim.Native.Nat.{ℕ, _+_, _<_, _≤_, min}
 use native.Mathlib.Omega.{arith}
 use lib.Dec.{eqb, ltb}
 use lib.ListN.{length, set, take, drop, replicate, length-drop, length-replicate, drop-of-length-le}
 use lib.Seq.{take-all, length-take-le}
 use borrow.Author.Tests.{ltb-true, ltb-false}
-use Rattle.grammar.specs.Bytes.{Bytes, CR, byteValues}
-use Rattle.grammar.specs.Lines.{LineByte, dropped, ends, grows, overruns, lineByte, lineLimit, trim}
-use Rattle.grammar.specs.Transfers.{byteSum}
-use Rattle.grammar.proofs.TransferBack.{sum-wraps}
+use Rattle.grammar.specs.Bytes.{Bytes, CR}
+use Rattle.grammar.specs.Lines.{LineByte, dropped, ends, grows, overruns, lineByte, lineLimit}
 use Rattle.line.specs.declared.LineByte as code
 use Rattle.line.specs.Byte.{lineByteIs}
 use Rattle.buffer.specs.Put.{wrote}
@@ -21,9 +19,7 @@ use Rattle.region.specs.Region.{region}
 use Rattle.numbers.specs.declared.Numbers.{Numbers}
 use Rattle.numbers.specs.Whole.{lineIn, sessionOf, wholeOf}
 use Rattle.numbers_in_place.proofs.Arrays.{line-set}
-use Rattle.line_effect.specs.Judged.{Judged}
-use Rattle.line_effect.specs.Judge.{lineSum, judgeOf}
-use Rattle.receive_defined.specs.Receiving.{Settled, settleOf, longer, lineMoved, lineStepOf}
+use Rattle.receive_defined.specs.Receiving.{Settled, longer, lineMoved, lineStepOf}
 
 module _ (s : Session) (b : ℕ) (u v : code.LineByte) (e : u ≡ v) (f : lineByteIs u ≡ lineByte false (s .line .len) b) where
   said : lineByteIs v ≡ lineByte false (s .line .len) b
@@ -90,17 +86,3 @@ copied m e h f =
     let n : length x ≡ lineLimit = line-length m h in
     let k : length z ≡ lineLimit = length-replicate {A = ℕ} lineLimit 0 in
     f ∙ ap (λ (l : Bytes). x ++ l) (drop-of-length-le z {i = 0 + length x} (omega (arith, n, k))) ∙ append-nil x
-
--- ---------------------------------------------------------------- the line's end
-
--- a line judged without the spaces at its end, by what was handed on: these bytes and this sum
-pub judged-by : (j : Judged) (s : Session) (table known inbox : Bytes) (store : ℕ) (l t : Bytes) (n : ℕ) → t ≡ trim l → n ≡ lineSum l → j ≡ judgeOf t n s table known inbox store
-    → j ≡ judgeOf (trim l) (lineSum l) s table known inbox store
-judged-by j s table known inbox store l t n q z h = h ∙ ap (λ (x : Bytes). judgeOf x n s table known inbox store) q ∙ ap (λ (x : ℕ). judgeOf (trim l) x s table known inbox store) z
-
--- ---------------------------------------------------------------- the sum of a line
-
--- n: the sum of its bytes, r: with the CR
-pub sum-cr : (l : Bytes) (n r : ℕ) → n ≡ byteSum l % byteValues → r ≡ (n + CR) % byteValues → r ≡ lineSum l
-unfolding lineSum
-sum-cr l n r e f = f ∙ ap (λ (x : ℕ). (x + CR) % byteValues) e ∙ sym (sum-wraps l CR)

@@ -1,17 +1,14 @@
 // A byte of a line: dropped, one more in its line, the line's end and what it leaves, or a line too long.
 use line::LineByte;
-use line_effect::Verdict;
 use numbers::Numbers;
 use settling::Left;
 ghost use mathlib.Core.Path.{_≡_};
 ghost use Prim.Native.Nat.{_<_};
 ghost use lib.ListN.{length, take};
 ghost use Rattle.grammar.specs.Bytes.{CR};
-ghost use Rattle.grammar.specs.Lines.{lineLimit, trim, ends};
+ghost use Rattle.grammar.specs.Lines.{lineLimit, ends};
 ghost use Rattle.places.specs.Places.{arraysLen};
 ghost use Rattle.numbers.specs.Whole.{lineIn, wholeOf};
-ghost use Rattle.line_effect.specs.Judge.{lineSum, judgeOf};
-ghost use Rattle.line_effect.specs.Verdict.{judgedIn};
 ghost use Rattle.receive_defined.specs.Receiving.{settled, longer, lineMoved, lineStepOf};
 
 // The bytes of a line among the state's arrays.
@@ -25,31 +22,6 @@ fn line_of(mem: &[u8]) -> [u8; LINE_ROOM]
     let mut line = [0u8; LINE_ROOM];
     buffer::put_whole(&mut line, 0, &mem[places::LINE..places::BLOCK]);
     line
-}
-
-// The sum of the line as received, its CR included.
-fn line_sum(line: &[u8]) -> u8
-    ensures { λ r. ⌜ r ≡ lineSum (now (line .entry)) ⌝ }
-{
-    std::num::wrapping_add_u8(checksum::sum(line), line::CR)
-}
-
-// A whole line, judged without the spaces at its end.
-fn judged(
-    line: &[u8],
-    s: Numbers,
-    mem: &mut [u8],
-    table: &[u8],
-    known: &[u8],
-    inbox: &[u8],
-    store: usize,
-) -> Verdict
-    requires { ⌜ length (now mem) ≡ arraysLen ⌝ }
-    ensures { λ r. ⌜ judgedIn r (now (mem .exit)) ≡ judgeOf (trim (now (line .entry))) (lineSum (now (line .entry))) (wholeOf s (now (mem .entry))) (now (table .entry)) (now (known .entry)) (now (inbox .entry)) store ⌝ }
-{
-    let n = line::trimmed(line);
-    let sum = line_sum(line);
-    awaited_line::judge(&line[..n], sum, s, mem, table, known, inbox, store)
 }
 
 // The CR of a line: the line is judged up to its length, and what it comes to is settled.
@@ -66,7 +38,7 @@ fn ends(
 {
     let line = line_of(mem);
     let n = part::at_most(line::LINE_LIMIT, s.line.len as usize);
-    let v = judged(&line[..n], s, mem, table, known, inbox, store);
+    let v = awaited_line::judge(&line[..n], s, mem, table, known, inbox, store);
     settling::settle(v, true, mem, table)
 }
 

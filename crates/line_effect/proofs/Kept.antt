@@ -6,7 +6,7 @@ use mathlib.Core.List.{List}
 use Prim.Native.Nat.{ℕ, _+_, _%_}
 use lib.Dec.{eqb, ltb}
 use Rattle.grammar.specs.Bytes.{Bytes, byteValues}
-use Rattle.grammar.specs.Lines.{isComment, isPrompt}
+use Rattle.grammar.specs.Lines.{trim, isComment, isPrompt}
 use Rattle.grammar.specs.Sid.{readSid, hasFeature, letterF}
 use Rattle.grammar.specs.Turns.{TurnLine, saysFF, saysFQ, endsBlock, notAllowed, proposes, endsSummed, readTurnLine}
 use Rattle.fs_line.specs.Answers.{answerNumber}
@@ -14,7 +14,7 @@ use Rattle.session_memory.specs.Session.{Session}
 use Rattle.phase.specs.Phase.{phaseCalledSid, phaseCallerSid, phasePrompt, phaseTurn, phaseFs, blockLimit, noProposal}
 use Rattle.our_answer.specs.Answers.{answersOf}
 use Rattle.line_effect.specs.Judged.{Judged}
-use Rattle.line_effect.specs.Judge.{refusal, sidRead, sidLine, textLine, nextAccepted, endLine, summedLine, proposalLine, ffLine, fqLine, turnRead, turnLine, answerLine, judgeOf}
+use Rattle.line_effect.specs.Judge.{refusal, sidRead, sidLine, textLine, nextAccepted, endLine, summedLine, proposalLine, ffLine, fqLine, lineSum, turnRead, turnLine, answerLine, judgeOf}
 
 -- taken, or as it was
 pub record Kept (s : Session) (j : Judged) : Type 0 where
@@ -44,37 +44,36 @@ module _ (s : Session) where
   unfolding textLine
   text-kept ln = by (isPrompt ln) (taken _ refl refl) (taken _ refl refl)
 
-  -- n: the sum of the line
-  module _ (n : ℕ) (table known inbox : Bytes) (store : ℕ) where
+  module _ (table known inbox : Bytes) (store : ℕ) where
     end-kept : Kept s (endLine s table known inbox store)
     unfolding endLine
     end-kept =
         by (eqb (s .now .proposals) 0) (refused _)
         (by (eqb (nextAccepted (answersOf (s .now) (s .keep) table known inbox store) 0) noProposal) (taken _ refl refl) (taken _ refl refl))
 
-    turn-read : (t : TurnLine) → Kept s (turnRead t n s table known inbox store)
+    turn-read : (n : ℕ) (t : TurnLine) → Kept s (turnRead t n s table known inbox store)
     unfolding ffLine fqLine proposalLine summedLine
-    turn-read saysFF = by (eqb (s .now .proposals) 0) (by (s .now .ff) (refused _) (taken _ refl refl)) (refused _)
-    turn-read saysFQ = by (eqb (s .now .proposals) 0) (by (s .now .ff) (taken _ refl refl) (refused _)) (refused _)
-    turn-read endsBlock = end-kept
-    turn-read notAllowed = refused _
-    turn-read (proposes q) = by (ltb (s .now .proposals) blockLimit) (taken _ refl refl) (refused _)
-    turn-read (endsSummed h) = by (eqb (s .now .proposals) 0) (refused _) (by (eqb ((s .now .sum + h) % byteValues) 0) end-kept (refused _))
+    turn-read n saysFF = by (eqb (s .now .proposals) 0) (by (s .now .ff) (refused _) (taken _ refl refl)) (refused _)
+    turn-read n saysFQ = by (eqb (s .now .proposals) 0) (by (s .now .ff) (taken _ refl refl) (refused _)) (refused _)
+    turn-read n endsBlock = end-kept
+    turn-read n notAllowed = refused _
+    turn-read n (proposes q) = by (ltb (s .now .proposals) blockLimit) (taken _ refl refl) (refused _)
+    turn-read n (endsSummed h) = by (eqb (s .now .proposals) 0) (refused _) (by (eqb ((s .now .sum + h) % byteValues) 0) end-kept (refused _))
 
-    turn-kept : (ln : Bytes) → Kept s (turnLine ln n s table known inbox store)
+    turn-kept : (ln : Bytes) → Kept s (turnLine ln s table known inbox store)
     unfolding turnLine
-    turn-kept ln = turn-read (readTurnLine (s .keep .framed) ln)
+    turn-kept ln = turn-read (lineSum ln) (readTurnLine (s .keep .framed) (trim ln))
 
     answer-kept : (ln : Bytes) → Kept s (answerLine ln s)
     unfolding answerLine
     answer-kept ln = by (eqb (answerNumber (s .keep .terms .level) (s .now .ours .count) ln) 0) (taken _ refl refl) (refused _)
 
-    pub judge-kept : (ln : Bytes) → Kept s (judgeOf ln n s table known inbox store)
+    pub judge-kept : (ln : Bytes) → Kept s (judgeOf ln s table known inbox store)
     unfolding judgeOf
     judge-kept ln =
-        by (isComment ln) (taken _ refl refl)
-        (by (eqb (s .now .phase) phaseCalledSid) (sid-kept ln)
-        (by (eqb (s .now .phase) phaseCallerSid) (sid-kept ln)
-        (by (eqb (s .now .phase) phasePrompt) (text-kept ln)
+        by (isComment (trim ln)) (taken _ refl refl)
+        (by (eqb (s .now .phase) phaseCalledSid) (sid-kept (trim ln))
+        (by (eqb (s .now .phase) phaseCallerSid) (sid-kept (trim ln))
+        (by (eqb (s .now .phase) phasePrompt) (text-kept (trim ln))
         (by (eqb (s .now .phase) phaseTurn) (turn-kept ln)
-        (by (eqb (s .now .phase) phaseFs) (answer-kept ln) (refused _))))))
+        (by (eqb (s .now .phase) phaseFs) (answer-kept (trim ln)) (refused _))))))

@@ -9,7 +9,7 @@ use lib.ListN.{length, getD, set, drop}
 use Rattle.grammar.specs.Bytes.{Bytes, byteValues}
 use Rattle.grammar.specs.Refusals.{notSid, noForwarding, lineNotAllowed, proposalCount, wrongBlockSum}
 use Rattle.grammar.specs.Fields.{formNumber}
-use Rattle.grammar.specs.Lines.{isComment, isPrompt}
+use Rattle.grammar.specs.Lines.{trim, isComment, isPrompt}
 use Rattle.grammar.specs.Sid.{readSid, hasFeature, framed, levelInForce, letterF}
 use Rattle.grammar.specs.Turns.{Proposal, TurnLine, saysFF, saysFQ, endsBlock, notAllowed, proposes, endsSummed, readTurnLine, turnLineNumber, withCr}
 use Rattle.grammar.specs.Transfers.{byteSum}
@@ -164,8 +164,9 @@ turnRead notAllowed n s table known inbox store = refusal (turnLineNumber notAll
 turnRead (proposes q) n s table known inbox store = proposalLine q n s
 turnRead (endsSummed h) n s table known inbox store = summedLine h s table known inbox store
 
-unfoldable pub turnLine : Bytes → ℕ → Session → Bytes → Bytes → Bytes → ℕ → Judged
-turnLine ln n s table known inbox store = turnRead (readTurnLine (s .keep .framed) ln) n s table known inbox store
+-- The line as it came: its sum is of all its bytes.
+unfoldable pub turnLine : Bytes → Session → Bytes → Bytes → Bytes → ℕ → Judged
+turnLine ln s table known inbox store = turnRead (readTurnLine (s .keep .framed) (trim ln)) (lineSum ln) s table known inbox store
 
 -- ---------------------------------------------------------------- the FS line
 
@@ -199,16 +200,17 @@ answerLine ln s =
 
 -- ---------------------------------------------------------------- any line
 
-abbrev pub lineIn : ℕ → Bytes → ℕ → Session → Bytes → Bytes → Bytes → ℕ → Judged
-lineIn p ln n s table known inbox store =
-    cond (eqb p phaseCalledSid) (sidLine ln s)
-    (cond (eqb p phaseCallerSid) (sidLine ln s)
-    (cond (eqb p phasePrompt) (textLine ln s)
-    (cond (eqb p phaseTurn) (turnLine ln n s table known inbox store)
-    (cond (eqb p phaseFs) (answerLine ln s)
+-- "Spaces at the end are removed before a line is judged."
+abbrev pub lineIn : ℕ → Bytes → Session → Bytes → Bytes → Bytes → ℕ → Judged
+lineIn p ln s table known inbox store =
+    cond (eqb p phaseCalledSid) (sidLine (trim ln) s)
+    (cond (eqb p phaseCallerSid) (sidLine (trim ln) s)
+    (cond (eqb p phasePrompt) (textLine (trim ln) s)
+    (cond (eqb p phaseTurn) (turnLine ln s table known inbox store)
+    (cond (eqb p phaseFs) (answerLine (trim ln) s)
     (refusal lineNotAllowed s)))))
 
--- A line without the spaces at its end, and n, the sum of the line as received; the slices are the table, the known BIDs and the inbox, store is the inbox store's size.
-unfoldable pub judgeOf : Bytes → ℕ → Session → Bytes → Bytes → Bytes → ℕ → Judged
-judgeOf ln n s table known inbox store =
-    cond (isComment ln) (wentOn s) (lineIn (s .now .phase) ln n s table known inbox store)
+-- A line as it came, without its CR; the slices are the table, the known BIDs and the inbox, store is the inbox store's size.
+unfoldable pub judgeOf : Bytes → Session → Bytes → Bytes → Bytes → ℕ → Judged
+judgeOf ln s table known inbox store =
+    cond (isComment (trim ln)) (wentOn s) (lineIn (s .now .phase) ln s table known inbox store)

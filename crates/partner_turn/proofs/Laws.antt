@@ -5,11 +5,14 @@ use Prim.Native.Nat.{ℕ, zero, suc, _+_, _*_, _%_, _<_, _≤_}
 use native.Mathlib.Omega.{arith}
 use lib.Dec.{eqb}
 use borrow.Author.Tests.{eq-eqb, ne-eqb, lt-ltb}
-use Rattle.grammar.specs.Bytes.{Bytes, byteValues}
+use Rattle.grammar.specs.Bytes.{Bytes, byteValues, CR}
 use Rattle.grammar.specs.Refusals.{lineNotAllowed, proposalCount, wrongBlockSum}
 use Rattle.grammar.specs.Fields.{formIs, formNumber, file}
+use Rattle.grammar.specs.Lines.{trim}
 use Rattle.grammar.specs.Turns as turns
+use Rattle.grammar.specs.Transfers.{byteSum}
 use Rattle.grammar.proofs.Basics.{no-both}
+use Rattle.grammar.proofs.TransferBack.{sum-wraps}
 use Rattle.byte.specs.declared.Hex.{Hex}
 use Rattle.buffer.specs.Put.{putBytes}
 use Rattle.span.specs.Places.{part}
@@ -29,7 +32,7 @@ use Rattle.places.specs.Places.{proposalLen}
 use Rattle.our_answer.specs.Answers.{answersOf}
 use Rattle.partner_turn.specs.Check.{rightBy}
 use Rattle.line_effect.specs.Judged.{Judged}
-use Rattle.line_effect.specs.Judge.{refusal, wentOn, inPhase, toTransfer, saysSigns, readerFor, wholeTurn, ffLine, fqLine, nextAccepted, answered, endLine, summedLine, proposalLine, turnRead, turnLine}
+use Rattle.line_effect.specs.Judge.{refusal, wentOn, inPhase, toTransfer, saysSigns, readerFor, wholeTurn, ffLine, fqLine, nextAccepted, answered, endLine, summedLine, proposalLine, lineSum, turnRead, turnLine}
 
 -- our signs are said; v and r are what is awaited and read then
 module _ (signs : Five) (s : Session) (i : ℕ) (j : Judged) (e : i ≡ nextAccepted signs 0) where
@@ -122,8 +125,22 @@ module _ (s : Session) where
   proposed ln n a p block j h b q e f = rw (lt-ltb _ _ b, form-number (p .form) h, ← e, ← q) f
 
   -- a line of a turn
-  module _ (ln : Bytes) (n : ℕ) (table known inbox : Bytes) (store : ℕ) (j : Judged) where
+  -- raw: as it came; ln: without the spaces at its end
+  module _ (raw ln : Bytes) (z : ln ≡ trim raw) (table known inbox : Bytes) (store : ℕ) (j : Judged) where
     pub turn-by : (t u : TurnLine) → t ≡ u → turnLineIs ln t ≡ turns.readTurnLine (s .keep .framed) ln
-        → j ≡ turnRead (turnLineIs ln u) n s table known inbox store → j ≡ turnLine ln n s table known inbox store
+        → j ≡ turnRead (turnLineIs ln u) (lineSum raw) s table known inbox store → j ≡ turnLine raw s table known inbox store
     unfolding turnLine
-    turn-by t u e f g = g ∙ ap (λ (x : turns.TurnLine). turnRead x n s table known inbox store) (sym (says-as (s .keep .framed) ln t u e f))
+    turn-by t u e f g =
+        g ∙ ap (λ (x : turns.TurnLine). turnRead x (lineSum raw) s table known inbox store)
+        (sym (says-as (s .keep .framed) ln t u e f) ∙ ap (turns.readTurnLine (s .keep .framed)) z)
+
+-- ---------------------------------------------------------------- the sum of a line
+
+-- n: the sum of its bytes, r: with the CR
+pub sum-cr : (l : Bytes) (n r : ℕ) → n ≡ byteSum l % byteValues → r ≡ (n + CR) % byteValues → r ≡ lineSum l
+unfolding lineSum
+sum-cr l n r e f = f ∙ ap (λ (x : ℕ). (x + CR) % byteValues) e ∙ sym (sum-wraps l CR)
+
+-- a proposal by its line's sum
+pub same-sum : (q : turns.Proposal) (s : Session) (n m : ℕ) → n ≡ m → (j : Judged) → j ≡ proposalLine q n s → j ≡ proposalLine q m s
+same-sum q s n m e j f = f ∙ ap (λ (x : ℕ). proposalLine q x s) e

@@ -23,7 +23,7 @@ ghost use Rattle.proposal.specs.Meaning.{ProposalLies, proposalIs, endIs};
 ghost use Rattle.partner_turn.specs.Check.{rightBy};
 ghost use Rattle.session_memory.specs.State.{at};
 ghost use Rattle.numbers.specs.Whole.{Arrays, withBlock, sessionOf};
-ghost use Rattle.line_effect.specs.Judge.{wholeTurn, nextAccepted, answered, proposalLine, ffLine, fqLine, turnRead, turnLine};
+ghost use Rattle.line_effect.specs.Judge.{wholeTurn, nextAccepted, answered, proposalLine, ffLine, fqLine, lineSum, turnRead, turnLine};
 ghost use Rattle.line_effect.specs.Verdict.{judgedOf};
 
 // The partner's turn is whole, so what we were sending is forwarded.
@@ -165,10 +165,16 @@ fn fq_line(s: Numbers) -> Verdict
     went(over)
 }
 
-// A line of the partner's turn, and its sum as it was received; block are the proposals so far.
+// The sum of a line as received, its CR included.
+fn line_sum(line: &[u8]) -> u8
+    ensures { λ r. ⌜ r ≡ lineSum (now (line .entry)) ⌝ }
+{
+    wrapping_add_u8(checksum::sum(line), line::CR)
+}
+
+// A line of the partner's turn, as it came; block are the proposals so far.
 pub fn turn_line(
     line: &[u8],
-    sum: u8,
     s: Numbers,
     block: &mut [u8],
     table: &[u8],
@@ -176,14 +182,15 @@ pub fn turn_line(
     inbox: &[u8],
     store: usize,
 ) -> Verdict
-    ensures { λ r. ⌜ ((a : Arrays) → judgedOf r (withBlock (now (block .exit)) a) ≡ turnLine (now (line .entry)) sum (sessionOf s (withBlock (now (block .entry)) a)) (now (table .entry)) (now (known .entry)) (now (inbox .entry)) store) ⌝ }
+    ensures { λ r. ⌜ ((a : Arrays) → judgedOf r (withBlock (now (block .exit)) a) ≡ turnLine (now (line .entry)) (sessionOf s (withBlock (now (block .entry)) a)) (now (table .entry)) (now (known .entry)) (now (inbox .entry)) store) ⌝ }
 {
-    let r = proposal::read_turn_line(line, s.keep.framed);
+    let n = line::trimmed(line);
+    let r = proposal::read_turn_line(&line[..n], s.keep.framed);
     match r {
         TurnLine::FF => ff_line(s),
         TurnLine::FQ => fq_line(s),
         TurnLine::End(check) => end_line(check, s, block, table, known, inbox, store),
         TurnLine::NotAllowed => refusal(refusal::LINE_NOT_ALLOWED, s),
-        TurnLine::Proposed(p) => proposal_line(line, sum, p, s, block),
+        TurnLine::Proposed(p) => proposal_line(&line[..n], line_sum(line), p, s, block),
     }
 }

@@ -7,7 +7,7 @@ use lib.Dec.{eqb}
 use lib.ListN.{length, set, take, drop}
 use Rattle.grammar.specs.Bytes.{Bytes, LF}
 use Rattle.grammar.specs.Refusals.{badMemory, bytesWait, sessionEnded, noPlace}
-use Rattle.grammar.specs.Lines.{LineByte, dropped, ends, grows, overruns, lineByte, lineByteNumber, trim}
+use Rattle.grammar.specs.Lines.{LineByte, dropped, ends, grows, overruns, lineByte, lineByteNumber}
 use Rattle.grammar.specs.Fields.{plain, formNumber}
 use Rattle.buffer.specs.Put.{putBytes}
 use Rattle.layout.specs.Layout.{byteAt, entryAt, entrySize, proposalSize, entryOut}
@@ -26,7 +26,7 @@ use Rattle.session_memory.specs.Session.{Keep}
 use Rattle.session_memory.specs.Session.{Session}
 use Rattle.marking.specs.States.{markAll}
 use Rattle.receive_defined.specs.Tallied.{talliedOf}
-use Rattle.line_effect.specs.Judge.{noMarks, judged, inPhase, toTransfer, nextAccepted, readerFor, lineSum, judgeOf}
+use Rattle.line_effect.specs.Judge.{noMarks, judged, inPhase, toTransfer, nextAccepted, readerFor, judgeOf}
 use Rattle.our_turn.specs.Turn.{speakOf}
 use Rattle.line_effect.specs.Judged.{Judged}
 use Rattle.pending.specs.Pending.{waits, overOf, errorPiece}
@@ -102,7 +102,7 @@ longer s b = withLine (withAfterCr false (withBytes (s .line .len + 1) (set (s .
 abbrev pub lineMoved : LineByte → Session → ℕ → Bytes → Bytes → Bytes → ℕ → Settled
 lineMoved dropped s b table known inbox store = settled 0 s table
 lineMoved ends s b table known inbox store =
-    settleOf (judgeOf (trim (take (s .line .len) (s .line .bytes))) (lineSum (take (s .line .len) (s .line .bytes))) s table known inbox store) true table
+    settleOf (judgeOf (take (s .line .len) (s .line .bytes)) s table known inbox store) true table
 lineMoved grows s b table known inbox store = settled 0 (longer s b) table
 lineMoved overruns s b table known inbox store = settled (lineByteNumber overruns) (refusedOf (lineByteNumber overruns) s) table
 

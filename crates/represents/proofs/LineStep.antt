@@ -23,7 +23,7 @@ use Rattle.session_memory.specs.State.{held}
 use Rattle.session_memory.specs.Session.{Line}
 use Rattle.session_memory.specs.Session.{Session}
 use Rattle.session_memory.specs.Setters.{withLine}
-use Rattle.line_effect.specs.Judge.{lineSum, wentOn, judgeOf, lineIn, sidLine, textLine, turnLine}
+use Rattle.line_effect.specs.Judge.{wentOn, judgeOf, lineIn, sidLine, textLine, turnLine}
 use Rattle.line_effect.specs.Judged.{Judged}
 use Rattle.waiting.specs.Waiting.{waitingOf, firstText, thenText}
 use Rattle.pending.specs.Pending.{waits}
@@ -80,7 +80,7 @@ module _ (F : Fixed) (E : Shelf) {nt ni ns : ℕ} (c : Cs) (g : Good F nt ni ns 
     ln = trim raw
 
     abbrev judgedIn : ℕ → Judged
-    judgedIn p = lineIn p ln (lineSum raw) s (c .table) (F .known) (c .inbox) (length (c .store))
+    judgedIn p = lineIn p raw s (c .table) (F .known) (c .inbox) (length (c .store))
 
     read-law : (a : on-lists.Awaited) → Awaits c (on-lists.aLine a) → Lead (judgedIn (lineNumber a)) (on-lists.awaitedJudged E a m raw)
     unfolding sidLine textLine turnLine
@@ -101,7 +101,7 @@ module _ (F : Fixed) (E : Shelf) {nt ni ns : ℕ} (c : Cs) (g : Good F nt ni ns 
 
     -- "A line that begins with `;` is ignored wherever a line is awaited"
     judge-law : (a : on-lists.Awaited) → Awaits c (on-lists.aLine a)
-        → Lead (judgeOf ln (lineSum raw) s (c .table) (F .known) (c .inbox) (length (c .store))) (on-lists.lineJudged E a m raw)
+        → Lead (judgeOf raw s (c .table) (F .known) (c .inbox) (length (c .store))) (on-lists.lineJudged E a m raw)
     unfolding judgeOf
     judge-law a w = go (isComment ln)
       where
@@ -141,7 +141,7 @@ module _ (F : Fixed) (E : Shelf) {nt ni ns : ℕ} (c : Cs) (g : Good F nt ni ns 
       (λ (w : Bytes). Moves (lineMoved ends s b (c .table) (F .known) (c .inbox) (length (c .store))) (on-lists.settled v true (on-lists.lineJudged E a m w)))
       (h .part)
       (settle-law F E c true v h
-      (judgeOf (trim (take (s .line .len) (s .line .bytes))) (lineSum (take (s .line .len) (s .line .bytes))) s (c .table) (F .known) (c .inbox) (length (c .store)))
+      (judgeOf (take (s .line .len) (s .line .bytes)) s (c .table) (F .known) (c .inbox) (length (c .store)))
       (on-lists.lineJudged E a m (take (s .line .len) (s .line .bytes)))
       (judge-law (take (s .line .len) (s .line .bytes)) a (subst (Awaits c) x (h .awaits))))
   byte-moves b a x grows room =

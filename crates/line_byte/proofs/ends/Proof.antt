@@ -23,11 +23,11 @@ at-most-requires c κs = search needs
 array-share-prefix-line : tie.Need-array-share-prefix-line
 array-share-prefix-line c = search needs
 
-slice-aggregate-judged : tie.Need-slice-aggregate-judged
-slice-aggregate-judged c = let l : length (c .before .before .before .line-of .result) ≡ lineLimit = ap length (c .before .before .before .line-of .ensures) ∙ line-length (c .before .before .before .before .before .before .before .before .before .args .mem .now) (c .before .before .before .before .before .before .before .before .before .pre) in sym (length-take-le (c .before .at-most .result) (c .before .before .before .line-of .result) (omega (arith, l, c .before .at-most .ensures)))
+slice-aggregate-judge : tie.Need-slice-aggregate-judge
+slice-aggregate-judge c = let l : length (c .before .before .before .line-of .result) ≡ lineLimit = ap length (c .before .before .before .line-of .ensures) ∙ line-length (c .before .before .before .before .before .before .before .before .before .args .mem .now) (c .before .before .before .before .before .before .before .before .before .pre) in sym (length-take-le (c .before .at-most .result) (c .before .before .before .line-of .result) (omega (arith, l, c .before .at-most .ensures)))
 
-judged-requires : tie.Need-judged-requires
-judged-requires c κs = search needs
+judge-requires : tie.Need-judge-requires
+judge-requires c κs = search needs
 
 settle-requires : tie.Need-settle-requires
 settle-requires c κs = c .before .before .before .mem .given ∙ c .before .before .before .before .before .before .before .before .before .before .before .before .before .before .before .before .pre
@@ -45,7 +45,7 @@ returns c =
     let pre = c .before .before .before .before .before .before .before .before .before .before .before .before .before .before .before .before .before .before .before .pre in
     ends-by _ (wholeOf (a .s) (a .mem .now)) (a .table .now) (a .known .now) (a .inbox .now) (a .store) _
     (line-is (a .mem .now) _ _ (a .s .line .len) pre (c .before .before .before .before .before .before .before .before .before .before .before .before .before .line-of .ensures) (c .before .before .before .before .before .before .before .before .before .before .before .at-most .ensures))
-    (c .before .before .before .before .before .before .before .judged .ensures) _ (c .before .before .settle .ensures)
+    (c .before .before .before .before .before .before .before .judge .ensures) _ (c .before .before .settle .ensures)
 
 pub ends-spec : {M : Type 1} → statement M
 ends-spec =
@@ -55,8 +55,8 @@ ends-spec =
     cast-at-most
     at-most-requires
     array-share-prefix-line
-    slice-aggregate-judged
-    judged-requires
+    slice-aggregate-judge
+    judge-requires
     settle-requires
     same-length
     same-length-2

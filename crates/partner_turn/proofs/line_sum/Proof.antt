@@ -1,8 +1,8 @@
 -- The sum of the line's bytes, and then the CR.
 use borrow.Author.Needs.{needs}
-use Rattle.line_byte.proofs.Laws.{sum-cr}
-use Rattle.line_byte.proofs.line_sum.Statement.{statement}
-use Rattle.line_byte.proofs.line_sum.Tie as tie
+use Rattle.partner_turn.proofs.Laws.{sum-cr}
+use Rattle.partner_turn.proofs.line_sum.Statement.{statement}
+use Rattle.partner_turn.proofs.line_sum.Tie as tie
 
 sum-requires : tie.Need-sum-requires
 sum-requires c κs = search needs
