@@ -4,6 +4,8 @@
 #include <stdlib.h>
 #include <string.h>
 
+#define MOST_DIGITS 9 /* such a number fits a long, whatever the machine */
+
 static void make_room(struct bytes *store, size_t n)
 {
     size_t room = store->room ? store->room : 256;
@@ -130,7 +132,7 @@ bool part_number(struct part part, long *number)
 {
     size_t i;
 
-    if (part.n < 1 || part.n > 9)
+    if (part.n < 1 || part.n > MOST_DIGITS)
         return false;
     *number = 0;
     for (i = 0; i < part.n; i++) {

@@ -6,6 +6,10 @@
 #include <stddef.h>
 #include <stdint.h>
 
+/* A number that a macro has, as text in a literal. */
+#define TEXT_OF(number) AS_WRITTEN(number)
+#define AS_WRITTEN(number) #number
+
 struct part {
     const uint8_t *at;
     size_t n;

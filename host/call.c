@@ -4,12 +4,13 @@
 
 #define CALL_MIN 3
 #define MAX_SSID 15
+#define SSID_DIGITS 2
 
 static bool is_ssid(struct part text)
 {
     long number;
 
-    return text.n <= 2 && part_number(text, &number) && number <= MAX_SSID;
+    return text.n <= SSID_DIGITS && part_number(text, &number) && number <= MAX_SSID;
 }
 
 bool call_read(struct part text, struct call *call)

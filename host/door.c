@@ -213,6 +213,9 @@ static void let_in(struct door *door)
         door->callers[next].at = INSIDE;
 }
 
+/* What is waited for before the callers: the listener, and that we shall stop. */
+#define OWN 2
+
 static void keep(struct door *door)
 {
     struct pollfd *wait = door->wait;
@@ -221,11 +224,11 @@ static void keep(struct door *door)
     wait[0] = (struct pollfd){ door->listener, POLLIN, 0 };
     wait[1] = (struct pollfd){ stop_descriptor(), POLLIN, 0 };
     for (place = 0; place < count; place++)
-        wait[2 + place] = (struct pollfd){ door->callers[place].talk, POLLIN, 0 };
-    if (poll(wait, 2 + count, -1) <= 0)
+        wait[OWN + place] = (struct pollfd){ door->callers[place].talk, POLLIN, 0 };
+    if (poll(wait, OWN + count, -1) <= 0)
         return;
     for (place = count; place--;) {
-        if (wait[2 + place].revents)
+        if (wait[OWN + place].revents)
             hear_caller(door, place);
     }
     if (wait[0].revents && !stop_asked())
@@ -238,7 +241,7 @@ enum exit_code door_keep(int listener, const struct options *options, door_visit
     struct door door = { listener, options, visit, NULL, 0, options->callers > 0 ? (size_t)options->callers : 1, NULL };
 
     door.callers = calloc(door.most, sizeof *door.callers);
-    door.wait = calloc(door.most + 2, sizeof *door.wait);
+    door.wait = calloc(door.most + OWN, sizeof *door.wait);
     if (!door.wait || !door.callers)
         give_up("no memory");
     while (!stop_asked())

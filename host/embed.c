@@ -4,10 +4,12 @@
 #include <stdio.h>
 #include <string.h>
 
-static uint8_t session[FRINGEMOLE_SESSION_SIZE], table[FRINGEMOLE_RECORD_SIZE], inbox[8 * FRINGEMOLE_ENTRY_SIZE], store[8 * FRINGEMOLE_MAX_BODY];
-static const uint8_t titles[] = "Hello", bodies[] = "73 from the shelf.\r";
-
+#define PLACES 8  /* for messages that come in */
 #define PARTNER 0 /* of eight: whose states the session reads and writes */
+
+static uint8_t session[FRINGEMOLE_SESSION_SIZE], table[FRINGEMOLE_RECORD_SIZE], inbox[PLACES * FRINGEMOLE_ENTRY_SIZE],
+    store[PLACES * FRINGEMOLE_MAX_BODY];
+static const uint8_t titles[] = "Hello", bodies[] = "73 from the shelf.\r";
 
 static void put(uint8_t *field, const char *text)
 {

@@ -6,8 +6,9 @@
 #include <string.h>
 
 /* Places, and the first that is free. */
-#define PLACES "WITH free(place) AS (SELECT 0 UNION ALL SELECT place + 1 FROM free WHERE place < 7) "
-#define FIRST_FREE PLACES "SELECT coalesce(min(place), 8) FROM free WHERE place NOT IN (SELECT place FROM forward)"
+#define PLACES "WITH free(place) AS (SELECT 0 UNION ALL SELECT place + 1 FROM free WHERE place + 1 < " TEXT_OF(FRINGEMOLE_PARTNERS) ") "
+#define FIRST_FREE \
+    PLACES "SELECT coalesce(min(place), " TEXT_OF(FRINGEMOLE_PARTNERS) ") FROM free WHERE place NOT IN (SELECT place FROM forward)"
 
 /* Of a row with an at-field: whose route fits it, or NULL. */
 #define ROUTED \
@@ -45,7 +46,7 @@ static bool ask_with(struct base *base, const char *sql, struct part call, long 
 
 bool forward_find(struct base *base, struct part call, long long *place)
 {
-    return ask_with(base, "SELECT coalesce((SELECT place FROM forward WHERE call = ?1), -1)", call, place);
+    return ask_with(base, "SELECT coalesce((SELECT place FROM forward WHERE call = ?1), " TEXT_OF(NO_PLACE) ")", call, place);
 }
 
 /* What the partner had before, when it was one, stands before what nobody has. */
@@ -87,7 +88,8 @@ static bool leave_to_nobody(struct base *base, struct part call)
         && finish_with(base, "UPDATE forward SET call = x'' WHERE call = ?1", call, 0);
 }
 
-#define WITHOUT_WAY "SELECT outbox.number, forward.call, 0 FROM outbox, forward WHERE " FOR_IT \
+#define WITHOUT_WAY \
+    "SELECT outbox.number, forward.call, " SQL_WAITING " FROM outbox, forward WHERE " FOR_IT \
     " AND NOT EXISTS (SELECT 1 FROM passage WHERE passage.number = outbox.number)"
 
 bool forward_leave(struct base *base, struct part call, bool *found)
@@ -103,7 +105,7 @@ bool forward_leave(struct base *base, struct part call, bool *found)
     if (count == 1)
         return leave_to_nobody(base, call);
     return finish_with(base, "DELETE FROM forward WHERE call = ?1", call, 0)
-        && finish_with(base, "DELETE FROM passage WHERE call = ?1 AND state = 0", call, 0)
+        && finish_with(base, "DELETE FROM passage WHERE call = ?1 AND state = " SQL_WAITING, call, 0)
         && base_execute(base, "INSERT INTO passage (number, call, state) " WITHOUT_WAY);
 }
 
@@ -137,13 +139,13 @@ bool forward_by_rule(struct base *base, long long number)
 {
     return finish_for(base,
         "INSERT INTO passage (number, call, state)"
-        " SELECT outbox.number, forward.call, 0 FROM outbox, forward WHERE outbox.number = ?1 AND " FOR_IT, number);
+        " SELECT outbox.number, forward.call, " SQL_WAITING " FROM outbox, forward WHERE outbox.number = ?1 AND " FOR_IT, number);
 }
 
 bool forward_to(struct base *base, long long number, struct part calls, struct part *wrong)
 {
     *wrong = part_of("");
-    if (!finish_for(base, "DELETE FROM passage WHERE number = ?1 AND state = 0", number))
+    if (!finish_for(base, "DELETE FROM passage WHERE number = ?1 AND state = " SQL_WAITING, number))
         return false;
     while (calls.n) {
         struct part text = part_trimmed(part_until(&calls, ','));
@@ -155,7 +157,8 @@ bool forward_to(struct base *base, long long number, struct part calls, struct p
             *wrong = text;
             return true;
         }
-        if (!finish_with(base, "INSERT INTO passage (number, call, state) VALUES (?2, ?1, 0) ON CONFLICT DO NOTHING", part_of(call.text), number))
+        if (!finish_with(base, "INSERT INTO passage (number, call, state) VALUES (?2, ?1, " SQL_WAITING ") ON CONFLICT DO NOTHING", part_of(call.text),
+                number))
             return false;
     }
     return true;
@@ -172,9 +175,11 @@ bool forward_is_at(struct base *base, long long number, struct part calls)
         if (!forward_find(base, part_of(call.text), &place))
             return false;
         if (place != NO_PLACE
-            && (!finish_for(base, "DELETE FROM passage WHERE number = ?1 AND state = 0 AND (SELECT type FROM outbox WHERE number = ?1) = 'P'", number)
-                || !finish_with(base, "INSERT INTO passage (number, call, state) VALUES (?2, ?1, 1) ON CONFLICT DO UPDATE SET state = 1",
-                    part_of(call.text), number)))
+            && (!finish_for(base,
+                    "DELETE FROM passage WHERE number = ?1 AND state = " SQL_WAITING " AND (SELECT type FROM outbox WHERE number = ?1) = 'P'", number)
+                || !finish_with(base,
+                    "INSERT INTO passage (number, call, state) VALUES (?2, ?1, " SQL_FORWARDED ")"
+                    " ON CONFLICT DO UPDATE SET state = " SQL_FORWARDED, part_of(call.text), number)))
             return false;
     }
     return true;
@@ -203,10 +208,11 @@ bool forward_pass_on(struct base *base, long long inbox, struct part came_from)
     if (!count)
         return true;
     if (!finish_for(base,
-            "INSERT INTO outbox (" COPIED ", state, size, came) SELECT " COPIED ", 0, length(body), came FROM inbox WHERE number = ?1", inbox))
+            "INSERT INTO outbox (" COPIED ", state, size, came)"
+            " SELECT " COPIED ", " SQL_WAITING ", length(body), came FROM inbox WHERE number = ?1", inbox))
         return false;
     number = sqlite3_last_insert_rowid(base->db);
-    statement = base_prepare(base, "INSERT INTO passage (number, call, state) SELECT ?3, forward.call, 0 " GOES_ON);
+    statement = base_prepare(base, "INSERT INTO passage (number, call, state) SELECT ?3, forward.call, " SQL_WAITING " " GOES_ON);
     if (statement) {
         bind_part(statement, 1, came_from);
         sqlite3_bind_int64(statement, 2, inbox);
@@ -251,7 +257,7 @@ static bool take_had(void *context, sqlite3_stmt *statement)
 bool forward_had_by(struct base *base, long long number, struct bytes *calls)
 {
     sqlite3_stmt *statement =
-        base_prepare(base, "SELECT call FROM passage WHERE number = ? AND state = 1 AND length(call) > 0 ORDER BY call");
+        base_prepare(base, "SELECT call FROM passage WHERE number = ? AND state = " SQL_FORWARDED " AND length(call) > 0 ORDER BY call");
 
     if (statement)
         sqlite3_bind_int64(statement, 1, number);
@@ -273,7 +279,9 @@ static bool take_forward(void *context, sqlite3_stmt *statement)
     return taker->function(taker->context, &forward);
 }
 
-#define WAITS "FROM passage JOIN outbox USING (number) WHERE passage.call = forward.call AND passage.state = 0 AND outbox.state = 0"
+#define WAITS \
+    "FROM passage JOIN outbox USING (number) WHERE passage.call = forward.call" \
+    " AND passage.state = " SQL_WAITING " AND outbox.state = " SQL_WAITING
 
 bool forward_each(struct base *base, forward_function *function, void *context)
 {

@@ -11,7 +11,7 @@
 #define JUST_CAME "(SELECT " BID_TEXT("bid") " FROM inbox WHERE session IN (SELECT max(session) FROM inbox GROUP BY partner))"
 
 /* What waits for whomever: of what isn't on the shelf a partner must not bring us another copy. */
-#define WAITS "(SELECT " BID_TEXT("bid") " FROM outbox WHERE number IN (SELECT number FROM passage WHERE state = 0))"
+#define WAITS "(SELECT " BID_TEXT("bid") " FROM outbox WHERE number IN (SELECT number FROM passage WHERE state = " SQL_WAITING "))"
 
 /* Of twins that an older base has (bid.h) one stands for all: that which was seen last. */
 #define SEEN_SINCE "EXISTS (SELECT 1 FROM known AS later WHERE " SAME_BID("later.bid", "known.bid") " AND later.number > known.number)"

@@ -31,13 +31,16 @@ static struct part take_line(struct part *file)
     return line;
 }
 
+#define EX "/EX"
+#define EX_LENGTH (sizeof EX - 1)
+
 /* How many bytes /EX and its line end have; 0 if they don't stand at the front. The file's end is a line end here. */
 static size_t end_mark(struct part bytes)
 {
-    if (bytes.n < 3 || memcmp(bytes.at, "/EX", 3))
+    if (bytes.n < EX_LENGTH || memcmp(bytes.at, EX, EX_LENGTH))
         return 0;
-    skip(&bytes, 3);
-    return bytes.n == 0 ? 3 : line_end(bytes) ? 3 + line_end(bytes) : 0;
+    skip(&bytes, EX_LENGTH);
+    return bytes.n == 0 ? EX_LENGTH : line_end(bytes) ? EX_LENGTH + line_end(bytes) : 0;
 }
 
 /* Where the body at the front ends: before the first line end that /EX follows. */
@@ -279,12 +282,13 @@ static void put_header(FILE *to, const char *keyword, struct part value)
 /* Whether the body would be read back as it is, without X-Length. */
 static bool reads_back(struct part body)
 {
+    static const char end[] = "\r\n" EX "\r\n";
     struct bytes trial = { NULL, 0, 0 };
     size_t n = 0, after;
     bool right;
 
     bytes_add(&trial, body.at, body.n);
-    bytes_add(&trial, "\r\n/EX\r\n", 7);
+    bytes_add(&trial, end, sizeof end - 1);
     right = !end_mark(part_all(&trial)) && body_end(part_all(&trial), &n, &after) && n == body.n;
     bytes_free(&trial);
     return right;
@@ -326,6 +330,6 @@ bool letter_write(FILE *to, const struct message *message, struct part forwarded
         fprintf(to, "X-Length: %lu\r\n", (unsigned long)message->body.n);
     fputs("\r\n", to);
     put(to, message->body);
-    fputs("\r\n/EX\r\n", to);
+    fputs("\r\n" EX "\r\n", to);
     return !ferror(to);
 }

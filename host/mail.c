@@ -102,7 +102,7 @@ bool base_defer(struct base *base, long long number, const struct passage *passa
 
 bool base_hold(struct base *base, long long number)
 {
-    sqlite3_stmt *statement = base_prepare(base, "UPDATE outbox SET state = 3 WHERE number = ? AND state = 0");
+    sqlite3_stmt *statement = base_prepare(base, "UPDATE outbox SET state = " SQL_HELD " WHERE number = ? AND state = " SQL_WAITING);
 
     if (statement)
         sqlite3_bind_int64(statement, 1, number);
@@ -111,7 +111,7 @@ bool base_hold(struct base *base, long long number)
 
 bool base_release(struct base *base, struct part bid, bool *found)
 {
-    sqlite3_stmt *statement = base_prepare(base, "UPDATE outbox SET state = 0 WHERE state = 3 AND bid = ?");
+    sqlite3_stmt *statement = base_prepare(base, "UPDATE outbox SET state = " SQL_WAITING " WHERE state = " SQL_HELD " AND bid = ?");
 
     if (statement)
         bind_part(statement, 1, bid);
@@ -125,7 +125,7 @@ bool base_release(struct base *base, struct part bid, bool *found)
 
 #define ALIKE \
     "form = ?1 AND type = ?2 AND \"from\" = ?3 AND at = ?4 AND \"to\" = ?5 AND " SAME_BID("bid", "?6") " AND title = ?7 AND name = ?8 AND body = ?9" \
-    " AND (form = 0 OR level = ?10)"
+    " AND (form = " SQL_PLAIN_TEXT " OR level = ?10)"
 
 int base_has(struct base *base, const struct message *message)
 {
@@ -212,7 +212,7 @@ static bool take_row(void *context, sqlite3_stmt *statement)
 #define FIRST_BID(in, of) "(SELECT first.bid FROM " in " AS first WHERE " SAME_BID("first.bid", of) " ORDER BY first.number LIMIT 1)"
 #define OUTBOX_ROWS "SELECT number, state, size, 0, " FIELDS ", came, " FIRST_BID("outbox", "outbox.bid") " FROM outbox"
 #define INBOX_ROWS \
-    "SELECT number, 0, length(body), copy, " FIELDS ", came," \
+    "SELECT number, " SQL_WAITING ", length(body), copy, " FIELDS ", came," \
     " coalesce(" FIRST_BID("outbox", "inbox.bid") ", " FIRST_BID("inbox", "inbox.bid") ") FROM inbox"
 
 bool base_each(struct base *base, enum box box, message_function *function, void *context)
@@ -236,8 +236,9 @@ bool base_each_of(struct base *base, enum box box, struct part bid, message_func
 }
 
 #define EARLIER_WAITS \
-    "EXISTS (SELECT 1 FROM outbox AS first JOIN passage AS its ON its.number = first.number AND its.call = ?5 AND its.state = 0" \
-    " WHERE " SAME_BID("first.bid", "outbox.bid") " AND first.number < outbox.number AND first.state = 0)"
+    "EXISTS (SELECT 1 FROM outbox AS first JOIN passage AS its ON its.number = first.number AND its.call = ?5" \
+    " AND its.state = " SQL_WAITING \
+    " WHERE " SAME_BID("first.bid", "outbox.bid") " AND first.number < outbox.number AND first.state = " SQL_WAITING ")"
 
 bool base_waiting(struct base *base, const struct receiver *to, message_function *function, void *context)
 {

@@ -38,6 +38,8 @@ static enum exit_code initialize(const struct options *options)
 
 /* ---- commands */
 
+#define MANY 9999 /* words */
+
 struct command {
     const char *name;
     int least, most; /* words after it */
@@ -46,26 +48,26 @@ struct command {
 
 static const struct command commands[] = {
     { "init", 0, 0, initialize },
-    { "import", 1, 9999, boxes_import },
+    { "import", 1, MANY, boxes_import },
     { "export", 1, 1, boxes_export },
     { "list", 0, 0, boxes_list },
-    { "trace", 1, 9999, boxes_trace },
+    { "trace", 1, MANY, boxes_trace },
     { "replay", 1, 1, replay_run },
-    { "whitepages", 0, 9999, boxes_whitepages },
+    { "whitepages", 0, MANY, boxes_whitepages },
     { "home", 1, 1, boxes_home },
     { "sessions", 0, 0, boxes_sessions },
-    { "release", 1, 9999, boxes_release },
+    { "release", 1, MANY, boxes_release },
     { "partners", 0, 0, partners_list },
     { "admit", 1, 2, partners_admit },
     { "dismiss", 1, 1, partners_dismiss },
     { "routes", 0, 0, partners_routes },
     { "route", 1, 2, partners_route },
-    { "forward", 1, 9999, partners_forward },
+    { "forward", 1, MANY, partners_forward },
     { "call", 1, 1, serve_call },
     { "listen", 1, 1, serve_listen },
     { "stdio", 0, 0, serve_stdio },
     { "serial", 2, 2, serve_serial },
-    { "agw", 2, 4 + AGW_MAX_DIGIPEATERS, radio_serve }
+    { "agw", RADIO_WORDS, RADIO_WORDS + RADIO_CALL_WORDS + AGW_MAX_DIGIPEATERS, radio_serve }
 };
 
 static enum exit_code run(const struct options *options)

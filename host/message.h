@@ -23,6 +23,6 @@ struct message {
     struct part first_bid; /* as the base's first message of this BID spells it, or empty: where nobody asks */
 };
 
-extern const char *const state_names[4], *const form_names[3];
+extern const char *const state_names[HELD + 1], *const form_names[PACKED_FILE + 1];
 
 #endif

@@ -9,6 +9,17 @@
 #include <string.h>
 
 #define VERSION "1.0"
+#define TRANSCRIPT "--transcript="
+/* What a limit is where nobody says another; times in seconds. */
+#define TIMEOUT 600
+#define SID_LIMIT 120
+#define PROGRESS_LIMIT 600
+#define SESSION_LIMIT 86400
+#define LEAST_RATE 10 /* bytes a second */
+#define LOGIN_LIMIT 4096 /* bytes */
+#define LINGER 30
+#define DELAY 3
+#define CALLERS 32
 #define ROOM ((long)FRINGEMOLE_MAX_MESSAGES * FRINGEMOLE_MAX_BODY) /* each message that a session can keep, at its longest */
 
 /* in parts, since a string of C99 has 4,095 bytes at most */
@@ -66,17 +77,17 @@ static const char options_help_text[] =
     "  --radio NUMBER       agw: which radio of the TNC, from 0 (0)\n"
     "  --anyone             serve callers from outside without asking who they are\n"
     "Limits; 0: none\n"
-    "  --timeout SECONDS    of silence, from the last byte that came or left (600)\n"
-    "  --sid-limit SECONDS  until the partner's SID has come, login included (120)\n"
+    "  --timeout SECONDS    of silence, from the last byte that came or left (" TEXT_OF(TIMEOUT) ")\n"
+    "  --sid-limit SECONDS  until the partner's SID has come, login included (" TEXT_OF(SID_LIMIT) ")\n"
     "  --progress-limit SECONDS\n"
-    "                       without progress in the protocol (600)\n"
-    "  --least-rate BYTES   a second, in transfers, that count as progress (10)\n"
+    "                       without progress in the protocol (" TEXT_OF(PROGRESS_LIMIT) ")\n"
+    "  --least-rate BYTES   a second, in transfers, that count as progress (" TEXT_OF(LEAST_RATE) ")\n"
     "  --session-limit SECONDS\n"
-    "                       of the whole session (86400)\n"
-    "  --login-limit BYTES  before a login is over (4096)\n"
-    "  --linger SECONDS     after hanging up, for our last bytes (30)\n"
-    "  --delay SECONDS      until a caller who is no partner is hung up on (3)\n"
-    "  --callers COUNT      listen: at once, one of them in a session (32)\n"
+    "                       of the whole session (" TEXT_OF(SESSION_LIMIT) ")\n"
+    "  --login-limit BYTES  before a login is over (" TEXT_OF(LOGIN_LIMIT) ")\n"
+    "  --linger SECONDS     after hanging up, for our last bytes (" TEXT_OF(LINGER) ")\n"
+    "  --delay SECONDS      until a caller who is no partner is hung up on (" TEXT_OF(DELAY) ")\n"
+    "  --callers COUNT      listen: at once, one of them in a session (" TEXT_OF(CALLERS) ")\n"
     "Options of the others\n"
     "  --call CALL          init: our callsign, for BIDs of messages that have none\n"
     "  --partner CALL       init: the first partner's callsign\n"
@@ -220,15 +231,15 @@ static void defaults(struct options *options)
     memset(options, 0, sizeof *options);
     options->call = options->partner = options->for_whom = "";
     options->question = CALLSIGN_QUESTION;
-    options->timeout = 600;
-    options->sid_limit = 120;
-    options->progress_limit = 600;
-    options->session_limit = 86400;
-    options->least_rate = 10;
-    options->login_limit = 4096;
-    options->linger = 30;
-    options->delay = 3;
-    options->callers = 32;
+    options->timeout = TIMEOUT;
+    options->sid_limit = SID_LIMIT;
+    options->progress_limit = PROGRESS_LIMIT;
+    options->session_limit = SESSION_LIMIT;
+    options->least_rate = LEAST_RATE;
+    options->login_limit = LOGIN_LIMIT;
+    options->linger = LINGER;
+    options->delay = DELAY;
+    options->callers = CALLERS;
     options->room = ROOM;
     options->drop_after = -1;
 }
@@ -260,8 +271,8 @@ bool options_read(struct options *options, int count, char **words)
         }
         if (!strcmp(words[at], "--transcript"))
             options->transcript = "-";
-        else if (!strncmp(words[at], "--transcript=", 13))
-            options->transcript = words[at] + 13;
+        else if (!strncmp(words[at], TRANSCRIPT, sizeof TRANSCRIPT - 1))
+            options->transcript = words[at] + sizeof TRANSCRIPT - 1;
         else if (words[at][0] != '-' || !words[at][1])
             take_word(options, words, words[at]);
         else if (!take_option(options, words, count, &at))

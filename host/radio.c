@@ -32,18 +32,18 @@ static bool is_station(const char *text, struct station *station)
 /* CALL [via CALL..] */
 static bool plan_call(const struct options *options, struct plan *plan)
 {
-    char **words = options->arguments + 2;
-    int at, count = options->count - 2;
+    char **words = options->arguments + RADIO_WORDS;
+    int at, count = options->count - RADIO_WORDS;
 
     if (count == 0) {
         say("agw: give the partner to call, or --listen");
         return false;
     }
-    if (count > 1 && (count == 2 || !part_names(part_of(words[1]), "via"))) {
+    if (count > 1 && (count == RADIO_CALL_WORDS || !part_names(part_of(words[1]), "via"))) {
         say("agw: after the partner comes nothing, or via and digipeaters");
         return false;
     }
-    for (at = 2; at < count; at++) {
+    for (at = RADIO_CALL_WORDS; at < count; at++) {
         if (!is_station(words[at], &plan->via[plan->count++]))
             return false;
     }
@@ -63,9 +63,9 @@ static bool plan_all(const struct options *options, struct plan *plan)
         return false;
     if (!options->listen)
         return plan_call(options, plan);
-    if (options->count > 2)
+    if (options->count > RADIO_WORDS)
         say("agw: --listen names no partner; see admit");
-    return options->count == 2;
+    return options->count == RADIO_WORDS;
 }
 
 static bool open_tnc(struct agw *agw, const struct plan *plan, const struct options *options)

@@ -5,6 +5,9 @@
 #include "options.h"
 #include "say.h"
 
+#define RADIO_WORDS 2      /* of its command: [HOST:]PORT MYCALL .. */
+#define RADIO_CALL_WORDS 2 /* .. and where we call: CALL via, before the digipeaters */
+
 enum exit_code radio_serve(const struct options *options);
 
 #endif

@@ -4,6 +4,7 @@
 #include "statement.h"
 
 #include <stdlib.h>
+#include <string.h>
 #include <sys/stat.h>
 
 #define COPY_TRIES 10
@@ -29,16 +30,17 @@ static bool has_log(const struct base *base)
 /* SQLite's name for a file that nobody changes: it needs no files beside it. Bytes that mean something in such a name are escaped. */
 static bool reach_unchanging(struct base *base)
 {
+    static const char before[] = "file:", after[] = "?immutable=1";
     struct bytes name = { NULL, 0, 0 };
     const char *at;
     bool right;
 
-    bytes_add(&name, "file:", 5);
+    bytes_add(&name, before, sizeof before - 1);
     for (at = base->file; *at; at++) {
         const char *escaped = *at == '?' ? "%3f" : *at == '#' ? "%23" : *at == '%' ? "%25" : NULL;
-        bytes_add(&name, escaped ? escaped : at, escaped ? 3 : 1);
+        bytes_add(&name, escaped ? escaped : at, escaped ? strlen(escaped) : 1);
     }
-    bytes_add(&name, "?immutable=1", 13);
+    bytes_add(&name, after, sizeof after); /* with its zero */
     right = base_reach(base, (const char *)name.at, SQLITE_OPEN_READONLY | SQLITE_OPEN_URI);
     bytes_free(&name);
     return right;

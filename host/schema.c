@@ -4,12 +4,11 @@
 #include "statement.h"
 
 #define MARK 1179479916 /* the file's application_id: "FMol" */
-#define TEXT_OF(number) #number
-#define SQL_OF(number) TEXT_OF(number)
 
-/* A new base takes all steps, so that new and lifted ones are alike. A step that has been in use is never changed: add another. */
+/* A new base takes all steps, so that new and lifted ones are alike. A step that has been in use is never changed: add another. So a step has the
+ * numbers of its day and no names for them. */
 static const char to_1[] =
-    "PRAGMA application_id = " SQL_OF(MARK) ";"
+    "PRAGMA application_id = " TEXT_OF(MARK) ";"
     "CREATE TABLE station (call BLOB NOT NULL, partner BLOB NOT NULL);"
     "CREATE TABLE outbox (number INTEGER PRIMARY KEY AUTOINCREMENT,"
     " state INTEGER NOT NULL," /* 0 waiting, 1 forwarded, 2 declined, 3 held */
@@ -157,7 +156,7 @@ static bool tell_twins(struct base *base)
 {
     long long held = 0;
 
-    if (!base_number(base, base_prepare(base, "SELECT count(*) FROM outbox WHERE state = 3 AND " LATER_TWIN), &held))
+    if (!base_number(base, base_prepare(base, "SELECT count(*) FROM outbox WHERE state = " SQL_HELD " AND " LATER_TWIN), &held))
         return false;
     if (held)
         say("%s: messages of the outbox that are held, since another has their BID but for the case of letters: %lld", base->path, held);
@@ -172,5 +171,5 @@ bool schema_lift(struct base *base, int version)
         if (!base_execute(base, steps[version]))
             return false;
     }
-    return (!older || tell_twins(base)) && base_execute(base, "PRAGMA user_version = " SQL_OF(BASE_VERSION));
+    return (!older || tell_twins(base)) && base_execute(base, "PRAGMA user_version = " TEXT_OF(BASE_VERSION));
 }

@@ -5,6 +5,12 @@
 
 /* ---- entries of lent memory */
 
+/* Bytes of a number there: where a part of a store starts, an announced size; a heading's length; a body's. */
+#define START_BYTES 4
+#define SIZE_BYTES 4
+#define HEADING_LENGTH_BYTES 1
+#define BODY_LENGTH_BYTES 2
+
 static void put_number(uint8_t *at, size_t bytes, size_t value)
 {
     size_t i;
@@ -16,7 +22,7 @@ static void put_number(uint8_t *at, size_t bytes, size_t value)
 /* A field that is too long keeps a wrong length, so that open refuses it. */
 static void put_field(uint8_t *at, size_t limit, struct part field)
 {
-    at[0] = field.n > 255 ? 255 : (uint8_t)field.n;
+    at[0] = field.n > UINT8_MAX ? UINT8_MAX : (uint8_t)field.n;
     if (field.n)
         memcpy(at + 1, field.at, field.n > limit ? limit : field.n);
 }
@@ -31,10 +37,10 @@ static struct part get_field(const uint8_t *at)
 /* A part of a store: where it starts and its length. */
 static void put_part(uint8_t *at, size_t bytes, struct bytes *store, struct part part)
 {
-    size_t most = bytes == 1 ? 255 : FRINGEMOLE_MAX_BODY;
+    size_t most = bytes == HEADING_LENGTH_BYTES ? UINT8_MAX : FRINGEMOLE_MAX_BODY;
 
-    put_number(at, 4, store->n);
-    put_number(at + 4, bytes, part.n > most ? most : part.n);
+    put_number(at, START_BYTES, store->n);
+    put_number(at + START_BYTES, bytes, part.n > most ? most : part.n);
     bytes_add(store, part.at, part.n);
 }
 
@@ -52,8 +58,8 @@ struct message shelf_message(const struct shelf *shelf, size_t place)
     message.to = get_field(entry + FRINGEMOLE_ENTRY_TO);
     message.bid = get_field(entry + FRINGEMOLE_ENTRY_BID);
     *(message.form == PACKED_FILE ? &message.name : &message.title) = heading;
-    message.body.at = shelf->store.at + bytes_number(entry + FRINGEMOLE_ENTRY_BODY, 4);
-    message.body.n = bytes_number(entry + FRINGEMOLE_ENTRY_BODY_LEN, 2);
+    message.body.at = shelf->store.at + bytes_number(entry + FRINGEMOLE_ENTRY_BODY, START_BYTES);
+    message.body.n = bytes_number(entry + FRINGEMOLE_ENTRY_BODY_LEN, BODY_LENGTH_BYTES);
     message.level = message.form == PLAIN_TEXT ? 0 : level_in_force(shelf->session);
     return message;
 }
@@ -88,10 +94,10 @@ bool shelf_add(struct shelf *shelf, const struct message *message)
     put_field(record + FRINGEMOLE_RECORD_AT, FRINGEMOLE_MAX_AT, message->at);
     put_field(record + FRINGEMOLE_RECORD_TO, FRINGEMOLE_MAX_CALL, message->to);
     put_field(record + FRINGEMOLE_RECORD_BID, FRINGEMOLE_MAX_BID, message->bid);
-    put_number(record + FRINGEMOLE_RECORD_SIZE_FIELD, 4, message->size);
-    put_part(record + FRINGEMOLE_RECORD_TITLE, 1, &shelf->titles, message->title);
-    put_part(record + FRINGEMOLE_RECORD_NAME, 1, &shelf->names, message->name);
-    put_part(record + FRINGEMOLE_RECORD_BODY, 2, &shelf->bodies, message->body);
+    put_number(record + FRINGEMOLE_RECORD_SIZE_FIELD, SIZE_BYTES, message->size);
+    put_part(record + FRINGEMOLE_RECORD_TITLE, HEADING_LENGTH_BYTES, &shelf->titles, message->title);
+    put_part(record + FRINGEMOLE_RECORD_NAME, HEADING_LENGTH_BYTES, &shelf->names, message->name);
+    put_part(record + FRINGEMOLE_RECORD_BODY, BODY_LENGTH_BYTES, &shelf->bodies, message->body);
     shelf->numbers[place] = message->number;
     shelf->states[place] = message->states[shelf->partner];
     return true;

@@ -3,6 +3,12 @@
 
 #include <time.h>
 
+/* An array of -1 where a number differs. */
+typedef char waiting_is_its_number[WAITING == WAITING_NUMBER ? 1 : -1];
+typedef char forwarded_is_its_number[FORWARDED == FORWARDED_NUMBER ? 1 : -1];
+typedef char held_is_its_number[HELD == HELD_NUMBER ? 1 : -1];
+typedef char plain_text_is_its_number[PLAIN_TEXT == PLAIN_TEXT_NUMBER ? 1 : -1];
+
 bool base_wrong(struct base *base)
 {
     if (base->quiet)

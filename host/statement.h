@@ -6,6 +6,17 @@
 
 #include <sqlite3.h>
 
+/* States and forms in a statement. As text and not bound: an index over what waits serves only where the number itself stands. An enumerator is no
+ * text, so each has its number here once more; statement.c compiles only if these are the enumerators' (message.h). */
+#define WAITING_NUMBER 0
+#define FORWARDED_NUMBER 1
+#define HELD_NUMBER 3
+#define PLAIN_TEXT_NUMBER 0
+#define SQL_WAITING TEXT_OF(WAITING_NUMBER)
+#define SQL_FORWARDED TEXT_OF(FORWARDED_NUMBER)
+#define SQL_HELD TEXT_OF(HELD_NUMBER)
+#define SQL_PLAIN_TEXT TEXT_OF(PLAIN_TEXT_NUMBER)
+
 struct base {
     sqlite3 *db;
     const char *path; /* as the operator names it */

@@ -274,7 +274,8 @@ static bool show_mail(const struct mail *mail)
     if (mail->packed)
         puts("   packed: its white pages lie in what is packed");
     else if (pages.unread)
-        printf("   version %lu.%lu: left unread, 1.0 is known here\n", (unsigned long)pages.version / 10, (unsigned long)pages.version % 10);
+        printf("   version %lu.%lu: left unread, %d.%d is known here\n", (unsigned long)pages.version / 10, (unsigned long)pages.version % 10,
+            FRINGEMOLE_PAGES_VERSION / 10, FRINGEMOLE_PAGES_VERSION % 10);
     else
         return show_pages(mail);
     return false;

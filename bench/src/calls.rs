@@ -3,12 +3,12 @@
 use crate::end::{End, Library, Second};
 use crate::timing::{self, ROUNDS};
 use crate::{body, transfer, Mode};
-use second::field::BODY_LIMIT;
+use second::field::BODY_MAX;
 use second::host::{Buffers, Letter};
+use second::proposal::BLOCK_LIMIT;
 use std::time::{Duration, Instant};
 
 const TITLE: &[u8] = b"A title of thirty bytes or so.";
-const BLOCK: usize = 5;
 const ACCEPTED: &[u8] = b"FS +++++\r";
 
 /// What crosses the link: messages from the partner, or ours.
@@ -22,8 +22,8 @@ enum Way {
 /// bytes a call. Byte by byte a body is short, so that some run of it has
 /// nothing else in its way.
 const PACES: [(&str, usize, usize); 3] = [
-    ("at once", BODY_LIMIT, usize::MAX),
-    ("256 bytes at a time", BODY_LIMIT, 256),
+    ("at once", BODY_MAX, usize::MAX),
+    ("256 bytes at a time", BODY_MAX, 256),
     ("byte by byte", 1_000, 1),
 ];
 
@@ -52,7 +52,7 @@ pub fn rows() -> Vec<Row> {
 impl Row {
     /// Bytes of all five bodies.
     pub fn bytes(&self) -> usize {
-        BLOCK * self.length
+        BLOCK_LIMIT * self.length
     }
 
     fn body(&self) -> Vec<u8> {
@@ -61,10 +61,10 @@ impl Row {
 
     /// The partner's five messages are proposed and accepted.
     fn before_theirs<E: End>(&self) -> E {
-        let mut end = E::open(Buffers::new(BLOCK, self.bytes()));
+        let mut end = E::open(Buffers::new(BLOCK_LIMIT, self.bytes()));
         end.say();
         end.hear(sid(self.mode));
-        for place in 0..BLOCK {
+        for place in 0..BLOCK_LIMIT {
             end.hear(&proposal(self.mode, place, self.length));
             end.hear(b"\r");
         }
@@ -77,7 +77,7 @@ impl Row {
     /// block.
     fn before_ours<E: End>(&self) -> E {
         let mut host = Buffers::new(0, 0);
-        for place in 0..BLOCK {
+        for place in 0..BLOCK_LIMIT {
             let line = proposal(self.mode, place, 1);
             host.add(&Letter::new(self.mode, &line, TITLE, &self.body()));
         }
@@ -106,7 +106,7 @@ impl<E: End> Player<'_, E> {
             Way::Received => row.before_theirs(),
             Way::Given => row.before_ours(),
         };
-        let text = transfer(row.mode, TITLE, &row.body()).repeat(BLOCK);
+        let text = transfer(row.mode, TITLE, &row.body()).repeat(BLOCK_LIMIT);
         let (out, portion) = (vec![0; text.len()], row.portion.min(text.len()));
         Player { row, mark: end.mark(), end, text, out, portion }
     }
@@ -136,7 +136,7 @@ impl<E: End> Player<'_, E> {
     fn check(&mut self) {
         self.play();
         match self.row.way {
-            Way::Received => assert_eq!(self.end.store(), self.row.body().repeat(BLOCK)),
+            Way::Received => assert_eq!(self.end.store(), self.row.body().repeat(BLOCK_LIMIT)),
             Way::Given => assert_eq!(self.out, self.text),
         }
     }
@@ -172,7 +172,9 @@ pub fn play(row: &Row, side: &str, times: usize) -> bool {
 }
 
 pub fn run() {
-    println!("Calls: {BLOCK} messages of {BODY_LIMIT} bytes, byte by byte of 1000; MB of body a");
+    println!(
+        "Calls: {BLOCK_LIMIT} messages of {BODY_MAX} bytes, byte by byte of 1000; MB of body a"
+    );
     println!("second, the best in {ROUNDS} rounds. Ours count from the partner's FS line on.");
     println!("{:<38} {:>9} {:>9} {:>9}", "", "library", "second", "ratio");
     for row in rows() {

@@ -4,11 +4,8 @@
 use fuzz::library;
 use second::host::Buffers;
 use second::memory::Memory;
-use second::session::{self, Reply, Session};
+use second::session::{self, Reply, Session, CALLED, CALLER};
 
-/// Our roles.
-const CALLED: u8 = 0;
-const CALLER: u8 = 1;
 /// Whom it is with.
 const PARTNER: u8 = 0;
 

@@ -13,7 +13,7 @@ mod timing;
 mod words;
 
 use inputs::random::Random;
-use second::field::{BODY_END, BODY_LIMIT};
+use second::field::{BODY_END, BODY_MAX};
 use second::sid::Mode;
 use second::transfer::writer::{write_framed, write_plain};
 use std::process::ExitCode;
@@ -25,7 +25,7 @@ bench --play ROW SIDE TIMES  plays one side of a row so many times";
 
 /// The longest body. It holds no end mark, so that it serves both modes.
 fn body() -> Vec<u8> {
-    let mut body = vec![0; BODY_LIMIT];
+    let mut body = vec![0; BODY_MAX];
     Random::named(1, "body").fill(&mut body);
     body.iter_mut().filter(|byte| **byte == BODY_END).for_each(|byte| *byte = 0);
     body

@@ -6,7 +6,7 @@ mod states;
 
 use crate::end::{End, Library};
 use crate::{timing, Mode};
-use second::memory::{KNOWN_LIMIT, MESSAGE_LIMIT, RECORD_LIMIT};
+use second::memory::{KNOWN_MAX, MESSAGES_MAX, RECORDS_MAX};
 use second::session::Reply;
 use std::time::{Duration, Instant};
 
@@ -185,8 +185,8 @@ pub fn play(row: &Row, side: &str, times: usize) -> bool {
 }
 
 pub fn run() {
-    println!("A call with one byte, in nanoseconds: empty, and with {RECORD_LIMIT} records,");
-    println!("{KNOWN_LIMIT} known BIDs and an inbox of {MESSAGE_LIMIT} places, as many kept as can be there.");
+    println!("A call with one byte, in nanoseconds: empty, and with {RECORDS_MAX} records,");
+    println!("{KNOWN_MAX} known BIDs and an inbox of {MESSAGES_MAX} places, as many kept as can be there.");
     print(&form_test());
     println!("\nThe same, at the byte where a block is answered: the work of answering.");
     print(&answering());

@@ -6,7 +6,7 @@ mod second_side;
 
 use crate::body;
 use crate::timing::{self, ROUNDS};
-use second::field::BODY_LIMIT;
+use second::field::BODY_MAX;
 use second::sid::Mode;
 use second::transfer::writer::{write_framed, write_plain};
 use std::time::{Duration, Instant};
@@ -67,7 +67,7 @@ impl Pair {
             timing::in_turns([&mut || batch(library, message, &mut a, self.portion), &mut || {
                 batch(second, message, &mut b, self.portion)
             }]);
-        let [library, second] = best.map(|seconds| BODY_LIMIT as f64 / seconds / 1e6);
+        let [library, second] = best.map(|seconds| BODY_MAX as f64 / seconds / 1e6);
         let ratio = library / second;
         println!("{:<34} {library:>9.0} {second:>9.0} {ratio:>9.3}", self.name);
     }
@@ -83,7 +83,7 @@ fn batch(work: Work, message: &Message, buffer: &mut [u8], portion: usize) -> Du
 }
 
 pub fn run() {
-    println!("Words: transfers of {BODY_LIMIT} bytes, MB of body a second, best batch of {BATCH}");
+    println!("Words: transfers of {BODY_MAX} bytes, MB of body a second, best batch of {BATCH}");
     println!("messages in {ROUNDS} rounds, buffers not cleared between messages.");
     println!("{:<34} {:>9} {:>9} {:>9}", "", "library", "second", "ratio");
     for (mode, word) in [(Mode::Framed, "framed"), (Mode::Plain, "plain")] {

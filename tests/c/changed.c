@@ -46,7 +46,7 @@ static uint8_t *text(size_t n)
 
 static void put_bid(uint8_t *entry, size_t at, const char *form, size_t place)
 {
-    char bid[13];
+    char bid[FRINGEMOLE_MAX_BID + 1];
 
     snprintf(bid, sizeof bid, form, (unsigned)place);
     put_field(entry, at, bid);
@@ -146,8 +146,8 @@ static void forget(struct before *copy)
 
 static void free_bytes_stand(const struct fringemole_memory *m, const uint8_t *session)
 {
-    must(memcmp(m->session + FREE, session + FREE, DEFERRED_FLAGS - FREE) == 0
-            && memcmp(m->session + LAST_FREE, session + LAST_FREE, FRINGEMOLE_SESSION_SIZE - LAST_FREE) == 0,
+    must(memcmp(m->session + PLACES_NUMBERS_END, session + PLACES_NUMBERS_END, PLACES_ARRAYS - PLACES_NUMBERS_END) == 0
+            && memcmp(m->session + PLACES_ARRAYS_END, session + PLACES_ARRAYS_END, FRINGEMOLE_SESSION_SIZE - PLACES_ARRAYS_END) == 0,
         "a free byte of session memory changed");
 }
 
@@ -190,9 +190,9 @@ static const char *reason_after(unsigned answer)
 /* The line that an ended session still has to give, by session memory. */
 static const char *reason_left(const uint8_t *session)
 {
-    const char *line = session[FIRST] == PROTOCOL_LINE ? "*** Protocol error\r" : "*** Checksum error\r";
+    const char *line = session[PLACES_FIRST] == PHASE_PIECE_PROTOCOL_ERROR ? "*** Protocol error\r" : "*** Checksum error\r";
 
-    return session[FIRST] == 0 ? "" : line + session[GIVEN];
+    return session[PLACES_FIRST] == PHASE_PIECE_NONE ? "" : line + session[PLACES_POS];
 }
 
 /* The front panel's numbers: right, until somebody writes. Then an event still takes from one of the sheet what it gives another, modulo 256, and
@@ -289,14 +289,14 @@ static void scribble_number(uint8_t *session)
 {
     static const uint8_t small[] = { 0, 0, 1, 2, 3, 4, 5, 6, 7, 63, 64, 80, 81, 255 };
     static const unsigned long large[] = { 0, 1, 2, 255, 256, 257, 65535, 65536, 0xFFFFFFFF };
-    static const uint8_t wide[] = { LINE_BYTES, BLOCK_LEFT, BODY_BYTES, GIVEN, USED };
+    static const uint8_t wide[] = { PLACES_LINE_LENGTH, PLACES_LEFT, FRINGEMOLE_SESSION_BODY, PLACES_POS, PLACES_USED };
     unsigned long value = large[below(sizeof large / sizeof *large)];
-    size_t at = wide[below(sizeof wide)], other = AWAITED + below(READING_SUM + 1 - AWAITED);
+    size_t at = wide[below(sizeof wide)], other = FRINGEMOLE_SESSION_PHASE + below(PLACES_SUM + 1 - FRINGEMOLE_SESSION_PHASE);
 
     if (once_in(3)) {
-        put_number(session, at, at < BODY_BYTES ? 2 : 4, value);
+        put_number(session, at, at < FRINGEMOLE_SESSION_BODY ? 2 : 4, value);
     } else {
-        session[once_in(16) ? BLOCK_SUM + below(FREE - BLOCK_SUM) : other] = small[below(sizeof small)];
+        session[once_in(16) ? PLACES_BLOCK_SUM + below(PLACES_NUMBERS_END - PLACES_BLOCK_SUM) : other] = small[below(sizeof small)];
     }
 }
 
@@ -313,7 +313,7 @@ static void scribble(struct fringemole_memory *m)
         fill(buffers[i], sizes[i]);
     } else if (once_in(20)) {
         /* All but the mark and the sizes, which decide first. */
-        fill(m->session + AWAITED, m->session_len - AWAITED);
+        fill(m->session + FRINGEMOLE_SESSION_PHASE, m->session_len - FRINGEMOLE_SESSION_PHASE);
     } else if (sizes[i] != 0) {
         fill(buffers[i] + below(sizes[i]), 1);
     }

@@ -2,27 +2,12 @@
 #ifndef PARTNER_H
 #define PARTNER_H
 
+#include "fringemole.h"
+#include "places.h"
+
 #include <stdint.h>
 #include <stdio.h>
 #include <string.h>
-
-/* In session memory (docs/MEMORY.md). */
-#define AWAITED 60
-#define FRAMED 62
-#define FIRST 64
-#define PROTOCOL_LINE 4 /* at FIRST */
-#define OUR_PROPOSALS 69
-#define READING_SUM 91
-#define LINE_BYTES 92
-#define BLOCK_LEFT 94
-#define BODY_BYTES 96
-#define GIVEN 100
-#define USED 108
-#define BLOCK_SUM 116
-#define LEVEL 117
-#define FREE 129
-#define DEFERRED_FLAGS 160
-#define LAST_FREE 920
 
 /* ---- random numbers (splitmix64) */
 
@@ -159,16 +144,16 @@ static void say_fs(uint8_t proposals, int level)
 static void say_next(const uint8_t *session)
 {
     static const char *const sids[] = { "[TST-1-F$]\r", "[TST-1-BF$]\r\n", "[TST-1-B1FHM$]\r", "[A-F]\r", "[A-H]\r", "[A--H]\r" };
-    int framed = session[FRAMED] == 1;
+    int framed = session[PLACES_FRAMED] == 1;
 
     said_len = 0;
-    if (session[AWAITED] < 2) {
+    if (session[FRINGEMOLE_SESSION_PHASE] <= FRINGEMOLE_LAST_SID_PHASE) {
         say_text(sids[once_in(4) ? below(6) : below(4)]);
-    } else if (session[AWAITED] == 2) {
+    } else if (session[FRINGEMOLE_SESSION_PHASE] == PHASE_PROMPT) {
         say_text("welcome\r\n>\r");
-    } else if (session[AWAITED] == 4) {
-        say_fs(session[OUR_PROPOSALS], once_in(16) ? !session[LEVEL] : session[LEVEL]);
-    } else if (session[AWAITED] == 5) {
+    } else if (session[FRINGEMOLE_SESSION_PHASE] == FRINGEMOLE_ANSWER_PHASE) {
+        say_fs(session[PLACES_OURS], once_in(16) ? !session[FRINGEMOLE_SESSION_LEVEL] : session[FRINGEMOLE_SESSION_LEVEL]);
+    } else if (session[FRINGEMOLE_SESSION_PHASE] == FRINGEMOLE_TRANSFER_PHASE) {
         say_transfer(framed);
     } else {
         say_turn(framed);

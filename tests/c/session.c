@@ -269,7 +269,7 @@ static void block_sums(void)
             hears(&m, BYTES("FB P A B C 1_B 2\r\nF> 92\rmore"), FRINGEMOLE_WRONG_BLOCK_SUM, 24);
             SAYS(&m, "*** Protocol error\r");
         }
-        stands("forwarded by a valid turn alone", state_is(&m, right));
+        stands("forwarded by a valid turn alone", state_is(&m, right ? FRINGEMOLE_FORWARDED : FRINGEMOLE_WAITING));
         take_back(&m);
     }
 }
@@ -309,7 +309,7 @@ static void refusals(void)
 
     puts("# refusals");
     one_record(&m, FRINGEMOLE_PLAIN_TEXT);
-    opens(&m, 2, FRINGEMOLE_BAD_MEMORY, FRINGEMOLE_NO_RECORD);
+    opens(&m, FRINGEMOLE_CALLER + 1, FRINGEMOLE_BAD_MEMORY, FRINGEMOLE_NO_RECORD);
     m.table[FRINGEMOLE_RECORD_TYPE] = 'T';
     opens(&m, FRINGEMOLE_CALLED, FRINGEMOLE_BAD_MEMORY, 0);
     m.table[FRINGEMOLE_RECORD_TYPE] = 'B';
@@ -335,19 +335,19 @@ static void partners(void)
     puts("# partners");
     one_record(&m, FRINGEMOLE_PLAIN_TEXT);
     opens_for(&m, FRINGEMOLE_CALLED, 0, FRINGEMOLE_OK, 0);
-    opens_for(&m, FRINGEMOLE_CALLED, 7, FRINGEMOLE_OK, 0);
-    opens_for(&m, FRINGEMOLE_CALLED, 8, FRINGEMOLE_BAD_MEMORY, FRINGEMOLE_NO_RECORD);
+    opens_for(&m, FRINGEMOLE_CALLED, FRINGEMOLE_PARTNERS - 1, FRINGEMOLE_OK, 0);
+    opens_for(&m, FRINGEMOLE_CALLED, FRINGEMOLE_PARTNERS, FRINGEMOLE_BAD_MEMORY, FRINGEMOLE_NO_RECORD);
     opens_for(&m, FRINGEMOLE_CALLED, 255, FRINGEMOLE_BAD_MEMORY, FRINGEMOLE_NO_RECORD);
     for (i = 0; i < sizeof columns; i++) {
         m.table[FRINGEMOLE_RECORD_STATES + columns[i]] = FRINGEMOLE_DECLINED;
         opens(&m, FRINGEMOLE_CALLED, FRINGEMOLE_OK, 0);
         m.table[FRINGEMOLE_RECORD_STATES + columns[i]] = FRINGEMOLE_DECLINED + 1;
         opens(&m, FRINGEMOLE_CALLED, FRINGEMOLE_BAD_MEMORY, 0);
-        opens_for(&m, FRINGEMOLE_CALLED, 8, FRINGEMOLE_BAD_MEMORY, FRINGEMOLE_NO_RECORD);
+        opens_for(&m, FRINGEMOLE_CALLED, FRINGEMOLE_PARTNERS, FRINGEMOLE_BAD_MEMORY, FRINGEMOLE_NO_RECORD);
         m.table[FRINGEMOLE_RECORD_STATES + columns[i]] = FRINGEMOLE_WAITING;
     }
     opens(&m, FRINGEMOLE_CALLED, FRINGEMOLE_OK, 0);
-    m.session[FRINGEMOLE_SESSION_PARTNER] = 8;
+    m.session[FRINGEMOLE_SESSION_PARTNER] = FRINGEMOLE_PARTNERS;
     stands("a partner that there isn't", is(fringemole_receive_in(&m, NULL, 0), FRINGEMOLE_BAD_MEMORY, FRINGEMOLE_NO_RECORD, 0));
     take_back(&m);
 }
@@ -436,7 +436,7 @@ static void front_panel(void)
     hears(&m, BYTES("F"), FRINGEMOLE_BYTES_WAIT, 1);
     hears(&m, BYTES("F"), FRINGEMOLE_ENDED, 0);
     shows(&m, "3 waiting, 60 bytes; 3 proposed, 0 forwarded, 0 declined, 0 deferred, 3 not settled");
-    opens(&m, 2, FRINGEMOLE_BAD_MEMORY, FRINGEMOLE_NO_RECORD);
+    opens(&m, FRINGEMOLE_CALLER + 1, FRINGEMOLE_BAD_MEMORY, FRINGEMOLE_NO_RECORD);
     shows(&m, "3 waiting, 60 bytes; 3 proposed, 0 forwarded, 0 declined, 0 deferred, 3 not settled");
     take_back(&m);
 }

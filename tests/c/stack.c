@@ -14,7 +14,7 @@
 #define GIVE_LIMIT 1024
 
 #define RECORDS 6
-#define TITLE 80
+#define TITLE FRINGEMOLE_MAX_HEADING
 #define BODY 300
 
 static struct fringemole_memory m;
@@ -145,7 +145,7 @@ static void set_up(uint8_t form)
     m.bodies = body;
     m.bodies_len = BODY;
     for (i = 0; i < RECORDS; i++) {
-        char bid[13];
+        char bid[FRINGEMOLE_MAX_BID + 1];
         snprintf(bid, sizeof bid, "%u_OURS", (unsigned)i);
         put_record(m.table + i * FRINGEMOLE_RECORD_SIZE, form, bid, TITLE, BODY);
     }

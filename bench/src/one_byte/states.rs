@@ -4,15 +4,15 @@
 
 use crate::end::{End, Library};
 use crate::{body, transfer, Mode};
+use second::field::HEADING_MAX;
 use second::host::{Buffers, Letter};
-use second::memory::{KNOWN_LIMIT, MESSAGE_LIMIT, RECORD_LIMIT};
+use second::memory::{KNOWN_MAX, MESSAGES_MAX, RECORDS_MAX, SIZE_MAX};
+use second::places;
 use second::session::Reply;
 
 /// A body of the partner.
 const LITTLE: &[u8] = b"a body";
-const TITLE: &[u8] = &[b't'; 80];
-/// Where session memory counts the bytes of what waits that are given.
-const GIVEN: usize = 100;
+const TITLE: &[u8] = &[b't'; HEADING_MAX];
 
 fn nothing() -> Buffers {
     Buffers::new(0, 0)
@@ -67,7 +67,7 @@ pub fn line_empty() -> Library {
 }
 
 pub fn line_full() -> Library {
-    kept(MESSAGE_LIMIT, Mode::Framed)
+    kept(MESSAGES_MAX, Mode::Framed)
 }
 
 pub fn fq_waits() -> Library {
@@ -104,7 +104,7 @@ pub fn data_empty(mode: Mode) -> Library {
 }
 
 pub fn data_full(mode: Mode) -> Library {
-    let mut end = kept(MESSAGE_LIMIT - 2, mode);
+    let mut end = kept(MESSAGES_MAX - 2, mode);
     begin_two(&mut end, mode, BODY_LEFT);
     end
 }
@@ -116,7 +116,7 @@ pub fn keeping_empty() -> Library {
 }
 
 pub fn keeping_full() -> Library {
-    let mut end = kept(MESSAGE_LIMIT - 2, Mode::Framed);
+    let mut end = kept(MESSAGES_MAX - 2, Mode::Framed);
     begin_two(&mut end, Mode::Framed, 1);
     end
 }
@@ -152,7 +152,7 @@ pub fn over_full() -> Library {
 
 /// Memory that fails the form test at its last item: more is given than waits.
 fn failing(mut end: Library) -> Library {
-    end.buffers.session[GIVEN + 7] = 1;
+    end.buffers.session[places::POS + 7] = 1;
     end
 }
 
@@ -193,13 +193,13 @@ fn proposal(mode: Mode, who: char, number: usize, size: usize) -> Vec<u8> {
 /// longest title and body. Announced sizes make blocks of five and two of two
 /// records, so that after 13 turns of ours five are left.
 fn full_host(mode: Mode) -> Buffers {
-    let mut host = Buffers::new(MESSAGE_LIMIT, MESSAGE_LIMIT * LITTLE.len());
+    let mut host = Buffers::new(MESSAGES_MAX, MESSAGES_MAX * LITTLE.len());
     let body = body();
-    for place in 0..RECORD_LIMIT {
-        let size = if place == 56 || place == 58 { 999_999 } else { 1 };
+    for place in 0..RECORDS_MAX {
+        let size = if place == 56 || place == 58 { SIZE_MAX as usize } else { 1 };
         host.add(&Letter::new(mode, &proposal(mode, 'O', place, size), TITLE, &body));
     }
-    for place in 0..KNOWN_LIMIT {
+    for place in 0..KNOWN_MAX {
         host.know(format!("{place:05}_KNOWN0").as_bytes());
     }
     host

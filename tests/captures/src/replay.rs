@@ -8,6 +8,7 @@ use fuzz::report::Checked;
 use inputs::random::Random;
 use second::log::{Sheet, Side};
 use second::memory::State;
+use second::refusal;
 use second::tally::Tally;
 use std::fmt::{self, Display};
 
@@ -46,7 +47,7 @@ pub fn play(random: &mut Random, capture: &Capture, portion: usize) -> Checked<O
     let shelf = Shelf::of(capture);
     let mut pair = Pair::new(random, &shelf.buffers());
     pair.open(capture.we_called().into(), PARTNER)?;
-    let mut answer = 0;
+    let mut answer = refusal::NONE;
     for (at, said) in capture.script.iter().enumerate() {
         let last = at + 1 == capture.script.len();
         if said.ours {
@@ -56,17 +57,17 @@ pub fn play(random: &mut Random, capture: &Capture, portion: usize) -> Checked<O
             answer = hear(&mut pair, &said.bytes, portion)?;
         }
         // A refused session hears nothing more.
-        if answer != 0 {
+        if answer != refusal::NONE {
             break;
         }
     }
     let before = given(&pair);
     // Where the mailbox had the last word, ours comes after it; after a refusal that is why.
-    let cut = shelf.dropped && answer == 0;
+    let cut = shelf.dropped && answer == refusal::NONE;
     take(random, &mut pair, portion, if cut { 0 } else { usize::MAX })?;
-    let over = pair.receive(b"", None)?.answer == 12;
+    let over = pair.receive(b"", None)?.answer == refusal::SESSION_ENDED;
     pair.demand_3()?;
-    let before = if answer == 0 { given(&pair) } else { before };
+    let before = if answer == refusal::NONE { given(&pair) } else { before };
     let second = pair.second().expect("open accepted");
     let outcome = Outcome::read(capture, second, answer, over, before);
     // After a drop the host can open again on what stands.

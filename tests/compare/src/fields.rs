@@ -184,7 +184,7 @@ pub fn random_fields(run: &mut Run) -> Checked {
 
 pub fn random_bids(run: &mut Run) -> Checked {
     let random = &mut run.random;
-    let length = inputs::length(random, field::BID_LIMIT);
+    let length = inputs::length(random, field::BID_MAX);
     let a = match random.below(2) {
         0 => inputs::bytes(random, length),
         _ => inputs::bid(random),

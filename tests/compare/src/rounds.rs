@@ -8,7 +8,7 @@ use crate::turns::library_answer;
 use crate::writers::form;
 use compare::random::Random;
 use compare::words::{self, Fields, Room, Transfer};
-use second::field::BODY_LIMIT;
+use second::field::BODY_MAX;
 use second::proposal::{self, Proposal, TurnLine};
 use second::record::{Form, Kind};
 use second::sid::{self, Level, Mode};
@@ -146,7 +146,7 @@ fn transfer(run: &mut Run, function: &'static str) -> Checked {
     let random = &mut run.random;
     let plain = function == PLAIN;
     let (heading, mut body) = (inputs::heading(random), inputs::body(random, plain));
-    body.truncate(BODY_LIMIT);
+    body.truncate(BODY_MAX);
     // Room for the heads of blocks too.
     let size = body.len() + body.len() / 64 + 400;
     let text = written(size, |room| match plain {

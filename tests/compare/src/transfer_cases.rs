@@ -4,11 +4,11 @@ use crate::report::Checked;
 use crate::run::Run;
 use crate::transfers::{check, Case};
 use compare::random::Random;
-use second::field::{BODY_LIMIT, HEADING_LIMIT};
+use second::field::{BODY_MAX, HEADING_MAX};
 use second::transfer::checksum;
 use second::transfer::writer::{write_framed, write_plain};
 
-const BODIES: [usize; 11] = [0, 1, 255, 256, 257, 511, 512, 513, 65_534, BODY_LIMIT, 65_536];
+const BODIES: [usize; 11] = [0, 1, 255, 256, 257, 511, 512, 513, 65_534, BODY_MAX, 65_536];
 
 /// Portions of one size for so many bytes.
 fn pieces(size: usize, bytes: usize) -> Vec<usize> {
@@ -139,13 +139,13 @@ fn bodies(run: &mut Run, length: usize) -> Checked {
 /// DECISIONS 20: after 65,535 bytes, and in a full store, an 02 and its n are
 /// taken and the data byte is refused.
 fn full_store(run: &mut Run) -> Checked {
-    for length in [0, 1, 256, BODY_LIMIT] {
+    for length in [0, 1, 256, BODY_MAX] {
         let body = vec![b'x'; length];
         let mut bytes = write_framed(b"T", &body);
         bytes.truncate(bytes.len() - 2);
         for tail in [&b"\x02"[..], b"\x02\x00", b"\x02\x01A", b"\x04\x00", b"\x05"] {
             let bytes = [&bytes[..], tail].concat();
-            for store in [length, BODY_LIMIT, BODY_LIMIT + 1] {
+            for store in [length, BODY_MAX, BODY_MAX + 1] {
                 let portions = vec![bytes.len() - tail.len(), 1, 1, 1];
                 check(run, &Case { form: 1, bytes: &bytes, store, portions })?;
             }
@@ -187,7 +187,7 @@ fn portions(random: &mut Random, bytes: usize) -> Vec<usize> {
 
 fn random_heading(random: &mut Random) -> Vec<u8> {
     if random.once_in(16) {
-        let length = inputs::length(random, HEADING_LIMIT);
+        let length = inputs::length(random, HEADING_MAX);
         return vec![b'x'; length];
     }
     inputs::heading(random)

@@ -6,7 +6,7 @@ use crate::report::{same, same_bytes, Checked, Difference, Input};
 use crate::run::Run;
 use compare::random::Random;
 use compare::words::Transfer;
-use second::field::HEADING_LIMIT;
+use second::field::HEADING_MAX;
 use second::sid::Mode;
 use second::transfer::reader::Reader;
 use second::transfer::whole::{read_framed, read_plain};
@@ -72,7 +72,7 @@ struct Pair {
 
 impl Pair {
     fn new(random: &mut Random, case: &Case<'_>) -> Pair {
-        let heading = Lent::new(random, HEADING_LIMIT);
+        let heading = Lent::new(random, HEADING_MAX);
         let store = Lent::new(random, case.store);
         Pair {
             library: Transfer::start(case.form),

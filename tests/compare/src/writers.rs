@@ -6,7 +6,7 @@ use crate::run::Run;
 use compare::random::Random;
 use compare::words::{self, Fields, Room};
 use second::buffer::put;
-use second::field::BODY_LIMIT;
+use second::field::BODY_MAX;
 use second::record::Form;
 use second::transfer::writer::{write_framed, write_plain};
 use second::{fs, proposal, sid};
@@ -240,7 +240,7 @@ fn every_proposal(run: &mut Run) -> Checked {
 /// Two bodies of each length around a block's and a body's limit.
 fn body_lengths(run: &mut Run) -> Checked {
     let short = (0..=20).chain(250..=270).chain(505..=520).chain(760..=775);
-    let long = [65_279, 65_280, 65_281, 65_534, BODY_LIMIT, BODY_LIMIT + 1, 70_000];
+    let long = [65_279, 65_280, 65_281, 65_534, BODY_MAX, BODY_MAX + 1, 70_000];
     for length in short.chain(long) {
         for _ in 0..2 {
             let body = inputs::body_of(&mut run.random, length, false);

@@ -7,8 +7,9 @@ use crate::station::{Bare, Station};
 use fuzz::report::Checked;
 use inputs::random::Random;
 use second::host::{Buffers, Letter};
-use second::memory::{State, MESSAGE_LIMIT, RECORD_LIMIT};
+use second::memory::{State, MESSAGES_MAX, RECORDS_MAX};
 use second::record::Form;
+use second::session::{CALLED, CALLER};
 use std::time::{Duration, Instant};
 
 /// 9,600 bit/s, eight bits a byte.
@@ -36,13 +37,13 @@ pub struct Hour {
 pub fn run(random: &mut Random, bytes: usize, portion: usize) -> Checked<Result<Hour, String>> {
     let mut hour = Hour::default();
     while hour.bytes < bytes {
-        let mut letters = [0, RECORD_LIMIT].map(|first| table(random, first));
+        let mut letters = [0, RECORDS_MAX].map(|first| table(random, first));
         let [first, second] = &mut letters;
         let mut ends = [first, second].map(|letters| end(random, letters));
         let start = Instant::now();
         let [caller, called] = &mut ends;
-        caller.open(1, PARTNER)?;
-        called.open(0, PARTNER)?;
+        caller.open(CALLER, PARTNER)?;
+        called.open(CALLED, PARTNER)?;
         let run = link::run(random, [caller, called], Portion::Of(portion), None)?;
         hour.busy += start.elapsed();
         hour.bytes += run.delivered;
@@ -61,7 +62,7 @@ pub fn run(random: &mut Random, bytes: usize, portion: usize) -> Checked<Result<
 /// A full table, its BIDs numbered from here: a BID that both ends had would be declined.
 fn table(random: &mut Random, first: usize) -> Vec<Letter> {
     let mut letters = Vec::new();
-    for number in first..first + RECORD_LIMIT {
+    for number in first..first + RECORDS_MAX {
         let length = random.within(0, BODY);
         letters.push(letter(random, &[Form::Message, Form::File], length, number as u32));
     }
@@ -69,7 +70,7 @@ fn table(random: &mut Random, first: usize) -> Vec<Letter> {
 }
 
 fn end(random: &mut Random, letters: &mut [Letter]) -> Bare {
-    let mut host = Buffers::new(MESSAGE_LIMIT, ROOM);
+    let mut host = Buffers::new(MESSAGES_MAX, ROOM);
     letters.iter().for_each(|letter| host.add(letter));
     Bare::new(random, &host)
 }

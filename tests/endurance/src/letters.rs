@@ -2,7 +2,7 @@
 
 use inputs::random::Random;
 use inputs::{at, bid, body_of, call, heading};
-use second::field::BID_LIMIT;
+use second::field::BID_MAX;
 use second::host::Letter;
 use second::memory::Envelope;
 use second::record::{Form, Kind};
@@ -13,7 +13,7 @@ pub fn letter(random: &mut Random, forms: &[Form], length: usize, number: u32) -
     let form = random.pick(forms);
     let digits = number.to_string().into_bytes();
     let mut name = bid(random);
-    name.truncate(BID_LIMIT - 1 - digits.len());
+    name.truncate(BID_MAX - 1 - digits.len());
     let bid = [name, b"_".to_vec(), digits].concat();
     Letter {
         envelope: Envelope {

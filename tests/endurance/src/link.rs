@@ -4,6 +4,7 @@
 use crate::station::Station;
 use fuzz::report::Checked;
 use inputs::random::Random;
+use second::refusal;
 use std::collections::VecDeque;
 
 /// How a session went.
@@ -61,12 +62,12 @@ pub fn run<S: Station>(
         let reply = ends[1 - turn].receive(&bytes)?;
         run.delivered += bytes.len();
         match reply.answer {
-            0 => {}
+            refusal::NONE => {}
             // No bytes, on a session that is over.
-            12 => over[1 - turn] = true,
-            refusal => run.refusal = refusal,
+            refusal::SESSION_ENDED => over[1 - turn] = true,
+            answer => run.refusal = answer,
         }
-        run.quit = over == [true; 2] && run.refusal == 0;
+        run.quit = over == [true; 2] && run.refusal == refusal::NONE;
         if drop_after == Some(run.delivered) {
             return Ok(run);
         }

@@ -8,10 +8,12 @@ use fuzz::pair::Pair;
 use fuzz::report::Checked;
 use inputs::random::Random;
 use second::host::{Buffers, Letter};
-use second::layout::RECORD_BYTES;
 use second::log::Kept;
-use second::memory::{State, MESSAGE_LIMIT, RECORD_LIMIT};
+use second::memory::{State, MESSAGES_MAX, RECORDS_MAX};
+use second::places;
 use second::record::Form;
+use second::refusal;
+use second::session::{CALLED, CALLER};
 
 /// Both nodes have B in their SID, so plain records don't go between them.
 const FORMS: [Form; 3] = [Form::Plain, Form::Message, Form::File];
@@ -58,7 +60,7 @@ fn pair_of_bases(random: &mut Random, nodes: &mut Nodes) -> Checked<Result<(), S
     let mut bases = [Base::default(), Base::default()];
     let mut number = 0;
     for base in &mut bases {
-        for _ in 0..random.within(0, RECORD_LIMIT) {
+        for _ in 0..random.within(0, RECORDS_MAX) {
             number += 1;
             base.letters.push(a_letter(random, number));
             base.states.push(State::Waiting);
@@ -126,8 +128,8 @@ fn one_session(random: &mut Random, bases: &mut [Base; 2], last: bool) -> Checke
     };
     let run = {
         let [caller, called] = order;
-        caller.open(1, PARTNER)?;
-        called.open(0, PARTNER)?;
+        caller.open(CALLER, PARTNER)?;
+        called.open(CALLED, PARTNER)?;
         link::run(random, [caller, called], portion, drop_after)?
     };
     for (base, end) in bases.iter_mut().zip(&ends) {
@@ -143,13 +145,13 @@ impl Base {
     /// BIDs. Where no room is asked for, it is short at times.
     fn end(&self, random: &mut Random, room: Option<usize>) -> Compared {
         let (places, room) = match (room, random.below(4)) {
-            (Some(room), _) => (MESSAGE_LIMIT, room),
+            (Some(room), _) => (MESSAGES_MAX, room),
             (None, 0) => (random.within(0, 4), random.within(0, 2_000)),
-            (None, _) => (MESSAGE_LIMIT, 15_000),
+            (None, _) => (MESSAGES_MAX, 15_000),
         };
         let mut host = Buffers::new(places, room);
         self.letters.iter().for_each(|letter| host.add(letter));
-        for (entry, state) in host.table.chunks_mut(RECORD_BYTES).zip(&self.states) {
+        for (entry, state) in host.table.chunks_mut(places::RECORD).zip(&self.states) {
             entry[usize::from(PARTNER)] = *state as u8;
         }
         self.kept.iter().for_each(|kept| host.know(&kept.envelope.bid));
@@ -206,7 +208,7 @@ fn check(ours: &Base, theirs: &Base) -> Result<(), String> {
 /// After a session that ended by FQ with all the room it needs, only plain
 /// records wait, and every other one is at the other end.
 fn drained(bases: &[Base; 2], run: Run) -> Result<(), String> {
-    if !run.quit || run.refusal != 0 {
+    if !run.quit || run.refusal != refusal::NONE {
         return Err(format!("the last session didn't end by FQ: {run:?}"));
     }
     for base in bases {

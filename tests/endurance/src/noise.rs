@@ -8,6 +8,8 @@ use fuzz::{sessions, tables};
 use inputs::random::Random;
 use second::log::Side;
 use second::memory::PARTNERS;
+use second::refusal;
+use second::session::CALLED;
 
 #[derive(Debug, Default)]
 pub struct Noise {
@@ -34,17 +36,17 @@ fn session(random: &mut Random, noise: &mut Noise) -> Checked {
     let host = tables::buffers(random);
     let mut pair = Pair::new(random, &host);
     let role = random.below(2) as u8;
-    if pair.open(role, random.below(PARTNERS) as u8)?.answer != 0 {
+    if pair.open(role, random.below(PARTNERS) as u8)?.answer != refusal::NONE {
         return Ok(());
     }
     let openings: &[&[u8]] = match role {
-        0 => &[b"", b"[A-F]\r", b"[A-BF$]\r", b"[A-F]\rFB P A B C 1_NOISE 60000\rF>\r"],
+        CALLED => &[b"", b"[A-F]\r", b"[A-BF$]\r", b"[A-F]\rFB P A B C 1_NOISE 60000\rF>\r"],
         _ => &[b"", b"[A-F]\r>\r", b"[A-BF$]\r>\r"],
     };
     let mut bytes = random.pick(openings).to_vec();
     loop {
         while pair.give(random, (10_000, 0), None)?.count > 0 {}
-        if pair.receive(&bytes, None)?.answer != 0 {
+        if pair.receive(&bytes, None)?.answer != refusal::NONE {
             break;
         }
         bytes.resize(random.within(1, 300), 0);

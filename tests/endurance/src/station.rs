@@ -6,9 +6,10 @@ use fuzz::pair::Pair;
 use fuzz::report::Checked;
 use inputs::random::Random;
 use second::host::Buffers;
-use second::layout::{read_message, read_record, MESSAGE_BYTES, RECORD_BYTES, SESSION_KEPT};
+use second::layout::{read_message, read_record};
 use second::log::Kept;
 use second::memory::State;
+use second::places;
 use second::session::Reply;
 
 pub trait Station {
@@ -33,13 +34,13 @@ impl Bare {
     /// For one partner.
     pub fn states(&self, partner: u8) -> Vec<State> {
         let column = usize::from(partner);
-        let entries = self.memory.part(TABLE).chunks(RECORD_BYTES);
+        let entries = self.memory.part(TABLE).chunks(places::RECORD);
         entries.map(|entry| read_record(entry).expect("a record").states[column]).collect()
     }
 
     pub fn kept(&self) -> Vec<Kept> {
-        let count = usize::from(self.memory.part(SESSION)[SESSION_KEPT]);
-        let entries = self.memory.part(INBOX).chunks(MESSAGE_BYTES).take(count);
+        let count = usize::from(self.memory.part(SESSION)[places::KEPT]);
+        let entries = self.memory.part(INBOX).chunks(places::ENTRY).take(count);
         let messages = entries.map(|entry| read_message(entry).expect("a message"));
         let store = self.memory.part(STORE);
         let kept = messages.map(|message| Kept {

@@ -10,15 +10,21 @@ use crate::sessions::Driver;
 use crate::tally::Tally;
 use inputs::random::Random;
 use inputs::{byte, damaged, fs_line, line, proposal_fields, short_turn_line, sid, spaced};
-use second::layout::{
-    read_tally, RECORD_BYTES, SESSION_FREE, SESSION_LEVEL, SESSION_PARTNER, SESSION_TALLY,
-};
+use second::layout::{read_tally, SESSION_FREE, SESSION_TALLY};
 use second::log::Sheet;
 use second::memory::PARTNERS;
-use second::refusal::{reason_after, ANSWERS};
+use second::phase;
+use second::places;
+use second::proposal::BLOCK_LIMIT;
+use second::refusal::{self, reason_after, ANSWERS};
 use second::session::Reply;
 use second::tally::Tally as Panel;
 use std::fmt::{self, Display};
+use std::ops::Range;
+
+/// Two arrays of session memory: the records' flags, the partner's proposals.
+const DEFERRED: Range<usize> = places::ARRAYS + places::DEFERRED..places::ARRAYS + places::HEADING;
+const BLOCK: Range<usize> = places::ARRAYS + places::BLOCK..places::ARRAYS_END;
 
 /// What these runs have seen.
 #[derive(Debug, Default)]
@@ -182,38 +188,49 @@ impl Alone<'_> {
         let large = self.random.pick(&[0, 1, 255, 256, 257, 65_535, 65_536, usize::MAX]);
         match self.random.below(18) {
             0 => {
-                let at = self.random.pick(&[form::LINE_BYTES, form::BLOCK_LEFT]);
+                let at = self.random.pick(&[places::LINE_LENGTH, places::LEFT]);
                 (at, large.to_le_bytes()[..2].to_vec())
             }
-            1 => (form::BODY_BYTES, large.to_le_bytes()[..4].to_vec()),
-            2 => (self.random.pick(&[form::GIVEN, form::USED]), large.to_le_bytes().to_vec()),
-            3 => (self.random.within(form::DEFERRED, form::DEFERRED + 63), vec![small]),
-            4 => (self.random.within(form::BLOCK, form::BLOCK_END - 1), vec![byte(self.random)]),
-            5 => (form::AWAITED, vec![small]),
-            6 => (form::SIGNS + self.random.within(1, 5), vec![self.random.pick(b"+++-=")]),
-            7 => (form::GIVEN, self.near(form::waiting(&self.memory).len()).to_vec()),
-            8 => (form::BODY_BYTES, self.near(form::room(&self.memory))[..4].to_vec()),
-            9 => (form::BLOCK_SUM, vec![self.random.byte()]),
-            10 => (SESSION_LEVEL, vec![self.random.byte()]),
-            11 => (form::AWAITED, self.parting()),
-            12 => (SESSION_PARTNER, vec![self.random.pick(&[7, 8, 9, 255])]),
-            13 => (SESSION_PARTNER, vec![self.random.below(PARTNERS) as u8]),
+            1 => (places::BODY, large.to_le_bytes()[..4].to_vec()),
+            2 => (self.random.pick(&[places::POS, places::USED]), large.to_le_bytes().to_vec()),
+            3 => (self.within(DEFERRED), vec![small]),
+            4 => (self.within(BLOCK), vec![byte(self.random)]),
+            5 => (places::PHASE, vec![small]),
+            6 => (
+                places::SIGNS + self.random.within(1, BLOCK_LIMIT),
+                vec![self.random.pick(b"+++-=")],
+            ),
+            7 => (places::POS, self.near(form::waiting(&self.memory).len()).to_vec()),
+            8 => (places::BODY, self.near(form::room(&self.memory))[..4].to_vec()),
+            9 => (places::BLOCK_SUM, vec![self.random.byte()]),
+            10 => (places::LEVEL, vec![self.random.byte()]),
+            11 => (places::PHASE, self.parting()),
+            12 => (
+                places::PARTNER,
+                vec![self.random.pick(&[PARTNERS - 1, PARTNERS, PARTNERS + 1, 255]) as u8],
+            ),
+            13 => (places::PARTNER, vec![self.random.below(PARTNERS) as u8]),
             14 | 15 => {
                 let number = self.random.pick(&[0, 1, 2, 254, 255, small]);
-                (self.random.within(SESSION_TALLY.start, SESSION_TALLY.end - 1), vec![number])
+                (self.within(SESSION_TALLY), vec![number])
             }
-            _ => (self.random.within(form::AWAITED, form::SUM), vec![small]),
+            _ => (self.random.within(places::PHASE, places::SUM), vec![small]),
         }
+    }
+
+    /// A place of these.
+    fn within(&mut self, places: Range<usize>) -> usize {
+        self.random.within(places.start, places.end - 1)
     }
 
     /// All from what is awaited to what waits then: a session that is over, with
     /// something waiting, mostly one of the lines that say why.
     fn parting(&mut self) -> Vec<u8> {
-        let over = self.random.pick(&[form::OVER, form::OVER, 8, 255]);
-        let lines = [form::PROTOCOL_LINE, form::CHECKSUM_LINE];
+        let over = self.random.pick(&[phase::OVER, phase::OVER, phase::OVER + 1, u8::MAX]);
+        let lines = [phase::PIECE_PROTOCOL_ERROR, phase::PIECE_CHECKSUM_ERROR];
         let first =
             if self.random.once_in(4) { byte(self.random) } else { self.random.pick(&lines) };
-        let then = if self.random.once_in(8) { byte(self.random) } else { 0 };
+        let then = if self.random.once_in(8) { byte(self.random) } else { phase::PIECE_NONE };
         vec![over, 0, 0, self.random.pick(&[0, 1]), first, then]
     }
 
@@ -225,21 +242,21 @@ impl Alone<'_> {
     /// Bytes of the kind that the library awaits, as its memory says.
     fn bytes(&mut self) -> Vec<u8> {
         let session = self.memory.part(SESSION);
-        let (awaited, proposed) = (session[form::AWAITED], session[form::PROPOSED]);
-        let framed = session[form::FRAMED] == 1;
+        let (awaited, proposed) = (session[places::PHASE], session[places::OURS]);
+        let framed = session[places::FRAMED] == 1;
         let random = &mut *self.random;
         let mut bytes = match awaited {
-            0 | 1 => sid(random),
-            2 => b"welcome\r>".to_vec(),
-            3 if random.once_in(2) => short_turn_line(random),
-            3 => {
+            phase::CALLED_SID | phase::CALLER_SID => sid(random),
+            phase::PROMPT => b"welcome\r>".to_vec(),
+            phase::TURN if random.once_in(2) => short_turn_line(random),
+            phase::TURN => {
                 let fields = proposal_fields(random);
                 let end = random.pick(&[&b"\rF>"[..], b"\rF> 5A"]);
                 [spaced(random, &fields), end.to_vec()].concat()
             }
-            4 => fs_line(random, proposed.into()),
-            5 if framed => b"\x01\x05HI\x000\x00\x02\x02AB\x04\x7D".to_vec(),
-            5 => b"HI\rAB\x1A".to_vec(),
+            phase::FS => fs_line(random, proposed.into()),
+            phase::TRANSFER if framed => b"\x01\x05HI\x000\x00\x02\x02AB\x04\x7D".to_vec(),
+            phase::TRANSFER => b"HI\rAB\x1A".to_vec(),
             _ => line(random),
         };
         bytes.push(b'\r');
@@ -258,28 +275,30 @@ impl Alone<'_> {
         let reply = library::receive(self.memory.lend(None), &bytes);
         let may_change = [SESSION, TABLE, INBOX, STORE];
         self.check(reply, failed, &before, &may_change, bytes.len())?;
-        if self.intact && self.over && reply.answer != 12 {
+        if self.intact && self.over && reply.answer != refusal::SESSION_ENDED {
             return self.differs("an ended session did not answer 12");
         }
-        if reply.answer == 12 && reply.count != 0 {
+        if reply.answer == refusal::SESSION_ENDED && reply.count != 0 {
             return self.differs("12 with a count");
         }
-        if bytes.is_empty() && !matches!(reply.answer, 0 | 1 | 12) {
+        if bytes.is_empty() && reply.refuses_a_byte() {
             return self.differs("no bytes were refused");
         }
         // "Receiving no bytes on a live session answers 0 and changes nothing."
-        self.seen.empty += u64::from(bytes.is_empty() && reply.answer != 1);
-        if matches!(reply.answer, 1 | 12) || bytes.is_empty() {
+        self.seen.empty += u64::from(bytes.is_empty() && reply.answer != refusal::BAD_MEMORY);
+        if matches!(reply.answer, refusal::BAD_MEMORY | refusal::SESSION_ENDED) || bytes.is_empty()
+        {
             self.unchanged(&before)?;
         }
         self.check_counted(reply, &before)?;
-        self.intact = reply.answer != 1;
+        self.intact = reply.answer != refusal::BAD_MEMORY;
         // "Receive consumes every byte lent to it, unless it answers 1 or 12 or the
         // session ends on the way".
-        self.over = reply.answer > 1 || (reply.answer == 0 && reply.count < bytes.len());
+        let cut_short = reply.answer == refusal::NONE && reply.count < bytes.len();
+        self.over = reply.answer > refusal::BAD_MEMORY || cut_short;
         // After an end "give writes nothing", but for the line that says why.
         let rest = form::parting(&self.memory).unwrap_or_default();
-        if reply.answer > 1 && reply.answer != 12 && rest != reason_after(reply.answer) {
+        if reply.refuses_a_byte() && rest != reason_after(reply.answer) {
             return self.differs("not the line that says why");
         }
         self.empty = self.over && rest.is_empty();
@@ -294,11 +313,11 @@ impl Alone<'_> {
         let mut expected = buffer.clone();
         let reply = library::give(self.memory.lend(None), buffer.part_mut(), place);
         self.check(reply, failed, &before, &[SESSION], room.saturating_sub(place))?;
-        if reply.answer > 1 {
+        if reply.answer > refusal::BAD_MEMORY {
             return self.differs("give answered more than 1");
         }
         // Nothing given, nothing changed.
-        if reply.answer == 1 || reply.count == 0 {
+        if reply.answer == refusal::BAD_MEMORY || reply.count == 0 {
             self.unchanged(&before)?;
         }
         if self.intact && self.empty && reply.count > 0 {
@@ -321,9 +340,9 @@ impl Alone<'_> {
             self.seen.reasons += u64::from(fits > 0);
         }
         // "It writes as many waiting bytes as fit".
-        self.empty = reply.answer == 0 && written.end < room && place < room;
+        self.empty = reply.answer == refusal::NONE && written.end < room && place < room;
         self.over &= self.intact;
-        self.intact = reply.answer != 1;
+        self.intact = reply.answer != refusal::BAD_MEMORY;
         Ok(())
     }
 
@@ -349,8 +368,8 @@ impl Alone<'_> {
     }
 
     fn check_reply(&self, reply: Reply, failed: Option<usize>, most: usize) -> Checked {
-        let one = reply.answer == 1;
-        let (place, most) = if one { (255, 0) } else { (0, most) };
+        let one = reply.answer == refusal::BAD_MEMORY;
+        let (place, most) = if one { (refusal::NO_PLACE, 0) } else { (0, most) };
         if usize::from(reply.answer) >= ANSWERS || reply.place != place || reply.count > most {
             return self.differs("no such reply");
         }
@@ -372,7 +391,7 @@ impl Alone<'_> {
         for &buffer in may_change {
             let now = self.memory.part(buffer);
             let (skip, step) = match buffer {
-                TABLE => (form::partner(before), RECORD_BYTES),
+                TABLE => (form::partner(before), places::RECORD),
                 _ => (0, 1),
             };
             let bytes = expected.part_mut(buffer).iter_mut().zip(now);
@@ -389,7 +408,7 @@ impl Alone<'_> {
         }
         // "What an accepted open leaves passes it, and so does what a receive or
         // give leaves that doesn't answer 1, on whatever memory".
-        if reply.answer != 1 && form::failed(&self.memory).is_some() {
+        if reply.answer != refusal::BAD_MEMORY && form::failed(&self.memory).is_some() {
             return self.differs("the call left memory that fails the form test");
         }
         Ok(())

@@ -7,11 +7,11 @@ use crate::report::Checked;
 use inputs::random::Random;
 use second::examples::request3::{self, Counted, Step};
 use second::examples::{self, Example, Said, Taken};
-use second::layout::RECORD_BYTES;
 use second::log::{Kept, Side};
 use second::memory::PARTNERS;
-use second::refusal::reason_after;
-use second::session::Reply;
+use second::places;
+use second::refusal::{self, reason_after};
+use second::session::{Reply, CALLED};
 
 const PORTIONS: [usize; 5] = [1, 2, 3, 7, 64];
 
@@ -51,7 +51,7 @@ fn count(random: &mut Random, counted: &Counted, portion: usize) -> Checked {
     pair.must(pair.library_tally() == counted.opened, counted.name)?;
     for Step { said, answer, tally } in &counted.steps {
         let (Said::Us(bytes) | Said::Partner(bytes)) = said;
-        let mut answered = 0;
+        let mut answered = refusal::NONE;
         for part in bytes.chunks(portion) {
             let reply = go_on(random, &mut pair, said, part)?;
             pair.must(reply.count == part.len(), counted.name)?;
@@ -76,7 +76,10 @@ fn say_why(random: &mut Random, example: &Example, room: usize, cuts: &mut Cuts)
     while given < reason.len() {
         for bytes in [&b""[..], b"\n", b"FF\r", reason] {
             let late = pair.receive(bytes, None)?;
-            pair.must((late.answer, late.count) == (12, 0), "bytes that arrive get 12")?;
+            pair.must(
+                (late.answer, late.count) == (refusal::SESSION_ENDED, 0),
+                "bytes that arrive get 12",
+            )?;
         }
         let place = random.below(20);
         let count = pair.give(random, (room + place, place), None)?.count;
@@ -98,7 +101,7 @@ fn play(random: &mut Random, example: &Example, portion: usize, cuts: &mut Cuts)
     let mut pair = Pair::new(random, &example.buffers());
     let partner = random.below(PARTNERS);
     pair.open(example.role(), partner as u8)?;
-    let mut answer = 0;
+    let mut answer = refusal::NONE;
     for said in &example.script {
         let mut rest: &[u8] = match said {
             Said::Us(bytes) | Said::Partner(bytes) => bytes,
@@ -112,7 +115,7 @@ fn play(random: &mut Random, example: &Example, portion: usize, cuts: &mut Cuts)
                 cuts.cuts += 1;
             }
             let ours = matches!(said, Said::Us(_));
-            pair.must(answer == 0 || ours, "refused before the script ends")?;
+            pair.must(answer == refusal::NONE || ours, "refused before the script ends")?;
             let reply = go_on(random, &mut pair, said, part)?;
             pair.must(reply.count == part.len(), "not the bytes of the script")?;
             answer = if ours { answer } else { reply.answer };
@@ -142,7 +145,7 @@ fn check_end(random: &mut Random, pair: &mut Pair, example: &Example) -> Checked
     pair.must(given == Some(&ours), "not our bytes of the script")?;
     let states: Vec<u8> = example.states.iter().map(|state| *state as u8).collect();
     let partner = pair.second().map_or(0, |second| second.session.partner());
-    let table = pair.lent().table.chunks(RECORD_BYTES);
+    let table = pair.lent().table.chunks(places::RECORD);
     pair.must(table.map(|record| record[partner]).eq(states), "not the states of the script")?;
     let kept = pair.library_kept().unwrap_or_default();
     let same = |kept: &Kept, taken: &Taken| {
@@ -152,7 +155,7 @@ fn check_end(random: &mut Random, pair: &mut Pair, example: &Example) -> Checked
     let all = all && kept.iter().zip(&example.inbox).all(|(kept, taken)| same(kept, taken));
     pair.must(all, "not the inbox of the script")?;
     let more = pair.give(random, (1, 0), None)?.count + pair.receive(b"", None)?.count;
-    let over = pair.receive(b"\n", None)?.answer == 12;
+    let over = pair.receive(b"\n", None)?.answer == refusal::SESSION_ENDED;
     pair.must(more == 0 && over, "the session is not over")
 }
 
@@ -166,5 +169,5 @@ fn ours(said: &Said) -> Option<&[u8]> {
 /// What stands after a drop is the log's, and the host can open again on it, for whomever.
 fn drop_link(random: &mut Random, pair: &mut Pair) -> Checked {
     pair.demand_3()?;
-    pair.open(0, random.below(PARTNERS) as u8).map(drop)
+    pair.open(CALLED, random.below(PARTNERS) as u8).map(drop)
 }

@@ -1,8 +1,9 @@
 //! Lent memory in words, and its sizes by buffer.
 
 use crate::lent::{Memory, SESSION, STORE, TABLE};
-use second::layout::{read_record, RECORD_BYTES};
+use second::layout::read_record;
 use second::memory::Sizes;
+use second::places;
 use std::fmt::Write;
 
 /// The size of the buffer with this number.
@@ -23,7 +24,7 @@ pub fn size_mut(sizes: &mut Sizes, buffer: usize) -> &mut usize {
 /// Sizes and records, for a report.
 pub fn memory(memory: &Memory) -> String {
     let mut text = format!("{:?}", memory.second().sizes());
-    for (place, entry) in memory.part(TABLE).chunks(RECORD_BYTES).enumerate() {
+    for (place, entry) in memory.part(TABLE).chunks(places::RECORD).enumerate() {
         let _ = match read_record(entry) {
             None => write!(text, "\n  record {place}: {}", entry.escape_ascii()),
             Some(record) => {

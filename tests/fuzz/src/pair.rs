@@ -7,13 +7,12 @@ use crate::library;
 use crate::report::{Call, Checked, History};
 use inputs::random::Random;
 use second::host::Buffers;
-use second::layout::{
-    read_message, read_tally, write_message, MESSAGE_BYTES, RECORD_BYTES, SESSION_KEPT,
-    SESSION_LEVEL, SESSION_PARTNER,
-};
+use second::layout::{read_message, read_tally, write_message};
 use second::log::{self, Kept, Trace, With};
 use second::memory::{self, Record};
-use second::session::{self, Reply, Session};
+use second::places;
+use second::refusal;
+use second::session::{self, Reply, Session, CALLER};
 use second::sid::Level;
 use second::tally::{Tally, Told};
 
@@ -93,7 +92,7 @@ impl Pair {
                 self.relevelled = None;
                 self.before = self.history.count();
                 let mut second = Second {
-                    with: With { we_called: role == 1, partner: session.partner() },
+                    with: With { we_called: role == CALLER, partner: session.partner() },
                     opened: memory.table.clone(),
                     opened_bytes: self.expected.part(TABLE).to_vec(),
                     trace: Trace::new(),
@@ -108,7 +107,7 @@ impl Pair {
                 Reply::ok(0)
             }
         };
-        self.compare(reply, expected, expected.answer != 0)?;
+        self.compare(reply, expected, expected.answer != refusal::NONE)?;
         Ok(reply)
     }
 
@@ -118,10 +117,10 @@ impl Pair {
         if level != Some(Level::One) || number == 0 {
             return;
         }
-        let (buffer, place) = (SESSION, SESSION_LEVEL);
+        let (buffer, place) = (SESSION, places::LEVEL);
         self.history.begin(Call::Change { buffer, place, bytes: vec![number] });
-        self.lent.part_mut(SESSION)[SESSION_LEVEL] = number;
-        self.expected.part_mut(SESSION)[SESSION_LEVEL] = number;
+        self.lent.part_mut(SESSION)[places::LEVEL] = number;
+        self.expected.part_mut(SESSION)[places::LEVEL] = number;
         self.relevelled = Some(number);
     }
 
@@ -142,7 +141,8 @@ impl Pair {
         self.update();
         // "nothing consumed, nothing changed"; "Receiving no bytes on a live
         // session answers 0 and changes nothing."
-        let stands = matches!(expected.answer, 1 | 12) || bytes.is_empty();
+        let stands = matches!(expected.answer, refusal::BAD_MEMORY | refusal::SESSION_ENDED)
+            || bytes.is_empty();
         self.compare(reply, expected, stands)?;
         if let Some(second) = &mut self.second {
             second.trace.consumed(&bytes[..reply.count]);
@@ -172,7 +172,11 @@ impl Pair {
         // Answer 1 changes nothing; "a place beyond the end writes nothing and
         // reports 0"; "Give on an ended session writes nothing", once the line that
         // says why is taken.
-        self.compare(reply, expected, expected.answer == 1 || expected.count == 0)?;
+        self.compare(
+            reply,
+            expected,
+            expected.answer == refusal::BAD_MEMORY || expected.count == 0,
+        )?;
         if let Some(at) = buffer.first_difference(&expected_buffer) {
             let (library, second) = (buffer.part(), expected_buffer.part());
             let said = |bytes: &[u8]| crate::report::escaped(bytes);
@@ -195,12 +199,12 @@ impl Pair {
             Some(second) => second,
             None => return,
         };
-        let table = self.expected.part_mut(TABLE).chunks_mut(RECORD_BYTES);
+        let table = self.expected.part_mut(TABLE).chunks_mut(places::RECORD);
         for (entry, record) in table.zip(&second.memory.table) {
             // The other seven columns stand as open found them.
             entry[second.with.partner] = record.states[second.with.partner] as u8;
         }
-        let inbox = self.expected.part_mut(INBOX).chunks_mut(MESSAGE_BYTES);
+        let inbox = self.expected.part_mut(INBOX).chunks_mut(places::ENTRY);
         let new = second.written..second.session.kept();
         for (entry, message) in inbox.zip(&second.memory.inbox).take(new.end).skip(new.start) {
             let message = message.as_ref().expect("a message up to the count");
@@ -225,16 +229,16 @@ impl Pair {
         let session = self.lent.part(SESSION);
         self.expected.part_mut(SESSION).copy_from_slice(session);
         let kept = self.second.as_ref().map(|second| second.session.kept());
-        if kept.map_or(false, |kept| usize::from(self.lent.part(SESSION)[SESSION_KEPT]) != kept) {
+        if kept.map_or(false, |kept| usize::from(self.lent.part(SESSION)[places::KEPT]) != kept) {
             return self.differs(format!("count of messages kept: expected {kept:?}"));
         }
         let partner = self.second.as_ref().map(|second| second.with.partner);
-        if partner.map_or(false, |p| usize::from(self.lent.part(SESSION)[SESSION_PARTNER]) != p) {
+        if partner.map_or(false, |p| usize::from(self.lent.part(SESSION)[places::PARTNER]) != p) {
             return self.differs(format!("partner of the session: expected {partner:?}"));
         }
         let level = self.second.as_ref().map(|second| second.session.level().number());
         let level = self.relevelled.or(level);
-        if level.map_or(false, |level| self.lent.part(SESSION)[SESSION_LEVEL] != level) {
+        if level.map_or(false, |level| self.lent.part(SESSION)[places::LEVEL] != level) {
             return self.differs(format!("level in force: expected {level:?}"));
         }
         self.compare_tally()
@@ -266,7 +270,7 @@ impl Pair {
         let Second { with, opened, trace, memory, .. } = second;
         let log = log::read(*with, opened, &memory.stores, trace);
         let mut table = second.opened_bytes.clone();
-        for (entry, state) in table.chunks_mut(RECORD_BYTES).zip(&log.states) {
+        for (entry, state) in table.chunks_mut(places::RECORD).zip(&log.states) {
             entry[with.partner] = *state as u8;
         }
         if self.lent.part(TABLE) != table {
@@ -287,9 +291,9 @@ impl Pair {
 
     /// The library's messages up to its count, read from its bytes.
     pub fn library_kept(&self) -> Option<Vec<Kept>> {
-        let count = usize::from(self.lent.part(SESSION)[SESSION_KEPT]);
+        let count = usize::from(self.lent.part(SESSION)[places::KEPT]);
         let store = self.lent.part(STORE);
-        let entries = self.lent.part(INBOX).chunks(MESSAGE_BYTES).take(count);
+        let entries = self.lent.part(INBOX).chunks(places::ENTRY).take(count);
         entries.map(|entry| kept(&read_message(entry)?, store)).collect()
     }
 

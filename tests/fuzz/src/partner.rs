@@ -8,6 +8,8 @@ use second::fs::{self, Sign};
 use second::host::Buffers;
 use second::line::with_cr;
 use second::memory::Memory;
+use second::places;
+use second::proposal::BLOCK_LIMIT;
 use second::record::Form;
 use second::session::{Offer, Phase, Role, Session};
 use second::sid::{Level, Mode};
@@ -47,7 +49,7 @@ pub struct Partner {
 impl Partner {
     /// A partner for this host: mostly one to whom its records can be sent.
     pub fn new(random: &mut Random, host: &Buffers) -> Partner {
-        let packed = host.table.get(8).map(|&form| form != Form::Plain as u8);
+        let packed = host.table.get(places::RECORD_FORM).map(|&form| form != Form::Plain as u8);
         let (turns, ff) =
             random.pick(&[(1, 4), (2, 4), (3, 4), (5, 4), (8, 4), (12, 40), (60, 400)]);
         Partner {
@@ -201,12 +203,13 @@ impl Partner {
             self.line(random, out, &text);
             return;
         }
-        let count = if self.slips(random, 40) { 6 } else { random.within(1, 5) };
+        let count =
+            if self.slips(random, 40) { BLOCK_LIMIT + 1 } else { random.within(1, BLOCK_LIMIT) };
         let (mut bids, mut lines) = (Vec::new(), Vec::new());
         for place in 1..=count {
             let mut text = self.proposal(random, session, memory, &mut bids);
             // 5 goes before 6: a sixth proposal that is none.
-            if self.slips(random, if place == 6 { 2 } else { 200 }) {
+            if self.slips(random, if place > BLOCK_LIMIT { 2 } else { 200 }) {
                 text.truncate(random.below(text.len()));
             }
             lines.extend(self.line(random, out, &text));

@@ -9,8 +9,9 @@ use crate::tables;
 use crate::tally::Tally;
 use crate::wrong;
 use inputs::random::Random;
-use second::layout::{KNOWN_BYTES, MESSAGE_BYTES, RECORD_BYTES, SESSION_BYTES};
 use second::memory::PARTNERS;
+use second::places;
+use second::refusal;
 use second::session::{Phase, Reply};
 
 /// How much longer or shorter a buffer is lent: by a byte, an entry of each kind,
@@ -18,11 +19,11 @@ use second::session::{Phase, Reply};
 const RESIZES: [isize; 8] = [
     -1,
     1,
-    -(KNOWN_BYTES as isize),
-    KNOWN_BYTES as isize,
-    -(RECORD_BYTES as isize),
-    -(MESSAGE_BYTES as isize),
-    -(SESSION_BYTES as isize),
+    -(places::KNOWN as isize),
+    places::KNOWN as isize,
+    -(places::RECORD as isize),
+    -(places::ENTRY as isize),
+    -(places::SESSION as isize),
     16,
 ];
 
@@ -39,9 +40,7 @@ enum Pace {
 const SLOW_CALLS: usize = 250;
 /// And after so many it is dropped.
 const CALLS: usize = 1_200;
-/// The number of "receive on an ended session", and a little more than the bytes of a
-/// line that says why.
-const ENDED: u8 = 12;
+/// A little more than the bytes of a line that says why.
 const REASON: usize = 22;
 /// "Once in so many" for what doesn't come at all.
 const NEVER: usize = usize::MAX;
@@ -144,7 +143,7 @@ impl<'a> Driver<'a> {
     /// A partner, at times one that there isn't.
     fn anybody(&mut self) -> u8 {
         match self.random.below(32) {
-            0 => self.random.pick(&[8, 9, 16, 255]),
+            0 => self.random.pick(&[PARTNERS, PARTNERS + 1, 2 * PARTNERS, 255]) as u8,
             _ => self.random.below(PARTNERS) as u8,
         }
     }
@@ -164,7 +163,7 @@ impl<'a> Driver<'a> {
         self.tally.rivals(partner, &self.pair.lent());
         self.tally.sessions += 1;
         self.left = self.length();
-        Ok(reply.answer == 0)
+        Ok(reply.answer == refusal::NONE)
     }
 
     /// How many bytes the link carries before it drops, inside whatever is under
@@ -267,7 +266,7 @@ impl<'a> Driver<'a> {
         let reply = self.pair.receive(bytes, resize)?;
         self.tally.received(reply);
         self.left = self.left.saturating_sub(reply.count);
-        if reply.answer > 1 && reply.answer != ENDED {
+        if reply.refuses_a_byte() {
             self.refusal = reply.answer;
             if self.random.once_in(8) {
                 // The link drops inside the line that says why.

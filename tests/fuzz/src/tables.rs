@@ -3,28 +3,30 @@
 
 use inputs::random::Random;
 use inputs::{at, bid, body_of, byte, call, heading, respelt};
-use second::field::{same_bid, BID_LIMIT, BODY_END, BODY_LIMIT};
+use second::field::{same_bid, AT_MAX, BID_MAX, BODY_END, BODY_MAX, CALL_MAX};
 use second::host::{append, Buffers};
-use second::layout::{self, KNOWN_BYTES, MESSAGE_BYTES, RECORD_BYTES, SESSION_BYTES};
+use second::layout;
 use second::memory::{Envelope, Record, Span, State};
-use second::memory::{KNOWN_LIMIT, MESSAGE_LIMIT, PARTNERS, RECORD_LIMIT, SIZE_LIMIT};
+use second::memory::{KNOWN_MAX, MESSAGES_MAX, PARTNERS, RECORDS_MAX, SIZE_MAX};
+use second::places;
 use second::record::{Form, Kind};
-use second::session::{self, Lent};
+use second::refusal::NO_PLACE;
+use second::session::{self, Lent, CALLED};
 
 /// Buffers of a host; one in eight has a fault somewhere, or two or three.
 pub fn buffers(random: &mut Random) -> Buffers {
     let places = match random.below(8) {
         0 => 0,
         1 => random.within(1, 3),
-        2 => MESSAGE_LIMIT,
+        2 => MESSAGES_MAX,
         _ => random.within(4, 20),
     };
     let mut host = Buffers {
-        session: filled(random, SESSION_BYTES),
+        session: filled(random, places::SESSION),
         store: store(random, places),
         ..Buffers::default()
     };
-    host.inbox = filled(random, places * MESSAGE_BYTES);
+    host.inbox = filled(random, places * places::ENTRY);
     let mail = Mail {
         forms: random.pick(&[&[Form::Plain][..], &[Form::Message, Form::File], &ALL]),
         long: random.once_in(50),
@@ -50,14 +52,14 @@ pub fn buffers(random: &mut Random) -> Buffers {
 /// Which of several faults open has to find first: bad known BIDs before a bad
 /// record, the first of two bad records, a partner that there isn't before a bad record.
 pub fn rivals(partner: u8, lent: &Lent<'_>) -> [bool; 3] {
-    let place = |lent: &Lent<'_>| session::open(0, 0, lent).err().map(|reply| reply.place);
+    let place = |lent: &Lent<'_>| session::open(CALLED, 0, lent).err().map(|reply| reply.place);
     match place(lent) {
-        Some(255) => {
+        Some(NO_PLACE) => {
             let without = place(&Lent { known: &[], ..*lent });
-            [without.map_or(false, |place| place < 255), false, false]
+            [without.map_or(false, |place| place < NO_PLACE), false, false]
         }
         Some(first) => {
-            let rest = &lent.table[RECORD_BYTES * (usize::from(first) + 1)..];
+            let rest = &lent.table[places::RECORD * (usize::from(first) + 1)..];
             let second = place(&Lent { table: rest, ..*lent }).is_some();
             [false, second, usize::from(partner) >= PARTNERS]
         }
@@ -68,8 +70,8 @@ pub fn rivals(partner: u8, lent: &Lent<'_>) -> [bool; 3] {
 /// Open was refused at a record that is bad for a state alone: in the session's column,
 /// and in another.
 pub fn bad_states(partner: u8, lent: &Lent<'_>) -> [bool; 2] {
-    let refused = session::open(0, partner, lent).err().filter(|reply| reply.place < 255);
-    let place = refused.map(|reply| usize::from(reply.place) * RECORD_BYTES);
+    let refused = session::open(CALLED, partner, lent).err().filter(|reply| reply.place < NO_PLACE);
+    let place = refused.map(|reply| usize::from(reply.place) * places::RECORD);
     let states = place.map_or(&[][..], |at| &lent.table[at..][..PARTNERS]);
     let bad = |column: usize| states[column] > State::Declined as u8;
     let mut columns = (0..states.len()).filter(|&column| bad(column)).peekable();
@@ -80,15 +82,12 @@ pub fn bad_states(partner: u8, lent: &Lent<'_>) -> [bool; 2] {
 /// Open was refused at a record whose BID stands earlier in another case alone.
 pub fn is_twin(lent: &Lent<'_>) -> bool {
     let bid = |entry: &[u8]| layout::read_record(entry).map(|record| record.envelope.bid);
-    let refused = session::open(0, 0, lent).err().filter(|reply| reply.place < 255);
+    let refused = session::open(CALLED, 0, lent).err().filter(|reply| reply.place < NO_PLACE);
     let place = refused.map_or(0, |reply| usize::from(reply.place));
-    let mut earlier = lent.table.chunks(RECORD_BYTES).take(place).filter_map(bid);
-    let own = lent.table.chunks(RECORD_BYTES).nth(place).and_then(bid);
+    let mut earlier = lent.table.chunks(places::RECORD).take(place).filter_map(bid);
+    let own = lent.table.chunks(places::RECORD).nth(place).and_then(bid);
     own.map_or(false, |own| earlier.any(|other| other != own && same_bid(&other, &own)))
 }
-
-/// Where a record's BID stands (docs/MEMORY.md).
-const BID_AT: usize = 63;
 
 const ALL: [Form; 3] = [Form::Plain, Form::Message, Form::File];
 
@@ -104,7 +103,7 @@ fn filled(random: &mut Random, length: usize) -> Vec<u8> {
 /// longest body or for a message in every place.
 fn store(random: &mut Random, places: usize) -> Vec<u8> {
     let length = match random.below(64) {
-        32.. if places == MESSAGE_LIMIT => random.within(10_000, 30_000),
+        32.. if places == MESSAGES_MAX => random.within(10_000, 30_000),
         0 => 0,
         1 => random.within(65_530, 65_545),
         2 => random.within(100_000, 140_000),
@@ -118,8 +117,8 @@ fn store(random: &mut Random, places: usize) -> Vec<u8> {
 fn record_count(random: &mut Random) -> usize {
     match random.below(16) {
         0 | 1 => 0,
-        2 => random.within(60, RECORD_LIMIT),
-        3 => RECORD_LIMIT,
+        2 => random.within(60, RECORDS_MAX),
+        3 => RECORDS_MAX,
         4 | 5 => random.within(10, 30),
         _ => random.within(1, 9),
     }
@@ -143,7 +142,7 @@ fn record(random: &mut Random, host: &mut Buffers, mail: Mail<'_>, number: usize
         Form::Plain | Form::Message => (true, random.once_in(3)),
     };
     let size = match mail.heavy && !random.once_in(8) {
-        true => SIZE_LIMIT - random.below(3) as u32,
+        true => SIZE_MAX - random.below(3) as u32,
         false => size(random, body.len()),
     };
     Record {
@@ -169,7 +168,7 @@ fn record(random: &mut Random, host: &mut Buffers, mail: Mail<'_>, number: usize
 /// A BID that no other record has: its last two bytes are the record's number.
 fn table_bid(random: &mut Random, number: usize) -> Vec<u8> {
     let mut bid = bid(random);
-    bid.truncate(BID_LIMIT - 2);
+    bid.truncate(BID_MAX - 2);
     bid.extend([b'0' + (number / 8) as u8, b'0' + (number % 8) as u8]);
     bid
 }
@@ -184,7 +183,7 @@ fn heading_span(random: &mut Random, store: &mut Vec<u8>, needed: bool) -> Span 
 
 fn body(random: &mut Random, plain: bool, long: bool) -> Vec<u8> {
     let length = match random.below(16) {
-        0..=3 if long => random.pick(&[BODY_LIMIT - 1, BODY_LIMIT]),
+        0..=3 if long => random.pick(&[BODY_MAX - 1, BODY_MAX]),
         0 => 0,
         1 => random.within(254, 258),
         2 => random.within(510, 514),
@@ -200,8 +199,8 @@ fn body(random: &mut Random, plain: bool, long: bool) -> Vec<u8> {
 /// An announced size: about the body's, or one that matters for the block.
 fn size(random: &mut Random, body: usize) -> u32 {
     match random.below(8) {
-        0 => random.pick(&[0, 1, 10_238, 10_239, 10_240, 10_241, 999_999]),
-        1 => random.below(1_000_000) as u32,
+        0 => random.pick(&[0, 1, 10_238, 10_239, 10_240, 10_241, SIZE_MAX]),
+        1 => random.below(SIZE_MAX as usize + 1) as u32,
         2 | 3 => random.within(1_000, 6_000) as u32,
         _ => body as u32,
     }
@@ -222,7 +221,12 @@ fn garble_padding(random: &mut Random, entry: &mut [u8]) {
     if random.once_in(2) {
         return;
     }
-    for (start, limit) in [(10, 6), (17, 38), (56, 6), (63, 12)] {
+    for (start, limit) in [
+        (places::RECORD_FROM, CALL_MAX),
+        (places::RECORD_AT, AT_MAX),
+        (places::RECORD_TO, CALL_MAX),
+        (places::RECORD_BID, BID_MAX),
+    ] {
         let length = usize::from(entry[start]);
         random.fill(&mut entry[start + 1 + length..start + 1 + limit]);
     }
@@ -231,15 +235,15 @@ fn garble_padding(random: &mut Random, entry: &mut [u8]) {
 /// Known BIDs: a few or the most, at times those of our own records.
 fn know(random: &mut Random, host: &mut Buffers) {
     let count = match random.below(32) {
-        0 => KNOWN_LIMIT,
+        0 => KNOWN_MAX,
         1..=15 => 0,
         _ => random.within(1, 12),
     };
     for _ in 0..count {
         let own = !host.table.is_empty() && random.once_in(8);
         let bid = if own {
-            let place = random.below(host.table.len() / RECORD_BYTES);
-            let entry = &host.table[place * RECORD_BYTES..][..RECORD_BYTES];
+            let place = random.below(host.table.len() / places::RECORD);
+            let entry = &host.table[place * places::RECORD..][..places::RECORD];
             let own = layout::read_record(entry).expect("a valid record").envelope.bid;
             match random.once_in(2) {
                 true => respelt(random, &own),
@@ -259,10 +263,10 @@ fn spoil(random: &mut Random, host: &mut Buffers) {
         1 => resize(random, &mut host.table),
         2 => resize(random, &mut host.known),
         3 => resize(random, &mut host.inbox),
-        4 => host.inbox = filled(random, (MESSAGE_LIMIT + 1) * MESSAGE_BYTES),
-        5 => (0..=KNOWN_LIMIT).for_each(|_| host.know(b"1")),
-        6 if host.known.len() >= KNOWN_BYTES => {
-            let entry = random.below(host.known.len() / KNOWN_BYTES) * KNOWN_BYTES;
+        4 => host.inbox = filled(random, (MESSAGES_MAX + 1) * places::ENTRY),
+        5 => (0..=KNOWN_MAX).for_each(|_| host.know(b"1")),
+        6 if host.known.len() >= places::KNOWN => {
+            let entry = random.below(host.known.len() / places::KNOWN) * places::KNOWN;
             host.known[entry + random.below(3)] = byte(random);
         }
         7 => one_more(host),
@@ -275,7 +279,7 @@ fn spoil(random: &mut Random, host: &mut Buffers) {
             let place = random.below(host.bodies.len());
             host.bodies[place] = BODY_END;
         }
-        _ if host.table.len() >= RECORD_BYTES => spoil_record(random, host),
+        _ if host.table.len() >= places::RECORD => spoil_record(random, host),
         _ => {}
     }
 }
@@ -299,9 +303,9 @@ fn change(random: &mut Random, store: &mut [u8]) {
 
 /// Records up to one more than there may be.
 fn one_more(host: &mut Buffers) {
-    let entry: Vec<u8> = host.table.iter().copied().take(RECORD_BYTES).collect();
+    let entry: Vec<u8> = host.table.iter().copied().take(places::RECORD).collect();
     if !entry.is_empty() {
-        while host.table.len() <= RECORD_LIMIT * RECORD_BYTES {
+        while host.table.len() <= RECORDS_MAX * places::RECORD {
             host.table.extend_from_slice(&entry);
         }
     }
@@ -309,20 +313,36 @@ fn one_more(host: &mut Buffers) {
 
 /// A byte of a record changed, its spans moved, or its BID copied.
 fn spoil_record(random: &mut Random, host: &mut Buffers) {
-    let count = host.table.len() / RECORD_BYTES;
-    let entry = random.below(count) * RECORD_BYTES;
-    let other = random.below(count) * RECORD_BYTES;
+    let count = host.table.len() / places::RECORD;
+    let entry = random.below(count) * places::RECORD;
+    let other = random.below(count) * places::RECORD;
     match random.below(5) {
-        // A length, a form, a start: the bytes that decide most.
+        // A length, a form, a high byte of a size or a start: the bytes that decide most.
         0 => {
-            let offsets = [8, 9, 10, 17, 56, 63, 78, 79, 82, 84, 87, 89, 92, 94, 95];
-            let offset = random.pick(&offsets);
+            let offset = random.pick(&[
+                places::RECORD_FORM,
+                places::RECORD_TYPE,
+                places::RECORD_FROM,
+                places::RECORD_AT,
+                places::RECORD_TO,
+                places::RECORD_BID,
+                places::RECORD_SIZE_FIELD + 2,
+                places::RECORD_SIZE_FIELD + 3,
+                places::RECORD_TITLE + 2,
+                places::RECORD_TITLE_LEN,
+                places::RECORD_NAME + 2,
+                places::RECORD_NAME_LEN,
+                places::RECORD_BODY + 2,
+                places::RECORD_BODY_LEN,
+                places::RECORD_BODY_LEN + 1,
+            ]);
             host.table[entry + offset] = random.pick(&[0, 1, 2, 3, 6, 7, 12, 13, 38, 39, 80, 81]);
         }
         1 => {
-            host.table.copy_within(other + BID_AT..other + BID_AT + 1 + BID_LIMIT, entry + BID_AT);
+            let (from, to) = (other + places::RECORD_BID, entry + places::RECORD_BID);
+            host.table.copy_within(from..from + 1 + BID_MAX, to);
             if random.once_in(2) {
-                let field = &mut host.table[entry + BID_AT + 1..][..BID_LIMIT];
+                let field = &mut host.table[to + 1..][..BID_MAX];
                 let bid = respelt(random, field);
                 field.copy_from_slice(&bid);
             }
@@ -332,11 +352,11 @@ fn spoil_record(random: &mut Random, host: &mut Buffers) {
             host.table[entry + column] = random.pick(&[2, 3, 3, 255]);
         }
         3 => {
-            let offset = random.below(RECORD_BYTES);
+            let offset = random.below(places::RECORD);
             host.table[entry + offset] = host.table[entry + offset].wrapping_add(1);
         }
         _ => {
-            let offset = random.below(RECORD_BYTES);
+            let offset = random.below(places::RECORD);
             host.table[entry + offset] = byte(random);
         }
     }

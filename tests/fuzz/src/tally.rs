@@ -3,12 +3,12 @@
 
 use crate::pair::{Pair, Second};
 use crate::tables;
-use second::field::BODY_LIMIT;
+use second::field::BODY_MAX;
 use second::fs::Sign;
 use second::log::Side;
-use second::memory::{State, MESSAGE_LIMIT, PARTNERS, RECORD_LIMIT};
+use second::memory::{State, MESSAGES_MAX, PARTNERS, RECORDS_MAX};
 use second::proposal::BLOCK_LIMIT;
-use second::refusal::{reason_after, ANSWERS};
+use second::refusal::{self, reason_after, ANSWERS};
 use second::session::{Inside, Lent, Phase, Reply, Role, Session};
 use second::sid::Mode;
 use second::tally::Tally as Panel;
@@ -112,8 +112,8 @@ pub struct Tally {
 impl Tally {
     pub fn opened(&mut self, reply: Reply) {
         self.opens[usize::from(reply.answer)] += 1;
-        if reply.answer == 1 {
-            self.places[usize::from(reply.place == 255)] += 1;
+        if reply.answer == refusal::BAD_MEMORY {
+            self.places[usize::from(reply.place == refusal::NO_PLACE)] += 1;
         }
     }
 
@@ -157,7 +157,7 @@ impl Tally {
         self.consumed += second.trace().bytes(Side::Partner).len();
         self.given += ours.len();
         self.kept += session.kept();
-        self.full += u64::from(session.kept() == MESSAGE_LIMIT);
+        self.full += u64::from(session.kept() == MESSAGES_MAX);
         self.phases[phase(session.phase())] += 1;
         self.turns[bucket(session.turns())] += 1;
         for (times, more) in self.blocks.iter_mut().zip(session.blocks()) {
@@ -169,7 +169,7 @@ impl Tally {
         for mark in session.marks_heard() {
             self.marks[place(MARKS, mark)] += 1;
         }
-        if session.is_over() && refusal == 0 {
+        if session.is_over() && refusal == refusal::NONE {
             // Before the partner's FQ our last line was FF.
             self.quits[usize::from(!ours.ends_with(b"FQ\r"))] += 1;
         }
@@ -187,7 +187,7 @@ impl Tally {
     fn count_panel(&mut self, second: &Second, refusal: u8) {
         let Panel { waiting, sizes, sheet } = second.tally;
         let shown = [
-            waiting == RECORD_LIMIT,
+            waiting == RECORDS_MAX,
             sizes > 0xFF_FF,
             sizes > 0xFF_FF_FF,
             sheet.proposed > 0,
@@ -257,8 +257,8 @@ impl Tally {
 
     /// Counts a body about as long as one can be.
     fn count_body(&mut self, from: usize, length: usize, counts: bool) {
-        if counts && length + 1 >= BODY_LIMIT {
-            self.longest[from + length + 1 - BODY_LIMIT] += 1;
+        if counts && length + 1 >= BODY_MAX {
+            self.longest[from + length + 1 - BODY_MAX] += 1;
         }
     }
 
@@ -329,12 +329,12 @@ fn phase(phase: &Phase) -> usize {
 fn standing(session: &Session, refusal: u8) -> Option<usize> {
     let in_block = |phase: &Phase| matches!(phase, Phase::Turn { block, .. } if !block.is_empty());
     match (refusal, session.refused_in()?) {
-        (11, Phase::Answer { .. }) => Some(0),
-        (11, _) => Some(1),
-        (5, phase) if in_block(phase) => Some(2),
-        (6 | 13, _) => Some(3),
-        (5, Phase::Answer { .. }) => Some(4),
-        (7, _) => Some(5),
+        (refusal::BYTES_WAIT, Phase::Answer { .. }) => Some(0),
+        (refusal::BYTES_WAIT, _) => Some(1),
+        (refusal::LINE_NOT_ALLOWED, phase) if in_block(phase) => Some(2),
+        (refusal::PROPOSAL_COUNT | refusal::WRONG_BLOCK_SUM, _) => Some(3),
+        (refusal::LINE_NOT_ALLOWED, Phase::Answer { .. }) => Some(4),
+        (refusal::BAD_ANSWER, _) => Some(5),
         _ => None,
     }
 }

@@ -57,7 +57,7 @@ fn of_class(random: &mut Random, length: usize, class: fn(u8) -> bool) -> Vec<u8
 }
 
 pub fn call(random: &mut Random) -> Vec<u8> {
-    let length = random.within(1, field::CALL_LIMIT);
+    let length = random.within(1, field::CALL_MAX);
     of_class(random, length, field::is_call_byte)
 }
 
@@ -67,7 +67,7 @@ pub fn at(random: &mut Random) -> Vec<u8> {
     let first = at.len();
     for _ in 0..random.below(6) {
         let part = call(random);
-        if at.len() - first + part.len() < field::AT_TAIL_LIMIT + 1 {
+        if at.len() - first + part.len() < field::HIERARCHY_MAX + 1 {
             at.push(b'.');
             at.extend(part);
         }
@@ -78,7 +78,7 @@ pub fn at(random: &mut Random) -> Vec<u8> {
 /// A BID; every other one of letters and of what differs as a letter's two cases
 /// do and is no letter.
 pub fn bid(random: &mut Random) -> Vec<u8> {
-    let length = random.within(1, field::BID_LIMIT);
+    let length = random.within(1, field::BID_MAX);
     if random.once_in(2) {
         return (0..length).map(|_| random.pick(CASES)).collect();
     }
@@ -96,7 +96,7 @@ pub fn respelt(random: &mut Random, bid: &[u8]) -> Vec<u8> {
 
 pub fn heading(random: &mut Random) -> Vec<u8> {
     let length = match random.below(4) {
-        0 => random.within(70, field::HEADING_LIMIT),
+        0 => random.within(70, field::HEADING_MAX),
         _ => random.within(1, 20),
     };
     of_class(random, length, field::is_heading_byte)

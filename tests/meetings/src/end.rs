@@ -3,27 +3,17 @@
 use crate::node::{Carrying, Node, Room};
 use fuzz::library::{self, Lent};
 use second::host::Buffers;
-use second::layout::{
-    read_message, read_tally, MESSAGE_BYTES, RECORD_BYTES, SESSION_KEPT, SESSION_TALLY,
-};
+use second::layout::{self, read_message, read_tally, SESSION_TALLY};
 use second::log::Kept;
 use second::memory::State;
-use second::session::Reply;
+use second::phase::{self, reading};
+use second::places;
+use second::refusal::{
+    self, BAD_ANSWER, BAD_CHECKSUM, BAD_TRANSFER, BYTES_WAIT, LINE_NOT_ALLOWED, NONE, NOT_SID,
+    STORE_FULL,
+};
+use second::session::{Reply, CALLED, CALLER};
 use second::tally::Tally;
-
-/// Roles of open.
-const CALLED: u8 = 0;
-const CALLER: u8 = 1;
-/// "receive on an ended session"
-const ENDED: u8 = 12;
-
-/// Places in session memory and what they hold (docs/MEMORY.md).
-const PHASE: usize = 60;
-const FIRST: usize = 64;
-const THEN: usize = 65;
-const PLACE: usize = 87;
-const LINE_BYTES: usize = 92;
-const LEFT: usize = 94;
 
 /// What an end makes of the next byte.
 #[derive(Clone, Copy, Debug, PartialEq, Eq)]
@@ -60,18 +50,18 @@ impl Awaited {
     /// after other bytes of a line, which may be a `;` line or an FS line too long.
     pub fn answers(self, amid: bool) -> &'static [u8] {
         match self {
-            Awaited::Sid if amid => &[0, 3],
-            Awaited::Sid => &[3],
-            Awaited::Prompt => &[0],
-            Awaited::Turn if amid => &[0, 5],
-            Awaited::Turn => &[5],
-            Awaited::Fs if amid => &[0, 5, 7],
-            Awaited::Fs => &[5],
-            Awaited::Title => &[0],
-            Awaited::Body => &[0, 8, 10],
-            Awaited::Block => &[0, 8, 9, 10],
-            Awaited::Frame => &[0, 8, 9, 10],
-            Awaited::OurWords => &[11],
+            Awaited::Sid if amid => &[NONE, NOT_SID],
+            Awaited::Sid => &[NOT_SID],
+            Awaited::Prompt => &[NONE],
+            Awaited::Turn if amid => &[NONE, LINE_NOT_ALLOWED],
+            Awaited::Turn => &[LINE_NOT_ALLOWED],
+            Awaited::Fs if amid => &[NONE, LINE_NOT_ALLOWED, BAD_ANSWER],
+            Awaited::Fs => &[LINE_NOT_ALLOWED],
+            Awaited::Title => &[NONE],
+            Awaited::Body => &[NONE, BAD_TRANSFER, STORE_FULL],
+            Awaited::Block => &[NONE, BAD_TRANSFER, BAD_CHECKSUM, STORE_FULL],
+            Awaited::Frame => &[NONE, BAD_TRANSFER, BAD_CHECKSUM, STORE_FULL],
+            Awaited::OurWords => &[BYTES_WAIT],
         }
     }
 }
@@ -102,14 +92,14 @@ impl End {
             given: Vec::new(),
             taken: 0,
             fq_came: false,
-            refusal: 0,
+            refusal: NONE,
             refused_at: None,
             buffer: Vec::new(),
         };
         let role = if caller { CALLER } else { CALLED };
         let reply = library::open(role, node.partner as u8, end.lent());
         match reply.answer {
-            0 => Ok(end),
+            NONE => Ok(end),
             answer => Err(format!("open answers {answer}, place {}", reply.place)),
         }
     }
@@ -132,29 +122,30 @@ impl End {
     /// What a live end awaits.
     pub fn awaited(&self) -> Awaited {
         let session = &self.host.session;
-        let in_block = session[LEFT..LEFT + 2] != [0, 0];
-        match (session[PHASE], session[PLACE]) {
-            _ if session[FIRST..=THEN] != [0, 0] => Awaited::OurWords,
-            (0 | 1, _) => Awaited::Sid,
-            (2, _) => Awaited::Prompt,
-            (3, _) => Awaited::Turn,
-            (4, _) => Awaited::Fs,
-            (_, 0) => Awaited::Title,
-            (_, 1 | 2) => Awaited::Body,
-            (_, 7) if in_block => Awaited::Block,
+        let in_block = session[places::LEFT..][..2] != [0, 0];
+        let waits = session[places::FIRST..=places::THEN] != [phase::PIECE_NONE; 2];
+        match (session[places::PHASE], session[places::PLACE]) {
+            _ if waits => Awaited::OurWords,
+            (phase::CALLED_SID | phase::CALLER_SID, _) => Awaited::Sid,
+            (phase::PROMPT, _) => Awaited::Prompt,
+            (phase::TURN, _) => Awaited::Turn,
+            (phase::FS, _) => Awaited::Fs,
+            (_, reading::TITLE) => Awaited::Title,
+            (_, reading::BODY | reading::MARK) => Awaited::Body,
+            (_, reading::DATA) if in_block => Awaited::Block,
             _ => Awaited::Frame,
         }
     }
 
     /// Bytes of a line are there already.
     pub fn is_amid_a_line(&self) -> bool {
-        self.host.session[LINE_BYTES..LINE_BYTES + 2] != [0, 0]
+        self.host.session[places::LINE_LENGTH..][..2] != [0, 0]
     }
 
     /// The table with its states, how many messages are kept, and the front panel's numbers.
     pub fn settled(&self) -> Vec<u8> {
         let session = &self.host.session;
-        [&self.host.table[..], &[session[SESSION_KEPT]], &session[SESSION_TALLY]].concat()
+        [&self.host.table[..], &[session[places::KEPT]], &session[SESSION_TALLY]].concat()
     }
 
     /// What the front panel shows.
@@ -163,7 +154,7 @@ impl End {
     }
 
     pub fn is_live(&mut self) -> bool {
-        library::receive(self.lent(), &[]).answer == 0
+        library::receive(self.lent(), &[]).answer == NONE
     }
 
     /// Bytes from the link; how many it consumed.
@@ -173,10 +164,10 @@ impl End {
         }
         let Reply { answer, count, .. } = library::receive(self.lent(), bytes);
         self.taken += count;
-        if answer != 0 {
+        if answer != NONE {
             self.refusal = answer;
             self.refused_at = Some(self.given.len());
-        } else if library::receive(self.lent(), &[]).answer == ENDED {
+        } else if library::receive(self.lent(), &[]).answer == refusal::SESSION_ENDED {
             self.fq_came = true;
         }
         count
@@ -198,24 +189,22 @@ impl End {
             && now.bodies == before.bodies
             && now.known == before.known;
         let mut states = Vec::new();
-        for (entry, old) in now.table.chunks(RECORD_BYTES).zip(before.table.chunks(RECORD_BYTES)) {
+        for (entry, old) in
+            now.table.chunks(places::RECORD).zip(before.table.chunks(places::RECORD))
+        {
             let rest = |entry: &[u8]| [&entry[..self.partner], &entry[self.partner + 1..]].concat();
             if rest(entry) != rest(old) || !same_stores {
                 return Err("a record or a store was written".into());
             }
-            states.push(match entry[self.partner] {
-                0 => State::Waiting,
-                1 => State::Forwarded,
-                2 => State::Declined,
-                other => return Err(format!("a state is {other}")),
-            });
+            let state = entry[self.partner];
+            states.push(layout::state(state.into()).ok_or_else(|| format!("a state is {state}"))?);
         }
         Ok(states)
     }
 
     fn kept(&self) -> Result<Vec<Kept>, String> {
-        let count = usize::from(self.host.session[SESSION_KEPT]);
-        let entries = self.host.inbox.chunks(MESSAGE_BYTES).take(count);
+        let count = usize::from(self.host.session[places::KEPT]);
+        let entries = self.host.inbox.chunks(places::ENTRY).take(count);
         let read = |entry: &[u8]| {
             let message = read_message(entry)?;
             let body = message.body.of(&self.host.store)?.to_vec();

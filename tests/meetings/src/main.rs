@@ -19,7 +19,8 @@ use inputs::seed;
 use link::{Cut, WHOLE};
 use node::{Carrying, Node, Room};
 use reasons::Reasons;
-use second::memory::{State, MESSAGE_LIMIT};
+use second::memory::{State, MESSAGES_MAX};
+use second::refusal::STORE_FULL;
 use second::tally::Tally as Panel;
 use series::{Meeting, Series, Went};
 use std::process::ExitCode;
@@ -29,8 +30,6 @@ const USAGE: &str = "meetings [--cuts N] [--seed N]
   so many dropped links at least (default 100,000): random series for a tenth of
   them, then every pair of cuts of one small world after the other";
 
-/// "body byte without room"
-const STORE_FULL: u8 = 10;
 /// Faults said; the others are counted.
 const SAID: u64 = 10;
 /// One of so many cuts is of a random series.
@@ -155,7 +154,7 @@ fn every_pair(random: &mut Random, small: &Small, carrying: Carrying, tally: &mu
 fn a_room(random: &mut Random, other: &Node) -> Room {
     match random.below(4) {
         0 => Room { places: random.within(0, 4), bytes: random.within(0, 500) },
-        1 => Room { places: MESSAGE_LIMIT, bytes: random.within(0, 1_500) },
+        1 => Room { places: MESSAGES_MAX, bytes: random.within(0, 1_500) },
         _ => other.room_for_all(),
     }
 }

@@ -1,9 +1,9 @@
 //! A node between two meetings, as its host has it: plain vectors.
 
 use second::host::{Buffers, Letter};
-use second::layout::RECORD_BYTES;
 use second::log::Kept;
-use second::memory::{State, MESSAGE_LIMIT, PARTNERS};
+use second::memory::{State, MESSAGES_MAX, PARTNERS};
+use second::places;
 use second::record::Form;
 
 /// The table with its states, the BIDs known at the start, and every message
@@ -44,7 +44,7 @@ impl Node {
     pub fn buffers(&self, room: Room, carrying: Carrying) -> Buffers {
         let mut host = Buffers::new(room.places, room.bytes);
         self.letters.iter().for_each(|letter| host.add(letter));
-        for (entry, state) in host.table.chunks_mut(RECORD_BYTES).zip(&self.states) {
+        for (entry, state) in host.table.chunks_mut(places::RECORD).zip(&self.states) {
             entry[..PARTNERS].fill(State::Declined as u8);
             entry[self.partner] = *state as u8;
         }
@@ -59,7 +59,7 @@ impl Node {
     pub fn room_for_all(&self) -> Room {
         let needed = |letter: &Letter| letter.body.len().max(letter.size as usize);
         let bytes = self.waiting().map(needed).sum();
-        Room { places: MESSAGE_LIMIT, bytes }
+        Room { places: MESSAGES_MAX, bytes }
     }
 
     /// The letters that wait and that a node with B in its SID may propose to another.

@@ -5,7 +5,7 @@ use crate::end::End;
 use crate::link::{self, Cut, WHOLE};
 use crate::node::{Carrying, Node, Room};
 use crate::wire;
-use crate::worlds::BODY_LIMIT;
+use second::field::BODY_MAX;
 use second::tally::Tally;
 
 /// One meeting: whether the first node calls, what each is lent, where the link drops.
@@ -99,7 +99,7 @@ impl<'a> Series<'a> {
     ) -> Result<Went, String> {
         let rooms = [self.now[1].room_for_all(), self.now[0].room_for_all()];
         let went = self.meet(Meeting { first_calls, rooms, cut: WHOLE }, portion)?;
-        let left = self.now.iter().any(|node| node.waiting().any(|l| l.size <= BODY_LIMIT));
+        let left = self.now.iter().any(|node| node.waiting().any(|l| l.size as usize <= BODY_MAX));
         if !went.fq_came || left {
             return Err(format!("a whole meeting with room for all left mail behind: {went:?}"));
         }

@@ -3,13 +3,12 @@
 use crate::node::{Node, Room};
 use inputs::random::Random;
 use inputs::{at, bid, body_of, call, heading};
-use second::field::BID_LIMIT;
+use second::field::{BID_MAX, BODY_MAX};
 use second::host::Letter;
-use second::memory::{Envelope, State, MESSAGE_LIMIT, PARTNERS, RECORD_LIMIT};
+use second::memory::{Envelope, State, MESSAGES_MAX, PARTNERS, RECORDS_MAX};
 use second::record::{Form, Kind};
 
 /// "`=` if the size is over 65,535"
-pub const BODY_LIMIT: u32 = 65_535;
 
 // ---------------------------------------------------------------- small
 
@@ -20,7 +19,7 @@ pub struct Small {
     pub room: Room,
 }
 
-const ROOMY: Room = Room { places: MESSAGE_LIMIT, bytes: 99 };
+const ROOMY: Room = Room { places: MESSAGES_MAX, bytes: 99 };
 /// Room for the announced bytes of one letter, and not for the third.
 const TIGHT: Room = Room { places: 1, bytes: 2 };
 
@@ -101,8 +100,8 @@ pub fn random(random: &mut Random) -> [Node; 2] {
     for node in &mut nodes {
         node.partner = random.below(PARTNERS);
         let count = match random.below(8) {
-            0 => RECORD_LIMIT,
-            1 | 2 => random.within(0, RECORD_LIMIT),
+            0 => RECORDS_MAX,
+            1 | 2 => random.within(0, RECORDS_MAX),
             _ => random.within(0, 8),
         };
         for _ in 0..count {
@@ -127,7 +126,7 @@ pub fn random(random: &mut Random) -> [Node; 2] {
 fn numbered(random: &mut Random, number: u32) -> Vec<u8> {
     let digits = number.to_string().into_bytes();
     let mut front = bid(random);
-    front.truncate(BID_LIMIT - 1 - digits.len());
+    front.truncate(BID_MAX - 1 - digits.len());
     [front, b"_".to_vec(), digits].concat()
 }
 
@@ -143,7 +142,7 @@ fn letter(random: &mut Random, number: u32) -> Letter {
     let size = match random.below(20) {
         0 | 1 => length as u32 / 2,
         2 => length as u32 + 100,
-        3 => BODY_LIMIT + 1,
+        3 => BODY_MAX as u32 + 1,
         _ => length as u32,
     };
     let kind = random.pick(&[Kind::Private, Kind::Bulletin]);

@@ -3,9 +3,9 @@
 
 use second::host::Buffers;
 use second::memory::Memory;
-use second::session::{self, Session};
+use second::refusal;
+use second::session::{self, Session, CALLED};
 
-const CALLED: u8 = 0;
 const PARTNER: u8 = 0;
 
 /// "an inbox of 64 places and 32 KiB"
@@ -20,16 +20,16 @@ pub fn replay(capture: &[u8]) -> Vec<u8> {
     let opened = session::open(CALLED, PARTNER, &buffers.lent());
     let (mut session, mut memory) = opened.expect("nothing is lent that could be bad");
     let mut out = Vec::new();
-    let mut refusal = 0;
+    let mut answer = refusal::NONE;
     take(&mut session, &memory, &mut out);
     for &byte in capture {
-        refusal = session.receive(&mut memory, &[byte]).answer;
+        answer = session.receive(&mut memory, &[byte]).answer;
         take(&mut session, &memory, &mut out);
-        if refusal != 0 || session.is_over() {
+        if answer != refusal::NONE || session.is_over() {
             break;
         }
     }
-    out.extend(format!("refusal {refusal}\n").bytes());
+    out.extend(format!("refusal {answer}\n").bytes());
     out
 }
 

@@ -7,15 +7,13 @@ mod library;
 
 use inputs::random::Random;
 use inputs::seed;
+use second::field::BODY_MAX;
 use second::route::{self, Ours};
 use std::process::ExitCode;
 
 const USAGE: &str = "routes [--seed N] [--count N]
   --seed N     repeat the run of this seed (as printed at its start)
   --count N    random bodies, each read and written (default 200000)";
-
-/// A 65,536th byte is one too many.
-const LIMIT: usize = 65_535;
 
 /// How many headers were found, so that a run that finds none is seen.
 #[derive(Default)]
@@ -82,13 +80,21 @@ fn writer_limits(tally: &mut Tally) -> bool {
         number: 999_999_999,
         mailbox: b"ABCDEF.ABCDEF".to_vec(),
     };
-    let line = route::add(&ours, b"", LIMIT).map_or(0, |text| text.len());
-    let bodies =
-        [0, 1, LIMIT - line - 1, LIMIT - line, LIMIT - line + 1, LIMIT, LIMIT + 1, 2 * LIMIT];
+    let line = route::add(&ours, b"", BODY_MAX).map_or(0, |text| text.len());
+    let bodies = [
+        0,
+        1,
+        BODY_MAX - line - 1,
+        BODY_MAX - line,
+        BODY_MAX - line + 1,
+        BODY_MAX,
+        BODY_MAX + 1,
+        2 * BODY_MAX,
+    ];
     bodies.iter().all(|&length| {
         let body = vec![b'x'; length];
         let whole = line + length;
-        [0, whole - 1, whole, whole + 1, LIMIT - 1, LIMIT, LIMIT + 1]
+        [0, whole - 1, whole, whole + 1, BODY_MAX - 1, BODY_MAX, BODY_MAX + 1]
             .iter()
             .all(|&room| write(&ours, &body, room, tally))
     })

@@ -3,6 +3,7 @@
 
 use crate::host::{Buffers, Letter};
 use crate::memory::State;
+use crate::refusal;
 
 mod paper002;
 mod paper003;
@@ -76,7 +77,7 @@ impl Example {
             known: Vec::new(),
             room: 20_000,
             script,
-            answer: 0,
+            answer: refusal::NONE,
             states: Vec::new(),
             inbox: Vec::new(),
         }
@@ -101,8 +102,8 @@ impl Example {
     /// Request Q-1: a session that is refused ends with our line that says why.
     fn parted(mut self) -> Example {
         match self.answer {
-            0 | 11 => {}
-            9 => self.script.push(us("*** Checksum error\r")),
+            refusal::NONE | refusal::BYTES_WAIT => {}
+            refusal::BAD_CHECKSUM => self.script.push(us("*** Checksum error\r")),
             _ => self.script.push(us("*** Protocol error\r")),
         }
         self

@@ -1,19 +1,19 @@
 //! Fields: which bytes they may hold, and how many.
 
 /// "from and to have 1 to 6 bytes"
-pub const CALL_LIMIT: usize = 6;
+pub const CALL_MAX: usize = 6;
 /// At: "38 bytes in all"
-pub const AT_LIMIT: usize = 38;
+pub const AT_MAX: usize = 38;
 /// At: "31 after the first `.` at most"
-pub const AT_TAIL_LIMIT: usize = 31;
+pub const HIERARCHY_MAX: usize = 31;
 /// "A BID has 1 to 12 bytes"
-pub const BID_LIMIT: usize = 12;
+pub const BID_MAX: usize = 12;
 /// "A title or name has 1 to 80 bytes"
-pub const HEADING_LIMIT: usize = 80;
+pub const HEADING_MAX: usize = 80;
 /// "size (1 to 9 digits)"
 pub const SIZE_DIGITS: usize = 9;
 /// "A body has at most 65,535 bytes"
-pub const BODY_LIMIT: usize = 65_535;
+pub const BODY_MAX: usize = 65_535;
 /// The byte that closes a plain body, and so cannot stand in one.
 pub const BODY_END: u8 = 0x1A;
 
@@ -39,7 +39,7 @@ fn is_run(bytes: &[u8], limit: usize, class: fn(u8) -> bool) -> bool {
 
 /// "from and to have 1 to 6 bytes in 0x21-0x7E without `@` and `.`."
 pub fn is_call(bytes: &[u8]) -> bool {
-    is_run(bytes, CALL_LIMIT, is_call_byte)
+    is_run(bytes, CALL_MAX, is_call_byte)
 }
 
 /// "At is one to several parts of 1 to 6 such bytes joined by `.`, 38 bytes in
@@ -49,14 +49,14 @@ pub fn is_at(bytes: &[u8]) -> bool {
         Some(dot) => &bytes[dot + 1..],
         None => &[],
     };
-    bytes.len() <= AT_LIMIT
-        && tail.len() <= AT_TAIL_LIMIT
+    bytes.len() <= AT_MAX
+        && tail.len() <= HIERARCHY_MAX
         && bytes.split(|&byte| byte == b'.').all(is_call)
 }
 
 /// "A BID has 1 to 12 bytes in 0x21-0xFF."
 pub fn is_bid(bytes: &[u8]) -> bool {
-    is_run(bytes, BID_LIMIT, is_bid_byte)
+    is_run(bytes, BID_MAX, is_bid_byte)
 }
 
 /// "Two BIDs are now equal when they agree after A-Z and a-z are taken as one.
@@ -67,7 +67,7 @@ pub fn same_bid(one: &[u8], other: &[u8]) -> bool {
 
 /// "A title or name has 1 to 80 bytes in 0x20-0xFF."
 pub fn is_heading(bytes: &[u8]) -> bool {
-    is_run(bytes, HEADING_LIMIT, is_heading_byte)
+    is_run(bytes, HEADING_MAX, is_heading_byte)
 }
 
 /// "A body has at most 65,535 bytes; a plain body holds no 0x1A."
@@ -77,7 +77,7 @@ pub fn is_plain_body(bytes: &[u8]) -> bool {
 
 /// "A body has at most 65,535 bytes". DECISIONS 56: a packed one may hold 0x1A.
 pub fn is_packed_body(bytes: &[u8]) -> bool {
-    bytes.len() <= BODY_LIMIT
+    bytes.len() <= BODY_MAX
 }
 
 /// "size (1 to 9 digits)". DECISIONS 15: zeros in front are taken.

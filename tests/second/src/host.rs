@@ -1,7 +1,8 @@
 //! A host's buffers: the bytes that both implementations are lent.
 
-use crate::layout::{self, MESSAGE_BYTES, SESSION_BYTES};
+use crate::layout;
 use crate::memory::{Envelope, Record, Span, State, PARTNERS};
+use crate::places;
 use crate::proposal::{self, TurnLine};
 use crate::record::Form;
 use crate::session::Lent;
@@ -49,8 +50,8 @@ impl Buffers {
     /// An empty table, no known BIDs, and an inbox of so many places and bytes.
     pub fn new(places: usize, room: usize) -> Buffers {
         Buffers {
-            session: vec![0; SESSION_BYTES],
-            inbox: vec![0; places * MESSAGE_BYTES],
+            session: vec![0; places::SESSION],
+            inbox: vec![0; places * places::ENTRY],
             store: vec![0; room],
             ..Buffers::default()
         }

@@ -5,32 +5,20 @@
 //! is padded. A field is one byte for its length, then its bytes, then bytes
 //! that don't matter (zeros where the library writes them)."
 
-use crate::field::{AT_LIMIT, BID_LIMIT, CALL_LIMIT, HEADING_LIMIT};
+use crate::field::{AT_MAX, BID_MAX, CALL_MAX, HEADING_MAX};
 use crate::log::Sheet;
 use crate::memory::{Envelope, Message, Record, Span, State, PARTNERS};
+use crate::places;
 use crate::record::{Form, Kind};
 use crate::tally::Tally;
 use std::ops::Range;
 
-/// "session memory | exactly 1,024 bytes"
-pub const SESSION_BYTES: usize = 1_024;
-/// "0 to 64 records of 96 bytes"
-pub const RECORD_BYTES: usize = 96;
-/// "0 to 1,024 entries of 13 bytes"
-pub const KNOWN_BYTES: usize = 13;
-/// "0 to 64 places of 155 bytes"
-pub const MESSAGE_BYTES: usize = 155;
-/// "A host needs one number of it: the count of messages kept, at 66."
-pub const SESSION_KEPT: usize = 66;
-/// The level in force, at 117: 0, or any other number for 1.
-pub const SESSION_LEVEL: usize = 117;
-/// The partner that open was told, at 118.
-pub const SESSION_PARTNER: usize = 118;
-/// The front panel's numbers, from 119 on: waiting 1 byte, the sum of their sizes 4, then
-/// proposed, forwarded, declined, deferred and not settled, 1 byte each.
-pub const SESSION_TALLY: Range<usize> = 119..129;
+/// The front panel's numbers: waiting 1 byte, the sum of their sizes 4, then proposed,
+/// forwarded, declined, deferred and not settled, 1 byte each.
+pub const SESSION_TALLY: Range<usize> = places::TALLY_WAITING..places::NUMBERS_END;
 /// "Bytes 129 to 159 and 920 to 1,023 are free: no call reads or writes them".
-pub const SESSION_FREE: [Range<usize>; 2] = [129..160, 920..SESSION_BYTES];
+pub const SESSION_FREE: [Range<usize>; 2] =
+    [places::NUMBERS_END..places::ARRAYS, places::ARRAYS_END..places::SESSION];
 
 /// The front panel's numbers in session memory.
 pub fn read_tally(session: &[u8]) -> Tally {
@@ -71,10 +59,10 @@ impl Out {
     fn envelope(&mut self, envelope: &Envelope) {
         self.0.push(envelope.form as u8);
         self.0.push(envelope.kind.byte());
-        self.field(&envelope.from, CALL_LIMIT);
-        self.field(&envelope.at, AT_LIMIT);
-        self.field(&envelope.to, CALL_LIMIT);
-        self.field(&envelope.bid, BID_LIMIT);
+        self.field(&envelope.from, CALL_MAX);
+        self.field(&envelope.at, AT_MAX);
+        self.field(&envelope.to, CALL_MAX);
+        self.field(&envelope.bid, BID_MAX);
     }
 
     /// A start of four bytes and a length of so many.
@@ -100,7 +88,7 @@ pub fn write_record(record: &Record) -> Vec<u8> {
 /// "A known BID (13 bytes, `KNOWN`): its length (1 to 12), then its bytes."
 pub fn write_known(bid: &[u8]) -> Vec<u8> {
     let mut out = Out::default();
-    out.field(bid, BID_LIMIT);
+    out.field(bid, BID_MAX);
     out.0
 }
 
@@ -108,7 +96,7 @@ pub fn write_known(bid: &[u8]) -> Vec<u8> {
 pub fn write_message(message: &Message) -> Vec<u8> {
     let mut out = Out::default();
     out.envelope(&message.envelope);
-    out.field(&message.heading, HEADING_LIMIT);
+    out.field(&message.heading, HEADING_MAX);
     out.span(message.body, 2);
     out.0
 }
@@ -138,10 +126,10 @@ impl<'a> In<'a> {
         Some(Envelope {
             form: form(self.number(1)?)?,
             kind: kind(self.number(1)?)?,
-            from: self.field(CALL_LIMIT)?,
-            at: self.field(AT_LIMIT)?,
-            to: self.field(CALL_LIMIT)?,
-            bid: self.field(BID_LIMIT)?,
+            from: self.field(CALL_MAX)?,
+            at: self.field(AT_MAX)?,
+            to: self.field(CALL_MAX)?,
+            bid: self.field(BID_MAX)?,
         })
     }
 
@@ -150,13 +138,10 @@ impl<'a> In<'a> {
     }
 }
 
-fn state(number: usize) -> Option<State> {
-    match number {
-        0 => Some(State::Waiting),
-        1 => Some(State::Forwarded),
-        2 => Some(State::Declined),
-        _ => None,
-    }
+/// A record's state, by its number.
+pub fn state(number: usize) -> Option<State> {
+    const ALL: [State; 3] = [State::Waiting, State::Forwarded, State::Declined];
+    ALL.into_iter().find(|state| *state as usize == number)
 }
 
 /// One a partner, partner 0 first.
@@ -166,12 +151,8 @@ fn states(bytes: &[u8]) -> Option<[State; PARTNERS]> {
 }
 
 fn form(number: usize) -> Option<Form> {
-    match number {
-        0 => Some(Form::Plain),
-        1 => Some(Form::Message),
-        2 => Some(Form::File),
-        _ => None,
-    }
+    const ALL: [Form; 3] = [Form::Plain, Form::Message, Form::File];
+    ALL.into_iter().find(|form| *form as usize == number)
 }
 
 /// DECISIONS 54: in memory, types are the capitals P and B.
@@ -195,7 +176,7 @@ pub fn read_record(entry: &[u8]) -> Option<Record> {
 
 /// A known BID, whether it obeys the BID rule or not.
 pub fn read_known(entry: &[u8]) -> Option<Vec<u8>> {
-    In(entry).field(BID_LIMIT)
+    In(entry).field(BID_MAX)
 }
 
 /// A message of the inbox.
@@ -203,7 +184,7 @@ pub fn read_message(entry: &[u8]) -> Option<Message> {
     let mut entry = In(entry);
     Some(Message {
         envelope: entry.envelope()?,
-        heading: entry.field(HEADING_LIMIT)?,
+        heading: entry.field(HEADING_MAX)?,
         body: entry.span(2)?,
     })
 }
@@ -246,18 +227,26 @@ mod tests {
     #[test]
     fn a_record_has_the_offsets_of_the_table() {
         let entry = write_record(&record());
-        assert_eq!(entry.len(), RECORD_BYTES);
-        assert_eq!(entry[..8], [2, 0, 1, 0, 0, 2, 0, 1]);
-        assert_eq!(entry[8..10], [2, b'B']);
-        assert_eq!(entry[10..17], *b"\x05F6FBB\0");
-        assert_eq!(entry[17..36], *b"\x12FC1GHV.FFPC.FRA.EU");
-        assert_eq!(entry[36..56], [0; 20]);
-        assert_eq!(entry[56..63], *b"\x06FC1MVP");
-        assert_eq!(entry[63..76], *b"\x0B24657_F6FBB\0");
-        assert_eq!(entry[76..80], [1, 2, 3, 0]);
-        assert_eq!(entry[80..85], [0x11, 0x12, 0x13, 0x14, 0x15]);
-        assert_eq!(entry[85..90], [0x21, 0x22, 0x23, 0x24, 0x25]);
-        assert_eq!(entry[90..], [0x31, 0x32, 0x33, 0x34, 0x35, 0x36]);
+        assert_eq!(entry.len(), places::RECORD);
+        assert_eq!(entry[..places::STATES], [2, 0, 1, 0, 0, 2, 0, 1]);
+        assert_eq!(entry[places::RECORD_FORM], Form::File as u8);
+        assert_eq!(entry[places::RECORD_TYPE], b'B');
+        assert_eq!(entry[places::RECORD_FROM..places::RECORD_AT], *b"\x05F6FBB\0");
+        let (at, rest) = entry[places::RECORD_AT..places::RECORD_TO].split_at(19);
+        assert_eq!(at, *b"\x12FC1GHV.FFPC.FRA.EU");
+        assert_eq!(rest, [0; 20]);
+        assert_eq!(entry[places::RECORD_TO..places::RECORD_BID], *b"\x06FC1MVP");
+        assert_eq!(entry[places::RECORD_BID..places::RECORD_SIZE_FIELD], *b"\x0B24657_F6FBB\0");
+        assert_eq!(entry[places::RECORD_SIZE_FIELD..places::RECORD_TITLE], [1, 2, 3, 0]);
+        assert_eq!(
+            entry[places::RECORD_TITLE..places::RECORD_NAME],
+            [0x11, 0x12, 0x13, 0x14, 0x15]
+        );
+        assert_eq!(entry[places::RECORD_TITLE_LEN], 0x15);
+        assert_eq!(entry[places::RECORD_NAME..places::RECORD_BODY], [0x21, 0x22, 0x23, 0x24, 0x25]);
+        assert_eq!(entry[places::RECORD_NAME_LEN], 0x25);
+        assert_eq!(entry[places::RECORD_BODY..], [0x31, 0x32, 0x33, 0x34, 0x35, 0x36]);
+        assert_eq!(entry[places::RECORD_BODY_LEN..], [0x35, 0x36]);
         assert_eq!(read_record(&entry), Some(record()));
     }
 
@@ -269,14 +258,16 @@ mod tests {
             body: Span { start: 0x0403_0201, length: 0x0605 },
         };
         let entry = write_message(&message);
-        assert_eq!(entry.len(), MESSAGE_BYTES);
-        assert_eq!(entry[..2], [2, b'B']);
-        assert_eq!(entry[2..9], *b"\x05F6FBB\0");
-        assert_eq!(entry[9..11], *b"\x12F");
-        assert_eq!(entry[48..55], *b"\x06FC1MVP");
-        assert_eq!(entry[55..68], *b"\x0B24657_F6FBB\0");
-        assert_eq!(entry[68..76], *b"\x06r\xE9sum\xE9\0");
-        assert_eq!(entry[149..], [1, 2, 3, 4, 5, 6]);
+        assert_eq!(entry.len(), places::ENTRY);
+        assert_eq!(entry[places::FORM], Form::File as u8);
+        assert_eq!(entry[places::TYPE], b'B');
+        assert_eq!(entry[places::FROM..places::AT], *b"\x05F6FBB\0");
+        assert_eq!(entry[places::AT..][..2], *b"\x12F");
+        assert_eq!(entry[places::TO..places::BID], *b"\x06FC1MVP");
+        assert_eq!(entry[places::BID..places::FIELDS], *b"\x0B24657_F6FBB\0");
+        assert_eq!(entry[places::ENTRY_HEADING..][..8], *b"\x06r\xE9sum\xE9\0");
+        assert_eq!(entry[places::ENTRY_BODY..], [1, 2, 3, 4, 5, 6]);
+        assert_eq!(entry[places::ENTRY_BODY_LEN..], [5, 6]);
         assert_eq!(read_message(&entry), Some(message));
     }
 
@@ -284,23 +275,32 @@ mod tests {
     fn a_known_bid_is_its_length_and_its_bytes() {
         assert_eq!(write_known(b"1_A"), *b"\x031_A\0\0\0\0\0\0\0\0\0");
         assert_eq!(read_known(&write_known(b"1_A")), Some(b"1_A".to_vec()));
-        assert_eq!(read_known(&[13; KNOWN_BYTES]), None);
+        assert_eq!(read_known(&[13; places::KNOWN]), None);
     }
 
     #[test]
     fn bytes_past_a_field_do_not_matter() {
         let mut entry = write_record(&record());
-        entry[16] = 0xFF;
-        entry[47] = 0x20;
-        entry[75] = 0x07;
+        // The last bytes of the rooms of from, at and the BID.
+        entry[places::RECORD_AT - 1] = 0xFF;
+        entry[places::RECORD_TO - 1] = 0x20;
+        entry[places::RECORD_SIZE_FIELD - 1] = 0x07;
         assert_eq!(read_record(&entry), Some(record()));
     }
 
     #[test]
     fn bytes_that_stand_for_nothing_are_no_record() {
-        for (place, bad) in
-            [(0, 3), (5, 3), (7, 255), (8, 3), (9, b'p'), (9, b'T'), (10, 7), (17, 39), (63, 13)]
-        {
+        for (place, bad) in [
+            (0, 3),
+            (5, 3),
+            (PARTNERS - 1, 255),
+            (places::RECORD_FORM, 3),
+            (places::RECORD_TYPE, b'p'),
+            (places::RECORD_TYPE, b'T'),
+            (places::RECORD_FROM, 7),
+            (places::RECORD_AT, 39),
+            (places::RECORD_BID, 13),
+        ] {
             let mut entry = write_record(&record());
             entry[place] = bad;
             assert_eq!(read_record(&entry), None);
@@ -312,7 +312,7 @@ mod tests {
         let mut long = record();
         long.envelope.bid = b"1234567890123".to_vec();
         let entry = write_record(&long);
-        assert_eq!(entry.len(), RECORD_BYTES);
+        assert_eq!(entry.len(), places::RECORD);
         assert_eq!(read_record(&entry), None);
     }
 }

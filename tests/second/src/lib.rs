@@ -8,7 +8,7 @@
 //! - Words: readers and writers only. They know no session, touch no link and
 //!   keep nothing between calls, but for the two that go in portions.
 //! - [`session`]: open, receive and give over the lent memory ([`memory`], and
-//!   [`layout`] for its bytes).
+//!   [`layout`] for its bytes, [`places`] and [`phase`] for their places and numbers).
 //! - [`log`]: what a session's bytes mean, read from the whole of them.
 //! - [`tally`]: what the front panel shows (request Q-3), by the log and the table.
 //! - [`examples`]: the papers' own sessions.
@@ -28,6 +28,8 @@ pub mod line;
 pub mod log;
 pub mod memory;
 pub mod pages;
+pub mod phase;
+pub mod places;
 pub mod proposal;
 pub mod record;
 pub mod refusal;

@@ -5,13 +5,13 @@ use crate::proposal::Proposal;
 use crate::record::{self, Form, Kind};
 
 /// "**Table**: 0 to 64 records."
-pub const RECORD_LIMIT: usize = 64;
+pub const RECORDS_MAX: usize = 64;
 /// "**Known BIDs**: up to 1,024"
-pub const KNOWN_LIMIT: usize = 1_024;
+pub const KNOWN_MAX: usize = 1_024;
 /// "**Inbox**: up to 64 messages"
-pub const MESSAGE_LIMIT: usize = 64;
+pub const MESSAGES_MAX: usize = 64;
 /// "announced size 0 to 999,999"
-pub const SIZE_LIMIT: u32 = 999_999;
+pub const SIZE_MAX: u32 = 999_999;
 
 /// "one state a partner, 0 to 7"
 pub const PARTNERS: usize = 8;
@@ -101,7 +101,7 @@ impl Record {
     pub fn is_valid(&self, stores: &Stores) -> bool {
         let form = self.envelope.form;
         self.envelope.is_valid()
-            && self.size <= SIZE_LIMIT
+            && self.size <= SIZE_MAX
             && self.title.of(&stores.titles).map_or(false, |t| heading_is(t, form != Form::File))
             && self.name.of(&stores.names).map_or(false, |n| heading_is(n, form == Form::File))
             && self.body.of(&stores.bodies).map_or(false, |body| match form {

@@ -3,36 +3,56 @@
 //! Words alone can earn 2 to 5 and 7 to 10; the others need a session. 13 is
 //! request Q-5's, and what we say before we hang up is Q-1's.
 
+/// The numbers, by the proved crates' names, which `tests/places/run` holds them to.
+pub const NONE: u8 = 0;
+pub const BAD_MEMORY: u8 = 1;
+pub const LINE_TOO_LONG: u8 = 2;
+pub const NOT_SID: u8 = 3;
+pub const NO_FORWARDING: u8 = 4;
+pub const LINE_NOT_ALLOWED: u8 = 5;
+pub const PROPOSAL_COUNT: u8 = 6;
+pub const BAD_ANSWER: u8 = 7;
+pub const BAD_TRANSFER: u8 = 8;
+pub const BAD_CHECKSUM: u8 = 9;
+pub const STORE_FULL: u8 = 10;
+pub const BYTES_WAIT: u8 = 11;
+pub const SESSION_ENDED: u8 = 12;
+pub const WRONG_BLOCK_SUM: u8 = 13;
+
+/// "255 for role, sizes, known BIDs or changed memory", and for the partner: the place that
+/// is no record's.
+pub const NO_PLACE: u8 = 255;
+
 /// Why a call or a word is refused. The value is 01's number.
 #[derive(Clone, Copy, Debug, PartialEq, Eq)]
 #[repr(u8)]
 pub enum Refusal {
     /// "open: bad table or buffers; receive or give: as under Lent memory"
-    BadMemory = 1,
+    BadMemory = BAD_MEMORY,
     /// "a 257th byte of a line comes before CR"
-    LineTooLong = 2,
+    LineTooLong = LINE_TOO_LONG,
     /// "first line isn't a valid SID"
-    NoSid = 3,
+    NoSid = NOT_SID,
     /// "partner's SID has no F"
-    NoForwarding = 4,
+    NoForwarding = NO_FORWARDING,
     /// "a turn line that isn't allowed here"
-    NotAllowed = 5,
+    NotAllowed = LINE_NOT_ALLOWED,
     /// "sixth proposal, or F> with none"
-    ProposalCount = 6,
+    ProposalCount = PROPOSAL_COUNT,
     /// "FS line wrong in form or count"
-    WrongFs = 7,
+    WrongFs = BAD_ANSWER,
     /// "transfer wrong in header, title, offset or mark"
-    WrongTransfer = 8,
+    WrongTransfer = BAD_TRANSFER,
     /// "checksum wrong"
-    WrongChecksum = 9,
+    WrongChecksum = BAD_CHECKSUM,
     /// "body byte without room, the 65,536th included"
-    NoRoom = 10,
+    NoRoom = STORE_FULL,
     /// "a byte arrives while bytes wait for give"
-    BytesWait = 11,
+    BytesWait = BYTES_WAIT,
     /// "receive on an ended session"
-    Ended = 12,
+    Ended = SESSION_ENDED,
     /// "wrong proposal checksum"
-    WrongBlockSum = 13,
+    WrongBlockSum = WRONG_BLOCK_SUM,
 }
 
 /// "one line and CR: `*** Checksum error` for 9, `*** Protocol error` for the others"

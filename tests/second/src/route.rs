@@ -1,6 +1,6 @@
 //! Routing headers: request Q-8 and document 003, "Message Routing Header".
 
-use crate::field::{is_at, BODY_LIMIT, SIZE_DIGITS};
+use crate::field::{is_at, BODY_MAX, SIZE_DIGITS};
 use std::ops::Range;
 
 /// What a header says; the mailbox by its place in what was read.
@@ -184,7 +184,7 @@ pub fn add(ours: &Ours, body: &[u8], room: usize) -> Result<Vec<u8>, u8> {
     text.extend(&ours.mailbox);
     text.push(b'\r');
     text.extend(body);
-    match text.len() <= BODY_LIMIT && text.len() <= room {
+    match text.len() <= BODY_MAX && text.len() <= room {
         true => Ok(text),
         false => Err(2),
     }

@@ -40,6 +40,10 @@ pub use open::{open, Lent};
 pub use reply::Reply;
 
 /// "role (0 called, 1 caller)"
+pub const CALLED: u8 = 0;
+pub const CALLER: u8 = 1;
+
+/// Our role.
 #[derive(Clone, Copy, Debug, PartialEq, Eq)]
 pub enum Role {
     Called,
@@ -49,8 +53,8 @@ pub enum Role {
 impl Role {
     pub fn read(number: u8) -> Option<Role> {
         match number {
-            0 => Some(Role::Called),
-            1 => Some(Role::Caller),
+            CALLED => Some(Role::Called),
+            CALLER => Some(Role::Caller),
             _ => None,
         }
     }

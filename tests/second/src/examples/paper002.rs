@@ -4,6 +4,7 @@
 use super::{both_roles, partner, us, Example, Taken};
 use crate::host::Letter;
 use crate::memory::State::{self, Declined, Forwarded, Waiting};
+use crate::refusal::{BAD_ANSWER, BAD_CHECKSUM, LINE_NOT_ALLOWED, NO_FORWARDING};
 use crate::sid::Mode;
 
 const FIRST: &[u8] = b"FB P F6FBB FC1GHV.FFPC.FRA.EU FC1MVP 24657_F6FBB 1345";
@@ -204,21 +205,21 @@ fn version_1_caller() -> Example {
 /// "If F6FBB had sent the SID [FBB-5.10-MH$]": not this protocol.
 fn no_f_called() -> Example {
     let script = vec![us("[NOD-1-B1FH$]\r>\r"), partner("[FBB-5.10-MH$]\r")];
-    Example::new("002, no F, called end", false, script).refused(4)
+    Example::new("002, no F, called end", false, script).refused(NO_FORWARDING)
 }
 
 fn no_f_caller() -> Example {
     // "A SID with just a letter B (and no F) will be treated as having neither
     // letter."
     Example::new("002, B and no F, calling end", true, vec![partner("[FBB-5.15-BHM$]\r")])
-        .refused(4)
+        .refused(NO_FORWARDING)
 }
 
 /// "ALL the fields are necessary."
 fn field_missing() -> Example {
     let proposal = "[FBB-5.11-FHM$]\rFB P F6FBB FC1GHV FC1MVP 24657_F6FBB\r";
     let script = vec![us("[NOD-1-B1FH$]\r>\r"), partner(proposal)];
-    Example::new("002, a field is missing", false, script).refused(5)
+    Example::new("002, a field is missing", false, script).refused(LINE_NOT_ALLOWED)
 }
 
 /// FF: "This line must not to be followed by a F>."
@@ -231,7 +232,7 @@ fn ff_and_block_end() -> Example {
     ];
     Example::new("002, FF and F>", false, script)
         .letters(five_letters()[3..4].to_vec(), &[Waiting])
-        .refused(5)
+        .refused(LINE_NOT_ALLOWED)
 }
 
 /// "A new set of answers in an FS line": not in 01, so wrong in form.
@@ -243,7 +244,7 @@ fn new_answers() -> Example {
     ];
     Example::new("002, new answers", true, script)
         .letters(five_letters()[..3].to_vec(), &[Waiting; 3])
-        .refused(7)
+        .refused(BAD_ANSWER)
 }
 
 /// "In case of a checksum error, the message or the file is ignored".
@@ -254,7 +255,7 @@ fn checksum_error() -> Example {
         us("FS +\r"),
         partner(b"\x01\x10Title message\x000\x00\x02\x04abcd\x04\x77"),
     ];
-    Example::new("002, checksum error", false, script).refused(9)
+    Example::new("002, checksum error", false, script).refused(BAD_CHECKSUM)
 }
 
 /// "the system issues a disconnect request after having sent the comment: ***
@@ -269,5 +270,5 @@ fn checksum_comment() -> Example {
     ];
     Example::new("002, checksum comment", true, script)
         .letters(vec![Letter::new(Mode::Framed, PACKED, b"Title message", b"abcd")], &[Waiting])
-        .refused(5)
+        .refused(LINE_NOT_ALLOWED)
 }

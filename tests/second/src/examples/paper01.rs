@@ -3,6 +3,7 @@
 use super::{both_roles, partner, us, Example, Said};
 use crate::host::Letter;
 use crate::memory::State;
+use crate::refusal::{LINE_NOT_ALLOWED, LINE_TOO_LONG};
 use crate::sid::Mode;
 
 pub(super) fn all() -> Vec<Example> {
@@ -86,7 +87,7 @@ fn fq_after_transfers() -> Example {
         vec![Letter::new(Mode::Plain, b"FB P F6FBB FC1GHV FC1MVP 1_F6FBB 2", b"HI", b"AB")],
         &[State::Waiting],
     )
-    .refused(5)
+    .refused(LINE_NOT_ALLOWED)
 }
 
 const OURS: &[u8] = b"FB P F6FBB FC1GHV FC1MVP 1_F6FBB 2";
@@ -219,17 +220,17 @@ fn line_of_256_caller() -> Example {
 fn line_of_257_called() -> Example {
     let script =
         vec![us("[NOD-1-B1FH$]\r>\r"), partner(["[TST-1-F$]\r", &padded("FF", 257)].concat())];
-    Example::new("01, a line of 257 bytes, called", false, script).refused(2)
+    Example::new("01, a line of 257 bytes, called", false, script).refused(LINE_TOO_LONG)
 }
 
 /// A text line before the prompt.
 fn line_of_257_caller() -> Example {
     let script = vec![partner(["[TST-1-F$]\r", &padded("hello", 257)].concat())];
-    Example::new("01, a line of 257 bytes, caller", true, script).refused(2)
+    Example::new("01, a line of 257 bytes, caller", true, script).refused(LINE_TOO_LONG)
 }
 
 /// A `;` line that is ignored otherwise.
 fn comment_of_257() -> Example {
     let script = vec![us("[NOD-1-B1FH$]\r>\r"), partner(padded("; hello", 257))];
-    Example::new("01, a ; line of 257 bytes", false, script).refused(2)
+    Example::new("01, a ; line of 257 bytes", false, script).refused(LINE_TOO_LONG)
 }

@@ -4,24 +4,28 @@
 use super::{both_roles, partner, us, Example};
 use crate::host::Letter;
 use crate::memory::State;
+use crate::refusal::{
+    BAD_ANSWER, BAD_CHECKSUM, BAD_TRANSFER, LINE_NOT_ALLOWED, LINE_TOO_LONG, NOT_SID,
+    NO_FORWARDING, PROPOSAL_COUNT, STORE_FULL, WRONG_BLOCK_SUM,
+};
 use crate::sid::Mode;
 
 pub(super) fn all() -> Vec<Example> {
     let turns = vec![
-        turn("Q-1, refusal 5", "hello\r", 5),
-        turn("Q-1, refusal 6, none", "F>\r", 6),
-        turn("Q-1, refusal 6, a sixth", ["FB P A B C 1_A 2\r"; 6].concat(), 6),
-        turn("Q-1, refusal 13", "FB P A B C 1_A 2\rF> 93\r", 13),
-        turn("Q-1, a line where a turn is due", THEIRS, 5),
-        turn("Q-1, a checksum line where a turn is due", "*** Checksum error\r", 5),
+        turn("Q-1, refusal 5", "hello\r", LINE_NOT_ALLOWED),
+        turn("Q-1, refusal 6, none", "F>\r", PROPOSAL_COUNT),
+        turn("Q-1, refusal 6, a sixth", ["FB P A B C 1_A 2\r"; 6].concat(), PROPOSAL_COUNT),
+        turn("Q-1, refusal 13", "FB P A B C 1_A 2\rF> 93\r", WRONG_BLOCK_SUM),
+        turn("Q-1, a line where a turn is due", THEIRS, LINE_NOT_ALLOWED),
+        turn("Q-1, a checksum line where a turn is due", "*** Checksum error\r", LINE_NOT_ALLOWED),
     ];
     let others = vec![
-        first_line("Q-1, refusal 3", "hello\r", 3),
-        first_line("Q-1, refusal 4", "[TST-1-H$]\r", 4),
-        first_line("Q-1, a line where a SID is due", THEIRS, 3),
+        first_line("Q-1, refusal 3", "hello\r", NOT_SID),
+        first_line("Q-1, refusal 4", "[TST-1-H$]\r", NO_FORWARDING),
+        first_line("Q-1, a line where a SID is due", THEIRS, NOT_SID),
         greeting(),
-        answer("Q-1, refusal 7", "FS +-\r", 7),
-        answer("Q-1, a line where FS is due", THEIRS, 5),
+        answer("Q-1, refusal 7", "FS +-\r", BAD_ANSWER),
+        answer("Q-1, a line where FS is due", THEIRS, LINE_NOT_ALLOWED),
     ];
     [both_roles(turns), others, lines(), transfers()].concat()
 }
@@ -45,10 +49,10 @@ fn lines() -> Vec<Example> {
     let sid = vec![us("[NOD-1-B1FH$]\r>\r"), partner(&long)];
     let greeting = vec![partner(["[TST-1-F$]\r", &long].concat())];
     vec![
-        Example::new("Q-1, refusal 2, SID", false, sid).refused(2),
-        Example::new("Q-1, refusal 2, greeting", true, greeting).refused(2),
-        turn("Q-1, refusal 2, turn", &long, 2),
-        answer("Q-1, refusal 2, FS", &long, 2),
+        Example::new("Q-1, refusal 2, SID", false, sid).refused(LINE_TOO_LONG),
+        Example::new("Q-1, refusal 2, greeting", true, greeting).refused(LINE_TOO_LONG),
+        turn("Q-1, refusal 2, turn", &long, LINE_TOO_LONG),
+        answer("Q-1, refusal 2, FS", &long, LINE_TOO_LONG),
     ]
 }
 
@@ -107,12 +111,15 @@ fn transfers() -> Vec<Example> {
         went_on(title).inbox(&[(b"1_A", b"*** Protocol error", b"AB")]),
         went_on(body).inbox(&[(b"1_A", b"HI", b"*** Protocol error\r")]),
         went_on(block).inbox(&[(b"1_A", b"HI", b"*** Protocol error\r")]),
-        framed("Q-1, a line where a header is due", b"*").refused(8),
-        framed("Q-1, a line where a mark is due", &[&header[..], b"*"].concat()).refused(8),
-        plain("Q-1, refusal 8, plain", "HI\rAB\x1Ax").refused(8),
-        framed("Q-1, refusal 9", &[&header[..], b"\x02\x02AB\x04\x7E"].concat()).refused(9),
-        tight(plain("Q-1, refusal 10, plain", "HI\rABC")).refused(10),
-        tight(framed("Q-1, refusal 10", &[&header[..], b"\x02\x03ABC"].concat())).refused(10),
+        framed("Q-1, a line where a header is due", b"*").refused(BAD_TRANSFER),
+        framed("Q-1, a line where a mark is due", &[&header[..], b"*"].concat())
+            .refused(BAD_TRANSFER),
+        plain("Q-1, refusal 8, plain", "HI\rAB\x1Ax").refused(BAD_TRANSFER),
+        framed("Q-1, refusal 9", &[&header[..], b"\x02\x02AB\x04\x7E"].concat())
+            .refused(BAD_CHECKSUM),
+        tight(plain("Q-1, refusal 10, plain", "HI\rABC")).refused(STORE_FULL),
+        tight(framed("Q-1, refusal 10", &[&header[..], b"\x02\x03ABC"].concat()))
+            .refused(STORE_FULL),
     ]
 }
 

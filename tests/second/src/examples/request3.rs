@@ -4,6 +4,9 @@
 use super::{partner, us, Said, OUR_SID};
 use crate::host::{Buffers, Letter};
 use crate::log::Sheet;
+use crate::refusal::{
+    BAD_ANSWER, BAD_TRANSFER, BYTES_WAIT, LINE_NOT_ALLOWED, NOT_SID, WRONG_BLOCK_SUM,
+};
 use crate::sid::Mode;
 use crate::tally::Tally;
 
@@ -171,17 +174,17 @@ fn dropped() -> Vec<Counted> {
     let (most, transfer) = (transfers(&[2]).len() - 1, transfers(&[2]));
     let begun = asked("11, our transfers under way").partner("FS +++\r", ALL_WAIT, ASKED);
     vec![
-        proposed("11, our turn waiting").refused("F", 11),
-        proposed("11, half our turn taken").us(half, ALL_WAIT, ASKED).refused("F", 11),
+        proposed("11, our turn waiting").refused("F", BYTES_WAIT),
+        proposed("11, half our turn taken").us(half, ALL_WAIT, ASKED).refused("F", BYTES_WAIT),
         proposed("11, all but a byte taken")
             .us(&block[..block.len() - 1], ALL_WAIT, ASKED)
-            .refused("F", 11),
+            .refused("F", BYTES_WAIT),
         answered("11, the transfer's last byte not taken")
             .us(&transfer[..most], (2, 50), ANSWERED)
-            .refused("F", 11),
-        answered("11, nothing of the transfer taken").refused("F", 11),
-        begun.us(&transfers(&[1, 2, 3])[..9], ALL_WAIT, ASKED).refused("F", 11),
-        settled("11, our FQ waiting").refused("F", 11),
+            .refused("F", BYTES_WAIT),
+        answered("11, nothing of the transfer taken").refused("F", BYTES_WAIT),
+        begun.us(&transfers(&[1, 2, 3])[..9], ALL_WAIT, ASKED).refused("F", BYTES_WAIT),
+        settled("11, our FQ waiting").refused("F", BYTES_WAIT),
         at_once("11, at the turn's next byte", "[TST-1-F$]\rFF\rF"),
         at_once("11, after the LF", "[TST-1-F$]\rFF\r\n\n"),
     ]
@@ -189,28 +192,29 @@ fn dropped() -> Vec<Counted> {
 
 /// The refused byte follows in one portion what makes our turn wait.
 fn at_once(name: &'static str, said: &str) -> Counted {
-    let mut counted =
-        Counted::new(name, false, three(), ALL_WAIT).us(GREETING, ALL_WAIT, NONE).refused(said, 11);
+    let mut counted = Counted::new(name, false, three(), ALL_WAIT)
+        .us(GREETING, ALL_WAIT, NONE)
+        .refused(said, BYTES_WAIT);
     counted.steps[1].tally = tally(ALL_WAIT, ASKED);
     counted
 }
 
 /// "After a refusal the numbers stay at their last state."
 fn refused() -> Vec<Counted> {
-    let first_line = Counted::new("no SID", true, three(), ALL_WAIT).refused("hello\r", 3);
+    let first_line = Counted::new("no SID", true, three(), ALL_WAIT).refused("hello\r", NOT_SID);
     let unsent = Counted::new("8 before our turn", false, three(), ALL_WAIT)
         .us(GREETING, ALL_WAIT, NONE)
         .partner([SID, THEIRS, b"F>\r"].concat(), ALL_WAIT, NONE)
         .us("FS +\r", ALL_WAIT, NONE)
-        .refused("T\rAB\x1Ax", 8);
+        .refused("T\rAB\x1Ax", BAD_TRANSFER);
     vec![
         first_line,
         unsent,
-        asked("7").refused("FS ++\r", 7),
-        asked("5 for an FS line").refused("FF\r", 5),
-        sent("5 inside a block, after our transfers").refused("FF\r", 5),
-        sent("FQ inside a block").refused("FQ\r", 5),
-        sent("13 after our transfers").refused("F> 00\r", 13),
+        asked("7").refused("FS ++\r", BAD_ANSWER),
+        asked("5 for an FS line").refused("FF\r", LINE_NOT_ALLOWED),
+        sent("5 inside a block, after our transfers").refused("FF\r", LINE_NOT_ALLOWED),
+        sent("FQ inside a block").refused("FQ\r", LINE_NOT_ALLOWED),
+        sent("13 after our transfers").refused("F> 00\r", WRONG_BLOCK_SUM),
         sent("6 after our transfers").refused(THEIRS.repeat(5), 6),
         sent("2 after our transfers").refused("x".repeat(257), 2),
     ]

@@ -4,6 +4,7 @@ use super::{both_roles, partner, us, Example};
 use crate::host::Letter;
 use crate::memory::State;
 use crate::proposal;
+use crate::refusal::{LINE_NOT_ALLOWED, PROPOSAL_COUNT, WRONG_BLOCK_SUM};
 use crate::sid::Mode;
 
 pub(super) fn all() -> Vec<Example> {
@@ -58,23 +59,23 @@ fn checksum(text: &str) -> u8 {
 
 /// "A turn with a wrong checksum is no valid turn."
 fn wrong() -> Example {
-    after_ours("Q-5, wrong checksum", [THEIRS, "F> 93\r"].concat()).refused(13)
+    after_ours("Q-5, wrong checksum", [THEIRS, "F> 93\r"].concat()).refused(WRONG_BLOCK_SUM)
 }
 
 /// "A proposal with one wrong letter in the BID went through."
 fn one_letter() -> Example {
     let turn = ["FB P A B C 1_B 2\r", THEIR_END].concat();
-    after_ours("Q-5, one wrong letter in a BID", turn).refused(13)
+    after_ours("Q-5, one wrong letter in a BID", turn).refused(WRONG_BLOCK_SUM)
 }
 
 /// 6 goes before 13.
 fn none() -> Example {
-    after_ours("Q-5, a checksum of no proposal", "F> 00\r").refused(6)
+    after_ours("Q-5, a checksum of no proposal", "F> 00\r").refused(PROPOSAL_COUNT)
 }
 
 /// And 5 before both.
 fn three_digits() -> Example {
-    after_ours("Q-5, three digits", [THEIRS, "F> 925\r"].concat()).refused(5)
+    after_ours("Q-5, three digits", [THEIRS, "F> 925\r"].concat()).refused(LINE_NOT_ALLOWED)
 }
 
 /// Called by a real LinFBB, its port with LF after each CR; the lines and the

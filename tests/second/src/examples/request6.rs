@@ -4,6 +4,7 @@
 use super::{both_roles, partner, us, Example};
 use crate::host::Letter;
 use crate::memory::State::{self, Declined, Forwarded, Waiting};
+use crate::refusal::BAD_ANSWER;
 use crate::sid::Mode;
 
 pub(super) fn all() -> Vec<Example> {
@@ -34,7 +35,8 @@ pub(super) fn all() -> Vec<Example> {
         ("Q-6, level 0", "[TST-1-BF$]\r", "FS Y++++\r"),
         ("Q-6, level 0 with its digit", "[TST-1-B0F1$]\r", "FS ++++A0\r"),
     ];
-    let refused = refused.map(|(name, sid, line)| asked(name, sid, line).refused(7)).to_vec();
+    let refused =
+        refused.map(|(name, sid, line)| asked(name, sid, line).refused(BAD_ANSWER)).to_vec();
     both_roles([taken, refused, vec![higher(), without_b()]].concat())
 }
 
@@ -94,5 +96,7 @@ fn without_b() -> Example {
         partner("FS Y\r"),
     ];
     let letter = Letter::new(Mode::Plain, line, b"HI", b"AB");
-    Example::new("Q-6, without B", true, script).letters(vec![letter], &[Waiting]).refused(7)
+    Example::new("Q-6, without B", true, script)
+        .letters(vec![letter], &[Waiting])
+        .refused(BAD_ANSWER)
 }

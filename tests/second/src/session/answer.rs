@@ -1,7 +1,7 @@
 //! Our FS line: which of the partner's proposals we take.
 
 use super::{Offer, Phase, Session};
-use crate::field::{same_bid, BODY_LIMIT};
+use crate::field::{same_bid, BODY_MAX};
 use crate::fs::{self, Sign};
 use crate::memory::Memory;
 use crate::transfer::reader::Reader;
@@ -50,7 +50,7 @@ impl Session {
         let free = memory.store.len() - self.used - promised;
         let places = memory.inbox.len() - self.kept - accepted.len();
         let size = offer.size as usize;
-        if size > BODY_LIMIT || size > free || places == 0 {
+        if size > BODY_MAX || size > free || places == 0 {
             return Sign::Defer;
         }
         Sign::Accept

@@ -2,9 +2,10 @@
 
 use super::{Phase, Reply, Role, Session};
 use crate::field::{is_bid, same_bid};
-use crate::layout::{self, KNOWN_BYTES, MESSAGE_BYTES, RECORD_BYTES, SESSION_BYTES};
+use crate::layout;
 use crate::memory::{Memory, Record, Sizes, Stores};
-use crate::memory::{KNOWN_LIMIT, MESSAGE_LIMIT, PARTNERS, RECORD_LIMIT};
+use crate::memory::{KNOWN_MAX, MESSAGES_MAX, PARTNERS, RECORDS_MAX};
+use crate::places;
 use crate::sid::{self, Level, Mode};
 
 /// The buffers that a host lends, as bytes. Of session memory only the size
@@ -56,7 +57,7 @@ pub fn open(role: u8, partner: u8, lent: &Lent<'_>) -> Result<(Session, Memory),
         bodies: lent.bodies.to_vec(),
     };
     let table = read_table(lent.table, &stores)?;
-    let inbox = lent.inbox.chunks(MESSAGE_BYTES).map(layout::read_message).collect();
+    let inbox = lent.inbox.chunks(places::ENTRY).map(layout::read_message).collect();
     let store = lent.store.to_vec();
     Ok((start(role, partner, sizes), Memory { sizes, table, stores, known, inbox, store }))
 }
@@ -67,23 +68,23 @@ pub fn open(role: u8, partner: u8, lent: &Lent<'_>) -> Result<(Session, Memory),
 fn are_valid(sizes: &Sizes) -> bool {
     let whole =
         |bytes: usize, entry: usize, limit: usize| bytes % entry == 0 && bytes / entry <= limit;
-    sizes.session == SESSION_BYTES
-        && whole(sizes.table, RECORD_BYTES, RECORD_LIMIT)
-        && whole(sizes.known, KNOWN_BYTES, KNOWN_LIMIT)
-        && whole(sizes.inbox, MESSAGE_BYTES, MESSAGE_LIMIT)
+    sizes.session == places::SESSION
+        && whole(sizes.table, places::RECORD, RECORDS_MAX)
+        && whole(sizes.known, places::KNOWN, KNOWN_MAX)
+        && whole(sizes.inbox, places::ENTRY, MESSAGES_MAX)
 }
 
 /// "one outside the BID rule below is a bad buffer"
 fn read_known(known: &[u8]) -> Option<Vec<Vec<u8>>> {
     let bid = |entry: &[u8]| layout::read_known(entry).filter(|bid| is_bid(bid));
-    known.chunks(KNOWN_BYTES).map(bid).collect()
+    known.chunks(places::KNOWN).map(bid).collect()
 }
 
 /// "place = first bad record, from 0"; "of two records with one BID the later is
 /// bad".
 fn read_table(bytes: &[u8], stores: &Stores) -> Result<Vec<Record>, Reply> {
     let mut table: Vec<Record> = Vec::new();
-    for entry in bytes.chunks(RECORD_BYTES) {
+    for entry in bytes.chunks(places::RECORD) {
         let copy = |record: &Record| {
             table.iter().any(|earlier| same_bid(&earlier.envelope.bid, &record.envelope.bid))
         };

@@ -1,6 +1,6 @@
 //! What a call gives back.
 
-use crate::refusal::Refusal;
+use crate::refusal::{self, Refusal};
 
 /// The number, the place and the count. "Place is 0 in every answer but 1."
 #[derive(Clone, Copy, Debug, PartialEq, Eq)]
@@ -12,11 +12,11 @@ pub struct Reply {
 
 impl Reply {
     /// "255 for role, sizes, known BIDs or changed memory", and for the partner
-    pub const BAD_BUFFERS: Reply = Reply::bad_memory(255);
+    pub const BAD_BUFFERS: Reply = Reply::bad_memory(refusal::NO_PLACE);
 
     /// "no refusal"
     pub const fn ok(count: usize) -> Reply {
-        Reply { answer: 0, place: 0, count }
+        Reply { answer: refusal::NONE, place: 0, count }
     }
 
     /// Refused; "the refused byte is the last one counted".
@@ -27,7 +27,7 @@ impl Reply {
     /// A byte was refused, and the session is over: neither 0 nor 1, nor 12, which consumes
     /// nothing.
     pub const fn refuses_a_byte(&self) -> bool {
-        !matches!(self.answer, 0 | 1 | 12)
+        !matches!(self.answer, refusal::NONE | refusal::BAD_MEMORY | refusal::SESSION_ENDED)
     }
 
     /// "place = first bad record, from 0"

@@ -1,7 +1,7 @@
 //! Reads a transfer in any portions, byte runs of the body at a time.
 
 use super::{sum, Outcome, BLOCK, BLOCK_BYTES, END, HEADER, OFFSET_DIGITS};
-use crate::field::{is_heading_byte, BODY_END, BODY_LIMIT, HEADING_LIMIT};
+use crate::field::{is_heading_byte, BODY_END, BODY_MAX, HEADING_MAX};
 use crate::line::CR;
 use crate::refusal::Refusal;
 use crate::sid::Mode;
@@ -56,7 +56,7 @@ impl Reader {
                 Mode::Framed => Stage::Start,
             },
             outcome: Outcome::More,
-            heading: Vec::with_capacity(HEADING_LIMIT),
+            heading: Vec::with_capacity(HEADING_MAX),
             body: 0,
             sum: 0,
         }
@@ -80,7 +80,7 @@ impl Reader {
     /// Feeds a portion, to its end or to an outcome. Says how many bytes it
     /// took, the refused one included; after an outcome it takes none.
     pub fn feed(&mut self, portion: &[u8], store: &mut [u8]) -> (usize, Outcome) {
-        let room = store.len().min(BODY_LIMIT);
+        let room = store.len().min(BODY_MAX);
         let mut taken = 0;
         while self.outcome == Outcome::More && taken < portion.len() {
             let rest = &portion[taken..];
@@ -170,7 +170,7 @@ impl Reader {
     fn title_step(&mut self, byte: u8) -> Next {
         match byte {
             CR if !self.heading.is_empty() => Ok(Stage::Body),
-            _ if is_heading_byte(byte) && self.heading.len() < HEADING_LIMIT => {
+            _ if is_heading_byte(byte) && self.heading.len() < HEADING_MAX => {
                 self.heading.push(byte);
                 Ok(Stage::Title)
             }
@@ -206,7 +206,7 @@ fn length_step(length: u8) -> Next {
 /// The lengths that leave 1 to 6 of `both` to the offset.
 fn heading_lengths(both: usize) -> RangeInclusive<usize> {
     let least = both.saturating_sub(OFFSET_DIGITS).max(1);
-    let most = both.saturating_sub(1).min(HEADING_LIMIT);
+    let most = both.saturating_sub(1).min(HEADING_MAX);
     least..=most
 }
 

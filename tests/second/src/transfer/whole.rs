@@ -1,7 +1,7 @@
 //! Reads a transfer from all its bytes so far, with no state.
 
 use super::{Outcome, BLOCK, BLOCK_BYTES, END, HEADER, OFFSET_DIGITS};
-use crate::field::{is_heading_byte, BODY_END, BODY_LIMIT, HEADING_LIMIT};
+use crate::field::{is_heading_byte, BODY_END, BODY_MAX, HEADING_MAX};
 use crate::line::CR;
 use crate::refusal::Refusal;
 
@@ -47,13 +47,13 @@ pub fn read_plain(bytes: &[u8], room: usize) -> Reading<'_> {
         Some(&CR) if title > 0 => {}
         Some(_) => return reading.refused(Refusal::WrongTransfer, title),
     }
-    read_plain_body(bytes, title + 1, room.min(BODY_LIMIT), reading)
+    read_plain_body(bytes, title + 1, room.min(BODY_MAX), reading)
 }
 
 /// The length of the heading that the bytes begin with. DECISIONS 19: one byte
 /// over the limit is no longer heading, so the search stops there.
 fn heading_run(bytes: &[u8]) -> usize {
-    let most = &bytes[..bytes.len().min(HEADING_LIMIT)];
+    let most = &bytes[..bytes.len().min(HEADING_MAX)];
     let end = most.iter().position(|&byte| !is_heading_byte(byte));
     end.unwrap_or(most.len())
 }
@@ -115,14 +115,14 @@ pub fn read_framed(bytes: &[u8], room: usize) -> Reading<'_> {
     if fits < length {
         return reading.more(bytes.len());
     }
-    read_blocks(bytes, 2 + length, room.min(BODY_LIMIT), reading)
+    read_blocks(bytes, 2 + length, room.min(BODY_MAX), reading)
 }
 
 /// "L = heading + offset + 2": the lengths of heading and offset that make `L`.
 fn headers(length: usize) -> impl Iterator<Item = (usize, usize)> {
     (1..=OFFSET_DIGITS)
         .filter_map(move |offset| Some((length.checked_sub(offset + 2)?, offset)))
-        .filter(|(heading, _)| (1..=HEADING_LIMIT).contains(heading))
+        .filter(|(heading, _)| (1..=HEADING_MAX).contains(heading))
 }
 
 /// How many of the bytes begin a header whose heading and offset have these

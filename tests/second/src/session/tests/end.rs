@@ -1,21 +1,21 @@
 //! One end of a session under test.
 
 use crate::host::{Buffers, Letter};
-use crate::layout::RECORD_BYTES;
 use crate::log::{self, Kept, Trace, With};
 use crate::memory::{Memory, Record, State};
+use crate::places;
+use crate::refusal;
 use crate::session::{open, Reply, Session};
+pub use crate::session::{CALLED, CALLER};
 use crate::sid::Mode;
 use crate::tally::{Tally, Told};
 
-pub const CALLED: u8 = 0;
-pub const CALLER: u8 = 1;
 /// Whom the sessions of these tests are with.
 pub const PARTNER: u8 = 5;
 
 /// Where the table has this partner's state of a record.
 pub fn state_at(record: usize, partner: u8) -> usize {
-    RECORD_BYTES * record + usize::from(partner)
+    places::RECORD * record + usize::from(partner)
 }
 
 /// Our end, its memory, and all that went over the link.
@@ -96,7 +96,10 @@ impl End {
     pub fn is_deaf(&mut self) {
         let (memory, waiting) = (self.memory.clone(), self.session.waiting());
         for bytes in [&b""[..], b"\n", b"FF\r", b"*** Protocol error\r"] {
-            assert_eq!(self.hear(bytes), Reply { answer: 12, place: 0, count: 0 });
+            assert_eq!(
+                self.hear(bytes),
+                Reply { answer: refusal::SESSION_ENDED, place: 0, count: 0 }
+            );
         }
         assert_eq!((&self.memory, self.session.waiting()), (&memory, waiting));
     }
@@ -190,8 +193,8 @@ impl End {
 /// Request Q-1's line after an answer of receive.
 fn reason(answer: u8) -> &'static [u8] {
     match answer {
-        9 => b"*** Checksum error\r",
-        0 | 1 | 11 | 12 => b"",
+        refusal::BAD_CHECKSUM => b"*** Checksum error\r",
+        refusal::NONE | refusal::BAD_MEMORY | refusal::BYTES_WAIT | refusal::SESSION_ENDED => b"",
         _ => b"*** Protocol error\r",
     }
 }

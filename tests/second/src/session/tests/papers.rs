@@ -3,6 +3,7 @@
 use super::end::End;
 use crate::examples::{self, Example, Said, Taken};
 use crate::log::Kept;
+use crate::refusal::SESSION_ENDED;
 use crate::session::Reply;
 
 /// Plays a session in portions and rooms of so many bytes.
@@ -34,7 +35,7 @@ fn play(example: &Example, portion: usize) {
 fn check_end(example: &Example, end: &mut End) {
     assert!(end.session.is_over(), "{}", example.name);
     assert_eq!(end.say(), b"");
-    assert_eq!(end.hear(b""), Reply { answer: 12, place: 0, count: 0 });
+    assert_eq!(end.hear(b""), Reply { answer: SESSION_ENDED, place: 0, count: 0 });
     assert_eq!(end.states(), example.states, "{}", example.name);
     let kept = end.kept();
     let parts = |k: &Kept| (k.envelope.bid.clone(), k.heading.clone(), k.body.clone());

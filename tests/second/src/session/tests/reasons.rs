@@ -1,6 +1,7 @@
 //! Request Q-1: "Say why before hanging up."
 
 use super::end::{packed_table, plain_table, End, CALLED, CALLER};
+use crate::refusal::{BYTES_WAIT, LINE_NOT_ALLOWED};
 use crate::session::Reply;
 
 /// "one line and CR": in any rooms and at any place of a buffer, and whatever arrives
@@ -9,7 +10,7 @@ use crate::session::Reply;
 fn in_any_rooms() {
     for room in 1..=20 {
         let mut end = End::called(&plain_table(&[]));
-        assert_eq!(end.hear(b"hello\r\n"), Reply { answer: 5, place: 0, count: 6 });
+        assert_eq!(end.hear(b"hello\r\n"), Reply { answer: LINE_NOT_ALLOWED, place: 0, count: 6 });
         let mut said = Vec::new();
         while said.len() < 19 {
             let part = end.say_up_to(room);
@@ -50,13 +51,13 @@ fn silence_after_other_ends() {
     end.says(b"");
     let mut end = End::called(&packed_table(&[]));
     end.hears(b"FF\r");
-    end.refuses(b"F", 11);
+    end.refuses(b"F", BYTES_WAIT);
     let mut end = End::called(&plain_table(&[5]));
     end.hears(b"FF\r");
     end.say();
     end.hears(b"FS +\r");
     assert_eq!(end.say_up_to(4), b"T1\rt");
-    end.refuses(b"*", 11);
+    end.refuses(b"*", BYTES_WAIT);
 }
 
 /// The line belongs to the session that was refused.

@@ -2,7 +2,8 @@
 
 use super::end::{packed_table, plain_table, End};
 use crate::host::Buffers;
-use crate::refusal::Refusal;
+use crate::places;
+use crate::refusal::{BAD_TRANSFER, BYTES_WAIT, LINE_NOT_ALLOWED, NOT_SID};
 use crate::session::Reply;
 
 /// "Inbox store bytes past the last kept message hold the body bytes received so
@@ -23,7 +24,7 @@ fn body_bytes_stand_in_the_store_as_they_come() {
     assert_eq!(end.session.kept(), 1);
     end.hears(b"T\rde");
     assert_eq!(end.memory.store, b"abcde.......");
-    end.refuses(b"\x1Ax", 8);
+    end.refuses(b"\x1Ax", BAD_TRANSFER);
     assert_eq!(end.memory.store, b"abcde.......");
     assert_eq!(end.kept().len(), 1);
 }
@@ -39,7 +40,7 @@ fn the_room_of_a_failed_message_is_used_again() {
     let mut buffers = plain_table(&[]);
     buffers.store = end.memory.store.clone();
     let first = end.memory.inbox[0].clone().expect("kept");
-    buffers.inbox[..155].copy_from_slice(&crate::layout::write_message(&first));
+    buffers.inbox[..places::ENTRY].copy_from_slice(&crate::layout::write_message(&first));
     let mut end = End::called(&buffers);
     assert_eq!(end.memory.store[..7], *b"abcdef\0");
     end.hears(b"FB P THEM US ME 1_THEM 3\rF>\r");
@@ -63,14 +64,14 @@ fn one_lf_is_dropped_after_the_cr_of_a_line_or_plain_transfer() {
     end.says(b"FS +\r");
     end.hears(b"T\rb\x1A \r\n");
     assert_eq!(end.session.kept(), 2);
-    end.refuses(b"\n", 11);
+    end.refuses(b"\n", BYTES_WAIT);
     // Two LFs: the second belongs to the next line.
     let mut end = End::called(&plain_table(&[]));
-    end.refuses(b"\n\nFF\r", 5);
+    end.refuses(b"\n\nFF\r", LINE_NOT_ALLOWED);
     // A dropped LF is the only one, also where it comes alone.
     let mut end = End::called(&plain_table(&[]));
     end.hears(b"\n");
-    end.refuses(b"\nFF\r", 5);
+    end.refuses(b"\nFF\r", LINE_NOT_ALLOWED);
 }
 
 #[test]
@@ -81,13 +82,13 @@ fn an_lf_after_a_framed_transfer_is_ordinary() {
     end.hears(b"FA P THEM US ME 1_THEM 3\rFA P THEM US ME 2_THEM 3\rF>\r\n");
     end.says(b"FS ++\r");
     end.hears(transfer);
-    end.refuses(b"\n", 8);
+    end.refuses(b"\n", BAD_TRANSFER);
     let mut end = End::called_framed(&packed_table(&[]));
     end.hears(b"FA P THEM US ME 1_THEM 3\rF>\r\n");
     end.says(b"FS +\r");
     end.hears(transfer);
     end.says(b"FF\r");
-    end.refuses(b"\nFQ\r", 5);
+    end.refuses(b"\nFQ\r", LINE_NOT_ALLOWED);
 }
 
 /// "A line that begins with `;` is ignored wherever a line is awaited".
@@ -137,7 +138,7 @@ fn other_sizes_get_1() {
         one(|s| &mut s.inbox),
         one(|s| &mut s.store),
     ];
-    let bad = Reply { answer: Refusal::BadMemory.number(), place: 255, count: 0 };
+    let bad = Reply::BAD_BUFFERS;
     for other in changed {
         end.memory.sizes = other;
         let mut buffer = *b"....";
@@ -147,7 +148,7 @@ fn other_sizes_get_1() {
     }
     end.memory.sizes = sizes;
     end.says(b"[NOD-1-B1FH$]\r>\r");
-    end.refuses(b"x\r", 3);
+    end.refuses(b"x\r", NOT_SID);
     // DECISIONS 51: also on a session that has ended.
     end.memory.sizes = changed[1];
     assert_eq!(end.session.receive(&mut end.memory, b""), bad);

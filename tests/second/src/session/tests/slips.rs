@@ -2,6 +2,8 @@
 
 use super::end::{packed_table, plain_table, proposals, transfers, End};
 use crate::memory::State::{Forwarded, Waiting};
+use crate::places;
+use crate::refusal::{BAD_TRANSFER, BYTES_WAIT, LINE_NOT_ALLOWED, PROPOSAL_COUNT, WRONG_BLOCK_SUM};
 
 /// An end whose two records are accepted and sent, so many bytes of the
 /// transfers given.
@@ -48,7 +50,7 @@ fn marked_by_a_turn_of_copies_and_by_one_that_fails_later() {
     let mut end = sent(transfers(&[1, 2]).len());
     end.hears(b"FB P THEM US ME 1_THEM 5\rF>\r");
     end.says(b"FS +\r");
-    end.refuses(b"T\x02", 8);
+    end.refuses(b"T\x02", BAD_TRANSFER);
     assert_eq!(end.states(), [Forwarded; 2]);
 }
 
@@ -56,7 +58,7 @@ fn marked_by_a_turn_of_copies_and_by_one_that_fails_later() {
 #[test]
 fn fq_straight_after_our_transfers_marks_nothing() {
     let mut end = sent(transfers(&[1, 2]).len());
-    end.refuses(b"FQ\r", 5);
+    end.refuses(b"FQ\r", LINE_NOT_ALLOWED);
     assert_eq!(end.states(), [Waiting; 2]);
 }
 
@@ -66,7 +68,7 @@ fn a_turn_before_our_last_byte_marks_nothing() {
     let all = transfers(&[1, 2]).len();
     for given in 0..all {
         let mut end = sent(given);
-        end.refuses(b"F", 11);
+        end.refuses(b"F", BYTES_WAIT);
         assert_eq!(end.states(), [Waiting; 2]);
     }
 }
@@ -78,12 +80,12 @@ fn a_turn_that_is_not_whole_and_valid_marks_nothing() {
     let proposal = b"FB P THEM US ME 1_THEM 5\r";
     let all = transfers(&[1, 2]).len();
     for (turn, answer) in [
-        (b"F>\r".to_vec(), 6),
-        (b"FX\r".to_vec(), 5),
-        (proposal.repeat(6), 6),
-        ([&proposal[..], b"FF\r"].concat(), 5),
-        ([&proposal[..], b"FQ\r"].concat(), 5),
-        ([&proposal[..], b"F> 01\r"].concat(), 13),
+        (b"F>\r".to_vec(), PROPOSAL_COUNT),
+        (b"FX\r".to_vec(), LINE_NOT_ALLOWED),
+        (proposal.repeat(6), PROPOSAL_COUNT),
+        ([&proposal[..], b"FF\r"].concat(), LINE_NOT_ALLOWED),
+        ([&proposal[..], b"FQ\r"].concat(), LINE_NOT_ALLOWED),
+        ([&proposal[..], b"F> 01\r"].concat(), WRONG_BLOCK_SUM),
     ] {
         let mut end = sent(all);
         end.refuses(&turn, answer);
@@ -157,7 +159,7 @@ fn bytes_from_0x80_go_through_unchanged() {
 fn our_bytes_from_0x80_go_out_unchanged() {
     let mut buffers = packed_table(&[5]);
     buffers.titles = b"\xE9\xFF".to_vec();
-    buffers.table[63 + 1] = 0xE9;
+    buffers.table[places::RECORD_BID + 1] = 0xE9;
     let mut end = End::called_framed(&buffers);
     end.hears(b"FF\r");
     end.says(b"FA P US THEM YOU \xE9_US 5\rF>\r");

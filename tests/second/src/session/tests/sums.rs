@@ -3,6 +3,7 @@
 use super::end::{plain_table, proposals, transfers, End, CALLER};
 use crate::host::Buffers;
 use crate::memory::State::{Forwarded, Waiting};
+use crate::refusal::{LINE_NOT_ALLOWED, NOT_SID, PROPOSAL_COUNT, WRONG_BLOCK_SUM};
 
 const ONE: &[u8] = b"FB P THEM US ME 1_THEM 7\r";
 const TWO: &[u8] = b"FB P THEM US ME 2_THEM 5\r";
@@ -30,7 +31,7 @@ fn only(said: &[u8], summed: &[u8]) {
         if checksum == right(summed) {
             End::called(&empty()).hears(&turn);
         } else {
-            End::called(&empty()).refuses(&turn, 13);
+            End::called(&empty()).refuses(&turn, WRONG_BLOCK_SUM);
         }
     }
 }
@@ -83,35 +84,35 @@ fn the_bare_form_is_taken_and_spaces_at_the_end_are_removed() {
 #[test]
 fn r13_after_5_and_6() {
     for checksum in 0..=255 {
-        End::called(&empty()).refuses(&ended(b"", checksum), 6);
-        End::called(&empty()).refuses(&ended(b"; hello\r\n", checksum), 6);
+        End::called(&empty()).refuses(&ended(b"", checksum), PROPOSAL_COUNT);
+        End::called(&empty()).refuses(&ended(b"; hello\r\n", checksum), PROPOSAL_COUNT);
     }
     let hh = right(ONE);
     for form in ["F>{}", "F>  {}", "F> {}0", "F> 0{}", "F> {} 0", "F> {};", "F {}", "F> $"] {
         let line = form.replace("{}", &format!("{hh:02X}")) + "\r";
-        End::called(&empty()).refuses(line.as_bytes(), 5);
-        End::called(&empty()).refuses(&[ONE, line.as_bytes()].concat(), 5);
+        End::called(&empty()).refuses(line.as_bytes(), LINE_NOT_ALLOWED);
+        End::called(&empty()).refuses(&[ONE, line.as_bytes()].concat(), LINE_NOT_ALLOWED);
     }
     for form in ["F> 0G\r", "F> 1\r", "F> 123\r", "F> 0x\r"] {
-        End::called(&empty()).refuses(form.as_bytes(), 5);
-        End::called(&empty()).refuses(&[ONE, form.as_bytes()].concat(), 5);
+        End::called(&empty()).refuses(form.as_bytes(), LINE_NOT_ALLOWED);
+        End::called(&empty()).refuses(&[ONE, form.as_bytes()].concat(), LINE_NOT_ALLOWED);
     }
     // A sixth proposal is refused at its own CR, whatever checksum would follow.
     let five: Vec<u8> = ONE.repeat(5);
-    End::called(&empty()).refuses(&[&five[..], ONE].concat(), 6);
-    End::called(&empty()).refuses(&ended(&five, right(&five) ^ 1), 13);
+    End::called(&empty()).refuses(&[&five[..], ONE].concat(), PROPOSAL_COUNT);
+    End::called(&empty()).refuses(&ended(&five, right(&five) ^ 1), WRONG_BLOCK_SUM);
 }
 
 /// Elsewhere `F> HH` is no end of a block.
 #[test]
 fn the_form_is_a_turn_line_and_nothing_else() {
-    End::open(CALLER, &empty()).refuses(b"F> 12\r", 3);
+    End::open(CALLER, &empty()).refuses(b"F> 12\r", NOT_SID);
     let mut end = End::open(CALLER, &plain_table(&[5]));
     end.hears(b"[TST-1-F$]\rF> 12\r");
     end.says(b"");
     end.hears(b">\r");
     end.says(&[b"[NOD-1-B1FH$]\r", &proposals(&[(1, 5)])[..]].concat());
-    end.refuses(b"F> 12\r", 5);
+    end.refuses(b"F> 12\r", LINE_NOT_ALLOWED);
 }
 
 /// "A turn with a wrong checksum is no valid turn": no record becomes forwarded and
@@ -126,7 +127,7 @@ fn a_wrong_checksum_marks_nothing() {
         end
     };
     let mut end = sent();
-    end.refuses(&ended(ONE, right(ONE).wrapping_add(1)), 13);
+    end.refuses(&ended(ONE, right(ONE).wrapping_add(1)), WRONG_BLOCK_SUM);
     assert_eq!(end.states(), [Waiting; 2]);
     let mut end = sent();
     let (cr, line) = ended(ONE, right(ONE)).split_last().map(|(cr, l)| (*cr, l.to_vec())).unwrap();
@@ -136,7 +137,7 @@ fn a_wrong_checksum_marks_nothing() {
     assert_eq!(end.states(), [Forwarded; 2]);
     end.says(b"FS +\r");
     // The sum itself in place of what makes it 0.
-    sent().refuses(&ended(ONE, right(ONE).wrapping_neg()), 13);
+    sent().refuses(&ended(ONE, right(ONE).wrapping_neg()), WRONG_BLOCK_SUM);
 }
 
 /// One wrong letter of a BID: what the request is about.
@@ -144,7 +145,7 @@ fn a_wrong_checksum_marks_nothing() {
 fn one_changed_letter_of_a_bid() {
     let mut line = ONE.to_vec();
     line[17] = b'7';
-    End::called(&empty()).refuses(&ended(&line, right(ONE)), 13);
+    End::called(&empty()).refuses(&ended(&line, right(ONE)), WRONG_BLOCK_SUM);
 }
 
 /// Each turn begins a new sum.
@@ -158,7 +159,7 @@ fn each_turn_has_its_own_sum() {
     let mut both = end.clone();
     end.hears(&ended(TWO, right(TWO)));
     end.says(b"FS +\r");
-    both.refuses(&ended(TWO, right(&[ONE, TWO].concat())), 13);
+    both.refuses(&ended(TWO, right(&[ONE, TWO].concat())), WRONG_BLOCK_SUM);
     // A bare block between doesn't count either.
     let mut end = End::called(&empty());
     end.hears(&[ONE, b"F>\r"].concat());
@@ -180,5 +181,5 @@ fn linfbb_s_own_checksums() {
     end.hears(b"FA P F0AAA N0DE.TST.FRA.EU N0DE 205_F0SRC 20\rF> 67\r");
     end.says(b"FS +\r");
     let mut end = End::called_framed(&empty());
-    end.refuses(b"FA P F0AAA F0FBB F0SYS 142_F0SRC 20\rF> 00\r", 13);
+    end.refuses(b"FA P F0AAA F0FBB F0SYS 142_F0SRC 20\rF> 00\r", WRONG_BLOCK_SUM);
 }

@@ -5,6 +5,7 @@ use crate::examples::request3::{self, Counted, Step};
 use crate::examples::Said;
 use crate::layout;
 use crate::log::Sheet;
+use crate::refusal::BYTES_WAIT;
 use crate::tally::Tally;
 
 /// Plays a session in portions of so many bytes; the numbers stand at each portion's end.
@@ -109,7 +110,7 @@ fn a_new_open_counts_anew() {
     end.hears(b"FF\r");
     end.say();
     end.hears(b"FS -=+\r");
-    end.refuses(b"F", 11);
+    end.refuses(b"F", BYTES_WAIT);
     buffers.table = end.memory.table.iter().flat_map(layout::write_record).collect();
     let end = End::called(&buffers);
     assert_eq!(end.tally(), Tally { waiting: 2, sizes: 320, sheet: Sheet::default() });

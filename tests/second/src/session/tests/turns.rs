@@ -4,6 +4,7 @@ use super::end::{packed_table, plain_table, proposals, state_at, transfers};
 use super::end::{End, CALLER, PARTNER};
 use crate::host::{Buffers, Letter};
 use crate::memory::State::{Declined, Forwarded, Waiting};
+use crate::refusal::{BYTES_WAIT, SESSION_ENDED};
 use crate::session::Reply;
 use crate::sid::Mode;
 
@@ -114,11 +115,11 @@ fn our_fq_ends_the_session_when_it_is_given() {
     end.hears(b"\n");
     end.hears(b"");
     assert_eq!(end.say_up_to(2), b"\r");
-    assert_eq!(end.hear(b""), Reply { answer: 12, place: 0, count: 0 });
+    assert_eq!(end.hear(b""), Reply { answer: SESSION_ENDED, place: 0, count: 0 });
     let mut end = End::called(&plain_table(&[]));
     end.hears(b"FF\r");
     end.say_up_to(2);
-    end.refuses(b"x", 11);
+    end.refuses(b"x", BYTES_WAIT);
 }
 
 /// "Caller: we await the SID, skip text lines until the prompt, then send SID and
