@@ -2,13 +2,13 @@
 -- crates/places. Entries are bytes of one fixed size, numbers little end first, a field its length and then its bytes.
 use mathlib.Core.List.{[], _∷_, _++_}
 use Prim.Native.Nat.{ℕ, _+_, _*_, _/_, _%_, min}
-use lib.ListN.{length, getD, take, replicate}
+use lib.ListN.{length, getD, take, drop, replicate}
 use Rattle.grammar.specs.Bytes.{Bytes, byteValues, twoByteValues, threeByteValues, fourByteValues}
 use Rattle.grammar.specs.Fields.{Form, formIs}
 use Rattle.grammar.specs.Turns.{Proposal}
 use Rattle.grammar.specs.Transfers.{partOf}
 use Rattle.mail.specs.Mail.{Record, Message}
-use Rattle.places.specs.Places.{callMax, atMax, bidMax, headingMax, formAt, typeAt, fromAt, atAt, toAt, bidAt, fieldsSize, proposalSizeAt, proposalLen, statesLen, recordTitle, recordTitleLength, recordName, recordNameLength, recordBody, recordBodyLength, recordLen, knownLen, entryHeading, entryBody, entryBodyLength, entryLen}
+use Rattle.places.specs.Places.{callMax, atMax, bidMax, headingMax, formAt, typeAt, fromAt, atAt, toAt, bidAt, fieldsSize, proposalSizeAt, proposalLen, recordStates, recordFields, recordTitle, recordTitleLength, recordName, recordNameLength, recordBody, recordBodyLength, recordLen, knownLen, entryHeading, entryBody, entryBodyLength, entryLen}
 
 -- ---------------------------------------------------------------- sizes of entries
 
@@ -111,12 +111,20 @@ recordWith p title name body =
 
 abbrev pub recordOf : Bytes → Bytes → Bytes → Bytes → Record
 recordOf titles names bodies c =
-    recordWith (proposalAt statesLen c) (partOf titles (le4At c recordTitle) (byteAt c recordTitleLength))
+    recordWith (proposalAt recordFields c) (partOf titles (le4At c recordTitle) (byteAt c recordTitleLength))
     (partOf names (le4At c recordName) (byteAt c recordNameLength)) (partOf bodies (le4At c recordBody) (le2At c recordBodyLength))
 
--- Its state for a partner: a byte a partner, from its first byte on.
+-- Where it has its state for a partner: a byte a partner, from where its states begin. Nothing else says this place.
+abbrev pub statePlace : ℕ → ℕ
+statePlace partner = recordStates + partner
+
+-- Its state for a partner; sealed, so that what is said of states holds wherever they stand.
+unfoldable pub stateFor : ℕ → Bytes → ℕ
+stateFor partner c = byteAt c (statePlace partner)
+
+-- That of record i of the table.
 abbrev pub stateOf : ℕ → Bytes → ℕ → ℕ
-stateOf partner table i = byteAt table (i * recordSize + partner)
+stateOf partner table i = stateFor partner (drop (i * recordSize) table)
 
 -- ---------------------------------------------------------------- a known BID
 

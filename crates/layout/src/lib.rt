@@ -1,7 +1,7 @@
 // Lent memory: bytes and fields at their places, and the entries of the table, the known BIDs, the inbox and a block of proposals.
 use part::part;
 ghost use mathlib.Core.Path.{_≡_};
-ghost use Rattle.layout.specs.Layout.{byteAt, fieldIn, entryAt};
+ghost use Rattle.layout.specs.Layout.{byteAt, fieldIn, entryAt, stateFor};
 
 // How many values a byte has, and numbers of two, three and four bytes.
 pub const BYTE_VALUES: usize = 256;
@@ -50,4 +50,11 @@ pub fn entry(size: u8, s: &[u8], i: u16) -> &[u8]
     let n = size as usize;
     let at = (i as usize) * n;
     part(s, at, n)
+}
+
+// The state for a partner of the record in these bytes.
+pub fn state_for(partner: u8, bytes: &[u8]) -> u8
+    ensures { λ r. ⌜ r ≡ stateFor partner (now (bytes .entry)) ⌝ }
+{
+    byte_at(bytes, (places::RECORD_STATES as usize) + partner as usize)
 }

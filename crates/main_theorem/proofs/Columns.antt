@@ -10,11 +10,11 @@ use lib.ListN.{length}
 use Rattle.grammar.specs.Bytes.{Bytes}
 use Rattle.grammar.specs.Refusals.{sessionEnded}
 use Rattle.buffer.specs.Put.{cut}
-use Rattle.places.specs.Places.{recordLen}
 use Rattle.session_memory.specs.State.{loadOf, loadSizes, saveOf}
 use Rattle.session_memory.specs.Session.{Session}
 use Rattle.session_memory.specs.declared.Sizes.{Sizes}
 use Rattle.session_memory.proofs.Laws.{load-save, save-sizes-kept}
+use Rattle.marking.proofs.States.{state-stays}
 use Rattle.waiting.specs.Waiting.{waitingOf}
 use Rattle.pending.specs.Pending.{waits, overOf}
 use Rattle.give.specs.Giving.{Given, reply, handing, handedOf, giveOf}
@@ -28,7 +28,7 @@ use Rattle.form_closed.proofs.Saved.{parted, good, saved-form}
 use Rattle.form_closed.proofs.Bytes.{receive-ok}
 use Rattle.form_closed.proofs.Closed.{handed-ok, receive-one, give-one}
 use Rattle.form_closed.proofs.Columns.{column-same, column-then, receive-column}
-use Rattle.main_theorem.specs.Calls.{Lent, lentSession, Call, receives, gives, receivesOther, givesOther, received, given, leftBy, withSession, aside, run}
+use Rattle.main_theorem.specs.Calls.{Lent, lentSession, Call, receives, gives, receivesOther, givesOther, received, given, leftBy, withSession, aside, partnerIn, run}
 use Rattle.main_theorem.specs.Columns.{ColumnsClaim}
 use Rattle.main_theorem.proofs.Held.{csOf, memoryOf, GoodAs, handed-column}
 use Rattle.main_theorem.proofs.Run.{other-form, own-same}
@@ -123,4 +123,4 @@ module _ (F : Fixed) where
 pub columns-unaltered-anywhere : ColumnsClaim
 columns-unaltered-anywhere F m I cs =
     let h = run-column F cs m I refl .table in
-    record { only = h; others = λ q l ne i. h .bytes (i * recordLen + q) (λ e. ne (omega arith)) }
+    record { only = h; others = λ q l ne. state-stays (partnerIn m) q (m .table) ((run F m cs) .0 .table) l ne h }

@@ -2,16 +2,15 @@
 use mathlib.Core.Path.{_≡_, sym, subst}
 use mathlib.Core.Bool.{false}
 use mathlib.Core.List.{List, []}
-use Prim.Native.Nat.{ℕ, _+_, _*_, _<_}
-use native.Mathlib.Omega.{arith}
+use Prim.Native.Nat.{ℕ, _<_}
 use lib.Dec.{eqb}
 use Rattle.mail.specs.Mail.{Message}
 use Rattle.layout.specs.Layout.{stateOf}
 use Rattle.entries.specs.Decoded.{recordCount}
 use Rattle.represents.specs.Represents.{messagesOf}
 use Rattle.marking.specs.States.{statesOf, StatesOnly}
-use Rattle.marking.proofs.States.{column-stays}
-use Rattle.places.specs.Places.{partners, recordLen}
+use Rattle.marking.proofs.States.{state-stays, column-stays}
+use Rattle.places.specs.Places.{partners}
 use Rattle.phase.specs.Phase.{stateWaiting, stateForwarded, stateDeclined}
 use Rattle.main_theorem.specs.Calls.{OpenCall, messageCount, openedBy}
 use Rattle.main_theorem.specs.Demand3.{CallsOn, finally}
@@ -53,10 +52,10 @@ module _ (M : OpenCall) (open-accepted : openedBy M .reply .answer ≡ 0) (cs : 
   -- "the other seven columns come out of any session unaltered": every state for another partner, record by record, is the byte that open found; and so
   -- the columns as lists
   pub columns-unaltered : (q : ℕ) → q < partners → (q ≡ M .partner → ⊥) → (i : ℕ) → stateOf q (finally M cs .table) i ≡ stateOf q (M .table .bytes) i
-  columns-unaltered q h ne i = states-only .bytes (i * recordLen + q) (λ e. ne (omega arith))
+  columns-unaltered q h ne = state-stays (M .partner) q (M .table .bytes) (finally M cs .table) h ne states-only
 
   pub columns-as-lists : (q : ℕ) → q < partners → (q ≡ M .partner → ⊥) → statesOf q (finally M cs .table) ≡ statesOf q (M .table .bytes)
-  columns-as-lists q h ne = column-stays (M .partner) q (M .table .bytes) (finally M cs .table) h ne (accepted M open-accepted .table .0) states-only
+  columns-as-lists q h ne = column-stays (M .partner) q (M .table .bytes) (finally M cs .table) h ne states-only (accepted M open-accepted .table .0)
 
   -- "The inbox holds exactly the accepted messages received whole, in order, byte for byte."
   pub inbox-exactly : messagesOf (finally M cs .inbox) (finally M cs .store) (messageCount (finally M cs)) ≡ messagesBrought (done M cs)

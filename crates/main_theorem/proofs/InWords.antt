@@ -1,20 +1,19 @@
 -- DEMAND 3 over lent memory in the mission's words. Idea: the states after the calls are the log's, the log's are what its deeds say (Fates),
--- and the state of a record is its first byte.
+-- and a record's state is that of the list (state-at).
 use mathlib.Core.Path.{_≡_, sym, ap, _∙_, subst}
 use mathlib.Core.List.{List, [], map}
-use Prim.Native.Nat.{ℕ, _/_, _<_, min}
+use Prim.Native.Nat.{ℕ, _<_}
 use lib.ListN.{getD}
 use Rattle.session.specs.Choices.{Shelf}
 use Rattle.session.specs.Session as on-lists
 use Rattle.log.specs.Log.{Event, log}
 use Rattle.demand3.specs.Demand as on-lists-run
 use Rattle.demand3.specs.Demand.{GoodTable}
-use Rattle.places.specs.Places.{partners, recordLen}
+use Rattle.places.specs.Places.{partners}
 use Rattle.layout.specs.Layout.{stateOf}
 use Rattle.entries.specs.Decoded.{recordCount}
 use Rattle.marking.specs.States.{statesOf}
 use Rattle.form_closed.specs.Fixed.{Fixed}
-use Rattle.mail.specs.Mail.{recordLimit}
 use Rattle.main_theorem.specs.Calls.{Lent, fixedIn, lentIn, statesIn, isCaller}
 use Rattle.main_theorem.specs.Demand3.{finally, traced, logged}
 use Rattle.main_theorem.specs.Deeds.{deeds, Fate, messagesBrought, AsAccepted}
@@ -25,7 +24,7 @@ use Rattle.main_theorem.specs.Demand2.{callOf, shelfOf}
 use Rattle.main_theorem.proofs.Demand3.{open-as, ran, column-only, states-logged, inbox-logged}
 use Rattle.main_theorem.proofs.Deeds.{accepted-law, brought-law}
 use Rattle.main_theorem.proofs.Fates.{fates, messages}
-use Rattle.marking.proofs.States.{states-length, state-at}
+use Rattle.marking.proofs.States.{states-length, state-at, count-stays}
 
 pub in-words : ClaimInWords
 in-words M e cs =
@@ -69,7 +68,7 @@ in-words M e cs =
     whole-end = ran M e cs .held .represents .holds .shelved .table
 
     count : recordCount (m .table) ≡ recordCount (end .table)
-    count = ap (λ (n : ℕ). min recordLimit (n / recordLen)) (sym (column-only M e cs .size))
+    count = sym (count-stays (M .partner) (m .table) (end .table) (column-only M e cs))
 
     fate : (i : ℕ) → i < recordCount (m .table) → Fate i (done M cs) (getD st i 0) (getD (statesOf (M .partner) (end .table)) i 0)
     fate i h =

@@ -19,10 +19,11 @@ use Rattle.demand3.specs.Demand as on-lists-run
 use Rattle.demand3.specs.Demand.{allProposable}
 use Rattle.demand3.specs.Tally as on-lists-tally
 use Rattle.demand3.proofs.Tally.{tally-on-lists}
-use Rattle.layout.specs.Layout.{byteAt, recordOf, recordSize}
+use Rattle.layout.specs.Layout.{recordOf, recordSize}
 use Rattle.entries.specs.Decoded.{recordCount, recordsOf}
 use Rattle.entries.proofs.Laws.{entries-length}
 use Rattle.marking.specs.States.{statesOf}
+use Rattle.marking.proofs.States.{states-length}
 use Rattle.session_memory.specs.State.{loadOf, loadTally}
 use Rattle.sheet.specs.declared.Sheet.{Sheet}
 use Rattle.tally.specs.Tally.{sizesRange}
@@ -54,9 +55,8 @@ sizes-small (r ∷ T) (x ∷ st) e = go (eqb x 0) (sizes-small T st (p .1))
 
 -- a state for each record
 states-each : (ti na bo t : Bytes) (p : ℕ) → length (statesOf p t) ≡ length (recordsOf ti na bo t)
-unfolding statesOf recordsOf
-states-each ti na bo t p =
-    entries-length (λ (c : Bytes). byteAt c p) recordSize t 0 (recordCount t) ∙ sym (entries-length (recordOf ti na bo) recordSize t 0 (recordCount t))
+unfolding recordsOf
+states-each ti na bo t p = states-length p t ∙ sym (entries-length (recordOf ti na bo) recordSize t 0 (recordCount t))
 
 -- ---------------------------------------------------------------- bytes and counts
 

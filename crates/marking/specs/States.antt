@@ -5,20 +5,20 @@ use mathlib.Core.List.{List, [], _∷_}
 use Prim.Native.Nat.{ℕ, suc, _+_, _*_, _%_}
 use lib.ListN.{length, set}
 use Rattle.grammar.specs.Bytes.{Bytes}
-use Rattle.layout.specs.Layout.{byteAt, recordSize}
+use Rattle.layout.specs.Layout.{byteAt, recordSize, statePlace, stateFor}
 use Rattle.entries.specs.Decoded.{entries, recordCount}
 
--- The table's states for partner p: byte p of each record.
+-- The table's states for partner p, a state a record.
 unfoldable pub statesOf : ℕ → Bytes → List ℕ
-statesOf p table = entries (λ (c : Bytes). byteAt c p) recordSize table (recordCount table)
+statesOf p table = entries (stateFor p) recordSize table (recordCount table)
 
 -- Byte i of the table is a state for partner p.
 abbrev pub InColumn : ℕ → ℕ → Type 0
-InColumn p i = i % recordSize ≡ p
+InColumn p i = i % recordSize ≡ statePlace p
 
 -- Record i gets this state for partner p.
 unfoldable pub setState : ℕ → Bytes → ℕ → ℕ → Bytes
-setState p table i v = set table (i * recordSize + p) v
+setState p table i v = set table (i * recordSize + statePlace p) v
 
 -- The records at these places get this state for partner p; "Nothing else in the table changes."
 abbrev pub markAll : ℕ → List ℕ → ℕ → Bytes → Bytes

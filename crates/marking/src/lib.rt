@@ -9,7 +9,8 @@ ghost use Rattle.marking.specs.States.{setState, markAll};
 pub fn set_state(table: &mut [u8], partner: u8, i: u8, state: u8)
     ensures { λ _. ⌜ now (table .exit) ≡ setState partner (now (table .entry)) i state ⌝ }
 {
-    let at = (i as usize) * (places::RECORD as usize) + partner as usize;
+    let place = (places::RECORD_STATES as usize) + partner as usize;
+    let at = (i as usize) * (places::RECORD as usize) + place;
     if table.len() <= at {
         return;
     }

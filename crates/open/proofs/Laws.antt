@@ -14,7 +14,7 @@ use Rattle.grammar.specs.Refusals.{badMemory, noPlace}
 use Rattle.grammar.proofs.Basics.{and2, told, told-not}
 use Rattle.session.specs.Choices.{among}
 use Rattle.phase.specs.Phase.{stateDeclined}
-use Rattle.layout.specs.Layout.{byteAt, fieldIn, entryAt, recordSize, knownSize}
+use Rattle.layout.specs.Layout.{fieldIn, entryAt, recordSize, knownSize, stateFor}
 use Rattle.session_memory.specs.State.{sessionSize, saveOf, saveSizes, freshOf}
 use Rattle.session_memory.specs.declared.Sizes.{Sizes}
 use Rattle.session_memory.specs.declared.Tally.{Tally}
@@ -91,16 +91,16 @@ module _ (known : Bytes) (i n : ℕ) where
 -- ---------------------------------------------------------------- the states from partner p on
 
 module _ (c : Bytes) (p n : ℕ) where
-  states-next : p < n → statesFrom c p (n - p) ≡ (leb (byteAt c p) stateDeclined && statesFrom c (p + 1) (n - (p + 1)))
+  states-next : p < n → statesFrom c p (n - p) ≡ (leb (stateFor p c) stateDeclined && statesFrom c (p + 1) (n - (p + 1)))
   states-next h =
       let e : n - p ≡ suc (n - (p + 1)) = omega arith in
       rw (e, add-one p)
 
-  pub states-more : p < n → {b : ℕ} → b ≡ byteAt c p → b ≤ stateDeclined → statesFrom c p (n - p) ≡ statesFrom c (p + 1) (n - (p + 1))
+  pub states-more : p < n → {b : ℕ} → b ≡ stateFor p c → b ≤ stateDeclined → statesFrom c p (n - p) ≡ statesFrom c (p + 1) (n - (p + 1))
   states-more h e l =
       states-next h ∙ ap (λ (x : Bool). x && statesFrom c (p + 1) (n - (p + 1))) (ap (λ (x : ℕ). leb x stateDeclined) (sym e) ∙ le-leb _ stateDeclined l)
 
-  pub states-stop : p < n → {b : ℕ} → b ≡ byteAt c p → stateDeclined < b → false ≡ statesFrom c p (n - p)
+  pub states-stop : p < n → {b : ℕ} → b ≡ stateFor p c → stateDeclined < b → false ≡ statesFrom c p (n - p)
   states-stop h e l =
       sym (states-next h ∙ ap (λ (x : Bool). x && statesFrom c (p + 1) (n - (p + 1))) (ap (λ (x : ℕ). leb x stateDeclined) (sym e) ∙ lt-leb _ stateDeclined l))
 

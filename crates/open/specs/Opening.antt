@@ -13,7 +13,7 @@ use Rattle.mail.specs.Mail.{recordLimit, placeLimit}
 use Rattle.session.specs.Choices.{among}
 use Rattle.phase.specs.Phase.{stateDeclined}
 use Rattle.places.specs.Places.{atMax, bidMax, callMax, partners, recordAt, recordBid, recordBody, recordBodyLength, recordForm, recordFrom, recordName, recordNameLength, recordSizeAt, recordTitle, recordTitleLength, recordTo, recordType}
-use Rattle.layout.specs.Layout.{byteAt, le2At, le4At, fieldIn, entryAt, recordSize, knownSize, entrySize}
+use Rattle.layout.specs.Layout.{byteAt, le2At, le4At, fieldIn, entryAt, recordSize, knownSize, entrySize, stateFor}
 use Rattle.record_text.specs.Texts.{fileForm}
 use Rattle.session_memory.specs.State.{sessionSize, saveOf, saveSizes, freshOf}
 use Rattle.session_memory.specs.Session.{Session}
@@ -35,7 +35,7 @@ lengthOk c at n = leb (byteAt c at) n
 -- "a state (0 waiting, 1 forwarded, 2 declined)", now "one state a partner, 0 to 7": n of them from partner p on
 abbrev pub statesFrom : Bytes → ℕ → ℕ → Bool
 statesFrom c p zero = true
-statesFrom c p (suc n) = leb (byteAt c p) stateDeclined && statesFrom c (suc p) n
+statesFrom c p (suc n) = leb (stateFor p c) stateDeclined && statesFrom c (suc p) n
 
 unfoldable pub statesOk : Bytes → Bool
 statesOk c = statesFrom c 0 partners

@@ -3,6 +3,7 @@ use give::NO_PLACE;
 use give::Reply;
 use layout::byte_at;
 use layout::entry;
+use layout::state_for;
 use number_read::number2;
 use number_read::number4;
 use part::part;
@@ -87,7 +88,7 @@ fn states_ok(c: &[u8]) -> bool
 {
     let mut p = 0u8;
     while p < places::PARTNERS {
-        if phase::STATE_DECLINED < byte_at(c, p as usize) {
+        if phase::STATE_DECLINED < state_for(p, c) {
             return false;
         }
         p += 1;

@@ -22,10 +22,10 @@ use Rattle.session.specs.Choices.{among}
 use Rattle.mail.specs.Mail.{Record, noRecord}
 use Rattle.phase.specs.Phase.{stateWaiting, stateForwarded, stateDeclined}
 use Rattle.places.specs.Places.{atMax, bidMax, callMax, partners, recordAt, recordBid, recordBody, recordBodyLength, recordForm, recordFrom, recordName, recordNameLength, recordSizeAt, recordTitle, recordTitleLength, recordTo, recordType}
-use Rattle.layout.specs.Layout.{byteAt, le2At, le4At, fieldIn, recordSize, recordOf}
+use Rattle.layout.specs.Layout.{byteAt, le2At, le4At, fieldIn, recordSize, recordOf, stateFor}
 use Rattle.entries.specs.Decoded.{entriesFrom, entries, recordCount, recordsOf}
 use Rattle.entries.proofs.Laws.{entries-at, entries-length}
-use Rattle.marking.specs.States.{statesOf}
+use Rattle.marking.proofs.States.{state-read}
 use Rattle.open.specs.Opening.{lengthOk, statesFrom, statesOk, numbersOk, fieldsOk, within, headingOk, textsOk, recordOk, placeOk}
 use Rattle.open_accepts.specs.Words.{Callsign, At, Bid, Field, Lies, Headed, Bodied, NeedsTitle, NeedsName, bodyMost}
 use Rattle.open.specs.Lending.{Lending}
@@ -199,27 +199,27 @@ module _ (L : Lending) (c : Bytes) where
   abbrev form : ℕ
   form = byteAt c recordForm
 
-  states-only : (n p : ℕ) → statesFrom c p n ≡ true → (q : ℕ) → p ≤ q → q < p + n → leb (byteAt c q) stateDeclined ≡ true
+  states-only : (n p : ℕ) → statesFrom c p n ≡ true → (q : ℕ) → p ≤ q → q < p + n → leb (stateFor q c) stateDeclined ≡ true
   states-only zero p e q h k = absurd (omega arith)
   states-only (suc n) p e q h k =
-      let z = and2 (leb (byteAt c p) stateDeclined) (statesFrom c (suc p) n) e in go (z .0) (eqb q p) refl (states-only n (suc p) (z .1) q)
+      let z = and2 (leb (stateFor p c) stateDeclined) (statesFrom c (suc p) n) e in go (z .0) (eqb q p) refl (states-only n (suc p) (z .1) q)
     where
-      go : leb (byteAt c p) stateDeclined ≡ true → (t : Bool) → eqb q p ≡ t → (suc p ≤ q → q < suc p + n → leb (byteAt c q) stateDeclined ≡ true) → leb (byteAt c q) stateDeclined ≡ true
-      go y true f ih = ap (λ (x : ℕ). leb (byteAt c x) stateDeclined) (eqb-true q p f) ∙ y
+      go : leb (stateFor p c) stateDeclined ≡ true → (t : Bool) → eqb q p ≡ t → (suc p ≤ q → q < suc p + n → leb (stateFor q c) stateDeclined ≡ true) → leb (stateFor q c) stateDeclined ≡ true
+      go y true f ih = ap (λ (x : ℕ). leb (stateFor x c) stateDeclined) (eqb-true q p f) ∙ y
       go y false f ih = let z = eqb-false q p f in ih (omega arith) (omega arith)
 
-  states-if : (n p : ℕ) → ((q : ℕ) → p ≤ q → q < p + n → leb (byteAt c q) stateDeclined ≡ true) → statesFrom c p n ≡ true
+  states-if : (n p : ℕ) → ((q : ℕ) → p ≤ q → q < p + n → leb (stateFor q c) stateDeclined ≡ true) → statesFrom c p n ≡ true
   states-if zero p h = refl
-  states-if (suc n) p h = both (leb (byteAt c p) stateDeclined) (statesFrom c (suc p) n) (h p (omega arith) (omega arith)) (states-if n (suc p) (λ q k l. h q (omega arith) (omega arith)))
+  states-if (suc n) p h = both (leb (stateFor p c) stateDeclined) (statesFrom c (suc p) n) (h p (omega arith) (omega arith)) (states-if n (suc p) (λ q k l. h q (omega arith) (omega arith)))
 
   abbrev States : Type 0
-  States = (p : ℕ) → p < partners → IsState (byteAt c p)
+  States = (p : ℕ) → p < partners → IsState (stateFor p c)
 
   states-decide : Decides (statesOk c) States
   unfolding statesOk
   states-decide = (
-    λ e p h. state-decides (byteAt c p) .0 (states-only partners 0 e p (omega arith) (omega arith)),
-    λ h. states-if partners 0 (λ q a k. state-decides (byteAt c q) .1 (h q (omega arith))),
+    λ e p h. state-decides (stateFor p c) .0 (states-only partners 0 e p (omega arith) (omega arith)),
+    λ h. states-if partners 0 (λ q a k. state-decides (stateFor q c) .1 (h q (omega arith))),
   )
 
   numbers-decide : Decides (numbersOk c) (States × ((form ≡ formNumber (r .form)) × (IsType (r .type) × (r .size ≤ sizeMost))))
@@ -255,7 +255,7 @@ module _ (L : Lending) (c : Bytes) where
       (headed-decides (L .names) (le4At c recordName) (byteAt c recordNameLength) (eqb form (formNumber file)) (NeedsName (r .form)) (needs-name form))
       (bodied-decides (L .bodies) (le4At c recordBody) (le2At c recordBodyLength) (r .form)))
 
-  pub record-decides : Decides (recordOk c (L .titles) (L .names) (L .bodies)) (GoodRecord L (byteAt c) c r)
+  pub record-decides : Decides (recordOk c (L .titles) (L .names) (L .bodies)) (GoodRecord L (λ (p : ℕ). stateFor p c) c r)
   unfolding recordOk
   record-decides =
       as-well (both-decide (numbersOk c) (fieldsOk c && textsOk c (L .titles) (L .names) (L .bodies)) numbers-decide
@@ -310,9 +310,8 @@ module _ (L : Lending) where
   unfolding recordsOf
   record-there i h = entries-at (recordOf (L .titles) (L .names) (L .bodies)) recordSize (L .table) count i noRecord h
 
-  state-there : (i : ℕ) → i < count → (p : ℕ) → stateIn L p i ≡ byteAt (bytesIn L i) p
-  unfolding statesOf
-  state-there i h p = entries-at (λ (c : Bytes). byteAt c p) recordSize (L .table) count i 0 h
+  state-there : (i : ℕ) → i < count → (p : ℕ) → stateIn L p i ≡ stateFor p (bytesIn L i)
+  state-there i h p = state-read p (L .table) i h
 
   bid-there : (i : ℕ) → i < count → recordIn L i .bid ≡ bidAt i
   bid-there i h = ap (λ (x : Record). x .bid) (record-there i h)
@@ -360,5 +359,5 @@ module _ (L : Lending) where
   unfolding placeOk
   place-decides i h =
       as-well (both-decide (recordOk (bytesIn L i) (L .titles) (L .names) (L .bodies)) _ (record-decides L (bytesIn L i)) (new-decides i h))
-      (λ p. record { good = other-states L (byteAt (bytesIn L i)) (λ (q : ℕ). stateIn L q i) (bytesIn L i) (recordIn L i) (λ q. sym (state-there i h q)) (subst (λ (x : Record). GoodRecord L (byteAt (bytesIn L i)) (bytesIn L i) x) (sym (record-there i h)) (p .0)); new = p .1 })
-      (λ g. (subst (λ (x : Record). GoodRecord L (byteAt (bytesIn L i)) (bytesIn L i) x) (record-there i h) (other-states L (λ (q : ℕ). stateIn L q i) (byteAt (bytesIn L i)) (bytesIn L i) (recordIn L i) (state-there i h) (g .good)), g .new))
+      (λ p. record { good = other-states L (λ (q : ℕ). stateFor q (bytesIn L i)) (λ (q : ℕ). stateIn L q i) (bytesIn L i) (recordIn L i) (λ q. sym (state-there i h q)) (subst (λ (x : Record). GoodRecord L (λ (q : ℕ). stateFor q (bytesIn L i)) (bytesIn L i) x) (sym (record-there i h)) (p .0)); new = p .1 })
+      (λ g. (subst (λ (x : Record). GoodRecord L (λ (q : ℕ). stateFor q (bytesIn L i)) (bytesIn L i) x) (record-there i h) (other-states L (λ (q : ℕ). stateIn L q i) (λ (q : ℕ). stateFor q (bytesIn L i)) (bytesIn L i) (recordIn L i) (state-there i h) (g .good)), g .new))

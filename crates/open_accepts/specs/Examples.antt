@@ -11,7 +11,7 @@ use Rattle.grammar.specs.Fields.{formNumber, plain, file}
 use Rattle.grammar.specs.Refusals.{badMemory, noPlace}
 use Rattle.phase.specs.Phase.{stateWaiting, stateForwarded, stateDeclined}
 use Rattle.places.specs.Places.{recordForm, recordType, recordFrom, recordAt, recordTo, recordBid, recordSizeAt, recordTitle, recordTitleLength, recordName, recordBodyLength, recordLen, entryLen, sessionLen, bidMax, partners}
-use Rattle.layout.specs.Layout.{le2, le4, proposalOut, fieldOut}
+use Rattle.layout.specs.Layout.{le2, le4, proposalOut, fieldOut, statePlace}
 use Rattle.marking.specs.States.{statesOf}
 use Rattle.give.specs.Giving.{reply}
 use Rattle.give.specs.declared.Reply.{Reply}
@@ -105,7 +105,7 @@ badBeforeRecords =
 -- One byte of a good record changed: the state for partner 0, for the session's, for the last one; form, type, from, at, to, BID, size, title, name and body, each out of its rule or out of its store.
 abbrev pub slips : List Bytes
 slips =
-    set first 0 3 ∷ set first aPartner 3 ∷ set first lastPartner 3 ∷ set first recordForm 3 ∷ set first recordType SP ∷ set first recordFrom 0 ∷ set first recordFrom 7 ∷ set first (recordAt + 1) point
+    set first (statePlace 0) 3 ∷ set first (statePlace aPartner) 3 ∷ set first (statePlace lastPartner) 3 ∷ set first recordForm 3 ∷ set first recordType SP ∷ set first recordFrom 0 ∷ set first recordFrom 7 ∷ set first (recordAt + 1) point
     ∷ set first recordAt 39 ∷ set first (recordTo + 1) atSign ∷ set first (recordBid + 1) SP ∷ set first recordBid 13 ∷ set first (recordSizeAt + 2) 16
     ∷ set first recordTitle 1 ∷ set first recordTitleLength 0 ∷ set first recordName 6 ∷ set first recordForm (formNumber file)
     ∷ set first recordBodyLength 9 ∷ set first recordBodyLength 10 ∷ []
@@ -117,7 +117,7 @@ badAlone table = gets (holding table) (badAt 0)
 abbrev pub badLater : List Example
 badLater =
     gets (holding (second ++ set first recordForm 3)) (badAt 1) ∷ gets (holding (first ++ (second ++ first))) (badAt 2) ∷ gets (holding (first ++ small)) (badAt 1)
-    ∷ gets (holding (first ++ (set second 0 3 ++ set third 0 3))) (badAt 1) ∷ []
+    ∷ gets (holding (first ++ (set second (statePlace 0) 3 ++ set third (statePlace 0) 3))) (badAt 1) ∷ []
 
 abbrev pub examples : List Example
 examples = goodOnes ++ (badBeforeRecords ++ (map badAlone slips ++ badLater))

@@ -1,5 +1,5 @@
 -- Our block for partner p, from a record on: it passes a record that is not wanted, adds one that is while it has room, and is whole at the table's end.
-use mathlib.Core.Path.{_≡_, refl, sym, ap, _∙_}
+use mathlib.Core.Path.{_≡_, refl, sym, ap, _∙_, subst}
 use mathlib.Core.Bool.{Bool, true, false, cond, not, _&&_}
 use mathlib.Core.List.{List, [], _∷_, _++_, append-nil}
 use Prim.Native.Nat.{ℕ, zero, suc, _+_, _-_, _*_, _<_, _≤_}
@@ -15,12 +15,13 @@ use Rattle.grammar.specs.Turns.{inMode, ourBlock, blockLimit, announcedLimit}
 use Rattle.mail.specs.Mail.{Record, noRecord}
 use Rattle.session.specs.Choices.{wanted, candidates, sizeAt, chosen}
 use Rattle.places.specs.Places.{recordSizeAt}
-use Rattle.layout.specs.Layout.{byteAt, le4At, entryAt, recordOf, recordSize}
+use Rattle.layout.specs.Layout.{le4At, entryAt, recordOf, recordSize, stateFor}
 use Rattle.layout.proofs.Laws.{le4-small}
 use Rattle.session_memory.specs.State.{held, fiveOf}
 use Rattle.session_memory.specs.declared.Five.{Five}
 use Rattle.entries.specs.Decoded.{entriesFrom, entries, recordCount, recordsOf}
 use Rattle.marking.specs.States.{statesOf}
+use Rattle.marking.proofs.States.{state-read}
 use Rattle.our_turn.specs.Turn.{chooseOf}
 use Rattle.five.specs.Filled.{Filled}
 use Rattle.entries.proofs.Laws.{entries-more, entries-all, entries-end, entries-at}
@@ -47,64 +48,64 @@ module _ (p : ℕ) (table : Bytes) (framed : Bool) (flags : List ℕ) (n : ℕ) 
   abbrev T : List Record
   T = entries (recordOf [] [] []) recordSize table n
 
-  abbrev states : List ℕ
-  states = entries (λ (c : Bytes). byteAt c p) recordSize table n
-
   -- what is chosen from record i on, where k records of b bytes in all are in
   abbrev pub blockFrom : ℕ → ℕ → ℕ → List ℕ
-  blockFrom i k b = ourBlock (sizeAt T) k b (candidates framed states flags i (entriesFrom (recordOf [] [] []) recordSize table i (n - i)))
+  blockFrom i k b = ourBlock (sizeAt T) k b (candidates framed (statesOf p table) flags i (entriesFrom (recordOf [] [] []) recordSize table i (n - i)))
 
   abbrev pub isWanted : ℕ → Bool
-  isWanted i = wanted framed (recordOf [] [] [] (entryAt recordSize table i)) (byteAt (entryAt recordSize table i) p) (getD flags i 0)
-
-  pub block-pass : (i k b : ℕ) → i < n → isWanted i ≡ false → blockFrom i k b ≡ blockFrom (i + 1) k b
-  block-pass i k b h e =
-      rw (entries-more (recordOf [] [] []) recordSize table i n h, entries-at (λ (c : Bytes). byteAt c p) recordSize table n i 0 h, e, add-one i)
+  isWanted i = wanted framed (recordOf [] [] [] (entryAt recordSize table i)) (stateFor p (entryAt recordSize table i)) (getD flags i 0)
 
   -- record i, which is wanted: it is added while the block has room
   abbrev addedOr : ℕ → ℕ → ℕ → ℕ → List ℕ
   addedOr i k b size = cond (ltb k blockLimit && ltb b announcedLimit) (i ∷ blockFrom (i + 1) (k + 1) (b + size)) []
 
-  block-step : (i k b : ℕ) → i < n → isWanted i ≡ true → blockFrom i k b ≡ addedOr i k b (sizeAt T i)
-  block-step i k b h e =
-      rw (entries-more (recordOf [] [] []) recordSize table i n h, entries-at (λ (c : Bytes). byteAt c p) recordSize table n i 0 h, e, add-one i)
-
-  block-next : (i k b : ℕ) → i < n → isWanted i ≡ true → blockFrom i k b ≡ addedOr i k b (le4At (entryAt recordSize table i) recordSizeAt)
-  block-next i k b h e =
-      block-step i k b h e ∙ ap (λ (r : Record). addedOr i k b (r .size)) (entries-at (recordOf [] [] []) recordSize table n i noRecord h)
-
-  pub block-more : (i k b : ℕ) → i < n → isWanted i ≡ true → k < blockLimit → b < announcedLimit
-      → blockFrom i k b ≡ i ∷ blockFrom (i + 1) (k + 1) (b + le4At (entryAt recordSize table i) recordSizeAt)
-  block-more i k b h e l m = block-next i k b h e ∙ rw (lt-ltb k blockLimit l, lt-ltb b announcedLimit m)
-
-  pub block-five : (i k b : ℕ) → i < n → isWanted i ≡ true → blockLimit ≤ k → blockFrom i k b ≡ []
-  block-five i k b h e l = block-next i k b h e ∙ rw (le-ltb k blockLimit l)
-
-  pub block-full : (i k b : ℕ) → i < n → isWanted i ≡ true → k < blockLimit → announcedLimit ≤ b → blockFrom i k b ≡ []
-  block-full i k b h e l m = block-next i k b h e ∙ rw (lt-ltb k blockLimit l, le-ltb b announcedLimit m)
-
   pub block-end : (i k b : ℕ) → n ≤ i → blockFrom i k b ≡ []
   block-end i k b h = rw (entries-end (recordOf [] [] []) recordSize table i n h)
+
+  module _ (count : n ≡ recordCount table) where
+    pub block-pass : (i k b : ℕ) → i < n → isWanted i ≡ false → blockFrom i k b ≡ blockFrom (i + 1) k b
+    block-pass i k b h e =
+        rw (entries-more (recordOf [] [] []) recordSize table i n h, state-read p table i (subst (λ (m : ℕ). i < m) count h), e, add-one i)
+
+    block-step : (i k b : ℕ) → i < n → isWanted i ≡ true → blockFrom i k b ≡ addedOr i k b (sizeAt T i)
+    block-step i k b h e =
+        rw (entries-more (recordOf [] [] []) recordSize table i n h, state-read p table i (subst (λ (m : ℕ). i < m) count h), e, add-one i)
+
+    block-next : (i k b : ℕ) → i < n → isWanted i ≡ true → blockFrom i k b ≡ addedOr i k b (le4At (entryAt recordSize table i) recordSizeAt)
+    block-next i k b h e =
+        block-step i k b h e ∙ ap (λ (r : Record). addedOr i k b (r .size)) (entries-at (recordOf [] [] []) recordSize table n i noRecord h)
+
+    pub block-more : (i k b : ℕ) → i < n → isWanted i ≡ true → k < blockLimit → b < announcedLimit
+        → blockFrom i k b ≡ i ∷ blockFrom (i + 1) (k + 1) (b + le4At (entryAt recordSize table i) recordSizeAt)
+    block-more i k b h e l m = block-next i k b h e ∙ rw (lt-ltb k blockLimit l, lt-ltb b announcedLimit m)
+
+    pub block-five : (i k b : ℕ) → i < n → isWanted i ≡ true → blockLimit ≤ k → blockFrom i k b ≡ []
+    block-five i k b h e l = block-next i k b h e ∙ rw (le-ltb k blockLimit l)
+
+    pub block-full : (i k b : ℕ) → i < n → isWanted i ≡ true → k < blockLimit → announcedLimit ≤ b → blockFrom i k b ≡ []
+    block-full i k b h e l m = block-next i k b h e ∙ rw (lt-ltb k blockLimit l, le-ltb b announcedLimit m)
 
 -- ---------------------------------------------------------------- the loop
 
 -- records are being chosen: those held, then what is chosen from record i on, are the whole; total has room for one size more
 pub record Choosing (p : ℕ) (table : Bytes) (framed : Bool) (flags : List ℕ) (n : ℕ) (places : Five) (total i : ℕ) : Type 0 where
+  pub count : n ≡ recordCount table
   pub filled : Filled places
   pub small : total < announcedLimit + fourByteValues
   pub whole : blockFrom p table framed flags n 0 0 0 ≡ held places ++ blockFrom p table framed flags n i (places .count) total
 
 module _ (p : ℕ) (table : Bytes) (framed : Bool) (flags : List ℕ) (n : ℕ) where
-  pub choosing-none : {f : Five} → f ≡ fiveOf [] → Choosing p table framed flags n f 0 0
-  choosing-none {f} e = rw e (record { filled = refl; small = omega arith; whole = refl })
+  pub choosing-none : n ≡ recordCount table → {f : Five} → f ≡ fiveOf [] → Choosing p table framed flags n f 0 0
+  choosing-none k {f} e = rw e (record { count = k; filled = refl; small = omega arith; whole = refl })
 
   module _ {places : Five} {total i : ℕ} (c : Choosing p table framed flags n places total i) (h : i < n) where
     pub choosing-pass : isWanted p table framed flags n i ≡ false → Choosing p table framed flags n places total (i + 1)
     choosing-pass e =
         record {
+          count = c .count;
           filled = c .filled;
           small = c .small;
-          whole = c .whole ∙ ap (λ (l : List ℕ). held places ++ l) (block-pass p table framed flags n i (places .count) total h e);
+          whole = c .whole ∙ ap (λ (l : List ℕ). held places ++ l) (block-pass p table framed flags n (c .count) i (places .count) total h e);
         }
 
     pub choosing-add : isWanted p table framed flags n i ≡ true → places .count < blockLimit → total < announcedLimit → {f : Five} {size : ℕ} → f ≡ fiveOf (held places ++ (i ∷ []))
@@ -113,27 +114,28 @@ module _ (p : ℕ) (table : Bytes) (framed : Bool) (flags : List ℕ) (n : ℕ) 
         let xs = held places ++ (i ∷ []) in
         let d : f .count ≡ places .count + 1 = five-next f places i (c .filled) e in
         record {
+          count = c .count;
           filled = five-filled f xs e;
           small = omega arith;
           whole =
               c .whole
-              ∙ rw (block-more p table framed flags n i (places .count) total h w k b, ← s, five-held f xs e, d)
+              ∙ rw (block-more p table framed flags n (c .count) i (places .count) total h w k b, ← s, five-held f xs e, d)
               (sym (append-snoc (held places) i (blockFrom p table framed flags n (i + 1) (places .count + 1) (total + size))));
         }
 
   chosen-all : n ≡ recordCount table → chosen (recordsOf [] [] [] table) framed (statesOf p table) flags ≡ blockFrom p table framed flags n 0 0 0
-  unfolding chosen recordsOf statesOf
+  unfolding chosen recordsOf
   chosen-all e =
       rw (← e)
-      (ap (λ (l : List Record). ourBlock (sizeAt (T p table framed flags n)) 0 0 (candidates framed (states p table framed flags n) flags 0 l))
+      (ap (λ (l : List Record). ourBlock (sizeAt (T p table framed flags n)) 0 0 (candidates framed (statesOf p table) flags 0 l))
       (entries-all (recordOf [] [] []) recordSize table n))
 
-  pub chosen-now : {places : Five} {total i : ℕ} → n ≡ recordCount table → Choosing p table framed flags n places total i
+  pub chosen-now : {places : Five} {total i : ℕ} → Choosing p table framed flags n places total i
       → blockFrom p table framed flags n i (places .count) total ≡ [] → places ≡ chooseOf p table framed flags
   unfolding chooseOf
-  chosen-now {places} {total} {i} e c h =
+  chosen-now {places} {total} {i} c h =
       let w : blockFrom p table framed flags n 0 0 0 ≡ held places = c .whole ∙ ap (λ (l : List ℕ). held places ++ l) h ∙ append-nil (held places) in
-      c .filled ∙ ap fiveOf (sym w ∙ sym (chosen-all e))
+      c .filled ∙ ap fiveOf (sym w ∙ sym (chosen-all (c .count)))
 
 -- ---------------------------------------------------------------- for callers
 

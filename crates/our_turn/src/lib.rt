@@ -3,6 +3,7 @@ use five::add;
 use five::none;
 use layout::byte_at;
 use layout::entry;
+use layout::state_for;
 use next_awaited::to_turn;
 use number_read::number4;
 use numbers::AwaitNumbers;
@@ -14,7 +15,7 @@ ghost use mathlib.Core.List.{[]};
 ghost use Rattle.grammar.specs.Fields.{formIs};
 ghost use Rattle.grammar.specs.Turns.{inMode};
 ghost use Rattle.session.specs.Choices.{wanted};
-ghost use Rattle.layout.specs.Layout.{byteAt, recordOf};
+ghost use Rattle.layout.specs.Layout.{recordOf, stateFor};
 ghost use Rattle.numbers.specs.Whole.{Arrays, withDeferred, sessionOf};
 ghost use Rattle.our_turn.specs.Turn.{chooseOf, speakOf};
 
@@ -36,12 +37,12 @@ fn in_mode(framed: bool, form: u8) -> bool
 
 // The record in these bytes waits for the partner, is of the mode's form and was not deferred.
 fn wanted(partner: u8, framed: bool, bytes: &[u8], flag: u8) -> bool
-    ensures { λ r. ⌜ r ≡ wanted framed (recordOf [] [] [] (now (bytes .entry))) (byteAt (now (bytes .entry)) partner) flag ⌝ }
+    ensures { λ r. ⌜ r ≡ wanted framed (recordOf [] [] [] (now (bytes .entry))) (stateFor partner (now (bytes .entry))) flag ⌝ }
 {
     if !in_mode(framed, byte_at(bytes, places::RECORD_FORM as usize)) {
         return false;
     }
-    if byte_at(bytes, partner as usize) != phase::STATE_WAITING {
+    if state_for(partner, bytes) != phase::STATE_WAITING {
         return false;
     }
     flag == 0

@@ -63,29 +63,36 @@ partners = 8
 abbrev pub statesLen : ℕ
 statesLen = partners
 
+-- where its states begin, and where a proposal's parts do
+abbrev pub recordStates : ℕ
+recordStates = 0
+
+abbrev pub recordFields : ℕ
+recordFields = recordStates + statesLen
+
 abbrev pub recordForm : ℕ
-recordForm = statesLen + formAt
+recordForm = recordFields + formAt
 
 abbrev pub recordType : ℕ
-recordType = statesLen + typeAt
+recordType = recordFields + typeAt
 
 abbrev pub recordFrom : ℕ
-recordFrom = statesLen + fromAt
+recordFrom = recordFields + fromAt
 
 abbrev pub recordAt : ℕ
-recordAt = statesLen + atAt
+recordAt = recordFields + atAt
 
 abbrev pub recordTo : ℕ
-recordTo = statesLen + toAt
+recordTo = recordFields + toAt
 
 abbrev pub recordBid : ℕ
-recordBid = statesLen + bidAt
+recordBid = recordFields + bidAt
 
 abbrev pub recordSizeAt : ℕ
-recordSizeAt = statesLen + proposalSizeAt
+recordSizeAt = recordFields + proposalSizeAt
 
 abbrev pub recordTitle : ℕ
-recordTitle = statesLen + proposalLen
+recordTitle = recordFields + proposalLen
 
 abbrev pub recordTitleLength : ℕ
 recordTitleLength = recordTitle + 4

@@ -40,21 +40,26 @@ pub const PARTNERS: u8 = 8;
 // A record of the table: its states, a byte a partner, then a proposal's parts, then where title, name and body lie, each a start of 4 bytes and a length.
 pub const STATES: u8 = PARTNERS;
 
-pub const RECORD_FORM: u8 = STATES + FORM;
+// Where its states begin, and where a proposal's parts do.
+pub const RECORD_STATES: u8 = 0;
 
-pub const RECORD_TYPE: u8 = STATES + TYPE;
+pub const RECORD_FIELDS: u8 = RECORD_STATES + STATES;
 
-pub const RECORD_FROM: u8 = STATES + FROM;
+pub const RECORD_FORM: u8 = RECORD_FIELDS + FORM;
 
-pub const RECORD_AT: u8 = STATES + AT;
+pub const RECORD_TYPE: u8 = RECORD_FIELDS + TYPE;
 
-pub const RECORD_TO: u8 = STATES + TO;
+pub const RECORD_FROM: u8 = RECORD_FIELDS + FROM;
 
-pub const RECORD_BID: u8 = STATES + BID;
+pub const RECORD_AT: u8 = RECORD_FIELDS + AT;
 
-pub const RECORD_SIZE_FIELD: u8 = STATES + PROPOSAL_SIZE;
+pub const RECORD_TO: u8 = RECORD_FIELDS + TO;
 
-pub const RECORD_TITLE: u8 = STATES + PROPOSAL;
+pub const RECORD_BID: u8 = RECORD_FIELDS + BID;
+
+pub const RECORD_SIZE_FIELD: u8 = RECORD_FIELDS + PROPOSAL_SIZE;
+
+pub const RECORD_TITLE: u8 = RECORD_FIELDS + PROPOSAL;
 
 pub const RECORD_TITLE_LEN: u8 = RECORD_TITLE + 4;
 

@@ -16,7 +16,7 @@ use Rattle.buffer.specs.Put.{wrote, putBytes, putCursor}
 use Rattle.buffer.proofs.Laws.{wrote-length}
 use Rattle.session_memory.specs.declared.Sizes.{Sizes}
 use Rattle.entries.specs.Decoded.{recordsOf, knownBids}
-use Rattle.marking.specs.States.{statesOf}
+use Rattle.marking.proofs.States.{states-end}
 use Rattle.open.specs.Lending.{roleCalled}
 use Rattle.open.specs.Opening.{knownOk, sizesOk, tableFault, openOf}
 use Rattle.receive_defined.specs.Receiving.{Cs}
@@ -134,8 +134,7 @@ module _ (s : Station) (l : Lends s) where
   shelf-is = rw (l .inbox, l .store)
 
   no-states : statesIn call ≡ []
-  unfolding statesOf
-  no-states = refl
+  no-states = states-end firstPartner [] 0 (omega arith)
 
   open-stands : Stands (freshCs call) kept refl (withSession (opens s .sm) s) (opened false [])
   open-stands =

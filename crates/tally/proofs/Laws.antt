@@ -1,22 +1,23 @@
 -- What waits for partner p, from a record on: a record that waits adds one and its size, any other nothing. The records counted and those left are all.
-use mathlib.Core.Path.{_≡_, refl, sym, ap, _∙_}
+use mathlib.Core.Path.{_≡_, refl, sym, ap, _∙_, subst}
 use mathlib.Core.Bool.{Bool, true, false, cond}
 use mathlib.Core.List.{List, [], _∷_}
 use Prim.Native.Nat.{ℕ, suc, _+_, _-_, _*_, _/_, _%_, _<_, _≤_}
 use native.Mathlib.Omega.{arith}
 use native.Mathlib.Nat.{min-le-left}
 use lib.Dec.{eqb}
-use lib.ListN.{length}
+use lib.ListN.{length, drop}
 use borrow.Author.Tests.{eq-eqb, ne-eqb}
 use Rattle.grammar.specs.Bytes.{Bytes}
 use Rattle.mail.specs.Mail.{Record, recordLimit}
 use Rattle.mail.specs.Tally.{waits, waitingBytes}
 use Rattle.places.specs.Places.{recordSizeAt}
 use Rattle.phase.specs.Phase.{stateWaiting}
-use Rattle.layout.specs.Layout.{byteAt, le4At, entryAt, recordOf, recordSize}
+use Rattle.layout.specs.Layout.{le4At, entryAt, recordOf, recordSize, stateFor}
 use Rattle.entries.specs.Decoded.{entriesFrom, entries, recordCount, recordsOf}
-use Rattle.entries.proofs.Laws.{entries-more, entries-all, entries-end, entries-length}
+use Rattle.entries.proofs.Laws.{entries-more, entries-all, entries-end}
 use Rattle.marking.specs.States.{statesOf}
+use Rattle.marking.proofs.States.{states-length, states-next, states-end}
 use Rattle.sheet.specs.declared.Sheet.{Sheet}
 use Rattle.session_memory.specs.declared.Tally.{Tally}
 use Rattle.session_memory.proofs.Laws.{same-tally}
@@ -28,27 +29,29 @@ module _ (p : ℕ) (table : Bytes) (n : ℕ) where
   recordsFrom i = entriesFrom (recordOf [] [] []) recordSize table i (n - i)
 
   abbrev statesFrom : ℕ → List ℕ
-  statesFrom i = entriesFrom (λ (c : Bytes). byteAt c p) recordSize table i (n - i)
+  statesFrom i = drop i (statesOf p table)
 
   abbrev stateAt : ℕ → ℕ
-  stateAt i = byteAt (entryAt recordSize table i) p
+  stateAt i = stateFor p (entryAt recordSize table i)
 
   abbrev sizeAt : ℕ → ℕ
   sizeAt i = le4At (entryAt recordSize table i) recordSizeAt
 
   -- w records wait before record i, with sizes of z in all; of what was added no number is too large for the code
   pub record Counting (w z i : ℕ) : Type 0 where
+    pub count : n ≡ recordCount table
     pub records : w + waits (statesFrom i) ≡ waits (statesFrom 0)
     pub sizes : z + waitingBytes (recordsFrom i) (statesFrom i) ≡ waitingBytes (recordsFrom 0) (statesFrom 0)
     pub few : w ≤ i
     pub small : z ≤ i * sizesRange
 
-  pub counting-none : Counting 0 0 0
-  counting-none = record { records = omega arith; sizes = omega arith; few = omega arith; small = omega arith }
+  pub counting-none : n ≡ recordCount table → Counting 0 0 0
+  counting-none e = record { count = e; records = omega arith; sizes = omega arith; few = omega arith; small = omega arith }
 
   pub counting-pass : {w z i : ℕ} → Counting w z i → i < n → (stateAt i ≡ stateWaiting → ⊥) → Counting w z (i + 1)
   counting-pass {w} {z} {i} c h e =
       record {
+        count = c .count;
         records = ap (λ (x : ℕ). w + x) (sym (ap waits states ∙ rw (ne-eqb (stateAt i) 0 e))) ∙ c .records;
         sizes = ap (λ (x : ℕ). z + x) (sym (both ∙ rw (ne-eqb (stateAt i) 0 e))) ∙ c .sizes;
         few = omega (arith, c .few);
@@ -56,7 +59,7 @@ module _ (p : ℕ) (table : Bytes) (n : ℕ) where
       }
     where
       states : statesFrom i ≡ stateAt i ∷ statesFrom (i + 1)
-      states = entries-more (λ (c : Bytes). byteAt c p) recordSize table i n h
+      states = states-next p table i (subst (λ (m : ℕ). i < m) (c .count) h)
 
       both : waitingBytes (recordsFrom i) (statesFrom i) ≡ waitingBytes (recordOf [] [] [] (entryAt recordSize table i) ∷ recordsFrom (i + 1)) (stateAt i ∷ statesFrom (i + 1))
       both = ap (λ (l : List ℕ). waitingBytes (recordsFrom i) l) states ∙ ap (λ (T : List Record). waitingBytes T (stateAt i ∷ statesFrom (i + 1))) (entries-more (recordOf [] [] []) recordSize table i n h)
@@ -66,6 +69,7 @@ module _ (p : ℕ) (table : Bytes) (n : ℕ) where
       let f : waits (statesFrom i) ≡ suc (waits (statesFrom (i + 1))) = ap waits states ∙ rw (eq-eqb (stateAt i) 0 e) in
       let g : waitingBytes (recordsFrom i) (statesFrom i) ≡ sizeAt i + waitingBytes (recordsFrom (i + 1)) (statesFrom (i + 1)) = both ∙ rw (eq-eqb (stateAt i) 0 e) in
       record {
+        count = c .count;
         records = omega (arith, c .records, f);
         sizes = omega (arith, c .sizes, g);
         few = omega (arith, c .few);
@@ -73,33 +77,28 @@ module _ (p : ℕ) (table : Bytes) (n : ℕ) where
       }
     where
       states : statesFrom i ≡ stateAt i ∷ statesFrom (i + 1)
-      states = entries-more (λ (c : Bytes). byteAt c p) recordSize table i n h
+      states = states-next p table i (subst (λ (m : ℕ). i < m) (c .count) h)
 
       both : waitingBytes (recordsFrom i) (statesFrom i) ≡ waitingBytes (recordOf [] [] [] (entryAt recordSize table i) ∷ recordsFrom (i + 1)) (stateAt i ∷ statesFrom (i + 1))
       both = ap (λ (l : List ℕ). waitingBytes (recordsFrom i) l) states ∙ ap (λ (T : List Record). waitingBytes T (stateAt i ∷ statesFrom (i + 1))) (entries-more (recordOf [] [] []) recordSize table i n h)
 
   -- past the last record all is counted
   module _ {w z i : ℕ} (c : Counting w z i) (l : n ≤ i) where
-    none-left : statesFrom i ≡ []
-    none-left = entries-end (λ (c : Bytes). byteAt c p) recordSize table i n l
-
-    pub records-all : w ≡ waits (entries (λ (c : Bytes). byteAt c p) recordSize table n)
+    pub records-all : w ≡ waits (statesOf p table)
     records-all =
-        let e : waits (statesFrom i) ≡ 0 = ap waits none-left in
-        let f : w ≡ waits (statesFrom 0) = omega (arith, c .records, e) in
-        f ∙ ap waits (sym (entries-all (λ (c : Bytes). byteAt c p) recordSize table n))
+        let e : waits (statesFrom i) ≡ 0 = ap waits (states-end p table i (subst (λ (m : ℕ). m ≤ i) (c .count) l)) in
+        omega (arith, c .records, e)
 
-    pub sizes-all : z ≡ waitingBytes (entries (recordOf [] [] []) recordSize table n) (entries (λ (c : Bytes). byteAt c p) recordSize table n)
+    pub sizes-all : z ≡ waitingBytes (entries (recordOf [] [] []) recordSize table n) (statesOf p table)
     sizes-all =
         let e : waitingBytes (recordsFrom i) (statesFrom i) ≡ 0 = ap (λ (T : List Record). waitingBytes T (statesFrom i)) (entries-end (recordOf [] [] []) recordSize table i n l) in
-        let f : z ≡ waitingBytes (recordsFrom 0) (statesFrom 0) = omega (arith, c .sizes, e) in
-        f ∙ ap (λ (T : List Record). waitingBytes T (statesFrom 0)) (sym (entries-all (recordOf [] [] []) recordSize table n))
-        ∙ ap (waitingBytes (entries (recordOf [] [] []) recordSize table n)) (sym (entries-all (λ (c : Bytes). byteAt c p) recordSize table n))
+        let f : z ≡ waitingBytes (recordsFrom 0) (statesOf p table) = omega (arith, c .sizes, e) in
+        f ∙ ap (λ (T : List Record). waitingBytes T (statesOf p table)) (sym (entries-all (recordOf [] [] []) recordSize table n))
 
-pub counted-all : (p : ℕ) (table : Bytes) {n w z i : ℕ} → n ≡ recordCount table → Counting p table n w z i → n ≤ i → (h : Sheet)
+pub counted-all : (p : ℕ) (table : Bytes) {n w z i : ℕ} → Counting p table n w z i → n ≤ i → (h : Sheet)
     → _≡_ {A = Tally} (record { waiting = w; sizes = z % sizesRange; sheet = h }) (counted p table h)
-unfolding waitingIn sizesIn statesOf recordsOf
-counted-all p table {n} e c l h = rw (← e) (same-tally (records-all p table n c l) (ap (λ (x : ℕ). x % sizesRange) (sizes-all p table n c l)) refl)
+unfolding waitingIn sizesIn recordsOf
+counted-all p table {n} c l h = rw (← c .count) (same-tally (records-all p table n c l) (ap (λ (x : ℕ). x % sizesRange) (sizes-all p table n c l)) refl)
 
 pub few-records : (table : Bytes) {n : ℕ} → n ≡ recordCount table → n ≤ recordLimit
 few-records table e = rw e (min-le-left recordLimit (length table / recordSize))
@@ -114,9 +113,9 @@ waits-most (x ∷ st) = go (eqb x 0) (waits-most st)
     go false h = omega arith
 
 pub waiting-few : (p : ℕ) (table : Bytes) → waitingIn p table ≤ recordLimit
-unfolding waitingIn statesOf
+unfolding waitingIn
 waiting-few p table =
     let h = waits-most (statesOf p table) in
-    let e = entries-length (λ (c : Bytes). byteAt c p) recordSize table 0 (recordCount table) in
+    let e = states-length p table in
     let f = few-records table refl in
     omega (arith, h, e, f)

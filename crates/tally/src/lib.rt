@@ -1,6 +1,6 @@
 // How many records wait for a partner, and the sum of their announced sizes (02, Q-3), counted in the table.
-use layout::byte_at;
 use layout::entry;
+use layout::state_for;
 use number_read::number4;
 use session_memory::Tally;
 use sheet::Sheet;
@@ -21,7 +21,7 @@ pub fn counted(partner: u8, table: &[u8], sheet: Sheet) -> Tally
     while i < n {
         let bytes = entry(places::RECORD, table, i);
         i += 1;
-        if byte_at(bytes, partner as usize) != phase::STATE_WAITING {
+        if state_for(partner, bytes) != phase::STATE_WAITING {
             continue;
         }
         waiting += 1;

@@ -17,17 +17,14 @@ abbrev μ-loop : tie.MeasureT-loop
 loop-holds : tie.Need-loop-holds Inv-loop μ-loop
 loop-holds c = (search needs, refl)
 
-cast-byte-at : tie.Need-cast-byte-at Inv-loop μ-loop
-cast-byte-at c = search needs
-
-byte-at-requires : tie.Need-byte-at-requires Inv-loop μ-loop
-byte-at-requires c κs = search needs
+state-for-requires : tie.Need-state-for-requires Inv-loop μ-loop
+state-for-requires c κs = search needs
 
 returns : tie.Need-returns Inv-loop μ-loop
 unfolding statesOk
 returns c =
     let bytes = c .before .before .before .before .before .args .c .now in
-    states-stop bytes _ partners (c .before .before .loop-test .taken) (c .before .byte-at .ensures) (c .if1 .taken) ∙ sym (c .before .before .before .loop .inv .1)
+    states-stop bytes _ partners (c .before .before .loop-test .taken) (c .before .state-for .ensures) (c .if1 .taken) ∙ sym (c .before .before .before .loop .inv .1)
 
 add-p : tie.Need-add-p Inv-loop μ-loop
 add-p c = search needs
@@ -38,7 +35,7 @@ loop-less c = search needs
 loop-again : tie.Need-loop-again Inv-loop μ-loop
 loop-again c =
     let bytes = c .before .before .before .before .before .args .c .now in
-    (search needs, c .before .before .before .loop .inv .1 ∙ states-more bytes _ partners (c .before .before .loop-test .taken) (c .before .byte-at .ensures) (c .if1 .left))
+    (search needs, c .before .before .before .loop .inv .1 ∙ states-more bytes _ partners (c .before .before .loop-test .taken) (c .before .state-for .ensures) (c .if1 .left))
 
 returns-2 : tie.Need-returns-2 Inv-loop μ-loop
 unfolding statesOk
@@ -53,8 +50,7 @@ states-ok-spec =
     Inv-loop
     μ-loop
     loop-holds
-    cast-byte-at
-    byte-at-requires
+    state-for-requires
     returns
     add-p
     loop-less

@@ -24,7 +24,7 @@ none-requires c κs = search needs
 
 loop-holds : tie.Need-loop-holds Inv-loop μ-loop
 loop-holds c =
-    (search needs, choosing-none (c .before .before .before .before .args .partner) (c .before .before .before .before .args .table .now) (c .before .before .before .before .args .framed) (c .before .before .before .before .args .deferred .now) _ (c .none .ensures))
+    (search needs, choosing-none (c .before .before .before .before .args .partner) (c .before .before .before .before .args .table .now) (c .before .before .before .before .args .framed) (c .before .before .before .before .args .deferred .now) _ (c .before .records .ensures) (c .none .ensures))
 
 entry-requires : tie.Need-entry-requires Inv-loop μ-loop
 entry-requires c κs = search needs
@@ -64,14 +64,14 @@ add-sum c =
 
 returns : tie.Need-returns Inv-loop μ-loop
 returns c =
-    chosen-now (c .before .before .before .before .before .before .before .before .before .before .before .before .before .args .partner) (c .before .before .before .before .before .before .before .before .before .before .before .before .before .args .table .now) (c .before .before .before .before .before .before .before .before .before .before .before .before .before .args .framed) (c .before .before .before .before .before .before .before .before .before .before .before .before .before .args .deferred .now) _ (c .before .before .before .before .before .before .before .before .before .before .records .ensures) (c .before .before .before .before .before .before .before .before .loop .inv .1)
-    (block-five (c .before .before .before .before .before .before .before .before .before .before .before .before .before .args .partner) (c .before .before .before .before .before .before .before .before .before .before .before .before .before .args .table .now) (c .before .before .before .before .before .before .before .before .before .before .before .before .before .args .framed) (c .before .before .before .before .before .before .before .before .before .before .before .before .before .args .deferred .now) _ (c .before .before .before .before .before .before .before .before .loop .i) (c .before .before .before .before .before .before .before .before .loop .chosen .count) (c .before .before .before .before .before .before .before .before .loop .total) (c .before .before .before .before .before .before .before .loop-test .taken)
+    chosen-now (c .before .before .before .before .before .before .before .before .before .before .before .before .before .args .partner) (c .before .before .before .before .before .before .before .before .before .before .before .before .before .args .table .now) (c .before .before .before .before .before .before .before .before .before .before .before .before .before .args .framed) (c .before .before .before .before .before .before .before .before .before .before .before .before .before .args .deferred .now) _ (c .before .before .before .before .before .before .before .before .loop .inv .1)
+    (block-five (c .before .before .before .before .before .before .before .before .before .before .before .before .before .args .partner) (c .before .before .before .before .before .before .before .before .before .before .before .before .before .args .table .now) (c .before .before .before .before .before .before .before .before .before .before .before .before .before .args .framed) (c .before .before .before .before .before .before .before .before .before .before .before .before .before .args .deferred .now) _ (c .before .before .before .before .before .before .before .before .before .before .records .ensures) (c .before .before .before .before .before .before .before .before .loop .i) (c .before .before .before .before .before .before .before .before .loop .chosen .count) (c .before .before .before .before .before .before .before .before .loop .total) (c .before .before .before .before .before .before .before .loop-test .taken)
     (rw (← c .before .before .before .before .before .before .entry .ensures, ← c .before .before .before .before .before .byte-at .ensures, ← c .before .before .before .before .wanted .ensures) (not-false _ (c .before .before .before .if1 .left))) (omega (arith, c .if2 .taken)))
 
 returns-2 : tie.Need-returns-2 Inv-loop μ-loop
 returns-2 c =
-    chosen-now (c .before .before .before .before .before .before .before .before .before .before .before .before .before .before .args .partner) (c .before .before .before .before .before .before .before .before .before .before .before .before .before .before .args .table .now) (c .before .before .before .before .before .before .before .before .before .before .before .before .before .before .args .framed) (c .before .before .before .before .before .before .before .before .before .before .before .before .before .before .args .deferred .now) _ (c .before .before .before .before .before .before .before .before .before .before .before .records .ensures) (c .before .before .before .before .before .before .before .before .before .loop .inv .1)
-    (block-full (c .before .before .before .before .before .before .before .before .before .before .before .before .before .before .args .partner) (c .before .before .before .before .before .before .before .before .before .before .before .before .before .before .args .table .now) (c .before .before .before .before .before .before .before .before .before .before .before .before .before .before .args .framed) (c .before .before .before .before .before .before .before .before .before .before .before .before .before .before .args .deferred .now) _ (c .before .before .before .before .before .before .before .before .before .loop .i) (c .before .before .before .before .before .before .before .before .before .loop .chosen .count) (c .before .before .before .before .before .before .before .before .before .loop .total) (c .before .before .before .before .before .before .before .before .loop-test .taken)
+    chosen-now (c .before .before .before .before .before .before .before .before .before .before .before .before .before .before .args .partner) (c .before .before .before .before .before .before .before .before .before .before .before .before .before .before .args .table .now) (c .before .before .before .before .before .before .before .before .before .before .before .before .before .before .args .framed) (c .before .before .before .before .before .before .before .before .before .before .before .before .before .before .args .deferred .now) _ (c .before .before .before .before .before .before .before .before .before .loop .inv .1)
+    (block-full (c .before .before .before .before .before .before .before .before .before .before .before .before .before .before .args .partner) (c .before .before .before .before .before .before .before .before .before .before .before .before .before .before .args .table .now) (c .before .before .before .before .before .before .before .before .before .before .before .before .before .before .args .framed) (c .before .before .before .before .before .before .before .before .before .before .before .before .before .before .args .deferred .now) _ (c .before .before .before .before .before .before .before .before .before .before .before .records .ensures) (c .before .before .before .before .before .before .before .before .before .loop .i) (c .before .before .before .before .before .before .before .before .before .loop .chosen .count) (c .before .before .before .before .before .before .before .before .before .loop .total) (c .before .before .before .before .before .before .before .before .loop-test .taken)
     (rw (← c .before .before .before .before .before .before .before .entry .ensures, ← c .before .before .before .before .before .before .byte-at .ensures, ← c .before .before .before .before .before .wanted .ensures) (not-false _ (c .before .before .before .before .if1 .left))) (omega (arith, c .before .if2 .left)) (omega (arith, c .if3 .taken)))
 
 cast-add : tie.Need-cast-add Inv-loop μ-loop
@@ -97,7 +97,7 @@ loop-again-2 c = (
 
 returns-3 : tie.Need-returns-3 Inv-loop μ-loop
 returns-3 c =
-    chosen-now (c .before .before .before .before .before .before .args .partner) (c .before .before .before .before .before .before .args .table .now) (c .before .before .before .before .before .before .args .framed) (c .before .before .before .before .before .before .args .deferred .now) _ (c .before .before .before .records .ensures) (c .before .loop .inv .1) (block-end (c .before .before .before .before .before .before .args .partner) (c .before .before .before .before .before .before .args .table .now) (c .before .before .before .before .before .before .args .framed) (c .before .before .before .before .before .before .args .deferred .now) _ _ _ _ (c .loop-test .left))
+    chosen-now (c .before .before .before .before .before .before .args .partner) (c .before .before .before .before .before .before .args .table .now) (c .before .before .before .before .before .before .args .framed) (c .before .before .before .before .before .before .args .deferred .now) _ (c .before .loop .inv .1) (block-end (c .before .before .before .before .before .before .args .partner) (c .before .before .before .before .before .before .args .table .now) (c .before .before .before .before .before .before .args .framed) (c .before .before .before .before .before .before .args .deferred .now) _ _ _ _ (c .loop-test .left))
 
 pub choose-spec : {M : Type 1} → statement M
 choose-spec =

@@ -17,16 +17,16 @@ in-mode-requires c κs = search needs
 returns : tie.Need-returns
 returns c = rw (← c .before .before .byte-at .ensures, sym (c .before .in-mode .ensures) ∙ not-true _ (c .if1 .taken))
 
-byte-at-requires-2 : tie.Need-byte-at-requires-2
-byte-at-requires-2 c κs = search needs
+state-for-requires : tie.Need-state-for-requires
+state-for-requires c κs = search needs
 
 returns-2 : tie.Need-returns-2
 returns-2 c =
-    rw (← c .before .before .before .before .byte-at .ensures, sym (c .before .before .before .in-mode .ensures) ∙ not-false _ (c .before .before .if1 .left), ← c .before .byte-at2 .ensures, ne-eqb _ _ (c .if2 .taken))
+    rw (← c .before .before .before .before .byte-at .ensures, sym (c .before .before .before .in-mode .ensures) ∙ not-false _ (c .before .before .if1 .left), ← c .before .state-for .ensures, ne-eqb _ _ (c .if2 .taken))
 
 returns-3 : tie.Need-returns-3
 returns-3 c =
-    rw (← c .before .before .before .before .byte-at .ensures, sym (c .before .before .before .in-mode .ensures) ∙ not-false _ (c .before .before .if1 .left), ← c .before .byte-at2 .ensures, eq-eqb _ _ (c .if2 .left))
+    rw (← c .before .before .before .before .byte-at .ensures, sym (c .before .before .before .in-mode .ensures) ∙ not-false _ (c .before .before .if1 .left), ← c .before .state-for .ensures, eq-eqb _ _ (c .if2 .left))
 
 pub wanted-spec : {M : Type 1} → statement M
 wanted-spec =
@@ -36,6 +36,6 @@ wanted-spec =
     byte-at-requires
     in-mode-requires
     returns
-    byte-at-requires-2
+    state-for-requires
     returns-2
     returns-3)

@@ -22,7 +22,7 @@ records-requires : tie.Need-records-requires Inv-loop μ-loop
 records-requires c κs = search needs
 
 loop-holds : tie.Need-loop-holds Inv-loop μ-loop
-loop-holds c = (search needs, few-records (c .before .before .args .table .now) (c .records .ensures), counting-none (c .before .before .args .partner) (c .before .before .args .table .now) (c .records .result))
+loop-holds c = (search needs, few-records (c .before .before .args .table .now) (c .records .ensures), counting-none (c .before .before .args .partner) (c .before .before .args .table .now) (c .records .result) (c .records .ensures))
 
 entry-requires : tie.Need-entry-requires Inv-loop μ-loop
 entry-requires c κs = search needs
@@ -30,8 +30,8 @@ entry-requires c κs = search needs
 add-i : tie.Need-add-i Inv-loop μ-loop
 add-i c = search needs
 
-byte-at-requires : tie.Need-byte-at-requires Inv-loop μ-loop
-byte-at-requires c κs = search needs
+state-for-requires : tie.Need-state-for-requires Inv-loop μ-loop
+state-for-requires c κs = search needs
 
 loop-less : tie.Need-loop-less Inv-loop μ-loop
 loop-less c = search needs
@@ -41,7 +41,7 @@ loop-again c = (
   search needs,
   c .before .before .before .before .loop .inv .1,
   counting-pass (c .before .before .before .before .before .before .before .args .partner) (c .before .before .before .before .before .before .before .args .table .now) (c .before .before .before .before .before .records .result) (c .before .before .before .before .loop .inv .2) (c .before .before .before .loop-test .taken)
-      (rw (← c .before .before .entry .ensures, ← c .before .byte-at .ensures) (c .if1 .taken)),
+      (rw (← c .before .before .entry .ensures, ← c .before .state-for .ensures) (c .if1 .taken)),
 )
 
 add-waiting : tie.Need-add-waiting Inv-loop μ-loop
@@ -69,14 +69,14 @@ loop-again-2 c =
       c .before .before .before .before .before .loop .inv .1,
       rw (c .number4 .ensures, c .before .before .before .entry .ensures)
           (counting-add (c .before .before .before .before .before .before .before .before .args .partner) (c .before .before .before .before .before .before .before .before .args .table .now) (c .before .before .before .before .before .before .records .result) (c .before .before .before .before .before .loop .inv .2) (c .before .before .before .before .loop-test .taken)
-          (rw (← c .before .before .before .entry .ensures, ← c .before .before .byte-at .ensures) (c .before .if1 .left)) h),
+          (rw (← c .before .before .before .entry .ensures, ← c .before .before .state-for .ensures) (c .before .if1 .left)) h),
     )
 
 cast-t14 : tie.Need-cast-t14 Inv-loop μ-loop
 cast-t14 c = search needs
 
 returns : tie.Need-returns Inv-loop μ-loop
-returns c = counted-all (c .before .before .before .before .args .partner) (c .before .before .before .before .args .table .now) (c .before .before .records .ensures) (c .before .loop .inv .2) (omega (arith, c .loop-test .left)) (c .before .before .before .before .args .sheet)
+returns c = counted-all (c .before .before .before .before .args .partner) (c .before .before .before .before .args .table .now) (c .before .loop .inv .2) (omega (arith, c .loop-test .left)) (c .before .before .before .before .args .sheet)
 
 pub counted-spec : {M : Type 1} → statement M
 counted-spec =
@@ -88,7 +88,7 @@ counted-spec =
     loop-holds
     entry-requires
     add-i
-    byte-at-requires
+    state-for-requires
     loop-less
     loop-again
     add-waiting
