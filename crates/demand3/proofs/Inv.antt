@@ -17,7 +17,7 @@ use Rattle.mail.specs.Mail.{Record}
 use Rattle.session.specs.Choices.{Shelf}
 use Rattle.session.specs.Session.{Awaited, awaitsSid, awaitsPrompt, awaitsTurn, awaitsAnswer, Phase, aLine, awaitsTransfer, leaving, Memory, Session, Stepped, roomFor}
 use Rattle.session.specs.Calls.{give, handedOut}
-use Rattle.log.specs.Log.{gave, Theirs, theirText, theirSid, theirTurn, theirAnswer, Next, theySay, theirTransfer, Course, Book, isOurs}
+use Rattle.log.specs.Log.{gave, Theirs, theirText, theirSid, theirTurn, theirAnswer, Next, theySay, theirTransfer, Course, courseWith, Book, isOurs}
 use Rattle.log.specs.Effects.{Account}
 use Rattle.log.specs.Fed.{Fed, unitByte, outOfOrder, fedAll}
 use Rattle.log.proofs.Spoken.{spoken, spoken-append, spoken-none, gave-spoken}
@@ -47,7 +47,7 @@ accountOf m =
     }
 
 abbrev pub courseOf : Phase → Memory → Course
-courseOf p m = record { next = nextOf p; account = accountOf m }
+courseOf p m = courseWith (nextOf p) (accountOf m)
 
 abbrev pub bookOf : Memory → Book
 bookOf m = record { framed = m .framed; level = m .terms .level; states = m .states; kept = m .inbox }

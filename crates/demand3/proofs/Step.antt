@@ -22,11 +22,10 @@ use Rattle.grammar.specs.Scan.{Scan, Scanned, goes, got, malformed, wrongSum, n
 use Rattle.grammar.proofs.Basics.{no-both}
 use Rattle.grammar.proofs.Refusal.{Reach, reach-step, from, contentOf, read-as}
 use Rattle.mail.specs.Mail.{Record, messageOf, turnText, transfersText, accepted}
-use Rattle.mail.specs.Tally.{declinedOnes, deferredOnes}
 use Rattle.session.specs.Choices.{Shelf, answersTo}
-use Rattle.session.specs.Session.{Awaited, awaitsSid, awaitsPrompt, awaitsTurn, awaitsAnswer, Phase, aLine, newTurn, awaitsTransfer, leaving, Memory, Session, withSid, withPart, withAfterCr, between, Outcome, refuses, goesOn, proposing, speaking, ourTurn as speakNow, turnMarks, answering, answered, turnJudged, answerMarks, answerJudged, afterSid, sidJudged, textJudged, awaitedJudged, lineJudged, refused, settled, lineMoved, keptIn, nextTransfer, transferMoved, roomFor, lineStep, phaseStep, freeStep, step, ended, endedIn}
+use Rattle.session.specs.Session.{Awaited, awaitsSid, awaitsPrompt, awaitsTurn, awaitsAnswer, Phase, aLine, newTurn, awaitsTransfer, leaving, Memory, Session, withCounts, withSid, withPart, withAfterCr, between, Outcome, refuses, goesOn, proposing, speaking, ourTurn as speakNow, turnMarks, answering, answered, turnJudged, answerMarks, answerJudged, afterSid, sidJudged, textJudged, awaitedJudged, lineJudged, refused, settled, lineMoved, keptIn, nextTransfer, transferMoved, roomFor, lineStep, phaseStep, freeStep, step, ended, endedIn}
 use Rattle.session.specs.Session
-use Rattle.log.specs.Log.{ourNewTurn, took, ourSidLine, ourAnswer, theirText, Next, weSay, theySay, theirTransfer, Course, Book, Log, isOurs, saidOn, inOrder, said, theirsOwed, placesOf, ourProposed, Effect, effect, summedEnd, checked, rawWith, theirSaid, theirTurnLine, theirAnswered, theirSidRead, theirRead, theirLine, judgedLine}
+use Rattle.log.specs.Log.{ourNewTurn, weOpen, courseWith, logWith, afterTheirs, took, ourSidLine, ourAnswer, theirText, Next, weSay, theySay, theirTransfer, Course, Book, Log, isOurs, saidOn, inOrder, said, theirsOwed, placesOf, ourProposed, Effect, effect, summedEnd, checked, rawWith, theirSaid, theirTurnLine, theirAnswered, theirSidRead, theirRead, theirLine, judgedLine}
 use Rattle.log.specs.Log
 use Rattle.log.specs.Fed.{Fed, unitByte, outOfOrder, fedByte}
 use Rattle.log.proofs.Levels.{level-alike}
@@ -47,7 +46,7 @@ refusal E s n f r t h = halted r (record { done = refl; theirs = t; book = h })
 
 -- the log right after a whole unit
 abbrev after : Bool → Memory → Course → Fed
-after a m c = record { log = record { afterCr = a; course = c; book = bookOf m }; raw = [] }
+after a m c = record { log = logWith a c (bookOf m); raw = [] }
 
 -- the session says o
 says : (E : Shelf) (s : Session) (a : Bool) (p : Phase) (m : Memory) (o : Bytes) (c : Course)
@@ -81,14 +80,14 @@ our-turn E S o ff m s a c e = go ff (ourChoice E m) (S .few m) (S .own m) (S .fi
         (no-line, tt)
 
 answer : (E : Shelf) → Sound E → (ps : List Proposal) (m : Memory) (s : Session) → 1 ≤ length ps → length ps ≤ blockLimit
-    → After E (settled s true (answered E ps m)) (after true m (record { next = weSay (ourAnswer ps); account = accountOf m }))
+    → After E (settled s true (answered E ps m)) (after true m (courseWith (weSay (ourAnswer ps)) (accountOf m)))
 answer E S ps m s k l = go (accepted ss ps) (rw (accepted-alike ss ps) (fs-spoken (E .table) (m .framed) ps ss (accountOf m) (S .full (m .inbox) ps) k l))
   where
     ss : List Sign
     ss = answersTo E (m .inbox) ps
 
     c : Course
-    c = record { next = weSay (ourAnswer ps); account = accountOf m }
+    c = courseWith (weSay (ourAnswer ps)) (accountOf m)
 
     go : (qs : List Proposal) → spoken (E .table) (m .framed) (some (c, [])) (withCr (fsLine ss)) ≡ at (theirsOwed qs) (accountOf m)
         → After E (settled s true (answering E ss qs m)) (after true m c)
@@ -113,11 +112,11 @@ abbrev idle : Phase → Bytes → Bool → Memory → Session
 idle p part a m = holding p part a [] m
 
 abbrev twin : Phase → Bool → Memory → Bytes → Fed
-twin p a m u = record { log = record { afterCr = a; course = courseOf p m; book = bookOf m }; raw = u }
+twin p a m u = record { log = logWith a (courseOf p m) (bookOf m); raw = u }
 
 -- the log after a line with this effect
 abbrev effected : Effect → Fed
-effected e = record { log = record { afterCr = true; course = e .course; book = e .book }; raw = [] }
+effected e = record { log = afterTheirs true e; raw = [] }
 
 -- a byte that no rule of Lines drops
 abbrev tookFree : List Record → Fed → ℕ → Fed
@@ -156,7 +155,7 @@ module _ (E : Shelf) (S : Sound E) (part : Bytes) (a : Bool) (m : Memory) where
       k = withSid fs m
 
       metAt : Level → Book
-      metAt v = record { framed = framed fs; level = v; states = m .states; kept = m .inbox }
+      metAt v = Log.withLevel (Log.withFramed (bookOf m) (framed fs)) v
 
       go : (c d : Bool)
           → AfterLine (awaitsSid c) (cond d (goesOn (afterSid c) k []) (refuses noForwarding))
@@ -166,10 +165,10 @@ module _ (E : Shelf) (S : Sound E) (part : Bytes) (a : Bool) (m : Memory) where
       go c false = wrong-line _ _ _ refl refl refl
 
   text-line : (c : Bool)
-      → AfterLine awaitsPrompt (textJudged E c m) (cond c (effect (bookOf m) (accountOf m) (weSay ourSidLine)) (effect (bookOf m) (accountOf m) (theySay theirText)))
+      → AfterLine awaitsPrompt (textJudged E c m) (cond c (effect (bookOf m) (accountOf m) (weOpen ourSidLine)) (effect (bookOf m) (accountOf m) (theySay theirText)))
   unfolding AfterLine
   text-line true =
-      our-turn E S (withCr (fixedText ourSid)) false m (idle (aLine awaitsPrompt) part a m) true (record { next = weSay ourSidLine; account = accountOf m })
+      our-turn E S (withCr (fixedText ourSid)) false m (idle (aLine awaitsPrompt) part a m) true (courseWith (weOpen ourSidLine) (accountOf m))
       (sid-spoken (E .table) (m .framed) (accountOf m))
   text-line false = quiet awaitsPrompt (aLine awaitsPrompt) m (no-line, tt)
 
@@ -178,7 +177,7 @@ module _ (E : Shelf) (S : Sound E) (part : Bytes) (a : Bool) (m : Memory) where
   unfolding AfterLine
   after-ff p =
       rw (← marked-alike (m .sending) (m .states))
-      (our-turn E S [] true (turnMarks m) (idle (aLine p) part a m) true (record { next = ourNewTurn true; account = withForwarded (accountOf m) })
+      (our-turn E S [] true (turnMarks m) (idle (aLine p) part a m) true (courseWith (ourNewTurn true) (withForwarded (accountOf m)))
       (spoken-nil (E .table) (m .framed) (at (ourNewTurn true) (withForwarded (accountOf m)))))
 
   after-block : (p : Awaited) (q : Proposal) (qs : List Proposal) → length (q ∷ qs) ≤ blockLimit
@@ -234,19 +233,12 @@ module _ (E : Shelf) (S : Sound E) (part : Bytes) (a : Bool) (m : Memory) where
   answer-line is n (some ss) h =
       rw (← declined-alike is ss (m .states)) (rw (← accepted-alike ss is, ← declined-ones-alike ss is, ← deferred-ones-alike ss is)
       (says E (idle (aLine (awaitsAnswer is)) part a m) true (newTurn false) (answerMarks is ss m) (transfersText (E .table) (accepted ss is))
-      (record { next = Log.oursOwed (accepted ss is); account = told })
+      (courseWith (Log.oursOwed (accepted ss is)) told)
       (transfers-spoken (E .table) (m .framed) (accepted ss is) told)
       (no-line, omega arith)))
     where
       told : Account
-      told =
-          record {
-            sent = m .sending;
-            proposed = m .counts .proposed;
-            forwarded = m .counts .forwarded;
-            declined = m .counts .declined + length (declinedOnes ss is);
-            deferred = m .counts .deferred + length (deferredOnes ss is);
-          }
+      told = accountOf (withCounts (answerMarks is ss m .counts) m)
 
   -- the line that is awaited
   read-line : (p : Awaited) → Few p → AfterLine p (awaitedJudged E p m part) (theirRead (lineOf p) (bookOf m) (accountOf m) part)
@@ -290,12 +282,12 @@ module _ (E : Shelf) (S : Sound E) (part : Bytes) (a : Bool) (m : Memory) where
 
   -- a byte of a transfer
   next-transfer : (p : Phase) (c : Bool) (ps : List Proposal) (k : Memory)
-      → After E (settled (idle p part a m) c (nextTransfer E ps k)) (after c k (record { next = theirsOwed ps; account = accountOf k }))
+      → After E (settled (idle p part a m) c (nextTransfer E ps k)) (after c k (courseWith (theirsOwed ps) (accountOf k)))
   next-transfer p c [] k =
-      our-turn E S [] false k (idle p part a m) c (record { next = ourNewTurn false; account = accountOf k })
+      our-turn E S [] false k (idle p part a m) c (courseWith (ourNewTurn false) (accountOf k))
       (spoken-nil (E .table) (k .framed) (at (ourNewTurn false) (accountOf k)))
   next-transfer p c (q ∷ qs) k =
-      says E (idle p part a m) c (awaitsTransfer q qs (scanFrom (q .form))) k [] (record { next = theirTransfer q qs; account = accountOf k })
+      says E (idle p part a m) c (awaitsTransfer q qs (scanFrom (q .form))) k [] (courseWith (theirTransfer q qs) (accountOf k))
       (spoken-nil (E .table) (k .framed) (at (theirTransfer q qs) (accountOf k)))
       (from (roomFor E k) (q .form))
 
@@ -341,8 +333,8 @@ module _ (E : Shelf) (S : Sound E) (part : Bytes) (a : Bool) (m : Memory) where
 is-twin : (E : Shelf) (p : Phase) (part : Bytes) (a : Bool) (m : Memory) (f : Fed) (h : Live E (idle p part a m) f) → f ≡ twin p a m (h .unit)
 is-twin E p part a m f h =
     ap (withSpoken f) (spoken-alone (E .table) (f .log .book .framed) (f .log .course, f .raw) (courseOf p m, h .unit) (h .course))
-    ∙ ap (λ (k : Book). record { log = record { afterCr = f .log .afterCr; course = courseOf p m; book = k }; raw = h .unit }) (h .book)
-    ∙ ap (λ (c : Bool). record { log = record { afterCr = c; course = courseOf p m; book = bookOf m }; raw = h .unit }) (h .afterCr)
+    ∙ ap (λ (k : Book). record { log = logWith (f .log .afterCr) (courseOf p m) k; raw = h .unit }) (h .book)
+    ∙ ap (λ (c : Bool). twin p c m (h .unit)) (h .afterCr)
 
 free-byte : (E : Shelf) → Sound E → (p : Phase) (part : Bytes) (a : Bool) (o : Bytes) (m : Memory) (f : Fed) (b : ℕ)
     → endedIn p o ≡ false → Live E (holding p part a o m) f

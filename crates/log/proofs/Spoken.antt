@@ -6,6 +6,7 @@ use mathlib.Core.Option.{Option, none, some}
 use mathlib.Core.List.{List, [], _∷_, _++_, map, append-assoc, append-nil}
 use Prim.Native.Nat.{ℕ, _+_, _≤_, _<_}
 use native.Mathlib.Omega.{arith}
+use native.Mathlib.Nat.{add-zero}
 use lib.ListN.{length, length-append}
 use borrow.Author.Tests.{eq-eqb, lt-ltb}
 use Rattle.grammar.specs.Bytes.{Bytes, CR, null, same}
@@ -17,7 +18,7 @@ use Rattle.grammar.proofs.Basics.{Lacks, snoc-cons}
 use Rattle.grammar.proofs.OurLines.{proposal-read, fs-back, ff-read, fq-read, end-read, good-line}
 use Rattle.mail.specs.Mail.{Record, recordAt, headingFor, transferOf, proposalLines, turnText, transfersText}
 use Rattle.log.specs.Effects.{acceptedBy, Account, withSent}
-use Rattle.log.specs.Log.{theirNewTurn, ourNewTurn, gave, Ours, ourGreeting, ourFirstPrompt, ourSidLine, ourTurn, ourAnswer, theirSid, Next, over, weSay, theySay, ourTransfer, Course, isOurs, placesOf, ourProposed, oursOwed, theirsOwed, ourLine, afterOurs, ourUnit, whole, said, applied, withAfterCr}
+use Rattle.log.specs.Log.{theirNewTurn, ourNewTurn, weOpen, gave, Opening, ourGreeting, ourFirstPrompt, ourSidLine, Ours, ourOpening, ourTurn, ourAnswer, theirSid, Next, over, weSay, theySay, theirTransfer, ourTransfer, Course, courseWith, isOurs, placesOf, ourProposed, oursOwed, theirsOwed, openingText, afterOpening, ourLine, dueOn, afterOurs, ourUnit, whole, said, applied, withAfterCr, withCourse}
 use Rattle.log.specs.Fed.{Fed, fedAll, outOfOrder}
 use Rattle.log.proofs.Said.{said-after}
 
@@ -71,14 +72,21 @@ spoken-ours T md p q b bs e = go (isOurs (p .0 .next)) (sym (spoken-cons T md (s
 
 -- between units
 abbrev pub at : Next → Account → Option (Course × Bytes)
-at n account = some (record { next = n; account = account }, [])
+at n account = some (courseWith n account, [])
 
 abbrev part : Next → Account → Bytes → Option (Course × Bytes)
-part n account u = some (record { next = n; account = account }, u)
+part n account u = some (courseWith n account, u)
 
 -- right after a line of ours
 abbrev pub after : Next → Account → Option (Course × Bytes)
 after n account = at n (afterOurs n account)
+
+-- it proposes nothing where no FS line is due after it
+pub none-proposed : (n : Next) (account : Account) → dueOn n ≡ [] → afterOurs n account ≡ account
+none-proposed n account e = rw e (rw (add-zero (account .proposed)))
+
+after-none : (n : Next) (account : Account) → dueOn n ≡ [] → after n account ≡ at n account
+after-none n account e = ap (at n) (none-proposed n account e)
 
 -- where a line of ours is next
 line-spoken : (T : List Record) (md : Bool) (n : Ours) (account : Account) (ln u : Bytes) → Lacks CR ln
@@ -94,25 +102,33 @@ pub ff-spoken : (T : List Record) (md : Bool) (account : Account) → spoken T m
 unfolding said
 ff-spoken T md account =
     line-spoken T md (ourTurn false []) account (fixedText ourFF) [] (good-line (fixedLine ourFF) tt .whole)
-    ∙ rw (ff-read md)
+    ∙ rw (ff-read md) (after-none (theirNewTurn true) account refl)
 
 pub fq-spoken : (T : List Record) (md : Bool) (account : Account) → spoken T md (at (ourNewTurn true) account) (withCr (fixedText ourFQ)) ≡ at over account
 unfolding said
 fq-spoken T md account =
     line-spoken T md (ourTurn true []) account (fixedText ourFQ) [] (good-line (fixedLine ourFQ) tt .whole)
-    ∙ rw (fq-read md)
+    ∙ rw (fq-read md) (after-none over account refl)
+
+-- a line of the opening
+opening-spoken : (T : List Record) (md : Bool) (o : Opening) (account : Account) → spoken T md (at (weOpen o) account) (withCr (openingText o)) ≡ at (afterOpening o) account
+opening-spoken T md ourGreeting account =
+    line-spoken T md (ourOpening ourGreeting) account (fixedText ourSid) [] (good-line (fixedLine ourSid) tt .whole) ∙ after-none _ account refl
+opening-spoken T md ourFirstPrompt account =
+    line-spoken T md (ourOpening ourFirstPrompt) account (fixedText ourPrompt) [] (good-line (fixedLine ourPrompt) tt .whole) ∙ after-none _ account refl
+opening-spoken T md ourSidLine account =
+    line-spoken T md (ourOpening ourSidLine) account (fixedText ourSid) [] (good-line (fixedLine ourSid) tt .whole) ∙ after-none _ account refl
 
 -- our SID, alone and with the prompt
-pub sid-spoken : (T : List Record) (md : Bool) (account : Account) → spoken T md (at (weSay ourSidLine) account) (withCr (fixedText ourSid)) ≡ at (ourNewTurn false) account
-sid-spoken T md account = line-spoken T md ourSidLine account (fixedText ourSid) [] (good-line (fixedLine ourSid) tt .whole)
+pub sid-spoken : (T : List Record) (md : Bool) (account : Account) → spoken T md (at (weOpen ourSidLine) account) (withCr (fixedText ourSid)) ≡ at (ourNewTurn false) account
+sid-spoken T md account = opening-spoken T md ourSidLine account
 
 pub greeting-spoken : (T : List Record) (md : Bool) (account : Account)
-    → spoken T md (at (weSay ourGreeting) account) (withCr (fixedText ourSid) ++ withCr (fixedText ourPrompt)) ≡ at (theySay (theirSid false)) account
+    → spoken T md (at (weOpen ourGreeting) account) (withCr (fixedText ourSid) ++ withCr (fixedText ourPrompt)) ≡ at (theySay (theirSid false)) account
 greeting-spoken T md account =
-    spoken-append T md (at (weSay ourGreeting) account) (withCr (fixedText ourSid)) (withCr (fixedText ourPrompt))
-    ∙ ap (λ (o : Option (Course × Bytes)). spoken T md o (withCr (fixedText ourPrompt)))
-    (line-spoken T md ourGreeting account (fixedText ourSid) [] (good-line (fixedLine ourSid) tt .whole))
-    ∙ line-spoken T md ourFirstPrompt account (fixedText ourPrompt) [] (good-line (fixedLine ourPrompt) tt .whole)
+    spoken-append T md (at (weOpen ourGreeting) account) (withCr (fixedText ourSid)) (withCr (fixedText ourPrompt))
+    ∙ ap (λ (o : Option (Course × Bytes)). spoken T md o (withCr (fixedText ourPrompt))) (opening-spoken T md ourGreeting account)
+    ∙ opening-spoken T md ourFirstPrompt account
 
 -- ---------------------------------------------------------------- a turn
 
@@ -133,7 +149,7 @@ proposal-spoken : (T : List Record) (md ff : Bool) (qs : List Proposal) (p : Pro
 proposal-spoken T md ff qs p account f h =
     line-spoken T md (ourTurn ff (map proposes qs)) account (proposalLine p) [] (good-line (ourProposal p) (f .0) .whole)
     ∙ rw (proposal-read md p (f .0) (f .1))
-    (rw (said-after ff qs (proposes p ∷ []) (omega arith)) (rw (lt-ltb (length qs) blockLimit h) (rw (map-snoc qs p))))
+    (rw (said-after ff qs (proposes p ∷ []) (omega arith)) (rw (lt-ltb (length qs) blockLimit h) (rw (map-snoc qs p) (after-none (weSay (ourTurn ff (map proposes (qs ++ (p ∷ []))))) account refl))))
 
 end-spoken : (T : List Record) (md ff : Bool) (q : Proposal) (qs : List Proposal) (account : Account) → length (q ∷ qs) ≤ blockLimit
     → spoken T md (at (weSay (ourTurn ff (map proposes (q ∷ qs)))) account) (withCr (fixedText ourEnd)) ≡ after (ourProposed (placesOf T (q ∷ qs))) account
@@ -170,8 +186,8 @@ fs-spoken T md ps ss account h k l =
   where
     -- it proposes nothing
     owed : (qs : List Proposal) → after (theirsOwed qs) account ≡ at (theirsOwed qs) account
-    owed [] = refl
-    owed (q ∷ qs) = refl
+    owed [] = after-none (ourNewTurn false) account refl
+    owed (q ∷ qs) = after-none (theirTransfer q qs) account refl
 
 -- ---------------------------------------------------------------- transfers
 
@@ -232,7 +248,7 @@ transfers-spoken T md (i ∷ is) account =
 -- ---------------------------------------------------------------- the fed log, given such bytes
 
 abbrev pub withSpoken : Fed → Course × Bytes → Fed
-withSpoken f p = record { log = record { afterCr = f .log .afterCr; course = p .0; book = f .log .book }; raw = p .1 }
+withSpoken f p = record { log = withCourse (f .log) (p .0); raw = p .1 }
 
 pub gave-spoken : (T : List Record) (xs : Bytes) (f : Fed) (p : Course × Bytes) → spoken T (f .log .book .framed) (some (f .log .course, f .raw)) xs ≡ some p
     → fedAll T f (map gave xs) ≡ withSpoken f p

@@ -1,5 +1,6 @@
 use borrow.Author.Needs.{needs}
 use native.Mathlib.Omega.{arith}
+use Rattle.grammar.specs.Bytes.{SP}
 use Rattle.span.proofs.Laws.{next-past, next-word, found-within}
 use Rattle.span.proofs.next_field.Statement.{statement}
 use Rattle.span.proofs.next_field.Tie as tie
