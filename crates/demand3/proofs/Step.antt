@@ -50,38 +50,38 @@ after a m c = record { log = logWith a c (bookOf m); raw = [] }
 
 -- the session says o
 says : (E : Shelf) (s : Session) (a : Bool) (p : Phase) (m : Memory) (o : Bytes) (c : Course)
-    → spoken (E .table) (m .framed) (some (c, [])) o ≡ some (courseOf p m, []) → Pending E m p [] [] → After E (settled s a (goesOn p m o)) (after a m c)
+    → spoken (E .table) (bookOf m) (some (c, [])) o ≡ some (courseOf p m, []) → Pending E m p [] [] → After E (settled s a (goesOn p m o)) (after a m c)
 says E s a p m o c e h = went refl (record { unit = []; course = e; book = refl; afterCr = refl; pending = h })
 
 our-turn : (E : Shelf) → Sound E → (o : Bytes) (ff : Bool) (m : Memory) (s : Session) (a : Bool) (c : Course)
-    → spoken (E .table) (m .framed) (some (c, [])) o ≡ at (ourNewTurn ff) (accountOf m) → After E (settled s a (speakNow E o ff m)) (after a m c)
+    → spoken (E .table) (bookOf m) (some (c, [])) o ≡ at (ourNewTurn ff) (accountOf m) → After E (settled s a (speakNow E o ff m)) (after a m c)
 our-turn E S o ff m s a c e = go ff (ourChoice E m) (S .few m) (S .own m) (S .fit m) e
   where
     T : List Record
     T = E .table
 
     -- o, then x
-    then : (n : Next) (x : Bytes) (q : Course × Bytes) → spoken T (m .framed) (some (c, [])) o ≡ at n (accountOf m)
-        → spoken T (m .framed) (at n (accountOf m)) x ≡ some q → spoken T (m .framed) (some (c, [])) (o ++ x) ≡ some q
-    then n x q e k = spoken-append T (m .framed) (some (c, [])) o x ∙ ap (λ (y : Option (Course × Bytes)). spoken T (m .framed) y x) e ∙ k
+    then : (n : Next) (x : Bytes) (q : Course × Bytes) → spoken T (bookOf m) (some (c, [])) o ≡ at n (accountOf m)
+        → spoken T (bookOf m) (at n (accountOf m)) x ≡ some q → spoken T (bookOf m) (some (c, [])) (o ++ x) ≡ some q
+    then n x q e k = spoken-append T (bookOf m) (some (c, [])) o x ∙ ap (λ (y : Option (Course × Bytes)). spoken T (bookOf m) y x) e ∙ k
 
     go : (ff : Bool) (is : List ℕ) → length is ≤ blockLimit → placesOf T (proposalsAt T is) ≡ some is → AllFit (m .framed) (proposalsAt T is)
-        → spoken T (m .framed) (some (c, [])) o ≡ at (ourNewTurn ff) (accountOf m) → After E (settled s a (speaking E o ff is m)) (after a m c)
+        → spoken T (bookOf m) (some (c, [])) o ≡ at (ourNewTurn ff) (accountOf m) → After E (settled s a (speaking E o ff is m)) (after a m c)
     go true [] few own fit e =
-        says E s a leaving m _ c (then (ourNewTurn true) (withCr (fixedText ourFQ)) (courseOf leaving m, []) e (fq-spoken T (m .framed) (accountOf m))) tt
+        says E s a leaving m _ c (then (ourNewTurn true) (withCr (fixedText ourFQ)) (courseOf leaving m, []) e (fq-spoken T (bookOf m) (accountOf m))) tt
     go false [] few own fit e =
         says E s a (newTurn true) m _ c
-        (then (ourNewTurn false) (withCr (fixedText ourFF)) (courseOf (newTurn true) m, []) e (ff-spoken T (m .framed) (accountOf m))) (no-line, omega arith)
+        (then (ourNewTurn false) (withCr (fixedText ourFF)) (courseOf (newTurn true) m, []) e (ff-spoken T (bookOf m) (accountOf m))) (no-line, omega arith)
     go ff (i ∷ is) few own fit e =
         says E s a (aLine (awaitsAnswer (i ∷ is))) (proposing (i ∷ is) m) _ c
         (then (ourNewTurn ff) (turnText (proposalsAt T (i ∷ is))) (courseOf (aLine (awaitsAnswer (i ∷ is))) (proposing (i ∷ is) m), []) e
-        (turn-spoken T (m .framed) ff _ (proposalsAt T is) (accountOf m) fit (rw (length-map is) few)
+        (turn-spoken T (bookOf m) ff _ (proposalsAt T is) (accountOf m) fit (rw (length-map is) few)
         ∙ ap (λ (js : Option (List ℕ)). afterLine (ourProposed js) (accountOf m)) own))
         (no-line, tt)
 
 answer : (E : Shelf) → Sound E → (ps : List Proposal) (m : Memory) (s : Session) → 1 ≤ length ps → length ps ≤ blockLimit
     → After E (settled s true (answered E ps m)) (after true m (courseWith (weSay (ourAnswer ps)) (accountOf m)))
-answer E S ps m s k l = go (accepted ss ps) (rw (accepted-alike ss ps) (fs-spoken (E .table) (m .framed) ps ss (accountOf m) (S .full (m .inbox) ps) k l))
+answer E S ps m s k l = go (accepted ss ps) (rw (accepted-alike ss ps) (fs-spoken (E .table) (bookOf m) ps ss (accountOf m) (S .full (m .inbox) ps) k l))
   where
     ss : List Sign
     ss = answersTo E (m .inbox) ps
@@ -89,7 +89,7 @@ answer E S ps m s k l = go (accepted ss ps) (rw (accepted-alike ss ps) (fs-spoke
     c : Course
     c = courseWith (weSay (ourAnswer ps)) (accountOf m)
 
-    go : (qs : List Proposal) → spoken (E .table) (m .framed) (some (c, [])) (withCr (fsLine ss)) ≡ at (theirsOwed qs) (accountOf m)
+    go : (qs : List Proposal) → spoken (E .table) (bookOf m) (some (c, [])) (withCr (fsLine ss)) ≡ at (theirsOwed qs) (accountOf m)
         → After E (settled s true (answering E ss qs m)) (after true m c)
     go [] e = our-turn E S (withCr (fsLine ss)) false m s true c e
     go (q ∷ qs) e = says E s true (awaitsTransfer q qs (scanFrom (q .form))) m (withCr (fsLine ss)) c e (from (roomFor E m) (q .form))
@@ -140,7 +140,7 @@ module _ (E : Shelf) (S : Sound E) (part : Bytes) (a : Bool) (m : Memory) where
   -- with nothing to say
   quiet : (p : Awaited) (q : Phase) (k : Memory) → Pending E k q [] [] → AfterLine p (goesOn q k []) (effect (bookOf k) (accountOf k) (nextOf q))
   unfolding AfterLine
-  quiet p q k h = says E (idle (aLine p) part a m) true q k [] (courseOf q k) (spoken-nil (E .table) (k .framed) (some (courseOf q k, []))) h
+  quiet p q k h = says E (idle (aLine p) part a m) true q k [] (courseOf q k) (spoken-nil (E .table) (bookOf k) (some (courseOf q k, []))) h
 
   sid-line : (c : Bool) (r : Option (List ℕ)) → AfterLine (awaitsSid c) (sidJudged c m r) (theirSidRead c (bookOf m) (accountOf m) r)
   sid-line c none = wrong-line _ _ _ refl refl refl
@@ -169,7 +169,7 @@ module _ (E : Shelf) (S : Sound E) (part : Bytes) (a : Bool) (m : Memory) where
   unfolding AfterLine
   text-line true =
       our-turn E S (withCr (fixedText ourSid)) false m (idle (aLine awaitsPrompt) part a m) true (courseWith (weOpen ourSidLine) (accountOf m))
-      (sid-spoken (E .table) (m .framed) (accountOf m))
+      (sid-spoken (E .table) (bookOf m) (accountOf m))
   text-line false = quiet awaitsPrompt (aLine awaitsPrompt) m (no-line, tt)
 
   -- FF, and a whole block
@@ -178,7 +178,7 @@ module _ (E : Shelf) (S : Sound E) (part : Bytes) (a : Bool) (m : Memory) where
   after-ff p =
       rw (← marked-alike (m .sending) (m .states))
       (our-turn E S [] true (turnMarks m) (idle (aLine p) part a m) true (courseWith (ourNewTurn true) (withForwarded (accountOf m)))
-      (spoken-nil (E .table) (m .framed) (at (ourNewTurn true) (withForwarded (accountOf m)))))
+      (spoken-nil (E .table) (bookOf (turnMarks m)) (at (ourNewTurn true) (withForwarded (accountOf m)))))
 
   after-block : (p : Awaited) (q : Proposal) (qs : List Proposal) → length (q ∷ qs) ≤ blockLimit
       → AfterLine p (answered E (q ∷ qs) (turnMarks m)) (effect (Log.withStates (bookOf m) (forwardedSent (m .sending) (m .states))) (withForwarded (accountOf m)) (weSay (ourAnswer (q ∷ qs))))
@@ -234,7 +234,7 @@ module _ (E : Shelf) (S : Sound E) (part : Bytes) (a : Bool) (m : Memory) where
       rw (← declined-alike is ss (m .states)) (rw (← accepted-alike ss is, ← declined-ones-alike ss is, ← deferred-ones-alike ss is)
       (says E (idle (aLine (awaitsAnswer is)) part a m) true (newTurn false) (answerMarks is ss m) (transfersText (E .table) (accepted ss is))
       (courseWith (Log.oursOwed (accepted ss is)) told)
-      (transfers-spoken (E .table) (m .framed) (accepted ss is) told)
+      (transfers-spoken (E .table) (bookOf (answerMarks is ss m)) (accepted ss is) told)
       (no-line, omega arith)))
     where
       told : Account
@@ -273,7 +273,7 @@ module _ (E : Shelf) (S : Sound E) (part : Bytes) (a : Bool) (m : Memory) where
           went refl
           (record {
             unit = part ++ (b ∷ []);
-            course = spoken-nil (E .table) (m .framed) (some (courseOf (aLine p) m, part ++ (b ∷ [])));
+            course = spoken-nil (E .table) (bookOf m) (some (courseOf (aLine p) m, part ++ (b ∷ [])));
             book = refl;
             afterCr = refl;
             pending = ((refl, simp length-append (omega (arith, ltb-true (length part) lineLimit e))), f);
@@ -285,10 +285,10 @@ module _ (E : Shelf) (S : Sound E) (part : Bytes) (a : Bool) (m : Memory) where
       → After E (settled (idle p part a m) c (nextTransfer E ps k)) (after c k (courseWith (theirsOwed ps) (accountOf k)))
   next-transfer p c [] k =
       our-turn E S [] false k (idle p part a m) c (courseWith (ourNewTurn false) (accountOf k))
-      (spoken-nil (E .table) (k .framed) (at (ourNewTurn false) (accountOf k)))
+      (spoken-nil (E .table) (bookOf k) (at (ourNewTurn false) (accountOf k)))
   next-transfer p c (q ∷ qs) k =
       says E (idle p part a m) c (awaitsTransfer q qs (scanFrom (q .form))) k [] (courseWith (theirTransfer q qs) (accountOf k))
-      (spoken-nil (E .table) (k .framed) (at (theirTransfer q qs) (accountOf k)))
+      (spoken-nil (E .table) (bookOf k) (at (theirTransfer q qs) (accountOf k)))
       (from (roomFor E k) (q .form))
 
   transfer-byte : (p : Proposal) (ps : List Proposal) (sc : Scan) (u : Bytes) (b : ℕ) → Reach (roomFor E m) (p .form) (goes sc) u
@@ -306,7 +306,7 @@ module _ (E : Shelf) (S : Sound E) (part : Bytes) (a : Bool) (m : Memory) where
           (went refl
           (record {
             unit = u ++ (b ∷ []);
-            course = spoken-nil (E .table) (m .framed) (some (courseOf (awaitsTransfer p ps sc′) m, u ++ (b ∷ [])));
+            course = spoken-nil (E .table) (bookOf m) (some (courseOf (awaitsTransfer p ps sc′) m, u ++ (b ∷ [])));
             book = refl;
             afterCr = refl;
             pending = k;
@@ -332,7 +332,7 @@ module _ (E : Shelf) (S : Sound E) (part : Bytes) (a : Bool) (m : Memory) where
 -- with no bytes waiting the log is the session's twin
 is-twin : (E : Shelf) (p : Phase) (part : Bytes) (a : Bool) (m : Memory) (f : Fed) (h : Live E (idle p part a m) f) → f ≡ twin p a m (h .unit)
 is-twin E p part a m f h =
-    ap (withSpoken f) (spoken-alone (E .table) (f .log .book .framed) (f .log .course, f .raw) (courseOf p m, h .unit) (h .course))
+    ap (withSpoken f) (spoken-alone (E .table) (f .log .book) (f .log .course, f .raw) (courseOf p m, h .unit) (h .course))
     ∙ ap (λ (k : Book). record { log = logWith (f .log .afterCr) (courseOf p m) k; raw = h .unit }) (h .book)
     ∙ ap (λ (c : Bool). twin p c m (h .unit)) (h .afterCr)
 
@@ -343,7 +343,7 @@ free-byte E S p part a [] m f b n h =
     subst (λ (g : Fed). After E (phaseStep E p (idle p part a m) b) (tookFree (E .table) g b)) (sym (is-twin E p part a m f h))
     (phase-byte E S part a m p (h .unit) b n (h .pending))
 free-byte E S p part a (x ∷ o) m f b n h =
-    rw (spoken-ours (E .table) (f .log .book .framed) (f .log .course, f .raw) (courseOf p m, h .unit) x o (h .course))
+    rw (spoken-ours (E .table) (f .log .book) (f .log .course, f .raw) (courseOf p m, h .unit) x o (h .course))
     (refusal E (holding p part a (x ∷ o) m) bytesWait (outOfOrder f) refl refl (h .book))
 
 drop-lf : (E : Shelf) (s : Session) (f : Fed) → Live E s f → Live E (withAfterCr false s) (record { log = Log.withAfterCr (f .log) false; raw = f .raw })

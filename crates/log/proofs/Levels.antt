@@ -15,7 +15,7 @@ use Rattle.grammar.specs.Turns.{Proposal}
 use Rattle.grammar.specs.Answers.{Level, level0, level1, digitCount, readFs, signAt}
 use Rattle.mail.specs.Mail.{Record}
 use Rattle.log.specs.Effects.{noAccount}
-use Rattle.log.specs.Log.{ourAnswer, theirSid, theirAnswer, over, withFramed, withLevel, levelBetween, ourLine, theirLine, logOpened}
+use Rattle.log.specs.Log.{ourAnswer, theirSid, theirAnswer, over, Book, withFramed, withLevel, levelBetween, ourLine, theirLine, logOpened}
 
 -- THE SAME LEVEL
 pub level-alike : (fs : List ℕ) → levelBetween fs ≡ levelInForce fs
@@ -36,9 +36,9 @@ unfolding trim isComment readSid
 levels-found = refl
 
 -- "We write only `+`, `-` and `=`.": any other sign of ours is forbidden, in a framed session too
-pub ours-at-0 : (T : List Record) (md : Bool) (p : Proposal) → ourLine T md (ourAnswer (p ∷ [])) (text "FS Y") ≡ over
+pub ours-at-0 : (T : List Record) (k : Book) (p : Proposal) → ourLine T k (ourAnswer (p ∷ [])) (text "FS Y") ≡ over
 unfolding readFs signAt
-ours-at-0 T md p = refl
+ours-at-0 T k p = refl
 
 -- The states after the partner's FS line on one record, at a level.
 abbrev afterAt : Level → Bytes → List ℕ

@@ -348,7 +348,7 @@ pub our-turn-fed : (T : List Record) (a ff : Bool) (p : Proposal) (ps : List Pro
 our-turn-fed T a ff p ps account k f h =
     gave-spoken T (turnText (p ∷ ps)) (record { log = owing a (ourNewTurn ff) account k; raw = [] })
     (courseWith (ourProposed (placesOf T (p ∷ ps))) (afterOurs (ourProposed (placesOf T (p ∷ ps))) account), [])
-    (turn-spoken T (k .framed) ff p ps account f h)
+    (turn-spoken T k ff p ps account f h)
 
 -- and they count as proposed with it (02, Q-3)
 pub our-turn-counts : (T : List Record) (a ff : Bool) (p : Proposal) (ps : List Proposal) (account : Account) (k : Book) (is : List ℕ) → AllFit (k .framed) (p ∷ ps)

@@ -265,7 +265,7 @@ pub our-transfer-fed : (T : List Record) (a : Bool) (i : ℕ) (is : List ℕ) (a
 our-transfer-fed T a i is account k =
     gave-spoken T (transferOf (recordAt T i)) (record { log = owing a (ourTransfer i is) account k; raw = [] })
     (courseWith (oursOwed is) (withSent i account), [])
-    (transfer-spoken T (k .framed) i is account)
+    (transfer-spoken T k i is account)
 
 -- before that, nothing
 pub our-part-fed : (T : List Record) (a : Bool) (i : ℕ) (is : List ℕ) (account : Account) (k : Book) (u : Bytes) (b : ℕ) (r : Bytes) → transferOf (recordAt T i) ≡ u ++ b ∷ r

@@ -26,7 +26,7 @@ use Rattle.log.specs.Effects.{forwardedSent, acceptedBy, declinedBy, Acc
 pub data Event : Type 0 where
   took gave : ℕ → Event
 
--- A line of ours with nothing in it to read: our SID and prompt as called, our SID as caller.
+-- A line of ours under "SID and opening": our SID and our prompt as called, our SID as caller.
 pub data Opening : Type 0 where
   ourGreeting ourFirstPrompt ourSidLine : Opening
 
@@ -51,6 +51,7 @@ pub data Next : Type 0 where
   theirTransfer : Proposal → List Proposal → Next
   ourTransfer : ℕ → List ℕ → Next
 
+-- Such a line is next.
 abbrev pub weOpen : Opening → Next
 weOpen o = weSay (ourOpening o)
 
@@ -204,11 +205,11 @@ afterOpening ourGreeting = weOpen ourFirstPrompt
 afterOpening ourFirstPrompt = theySay (theirSid false)
 afterOpening ourSidLine = ourNewTurn false
 
--- A line of ours. "Lines under SID and opening only choose the mode.", and the level
-abbrev pub ourLine : List Record → Bool → Ours → Bytes → Next
-ourLine T md (ourOpening o) ln = cond (same ln (openingText o)) (afterOpening o) over
-ourLine T md (ourTurn ff ls) ln = ourSaid T ff (ls ++ (readTurnLine md ln ∷ [])) (said ff (ls ++ (readTurnLine md ln ∷ [])))
-ourLine T md (ourAnswer ps) ln = ourAnswered ps (readFs level0 (length ps) ln)
+-- A line of ours; k: the book, which has the mode. "Lines under SID and opening only choose the mode.", and the level
+abbrev pub ourLine : List Record → Book → Ours → Bytes → Next
+ourLine T k (ourOpening o) ln = cond (same ln (openingText o)) (afterOpening o) over
+ourLine T k (ourTurn ff ls) ln = ourSaid T ff (ls ++ (readTurnLine (k .framed) ln ∷ [])) (said ff (ls ++ (readTurnLine (k .framed) ln ∷ [])))
+ourLine T k (ourAnswer ps) ln = ourAnswered ps (readFs level0 (length ps) ln)
 
 -- The places of our records that the partner's FS line is due on, as its line and as what is next.
 abbrev pub askedOf : Theirs → List ℕ
@@ -229,12 +230,12 @@ abbrev pub afterOurs : Next → Account → Account
 afterOurs n account = withProposed (length (dueOn n)) account
 
 -- "Our owed transfer, as we write it, given whole: its record is sent."
-abbrev pub ourUnit : List Record → Bool → Next → Account → Bytes → Course
-ourUnit T md (weSay n) account u = courseWith (ourLine T md n u) (afterOurs (ourLine T md n u) account)
-ourUnit T md (ourTransfer i is) account u = courseWith (oursOwed is) (withSent i account)
-ourUnit T md over account u = courseWith over account
-ourUnit T md (theySay n) account u = courseWith over account
-ourUnit T md (theirTransfer p ps) account u = courseWith over account
+abbrev pub ourUnit : List Record → Book → Next → Account → Bytes → Course
+ourUnit T k (weSay n) account u = courseWith (ourLine T k n u) (afterOurs (ourLine T k n u) account)
+ourUnit T k (ourTransfer i is) account u = courseWith (oursOwed is) (withSent i account)
+ourUnit T k over account u = courseWith over account
+ourUnit T k (theySay n) account u = courseWith over account
+ourUnit T k (theirTransfer p ps) account u = courseWith over account
 
 -- ---------------------------------------------------------------- the effect of a whole unit of the partner's
 
@@ -377,7 +378,7 @@ theirUnit (ourTransfer i is) k account u b = afterTheirs true (effect k account 
 abbrev pub applied : List Record → Log → Bytes → ℕ → Log
 applied T l u b =
     cond (isOurs (l .course .next))
-    (withCourse l (ourUnit T (l .book .framed) (l .course .next) (l .course .account) u))
+    (withCourse l (ourUnit T (l .book) (l .course .next) (l .course .account) u))
     (theirUnit (l .course .next) (l .book) (l .course .account) u b)
 
 -- "What the rules forbid isn't valid: it changes nothing and ends the log."

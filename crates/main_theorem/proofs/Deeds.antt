@@ -165,9 +165,9 @@ module _ (T : List Record) (a : Bool) (st : Account) (k : Book) (u : Bytes) (b :
   line-comes n false y = ends n
 
   -- a line of ours sends no record, whatever it proposes
-  ours-comes : (n : Ours) → Comes T st k u b (weSay n) (ourDeed n u) (courseWith (ourLine T (k .framed) n u) (afterOurs (ourLine T (k .framed) n u) st)) k
+  ours-comes : (n : Ours) → Comes T st k u b (weSay n) (ourDeed n u) (courseWith (ourLine T k n u) (afterOurs (ourLine T k n u) st)) k
   ours-comes (ourOpening o) =
-      idles (weOpen o) (ourLine T (k .framed) (ourOpening o) u) _ k noneOwed (by-cond Idle (same u (openingText o)) (opening-idle o) over-idle) refl refl refl
+      idles (weOpen o) (ourLine T k (ourOpening o) u) _ k noneOwed (by-cond Idle (same u (openingText o)) (opening-idle o) over-idle) refl refl refl
   ours-comes (ourTurn ff ls) =
       let ls′ = ls ++ (readTurnLine (k .framed) u ∷ []) in
       idles (weSay (ourTurn ff ls)) (ourSaid T ff ls′ (said ff ls′)) _ k noneOwed (said-idle T ff ls′ (said ff ls′)) refl refl refl

@@ -47,7 +47,7 @@ gave-book T f b = go (isOurs (f .log .course .next)) refl
     ours e =
         ap
         (λ (d : Bool). cond {A = Log} d
-        (withCourse (f .log) (ourUnit T (f .log .book .framed) (f .log .course .next) (f .log .course .account) (f .raw)))
+        (withCourse (f .log) (ourUnit T (f .log .book) (f .log .course .next) (f .log .course .account) (f .raw)))
         (theirUnit (f .log .course .next) (f .log .book) (f .log .course .account) (f .raw) b) .book)
         e
 
