@@ -17,31 +17,26 @@ use Rattle.session.specs.Choices.{Shelf}
 use Rattle.session.specs.Session.{Awaited, awaitsSid, awaitsPrompt, awaitsTurn, awaitsAnswer, Phase, aLine, newTurn, awaitsTransfer, leaving, over, Memory, Session, withSid, Outcome, refuses, goesOn, turnMarks, answerMarks, afterSid, Stepped, settled, keptIn, nextTransfer, isPlain, step, opened, levelInForce}
 use Rattle.session.proofs.Ways.{Passes, toEnd, toTurn, toAnswer, toTransfer, our-turn, our-answer, next-transfer, Wrong, noSid, noF, noTurnLine, ffAfterFf, ffInBlock, fqFirst, fqInBlock, emptyBlock, emptySummed, tooMany, wrongHex, noAnswer, Judged, isWrong, hearsSid, hearsText, hearsPrompt, hearsProposal, hearsFF, hearsFQ, hearsEnd, hearsFs, Why, waits, hasLeft, isOver, tooLong, unread, unsummed, unkept, Way, isRefused, dropsLf, growsLine, ignoresLine, hearsLine, readsOn, readsLast, way}
 use Rattle.session.specs.Calls.{give}
-use Rattle.log.specs.Log.{unsent}
+use Rattle.log.specs.Log.{dueOn, owes, unsent}
 use Rattle.demand3.specs.Tally.{isRefusal}
 use Rattle.demand3.proofs.Inv.{nextOf}
 use Rattle.demand3.proofs.Step.{numbered}
 use Rattle.demand3.proofs.Places.{openPlaces, open-most, Rise, marked-length, declined-length, deferring-length, turn-takes, answer-takes, one-each, chosen-rises}
 
--- the places that the partner's FS line is due on
+-- the places that the partner's FS line is due on, by the log's word for the phase
 abbrev pub asked : Phase → List ℕ
-asked (aLine (awaitsAnswer is)) = is
-asked (aLine (awaitsSid c)) = []
-asked (aLine awaitsPrompt) = []
-asked (aLine (awaitsTurn ff ps raw)) = []
-asked (awaitsTransfer p ps sc) = []
-asked leaving = []
-asked over = []
+asked p = dueOn (nextOf p)
 
--- the log's word for how many
+-- between bytes of the partner's we owe no transfer
+none-owed : (p : Phase) → owes (nextOf p) ≡ []
+none-owed (aLine a) = refl
+none-owed (awaitsTransfer p ps sc) = refl
+none-owed leaving = refl
+none-owed over = refl
+
+-- so they are all that is unsent
 pub asked-is : (p : Phase) → unsent (nextOf p) ≡ length (asked p)
-asked-is (aLine (awaitsAnswer is)) = refl
-asked-is (aLine (awaitsSid c)) = refl
-asked-is (aLine awaitsPrompt) = refl
-asked-is (aLine (awaitsTurn ff ps raw)) = refl
-asked-is (awaitsTransfer p ps sc) = refl
-asked-is leaving = refl
-asked-is over = refl
+asked-is p = let e = ap length (none-owed p) in omega arith
 
 -- what is asked and what is being sent are open places; records are being sent only from an FS line to the partner's turn
 abbrev Held : Phase → Memory → Type 0

@@ -68,8 +68,8 @@ module _ (E : Shelf) (S : Sound E) where
   run-inv (refusedCall ∷ cs) s f h = run-inv cs s f h
 
 pub open-live : (E : Shelf) (caller : Bool) (states : List ℕ) → Live E (opened caller states) (fedOpened caller states)
-open-live E true states = record { unit = []; course = spoken-nil (E .table) false _; book = refl; afterCr = refl; pending = (no-line, tt) }
-open-live E false states = record { unit = []; course = greeting-spoken (E .table) false noAccount; book = refl; afterCr = refl; pending = (no-line, tt) }
+open-live E true states = record { unit = []; course = spoken-nil (E .table) _ _; book = refl; afterCr = refl; pending = (no-line, tt) }
+open-live E false states = record { unit = []; course = greeting-spoken (E .table) _ noAccount; book = refl; afterCr = refl; pending = (no-line, tt) }
 
 pub open-inv : (E : Shelf) (caller : Bool) (states : List ℕ) → Inv E (opened caller states) (fedOpened caller states)
 open-inv E caller states = live (open-live E caller states)

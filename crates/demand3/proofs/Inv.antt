@@ -17,7 +17,7 @@ use Rattle.mail.specs.Mail.{Record}
 use Rattle.session.specs.Choices.{Shelf}
 use Rattle.session.specs.Session.{Awaited, awaitsSid, awaitsPrompt, awaitsTurn, awaitsAnswer, Phase, aLine, awaitsTransfer, leaving, Memory, Session, Stepped, roomFor}
 use Rattle.session.specs.Calls.{give, handedOut}
-use Rattle.log.specs.Log.{gave, Theirs, theirText, theirSid, theirTurn, theirAnswer, Next, theySay, theirTransfer, Course, Book, isOurs}
+use Rattle.log.specs.Log.{gave, Theirs, theirText, theirSid, theirTurn, theirAnswer, Next, theySay, theirTransfer, Course, courseWith, Book, isOurs}
 use Rattle.log.specs.Effects.{Account}
 use Rattle.log.specs.Fed.{Fed, unitByte, outOfOrder, fedAll}
 use Rattle.log.proofs.Spoken.{spoken, spoken-append, spoken-none, gave-spoken}
@@ -47,7 +47,7 @@ accountOf m =
     }
 
 abbrev pub courseOf : Phase → Memory → Course
-courseOf p m = record { next = nextOf p; account = accountOf m }
+courseOf p m = courseWith (nextOf p) (accountOf m)
 
 abbrev pub bookOf : Memory → Book
 bookOf m = record { framed = m .framed; level = m .terms .level; states = m .states; kept = m .inbox }
@@ -75,7 +75,7 @@ Pending E m Phase.over part u = Unit {0}
 
 pub record Live (E : Shelf) (s : Session) (f : Fed) : Type 0 where
   pub unit : Bytes
-  pub course : spoken (E .table) (f .log .book .framed) (some (f .log .course, f .raw)) (s .out) ≡ some (courseOf (s .phase) (s .memory), unit)
+  pub course : spoken (E .table) (f .log .book) (some (f .log .course, f .raw)) (s .out) ≡ some (courseOf (s .phase) (s .memory), unit)
   pub book : f .log .book ≡ bookOf (s .memory)
   pub afterCr : f .log .afterCr ≡ s .afterCr
   pub pending : Pending E (s .memory) (s .phase) (s .part) unit
@@ -106,23 +106,23 @@ inv-book (gone h) = h .book
 
 pub give-live : (E : Shelf) (s : Session) (f : Fed) (room : ℕ) → Live E s f → Live E (give s room) (fedAll (E .table) f (map gave (handedOut s room)))
 unfolding give
-give-live E s f room h = go (spoken T md (some (f .log .course, f .raw)) (take room (s .out))) refl split
+give-live E s f room h = go (spoken T b (some (f .log .course, f .raw)) (take room (s .out))) refl split
   where
     T : List Record
     T = E .table
 
-    md : Bool
-    md = f .log .book .framed
+    b : Book
+    b = f .log .book
 
-    split : spoken T md (spoken T md (some (f .log .course, f .raw)) (take room (s .out))) (drop room (s .out)) ≡ some (courseOf (s .phase) (s .memory), h .unit)
+    split : spoken T b (spoken T b (some (f .log .course, f .raw)) (take room (s .out))) (drop room (s .out)) ≡ some (courseOf (s .phase) (s .memory), h .unit)
     split =
-        sym (spoken-append T md (some (f .log .course, f .raw)) (take room (s .out)) (drop room (s .out)))
+        sym (spoken-append T b (some (f .log .course, f .raw)) (take room (s .out)) (drop room (s .out)))
         ∙ rw (take-append-drop room (s .out)) (h .course)
 
-    go : (o : Option (Course × Bytes)) → spoken T md (some (f .log .course, f .raw)) (take room (s .out)) ≡ o
-        → spoken T md o (drop room (s .out)) ≡ some (courseOf (s .phase) (s .memory), h .unit)
+    go : (o : Option (Course × Bytes)) → spoken T b (some (f .log .course, f .raw)) (take room (s .out)) ≡ o
+        → spoken T b o (drop room (s .out)) ≡ some (courseOf (s .phase) (s .memory), h .unit)
         → Live E (give s room) (fedAll T f (map gave (take room (s .out))))
-    go none e k = absurd (let z = sym (spoken-none T md (drop room (s .out))) ∙ k in let y : _≡_ {A = ℕ} 0 1 = cc in omega arith)
+    go none e k = absurd (let z = sym (spoken-none T b (drop room (s .out))) ∙ k in let y : _≡_ {A = ℕ} 0 1 = cc in omega arith)
     go (some p) e k =
         rw (gave-spoken T (take room (s .out)) f p e)
         (record { unit = h .unit; course = k; book = h .book; afterCr = h .afterCr; pending = h .pending })

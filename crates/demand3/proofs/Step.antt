@@ -22,11 +22,10 @@ use Rattle.grammar.specs.Scan.{Scan, Scanned, goes, got, malformed, wrongSum, n
 use Rattle.grammar.proofs.Basics.{no-both}
 use Rattle.grammar.proofs.Refusal.{Reach, reach-step, from, contentOf, read-as}
 use Rattle.mail.specs.Mail.{Record, messageOf, turnText, transfersText, accepted}
-use Rattle.mail.specs.Tally.{declinedOnes, deferredOnes}
 use Rattle.session.specs.Choices.{Shelf, answersTo}
-use Rattle.session.specs.Session.{Awaited, awaitsSid, awaitsPrompt, awaitsTurn, awaitsAnswer, Phase, aLine, newTurn, awaitsTransfer, leaving, Memory, Session, withSid, withPart, withAfterCr, between, Outcome, refuses, goesOn, proposing, speaking, ourTurn as speakNow, turnMarks, answering, answered, turnJudged, answerMarks, answerJudged, afterSid, sidJudged, textJudged, awaitedJudged, lineJudged, refused, settled, lineMoved, keptIn, nextTransfer, transferMoved, roomFor, lineStep, phaseStep, freeStep, step, ended, endedIn}
+use Rattle.session.specs.Session.{Awaited, awaitsSid, awaitsPrompt, awaitsTurn, awaitsAnswer, Phase, aLine, newTurn, awaitsTransfer, leaving, Memory, Session, withCounts, withSid, withPart, withAfterCr, between, Outcome, refuses, goesOn, proposing, speaking, ourTurn as speakNow, turnMarks, answering, answered, turnJudged, answerMarks, answerJudged, afterSid, sidJudged, textJudged, awaitedJudged, lineJudged, refused, settled, lineMoved, keptIn, nextTransfer, transferMoved, roomFor, lineStep, phaseStep, freeStep, step, ended, endedIn}
 use Rattle.session.specs.Session
-use Rattle.log.specs.Log.{ourNewTurn, took, ourSidLine, ourAnswer, theirText, Next, weSay, theySay, theirTransfer, Course, Book, Log, isOurs, saidOn, inOrder, said, theirsOwed, placesOf, ourProposed, Effect, effect, summedEnd, checked, rawWith, theirSaid, theirTurnLine, theirAnswered, theirSidRead, theirRead, theirLine, judgedLine}
+use Rattle.log.specs.Log.{ourNewTurn, weOpen, courseWith, logWith, afterTheirs, took, ourSidLine, ourAnswer, theirText, Next, weSay, theySay, theirTransfer, Course, Book, Log, isOurs, saidOn, inOrder, said, theirsOwed, placesOf, ourProposed, Effect, effect, summedEnd, checked, rawWith, theirSaid, theirTurnLine, theirAnswered, theirSidRead, theirRead, theirLine, judgedLine}
 use Rattle.log.specs.Log
 use Rattle.log.specs.Fed.{Fed, unitByte, outOfOrder, fedByte}
 use Rattle.log.proofs.Levels.{level-alike}
@@ -47,50 +46,50 @@ refusal E s n f r t h = halted r (record { done = refl; theirs = t; book = h })
 
 -- the log right after a whole unit
 abbrev after : Bool → Memory → Course → Fed
-after a m c = record { log = record { afterCr = a; course = c; book = bookOf m }; raw = [] }
+after a m c = record { log = logWith a c (bookOf m); raw = [] }
 
 -- the session says o
 says : (E : Shelf) (s : Session) (a : Bool) (p : Phase) (m : Memory) (o : Bytes) (c : Course)
-    → spoken (E .table) (m .framed) (some (c, [])) o ≡ some (courseOf p m, []) → Pending E m p [] [] → After E (settled s a (goesOn p m o)) (after a m c)
+    → spoken (E .table) (bookOf m) (some (c, [])) o ≡ some (courseOf p m, []) → Pending E m p [] [] → After E (settled s a (goesOn p m o)) (after a m c)
 says E s a p m o c e h = went refl (record { unit = []; course = e; book = refl; afterCr = refl; pending = h })
 
 our-turn : (E : Shelf) → Sound E → (o : Bytes) (ff : Bool) (m : Memory) (s : Session) (a : Bool) (c : Course)
-    → spoken (E .table) (m .framed) (some (c, [])) o ≡ at (ourNewTurn ff) (accountOf m) → After E (settled s a (speakNow E o ff m)) (after a m c)
+    → spoken (E .table) (bookOf m) (some (c, [])) o ≡ at (ourNewTurn ff) (accountOf m) → After E (settled s a (speakNow E o ff m)) (after a m c)
 our-turn E S o ff m s a c e = go ff (ourChoice E m) (S .few m) (S .own m) (S .fit m) e
   where
     T : List Record
     T = E .table
 
     -- o, then x
-    then : (n : Next) (x : Bytes) (q : Course × Bytes) → spoken T (m .framed) (some (c, [])) o ≡ at n (accountOf m)
-        → spoken T (m .framed) (at n (accountOf m)) x ≡ some q → spoken T (m .framed) (some (c, [])) (o ++ x) ≡ some q
-    then n x q e k = spoken-append T (m .framed) (some (c, [])) o x ∙ ap (λ (y : Option (Course × Bytes)). spoken T (m .framed) y x) e ∙ k
+    then : (n : Next) (x : Bytes) (q : Course × Bytes) → spoken T (bookOf m) (some (c, [])) o ≡ at n (accountOf m)
+        → spoken T (bookOf m) (at n (accountOf m)) x ≡ some q → spoken T (bookOf m) (some (c, [])) (o ++ x) ≡ some q
+    then n x q e k = spoken-append T (bookOf m) (some (c, [])) o x ∙ ap (λ (y : Option (Course × Bytes)). spoken T (bookOf m) y x) e ∙ k
 
     go : (ff : Bool) (is : List ℕ) → length is ≤ blockLimit → placesOf T (proposalsAt T is) ≡ some is → AllFit (m .framed) (proposalsAt T is)
-        → spoken T (m .framed) (some (c, [])) o ≡ at (ourNewTurn ff) (accountOf m) → After E (settled s a (speaking E o ff is m)) (after a m c)
+        → spoken T (bookOf m) (some (c, [])) o ≡ at (ourNewTurn ff) (accountOf m) → After E (settled s a (speaking E o ff is m)) (after a m c)
     go true [] few own fit e =
-        says E s a leaving m _ c (then (ourNewTurn true) (withCr (fixedText ourFQ)) (courseOf leaving m, []) e (fq-spoken T (m .framed) (accountOf m))) tt
+        says E s a leaving m _ c (then (ourNewTurn true) (withCr (fixedText ourFQ)) (courseOf leaving m, []) e (fq-spoken T (bookOf m) (accountOf m))) tt
     go false [] few own fit e =
         says E s a (newTurn true) m _ c
-        (then (ourNewTurn false) (withCr (fixedText ourFF)) (courseOf (newTurn true) m, []) e (ff-spoken T (m .framed) (accountOf m))) (no-line, omega arith)
+        (then (ourNewTurn false) (withCr (fixedText ourFF)) (courseOf (newTurn true) m, []) e (ff-spoken T (bookOf m) (accountOf m))) (no-line, omega arith)
     go ff (i ∷ is) few own fit e =
         says E s a (aLine (awaitsAnswer (i ∷ is))) (proposing (i ∷ is) m) _ c
         (then (ourNewTurn ff) (turnText (proposalsAt T (i ∷ is))) (courseOf (aLine (awaitsAnswer (i ∷ is))) (proposing (i ∷ is) m), []) e
-        (turn-spoken T (m .framed) ff _ (proposalsAt T is) (accountOf m) fit (rw (length-map is) few)
+        (turn-spoken T (bookOf m) ff _ (proposalsAt T is) (accountOf m) fit (rw (length-map is) few)
         ∙ ap (λ (js : Option (List ℕ)). afterLine (ourProposed js) (accountOf m)) own))
         (no-line, tt)
 
 answer : (E : Shelf) → Sound E → (ps : List Proposal) (m : Memory) (s : Session) → 1 ≤ length ps → length ps ≤ blockLimit
-    → After E (settled s true (answered E ps m)) (after true m (record { next = weSay (ourAnswer ps); account = accountOf m }))
-answer E S ps m s k l = go (accepted ss ps) (rw (accepted-alike ss ps) (fs-spoken (E .table) (m .framed) ps ss (accountOf m) (S .full (m .inbox) ps) k l))
+    → After E (settled s true (answered E ps m)) (after true m (courseWith (weSay (ourAnswer ps)) (accountOf m)))
+answer E S ps m s k l = go (accepted ss ps) (rw (accepted-alike ss ps) (fs-spoken (E .table) (bookOf m) ps ss (accountOf m) (S .full (m .inbox) ps) k l))
   where
     ss : List Sign
     ss = answersTo E (m .inbox) ps
 
     c : Course
-    c = record { next = weSay (ourAnswer ps); account = accountOf m }
+    c = courseWith (weSay (ourAnswer ps)) (accountOf m)
 
-    go : (qs : List Proposal) → spoken (E .table) (m .framed) (some (c, [])) (withCr (fsLine ss)) ≡ at (theirsOwed qs) (accountOf m)
+    go : (qs : List Proposal) → spoken (E .table) (bookOf m) (some (c, [])) (withCr (fsLine ss)) ≡ at (theirsOwed qs) (accountOf m)
         → After E (settled s true (answering E ss qs m)) (after true m c)
     go [] e = our-turn E S (withCr (fsLine ss)) false m s true c e
     go (q ∷ qs) e = says E s true (awaitsTransfer q qs (scanFrom (q .form))) m (withCr (fsLine ss)) c e (from (roomFor E m) (q .form))
@@ -113,11 +112,11 @@ abbrev idle : Phase → Bytes → Bool → Memory → Session
 idle p part a m = holding p part a [] m
 
 abbrev twin : Phase → Bool → Memory → Bytes → Fed
-twin p a m u = record { log = record { afterCr = a; course = courseOf p m; book = bookOf m }; raw = u }
+twin p a m u = record { log = logWith a (courseOf p m) (bookOf m); raw = u }
 
 -- the log after a line with this effect
 abbrev effected : Effect → Fed
-effected e = record { log = record { afterCr = true; course = e .course; book = e .book }; raw = [] }
+effected e = record { log = afterTheirs true e; raw = [] }
 
 -- a byte that no rule of Lines drops
 abbrev tookFree : List Record → Fed → ℕ → Fed
@@ -141,7 +140,7 @@ module _ (E : Shelf) (S : Sound E) (part : Bytes) (a : Bool) (m : Memory) where
   -- with nothing to say
   quiet : (p : Awaited) (q : Phase) (k : Memory) → Pending E k q [] [] → AfterLine p (goesOn q k []) (effect (bookOf k) (accountOf k) (nextOf q))
   unfolding AfterLine
-  quiet p q k h = says E (idle (aLine p) part a m) true q k [] (courseOf q k) (spoken-nil (E .table) (k .framed) (some (courseOf q k, []))) h
+  quiet p q k h = says E (idle (aLine p) part a m) true q k [] (courseOf q k) (spoken-nil (E .table) (bookOf k) (some (courseOf q k, []))) h
 
   sid-line : (c : Bool) (r : Option (List ℕ)) → AfterLine (awaitsSid c) (sidJudged c m r) (theirSidRead c (bookOf m) (accountOf m) r)
   sid-line c none = wrong-line _ _ _ refl refl refl
@@ -156,7 +155,7 @@ module _ (E : Shelf) (S : Sound E) (part : Bytes) (a : Bool) (m : Memory) where
       k = withSid fs m
 
       metAt : Level → Book
-      metAt v = record { framed = framed fs; level = v; states = m .states; kept = m .inbox }
+      metAt v = Log.withLevel (Log.withFramed (bookOf m) (framed fs)) v
 
       go : (c d : Bool)
           → AfterLine (awaitsSid c) (cond d (goesOn (afterSid c) k []) (refuses noForwarding))
@@ -166,11 +165,11 @@ module _ (E : Shelf) (S : Sound E) (part : Bytes) (a : Bool) (m : Memory) where
       go c false = wrong-line _ _ _ refl refl refl
 
   text-line : (c : Bool)
-      → AfterLine awaitsPrompt (textJudged E c m) (cond c (effect (bookOf m) (accountOf m) (weSay ourSidLine)) (effect (bookOf m) (accountOf m) (theySay theirText)))
+      → AfterLine awaitsPrompt (textJudged E c m) (cond c (effect (bookOf m) (accountOf m) (weOpen ourSidLine)) (effect (bookOf m) (accountOf m) (theySay theirText)))
   unfolding AfterLine
   text-line true =
-      our-turn E S (withCr (fixedText ourSid)) false m (idle (aLine awaitsPrompt) part a m) true (record { next = weSay ourSidLine; account = accountOf m })
-      (sid-spoken (E .table) (m .framed) (accountOf m))
+      our-turn E S (withCr (fixedText ourSid)) false m (idle (aLine awaitsPrompt) part a m) true (courseWith (weOpen ourSidLine) (accountOf m))
+      (sid-spoken (E .table) (bookOf m) (accountOf m))
   text-line false = quiet awaitsPrompt (aLine awaitsPrompt) m (no-line, tt)
 
   -- FF, and a whole block
@@ -178,8 +177,8 @@ module _ (E : Shelf) (S : Sound E) (part : Bytes) (a : Bool) (m : Memory) where
   unfolding AfterLine
   after-ff p =
       rw (← marked-alike (m .sending) (m .states))
-      (our-turn E S [] true (turnMarks m) (idle (aLine p) part a m) true (record { next = ourNewTurn true; account = withForwarded (accountOf m) })
-      (spoken-nil (E .table) (m .framed) (at (ourNewTurn true) (withForwarded (accountOf m)))))
+      (our-turn E S [] true (turnMarks m) (idle (aLine p) part a m) true (courseWith (ourNewTurn true) (withForwarded (accountOf m)))
+      (spoken-nil (E .table) (bookOf (turnMarks m)) (at (ourNewTurn true) (withForwarded (accountOf m)))))
 
   after-block : (p : Awaited) (q : Proposal) (qs : List Proposal) → length (q ∷ qs) ≤ blockLimit
       → AfterLine p (answered E (q ∷ qs) (turnMarks m)) (effect (Log.withStates (bookOf m) (forwardedSent (m .sending) (m .states))) (withForwarded (accountOf m)) (weSay (ourAnswer (q ∷ qs))))
@@ -234,19 +233,12 @@ module _ (E : Shelf) (S : Sound E) (part : Bytes) (a : Bool) (m : Memory) where
   answer-line is n (some ss) h =
       rw (← declined-alike is ss (m .states)) (rw (← accepted-alike ss is, ← declined-ones-alike ss is, ← deferred-ones-alike ss is)
       (says E (idle (aLine (awaitsAnswer is)) part a m) true (newTurn false) (answerMarks is ss m) (transfersText (E .table) (accepted ss is))
-      (record { next = Log.oursOwed (accepted ss is); account = told })
-      (transfers-spoken (E .table) (m .framed) (accepted ss is) told)
+      (courseWith (Log.oursOwed (accepted ss is)) told)
+      (transfers-spoken (E .table) (bookOf (answerMarks is ss m)) (accepted ss is) told)
       (no-line, omega arith)))
     where
       told : Account
-      told =
-          record {
-            sent = m .sending;
-            proposed = m .counts .proposed;
-            forwarded = m .counts .forwarded;
-            declined = m .counts .declined + length (declinedOnes ss is);
-            deferred = m .counts .deferred + length (deferredOnes ss is);
-          }
+      told = accountOf (withCounts (answerMarks is ss m .counts) m)
 
   -- the line that is awaited
   read-line : (p : Awaited) → Few p → AfterLine p (awaitedJudged E p m part) (theirRead (lineOf p) (bookOf m) (accountOf m) part)
@@ -281,7 +273,7 @@ module _ (E : Shelf) (S : Sound E) (part : Bytes) (a : Bool) (m : Memory) where
           went refl
           (record {
             unit = part ++ (b ∷ []);
-            course = spoken-nil (E .table) (m .framed) (some (courseOf (aLine p) m, part ++ (b ∷ [])));
+            course = spoken-nil (E .table) (bookOf m) (some (courseOf (aLine p) m, part ++ (b ∷ [])));
             book = refl;
             afterCr = refl;
             pending = ((refl, simp length-append (omega (arith, ltb-true (length part) lineLimit e))), f);
@@ -290,13 +282,13 @@ module _ (E : Shelf) (S : Sound E) (part : Bytes) (a : Bool) (m : Memory) where
 
   -- a byte of a transfer
   next-transfer : (p : Phase) (c : Bool) (ps : List Proposal) (k : Memory)
-      → After E (settled (idle p part a m) c (nextTransfer E ps k)) (after c k (record { next = theirsOwed ps; account = accountOf k }))
+      → After E (settled (idle p part a m) c (nextTransfer E ps k)) (after c k (courseWith (theirsOwed ps) (accountOf k)))
   next-transfer p c [] k =
-      our-turn E S [] false k (idle p part a m) c (record { next = ourNewTurn false; account = accountOf k })
-      (spoken-nil (E .table) (k .framed) (at (ourNewTurn false) (accountOf k)))
+      our-turn E S [] false k (idle p part a m) c (courseWith (ourNewTurn false) (accountOf k))
+      (spoken-nil (E .table) (bookOf k) (at (ourNewTurn false) (accountOf k)))
   next-transfer p c (q ∷ qs) k =
-      says E (idle p part a m) c (awaitsTransfer q qs (scanFrom (q .form))) k [] (record { next = theirTransfer q qs; account = accountOf k })
-      (spoken-nil (E .table) (k .framed) (at (theirTransfer q qs) (accountOf k)))
+      says E (idle p part a m) c (awaitsTransfer q qs (scanFrom (q .form))) k [] (courseWith (theirTransfer q qs) (accountOf k))
+      (spoken-nil (E .table) (bookOf k) (at (theirTransfer q qs) (accountOf k)))
       (from (roomFor E k) (q .form))
 
   transfer-byte : (p : Proposal) (ps : List Proposal) (sc : Scan) (u : Bytes) (b : ℕ) → Reach (roomFor E m) (p .form) (goes sc) u
@@ -314,7 +306,7 @@ module _ (E : Shelf) (S : Sound E) (part : Bytes) (a : Bool) (m : Memory) where
           (went refl
           (record {
             unit = u ++ (b ∷ []);
-            course = spoken-nil (E .table) (m .framed) (some (courseOf (awaitsTransfer p ps sc′) m, u ++ (b ∷ [])));
+            course = spoken-nil (E .table) (bookOf m) (some (courseOf (awaitsTransfer p ps sc′) m, u ++ (b ∷ [])));
             book = refl;
             afterCr = refl;
             pending = k;
@@ -340,9 +332,9 @@ module _ (E : Shelf) (S : Sound E) (part : Bytes) (a : Bool) (m : Memory) where
 -- with no bytes waiting the log is the session's twin
 is-twin : (E : Shelf) (p : Phase) (part : Bytes) (a : Bool) (m : Memory) (f : Fed) (h : Live E (idle p part a m) f) → f ≡ twin p a m (h .unit)
 is-twin E p part a m f h =
-    ap (withSpoken f) (spoken-alone (E .table) (f .log .book .framed) (f .log .course, f .raw) (courseOf p m, h .unit) (h .course))
-    ∙ ap (λ (k : Book). record { log = record { afterCr = f .log .afterCr; course = courseOf p m; book = k }; raw = h .unit }) (h .book)
-    ∙ ap (λ (c : Bool). record { log = record { afterCr = c; course = courseOf p m; book = bookOf m }; raw = h .unit }) (h .afterCr)
+    ap (withSpoken f) (spoken-alone (E .table) (f .log .book) (f .log .course, f .raw) (courseOf p m, h .unit) (h .course))
+    ∙ ap (λ (k : Book). record { log = logWith (f .log .afterCr) (courseOf p m) k; raw = h .unit }) (h .book)
+    ∙ ap (λ (c : Bool). twin p c m (h .unit)) (h .afterCr)
 
 free-byte : (E : Shelf) → Sound E → (p : Phase) (part : Bytes) (a : Bool) (o : Bytes) (m : Memory) (f : Fed) (b : ℕ)
     → endedIn p o ≡ false → Live E (holding p part a o m) f
@@ -351,7 +343,7 @@ free-byte E S p part a [] m f b n h =
     subst (λ (g : Fed). After E (phaseStep E p (idle p part a m) b) (tookFree (E .table) g b)) (sym (is-twin E p part a m f h))
     (phase-byte E S part a m p (h .unit) b n (h .pending))
 free-byte E S p part a (x ∷ o) m f b n h =
-    rw (spoken-ours (E .table) (f .log .book .framed) (f .log .course, f .raw) (courseOf p m, h .unit) x o (h .course))
+    rw (spoken-ours (E .table) (f .log .book) (f .log .course, f .raw) (courseOf p m, h .unit) x o (h .course))
     (refusal E (holding p part a (x ∷ o) m) bytesWait (outOfOrder f) refl refl (h .book))
 
 drop-lf : (E : Shelf) (s : Session) (f : Fed) → Live E s f → Live E (withAfterCr false s) (record { log = Log.withAfterCr (f .log) false; raw = f .raw })

@@ -18,6 +18,7 @@ use Rattle.places.specs.Places.{lineAt, lineLen, arraysLen}
 use Rattle.region.specs.Region.{region}
 use Rattle.numbers.specs.declared.Numbers.{Numbers}
 use Rattle.numbers.specs.Whole.{lineIn, sessionOf, wholeOf}
+use Rattle.numbers_in_place.specs.Changed.{withLine}
 use Rattle.numbers_in_place.proofs.Arrays.{line-set}
 use Rattle.receive_defined.specs.Receiving.{Settled, longer, lineMoved, lineStepOf}
 
@@ -48,7 +49,7 @@ grows-short n b u e f = go (eqb b CR) (ltb n lineLimit) refl (sym (ap lineByteIs
 
 -- the numbers with the line one byte longer
 abbrev oneMore : Numbers → Numbers
-oneMore s = record { now = s .now; say = s .say; keep = s .keep; reader = s .reader; line = record { «after_cr» = false; len = s .line .len + 1 }; tally = s .tally }
+oneMore s = withLine (s .line .len + 1) s
 
 pub longer-whole : (s : Numbers) (m : Bytes) (b : ℕ) → s .line .len < lineLen → wholeOf (oneMore s) (set m (lineAt + s .line .len) b) ≡ longer (wholeOf s m) b
 unfolding wholeOf

@@ -11,7 +11,7 @@ use Rattle.grammar.specs.Ascii.{text}
 use Rattle.grammar.specs.Fields.{file}
 use Rattle.grammar.specs.Answers.{accept, decline, defer}
 use Rattle.log.specs.Effects.{oneOf, madeFrom, forwardedSent, acceptedBy, declinedBy, Account, noAccount, withProposed, withSent, withAnswers, withForwarded, keptAs}
-use Rattle.log.specs.Log.{theirAnswer, over, theySay, ourTransfer, theirNewTurn, unsettled}
+use Rattle.log.specs.Log.{theirAnswer, over, theySay, ourTransfer, theirNewTurn, courseWith, unsettled}
 
 pub made-length : (i v : ℕ) (is st : List ℕ) → length (madeFrom i v is st) ≡ length st
 made-length i v is [] = refl
@@ -60,8 +60,8 @@ counted = (refl, refl, refl, refl, refl)
 
 -- "those proposed whose FS hasn't come, or which were accepted and aren't forwarded yet"
 pub not-settled :
-    (unsettled (record { next = theySay (theirAnswer (3 ∷ 1 ∷ [])); account = account [] 2 0 0 0 }) ≡ 2)
-    × (unsettled (record { next = ourTransfer 3 (1 ∷ []); account = account (7 ∷ []) 3 0 0 0 }) ≡ 3)
-    × (unsettled (record { next = theirNewTurn false; account = account (7 ∷ 3 ∷ []) 9 4 2 1 }) ≡ 2)
-    × (unsettled (record { next = over; account = account [] 9 4 3 2 }) ≡ 0)
+    (unsettled (courseWith (theySay (theirAnswer (3 ∷ 1 ∷ []))) (account [] 2 0 0 0)) ≡ 2)
+    × (unsettled (courseWith (ourTransfer 3 (1 ∷ [])) (account (7 ∷ []) 3 0 0 0)) ≡ 3)
+    × (unsettled (courseWith (theirNewTurn false) (account (7 ∷ 3 ∷ []) 9 4 2 1)) ≡ 2)
+    × (unsettled (courseWith over (account [] 9 4 3 2)) ≡ 0)
 not-settled = (refl, refl, refl, refl)

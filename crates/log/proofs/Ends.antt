@@ -18,10 +18,11 @@ use Rattle.grammar.specs.Transfers.{readTransfer}
 use Rattle.grammar.proofs.Basics.{Lacks, snoc-cons, and-false}
 use Rattle.mail.specs.Mail.{Record, recordAt, transferOf, placeOf}
 use Rattle.log.specs.Effects.{Account}
-use Rattle.log.specs.Log.{weSay, Event, took, gave, over, ourTurn, Course, Book, Log, isOurs, turn, said, placeFound, placesOf, ourSaid, theirTransfer, ourTransfer, whole, withAfterCr}
-use Rattle.log.specs.Fed.{unitByte, outOfOrder, fedByte, fedAll}
+use Rattle.log.specs.Log.{weSay, Event, took, gave, over, ourTurn, Course, Book, Log, isOurs, turn, said, placeFound, placesOf, ourSaid, theirTransfer, ourTransfer, afterOurs, whole, withAfterCr}
+use Rattle.log.specs.Fed.{Fed, unitByte, outOfOrder, fedByte, fedAll}
 use Rattle.log.proofs.Said.{summed-wrong}
-use Rattle.log.proofs.Units.{within, ended-stays, line-fed, owing}
+use Rattle.log.proofs.Spoken.{none-proposed}
+use Rattle.log.proofs.Units.{within, ended-stays, ours, line-fed, owing}
 
 -- the log k has the same account, states, mode and messages kept as l
 pub record Stays (k l : Log) : Type 0 where
@@ -105,12 +106,17 @@ none-of-them T (q ∷ ps) p qs h = rw (none-of-them T ps p qs h) (go (placeFound
     go none = refl
     go (some i) = refl
 
+-- a line after which the log is over proposes nothing
+over-proposes-none : (a : Bool) (account : Account) (k : Book)
+    → _≡_ {A = Fed} (record { log = owing a over (afterOurs over account) k; raw = [] }) (record { log = owing a over account k; raw = [] })
+over-proposes-none a account k = ap (λ (x : Account). record { log = owing a over x k; raw = [] }) (none-proposed over account refl)
+
 -- OUR TURN WITH A BID OF NO RECORD ENDS THE LOG, at the CR of its last line ln; ls are the lines before it
 pub no-record-ends : (T : List Record) (ff : Bool) (ls : List TurnLine) (ln : Bytes) (a : Bool) (account : Account) (k : Book) (ps : List Proposal) (p : Proposal) (qs : List Proposal)
     → Lacks CR ln → said ff (ls ++ (readTurnLine (k .framed) ln ∷ [])) ≡ turn (ps ++ p ∷ qs) → NoRecord (p .bid) T
     → fedAll T (record { log = owing a (weSay (ourTurn ff ls)) account k; raw = [] }) (map gave (withCr ln)) ≡ record { log = owing a over account k; raw = [] }
 no-record-ends T ff ls ln a account k ps p qs c e h =
-    line-fed T (owing a (weSay (ourTurn ff ls)) account k) ln (and-false a false refl) refl c ∙ rw e (rw (ends ps))
+    line-fed T (owing a (weSay (ourTurn ff ls)) account k) ln (and-false a false refl) (ours _) c ∙ rw e (rw (ends ps) (over-proposes-none a account k))
   where
     ends : (ps : List Proposal) → ourSaid T ff (ls ++ (readTurnLine (k .framed) ln ∷ [])) (turn (ps ++ p ∷ qs)) ≡ over
     ends [] = rw (none-of-them T [] p qs h)
@@ -121,4 +127,4 @@ pub our-sum-ends : (T : List Record) (ff : Bool) (ls : List TurnLine) (ln : Byte
     → Lacks CR ln → readTurnLine (k .framed) ln ≡ endsSummed h
     → fedAll T (record { log = owing a (weSay (ourTurn ff ls)) account k; raw = [] }) (map gave (withCr ln)) ≡ record { log = owing a over account k; raw = [] }
 our-sum-ends T ff ls ln a account k h c e =
-    line-fed T (owing a (weSay (ourTurn ff ls)) account k) ln (and-false a false refl) refl c ∙ rw e (rw (summed-wrong ff ls h))
+    line-fed T (owing a (weSay (ourTurn ff ls)) account k) ln (and-false a false refl) (ours _) c ∙ rw e (rw (summed-wrong ff ls h) (over-proposes-none a account k))

@@ -15,7 +15,7 @@ use Rattle.grammar.specs.Turns.{Proposal}
 use Rattle.grammar.specs.Answers.{Level, level0, level1, digitCount, readFs, signAt}
 use Rattle.mail.specs.Mail.{Record}
 use Rattle.log.specs.Effects.{noAccount}
-use Rattle.log.specs.Log.{ourAnswer, theirSid, theirAnswer, over, levelBetween, ourLine, theirLine, logOpened}
+use Rattle.log.specs.Log.{ourAnswer, theirSid, theirAnswer, over, Book, withFramed, withLevel, levelBetween, ourLine, theirLine, logOpened}
 
 -- THE SAME LEVEL
 pub level-alike : (fs : List ℕ) → levelBetween fs ≡ levelInForce fs
@@ -36,13 +36,13 @@ unfolding trim isComment readSid
 levels-found = refl
 
 -- "We write only `+`, `-` and `=`.": any other sign of ours is forbidden, in a framed session too
-pub ours-at-0 : (T : List Record) (md : Bool) (p : Proposal) → ourLine T md (ourAnswer (p ∷ [])) (text "FS Y") ≡ over
+pub ours-at-0 : (T : List Record) (k : Book) (p : Proposal) → ourLine T k (ourAnswer (p ∷ [])) (text "FS Y") ≡ over
 unfolding readFs signAt
-ours-at-0 T md p = refl
+ours-at-0 T k p = refl
 
 -- The states after the partner's FS line on one record, at a level.
 abbrev afterAt : Level → Bytes → List ℕ
-afterAt v ln = theirLine (theirAnswer (0 ∷ [])) (record { framed = true; level = v; states = 0 ∷ []; kept = [] }) noAccount ln .book .states
+afterAt v ln = theirLine (theirAnswer (0 ∷ [])) (withLevel (withFramed (logOpened true (0 ∷ []) .book) true) v) noAccount ln .book .states
 
 -- "`N` as `-`": at level 1 it makes the record 2, at level 0 it is forbidden and changes nothing
 pub their-n : (afterAt level0 (text "FS N") ≡ 0 ∷ []) × (afterAt level1 (text "FS N") ≡ 2 ∷ []) × (afterAt level0 (text "FS -") ≡ 2 ∷ [])

@@ -20,11 +20,11 @@ use Rattle.grammar.specs.Transfers.{byteSum, sumRight}
 use Rattle.grammar.proofs.Basics.{Lacks}
 use Rattle.mail.specs.Mail.{Record, turnText}
 use Rattle.log.specs.Effects.{forwardedSent, acceptedBy, declinedBy, Account, withProposed, withAnswers, withForwarded}
-use Rattle.log.specs.Log.{theirNewTurn, ourNewTurn, effect, theySay, Event, took, gave, theirTurn, theirAnswer, Book, unfinished, turn, said, placeFound, placesOf, ourProposed, oursOwed, afterOurs, Effect, withStates, afterTheirTurn, summedEnd, checked, rawWith, theirTurnLine, theirLine, over, log}
+use Rattle.log.specs.Log.{courseWith, afterTheirs, theirNewTurn, ourNewTurn, effect, theySay, Event, took, gave, theirTurn, theirAnswer, Book, unfinished, turn, said, placeFound, placesOf, ourProposed, oursOwed, afterOurs, Effect, withStates, afterTheirTurn, summedEnd, checked, rawWith, theirTurnLine, theirLine, over, log}
 use Rattle.log.specs.Fed.{Fed, fedByte, fedAll}
 use Rattle.log.proofs.Said.{goesWell, said-before, said-part, not-allowed-wrong}
 use Rattle.log.proofs.Spoken.{AllFit, turn-spoken, gave-spoken}
-use Rattle.log.proofs.Units.{Agrees, fedOpened, logs-agree, ended-stays, fed-append, line-fed, owing}
+use Rattle.log.proofs.Units.{Agrees, fedOpened, logs-agree, ended-stays, fed-append, theirs, line-fed, owing}
 use Rattle.log.proofs.Ends.{Stays}
 
 -- ---------------------------------------------------------------- lines as they come
@@ -165,13 +165,13 @@ module _ (T : List Record) (ff : Bool) (account : Account) (k : Book) where
 
   -- after a whole line with this effect
   abbrev effected : Effect → Fed
-  effected e = record { log = record { afterCr = true; course = e .course; book = e .book }; raw = [] }
+  effected e = record { log = afterTheirs true e; raw = [] }
 
   -- a whole line, whether or not an LF would be dropped before it
   line-judged : (a : Bool) (ls : List TurnLine) (raw ln : Bytes) → Proper ln
       → fedAll T (amid a ls raw []) (map took (withCr ln)) ≡ effected (theirLine (theirTurn ff ls raw) k account ln)
   line-judged a ls raw ln h =
-      no-lf a ln (h .noLf) ∙ line-fed T (owing false (theySay (theirTurn ff ls raw)) account k) ln refl refl (h .whole)
+      no-lf a ln (h .noLf) ∙ line-fed T (owing false (theySay (theirTurn ff ls raw)) account k) ln refl (theirs _) (h .whole)
       ∙ rw (le-leb (length ln) lineLimit (h .short))
     where
       no-lf : (a : Bool) (ln : Bytes) → lfFirst ln ≡ false → fedAll T (amid a ls raw []) (map took (withCr ln)) ≡ fedAll T (amid false ls raw []) (map took (withCr ln))
@@ -347,8 +347,8 @@ pub our-turn-fed : (T : List Record) (a ff : Bool) (p : Proposal) (ps : List Pro
     ≡ record { log = owing a (ourProposed (placesOf T (p ∷ ps))) (afterOurs (ourProposed (placesOf T (p ∷ ps))) account) k; raw = [] }
 our-turn-fed T a ff p ps account k f h =
     gave-spoken T (turnText (p ∷ ps)) (record { log = owing a (ourNewTurn ff) account k; raw = [] })
-    (record { next = ourProposed (placesOf T (p ∷ ps)); account = afterOurs (ourProposed (placesOf T (p ∷ ps))) account }, [])
-    (turn-spoken T (k .framed) ff p ps account f h)
+    (courseWith (ourProposed (placesOf T (p ∷ ps))) (afterOurs (ourProposed (placesOf T (p ∷ ps))) account), [])
+    (turn-spoken T k ff p ps account f h)
 
 -- and they count as proposed with it (02, Q-3)
 pub our-turn-counts : (T : List Record) (a ff : Bool) (p : Proposal) (ps : List Proposal) (account : Account) (k : Book) (is : List ℕ) → AllFit (k .framed) (p ∷ ps)
@@ -377,4 +377,4 @@ pub their-answer-fed : (T : List Record) (is : List ℕ) (account : Account) (k 
     → fedAll T (record { log = owing false (theySay (theirAnswer is)) account k; raw = [] }) (map took (withCr ln))
     ≡ record { log = owing true (oursOwed (acceptedBy ss is)) (withAnswers ss is account) (withStates k (declinedBy ss is (k .states))); raw = [] }
 their-answer-fed T is account k ln ss h c e =
-    line-fed T (owing false (theySay (theirAnswer is)) account k) ln refl refl (h .whole) ∙ rw (le-leb (length ln) lineLimit (h .short)) (rw c (rw e))
+    line-fed T (owing false (theySay (theirAnswer is)) account k) ln refl (theirs _) (h .whole) ∙ rw (le-leb (length ln) lineLimit (h .short)) (rw c (rw e))

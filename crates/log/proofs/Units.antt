@@ -16,7 +16,7 @@ use Rattle.grammar.proofs.Basics.{Lacks, snoc-cons, and-false}
 use Rattle.grammar.proofs.Refusal.{no-longer}
 use Rattle.mail.specs.Mail.{Record, Message, recordAt, transferOf}
 use Rattle.log.specs.Effects.{Account, withSent, keptAs}
-use Rattle.log.specs.Log.{Event, took, gave, Next, over, weSay, theySay, theirTransfer, ourTransfer, Book, Log, isOurs, oursOwed, theirsOwed, isPlain, whole, applied, stopped, Cut, notWhole, outOfTurn, unit, cutUnit, withAfterCr, afterCut, logUnits, logOpened, log, withKept}
+use Rattle.log.specs.Log.{Event, took, gave, Ours, Theirs, Next, weSay, theySay, theirTransfer, ourTransfer, Book, Log, courseWith, logWith, isOurs, oursOwed, theirsOwed, isPlain, whole, applied, stopped, Cut, notWhole, outOfTurn, unit, cutUnit, withAfterCr, afterCut, logUnits, logOpened, log, withKept}
 use Rattle.log.specs.Fed.{Fed, unitByte, outOfOrder, fedByte, fedAll}
 use Rattle.log.proofs.Spoken.{same-prefix, transfer-spoken, gave-spoken}
 
@@ -176,31 +176,25 @@ unit-fed T l u b h k w =
     ∙ rw w
 
 -- where a line is next
-abbrev pub isLine : Next → Bool
-isLine over = false
-isLine (weSay n) = true
-isLine (theySay n) = true
-isLine (theirTransfer p ps) = false
-isLine (ourTransfer i is) = false
+pub data Lined : Next → Type 0 where
+  ours : (n : Ours) → Lined (weSay n)
+  theirs : (n : Theirs) → Lined (theySay n)
 
-line-whole : (T : List Record) (n : Next) (u : Bytes) (b : ℕ) → isLine n ≡ true → whole T n u b ≡ eqb b CR
-line-whole T over u b h = cc
-line-whole T (weSay n) u b h = refl
-line-whole T (theySay n) u b h = refl
-line-whole T (theirTransfer p ps) u b h = cc
-line-whole T (ourTransfer i is) u b h = cc
+line-whole : (T : List Record) (n : Next) (u : Bytes) (b : ℕ) → Lined n → whole T n u b ≡ eqb b CR
+line-whole T n u b (ours x) = refl
+line-whole T n u b (theirs x) = refl
 
-line-yet : (T : List Record) (n : Next) (ln u : Bytes) → isLine n ≡ true → Lacks CR ln → NotYet T n u ln
+line-yet : (T : List Record) (n : Next) (ln u : Bytes) → Lined n → Lacks CR ln → NotYet T n u ln
 line-yet T n [] u h k = tt
 line-yet T n (x ∷ ln) u h k = (line-whole T n u x h ∙ k .0, line-yet T n ln (u ++ (x ∷ [])) h (k .1))
 
 -- before a line's CR, nothing
-pub line-part-fed : (T : List Record) (l : Log) (ln : Bytes) → NoLf l → isLine (l .course .next) ≡ true → Lacks CR ln
+pub line-part-fed : (T : List Record) (l : Log) (ln : Bytes) → NoLf l → Lined (l .course .next) → Lacks CR ln
     → fedAll T (record { log = l; raw = [] }) (bytesOf (l .course .next) ln) ≡ record { log = l; raw = ln }
 line-part-fed T l ln h k c = grows T l ln [] h (line-yet T (l .course .next) ln [] k c)
 
 -- a whole line, of either side
-pub line-fed : (T : List Record) (l : Log) (ln : Bytes) → NoLf l → isLine (l .course .next) ≡ true → Lacks CR ln
+pub line-fed : (T : List Record) (l : Log) (ln : Bytes) → NoLf l → Lined (l .course .next) → Lacks CR ln
     → fedAll T (record { log = l; raw = [] }) (bytesOf (l .course .next) (withCr ln)) ≡ record { log = applied T l ln CR; raw = [] }
 line-fed T l ln h k c = unit-fed T l ln CR h (line-yet T (l .course .next) ln [] k c) (line-whole T (l .course .next) ln CR k)
 
@@ -244,7 +238,7 @@ our-yet T i is (x ∷ v) u b r e = (rw e (same-prefix u (v ++ b ∷ r) x ∙ nul
 -- ---------------------------------------------------------------- a whole transfer
 
 abbrev pub owing : Bool → Next → Account → Book → Log
-owing a n account k = record { afterCr = a; course = record { next = n; account = account }; book = k }
+owing a n account k = logWith a (courseWith n account) k
 
 abbrev pub keeping : Book → Message → Book
 keeping k x = withKept k (k .kept ++ (x ∷ []))
@@ -270,8 +264,8 @@ pub our-transfer-fed : (T : List Record) (a : Bool) (i : ℕ) (is : List ℕ) (a
     ≡ record { log = owing a (oursOwed is) (withSent i account) k; raw = [] }
 our-transfer-fed T a i is account k =
     gave-spoken T (transferOf (recordAt T i)) (record { log = owing a (ourTransfer i is) account k; raw = [] })
-    (record { next = oursOwed is; account = withSent i account }, [])
-    (transfer-spoken T (k .framed) i is account)
+    (courseWith (oursOwed is) (withSent i account), [])
+    (transfer-spoken T k i is account)
 
 -- before that, nothing
 pub our-part-fed : (T : List Record) (a : Bool) (i : ℕ) (is : List ℕ) (account : Account) (k : Book) (u : Bytes) (b : ℕ) (r : Bytes) → transferOf (recordAt T i) ≡ u ++ b ∷ r

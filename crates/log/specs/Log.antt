@@ -26,10 +26,14 @@ use Rattle.log.specs.Effects.{forwardedSent, acceptedBy, declinedBy, Acc
 pub data Event : Type 0 where
   took gave : ℕ → Event
 
+-- A line of ours under "SID and opening": our SID and our prompt as called, our SID as caller.
+pub data Opening : Type 0 where
+  ourGreeting ourFirstPrompt ourSidLine : Opening
+
 -- A line of ours, and one of the partner's. A turn has the lines of it so far, and whether the turn just before it was FF; the places or
 -- proposals are "last proposals". The partner's turn also has its proposal lines as received, each with its CR.
 pub data Ours : Type 0 where
-  ourGreeting ourFirstPrompt ourSidLine : Ours
+  ourOpening : Opening → Ours
   ourTurn : Bool → List TurnLine → Ours
   ourAnswer : List Proposal → Ours
 
@@ -46,6 +50,10 @@ pub data Next : Type 0 where
   theySay : Theirs → Next
   theirTransfer : Proposal → List Proposal → Next
   ourTransfer : ℕ → List ℕ → Next
+
+-- Such a line is next.
+abbrev pub weOpen : Opening → Next
+weOpen o = weSay (ourOpening o)
 
 -- A turn begins; true: the turn just before it was FF
 abbrev pub ourNewTurn : Bool → Next
@@ -71,6 +79,35 @@ pub record Log : Type 0 where
   pub afterCr : Bool
   pub course : Course
   pub book : Book
+
+-- By their parts.
+abbrev pub courseWith : Next → Account → Course
+courseWith n x = record { next = n; account = x }
+
+abbrev pub logWith : Bool → Course → Book → Log
+logWith a c k = record { afterCr = a; course = c; book = k }
+
+-- All else is as it was.
+abbrev pub withNext : Course → Next → Course
+withNext c x = courseWith x (c .account)
+
+abbrev pub withFramed : Book → Bool → Book
+withFramed k x = record { framed = x; level = k .level; states = k .states; kept = k .kept }
+
+abbrev pub withLevel : Book → Level → Book
+withLevel k x = record { framed = k .framed; level = x; states = k .states; kept = k .kept }
+
+abbrev pub withStates : Book → List ℕ → Book
+withStates k x = record { framed = k .framed; level = k .level; states = x; kept = k .kept }
+
+abbrev pub withKept : Book → List Message → Book
+withKept k x = record { framed = k .framed; level = k .level; states = k .states; kept = x }
+
+abbrev pub withAfterCr : Log → Bool → Log
+withAfterCr l x = logWith x (l .course) (l .book)
+
+abbrev pub withCourse : Log → Course → Log
+withCourse l x = logWith (l .afterCr) x (l .book)
 
 -- The unit that is next is ours.
 abbrev pub isOurs : Next → Bool
@@ -157,32 +194,48 @@ abbrev pub ourAnswered : List Proposal → Option (List Sign) → Next
 ourAnswered ps none = over
 ourAnswered ps (some ss) = theirsOwed (acceptedBy ss ps)
 
--- A line of ours. "Lines under SID and opening only choose the mode.", and the level; "Called: we send it, CR, `>`, CR"
-abbrev pub ourLine : List Record → Bool → Ours → Bytes → Next
-ourLine T md ourGreeting ln = cond (same ln (fixedText ourSid)) (weSay ourFirstPrompt) over
-ourLine T md ourFirstPrompt ln = cond (same ln (fixedText ourPrompt)) (theySay (theirSid false)) over
-ourLine T md ourSidLine ln = cond (same ln (fixedText ourSid)) (ourNewTurn false) over
-ourLine T md (ourTurn ff ls) ln = ourSaid T ff (ls ++ (readTurnLine md ln ∷ [])) (said ff (ls ++ (readTurnLine md ln ∷ [])))
-ourLine T md (ourAnswer ps) ln = ourAnswered ps (readFs level0 (length ps) ln)
+-- "Called: we send it, CR, `>`, CR": what such a line must be, and what is next after it
+abbrev pub openingText : Opening → Bytes
+openingText ourGreeting = fixedText ourSid
+openingText ourFirstPrompt = fixedText ourPrompt
+openingText ourSidLine = fixedText ourSid
+
+abbrev pub afterOpening : Opening → Next
+afterOpening ourGreeting = weOpen ourFirstPrompt
+afterOpening ourFirstPrompt = theySay (theirSid false)
+afterOpening ourSidLine = ourNewTurn false
+
+-- A line of ours; k: the book, which has the mode. "Lines under SID and opening only choose the mode.", and the level
+abbrev pub ourLine : List Record → Book → Ours → Bytes → Next
+ourLine T k (ourOpening o) ln = cond (same ln (openingText o)) (afterOpening o) over
+ourLine T k (ourTurn ff ls) ln = ourSaid T ff (ls ++ (readTurnLine (k .framed) ln ∷ [])) (said ff (ls ++ (readTurnLine (k .framed) ln ∷ [])))
+ourLine T k (ourAnswer ps) ln = ourAnswered ps (readFs level0 (length ps) ln)
+
+-- The places of our records that the partner's FS line is due on, as its line and as what is next.
+abbrev pub askedOf : Theirs → List ℕ
+askedOf (theirAnswer is) = is
+askedOf theirText = []
+askedOf (theirSid c) = []
+askedOf (theirTurn ff ls raw) = []
+
+abbrev pub dueOn : Next → List ℕ
+dueOn (theySay n) = askedOf n
+dueOn over = []
+dueOn (weSay n) = []
+dueOn (theirTransfer p ps) = []
+dueOn (ourTransfer i is) = []
 
 -- "Proposed counts" with our turn (02, Q-3): a line of ours proposes what the partner's FS line is due on after it.
 abbrev pub afterOurs : Next → Account → Account
-afterOurs (theySay (theirAnswer is)) account = withProposed (length is) account
-afterOurs (theySay theirText) account = account
-afterOurs (theySay (theirSid c)) account = account
-afterOurs (theySay (theirTurn ff ls raw)) account = account
-afterOurs over account = account
-afterOurs (weSay n) account = account
-afterOurs (theirTransfer p ps) account = account
-afterOurs (ourTransfer i is) account = account
+afterOurs n account = withProposed (length (dueOn n)) account
 
 -- "Our owed transfer, as we write it, given whole: its record is sent."
-abbrev pub ourUnit : List Record → Bool → Next → Account → Bytes → Course
-ourUnit T md (weSay n) account u = record { next = ourLine T md n u; account = afterOurs (ourLine T md n u) account }
-ourUnit T md (ourTransfer i is) account u = record { next = oursOwed is; account = withSent i account }
-ourUnit T md over account u = record { next = over; account = account }
-ourUnit T md (theySay n) account u = record { next = over; account = account }
-ourUnit T md (theirTransfer p ps) account u = record { next = over; account = account }
+abbrev pub ourUnit : List Record → Book → Next → Account → Bytes → Course
+ourUnit T k (weSay n) account u = courseWith (ourLine T k n u) (afterOurs (ourLine T k n u) account)
+ourUnit T k (ourTransfer i is) account u = courseWith (oursOwed is) (withSent i account)
+ourUnit T k over account u = courseWith over account
+ourUnit T k (theySay n) account u = courseWith over account
+ourUnit T k (theirTransfer p ps) account u = courseWith over account
 
 -- ---------------------------------------------------------------- the effect of a whole unit of the partner's
 
@@ -193,7 +246,7 @@ pub record Effect : Type 0 where
 
 -- With this book, account and unit next.
 abbrev pub effect : Book → Account → Next → Effect
-effect k account n = record { book = k; course = record { next = n; account = account } }
+effect k account n = record { book = k; course = courseWith n account }
 
 -- The level that a SID has at B, 0 where there is none.
 abbrev pub levelSaid : Option (List ℕ) → Level
@@ -207,15 +260,9 @@ lesser v w = cond (leb v w) v w
 abbrev pub levelBetween : List ℕ → Level
 levelBetween fs = lesser (levelSaid (some fs)) (levelSaid (readSid (fixedText ourSid)))
 
--- The book with the mode and the level of this SID, these states, these messages.
+-- The book with the mode and the level of this SID.
 abbrev pub withSid : Book → List ℕ → Book
-withSid k fs = record { framed = framed fs; level = levelBetween fs; states = k .states; kept = k .kept }
-
-abbrev pub withStates : Book → List ℕ → Book
-withStates k st = record { framed = k .framed; level = k .level; states = st; kept = k .kept }
-
-abbrev pub withKept : Book → List Message → Book
-withKept k ms = record { framed = k .framed; level = k .level; states = k .states; kept = ms }
+withSid k fs = withLevel (withFramed k (framed fs)) (levelBetween fs)
 
 -- The partner's FF is answered by our turn, its proposals by our FS line.
 abbrev pub afterTheirTurn : List Proposal → Next
@@ -279,7 +326,7 @@ theirSidRead c k account (some fs) =
 
 -- A line of the partner's that is no comment, as it came, without its CR: "Spaces at the end are removed before a line is judged."
 abbrev pub theirRead : Theirs → Book → Account → Bytes → Effect
-theirRead theirText k account ln = cond (isPrompt (trim ln)) (effect k account (weSay ourSidLine)) (effect k account (theySay theirText))
+theirRead theirText k account ln = cond (isPrompt (trim ln)) (effect k account (weOpen ourSidLine)) (effect k account (theySay theirText))
 theirRead (theirSid c) k account ln = theirSidRead c k account (readSid (trim ln))
 theirRead (theirTurn ff ls raw) k account ln = theirTurnLine ff ls raw k account ln (checked raw (readTurnLine (k .framed) (trim ln)))
 theirRead (theirAnswer is) k account ln = theirAnswered is k account (readFs (levelInForce k) (length is) (trim ln))
@@ -314,37 +361,29 @@ isPlain plain = true
 isPlain message = false
 isPlain file = false
 
--- "One LF directly after the CR that ended a line, or after the CR that closes a plain transfer, is dropped": a line and a plain transfer
--- end with a CR
-abbrev pub endsWithCr : Next → Bool
-endsWithCr (theirTransfer p ps) = isPlain (p .form)
-endsWithCr over = true
-endsWithCr (weSay n) = true
-endsWithCr (theySay n) = true
-endsWithCr (ourTransfer i is) = true
+-- The log after a unit of the partner's with this effect; a: it ended with a CR.
+abbrev pub afterTheirs : Bool → Effect → Log
+afterTheirs a e = logWith a (e .course) (e .book)
 
--- The partner's whole unit u b of what is next: a transfer, "else lines".
-abbrev pub theirUnit : Next → Book → Account → Bytes → ℕ → Effect
-theirUnit (theirTransfer p ps) k account u b = theirTransferred p ps k account (readTransfer (p .form) (u ++ (b ∷ [])))
-theirUnit (theySay n) k account u b = judgedLine n k account u
-theirUnit over k account u b = effect k account over
-theirUnit (weSay n) k account u b = effect k account over
-theirUnit (ourTransfer i is) k account u b = effect k account over
+-- The partner's whole unit u b of what is next: a transfer, "else lines". "One LF directly after the CR that ended a line, or after the CR that closes a
+-- plain transfer, is dropped": a line and a plain transfer end with a CR
+abbrev pub theirUnit : Next → Book → Account → Bytes → ℕ → Log
+theirUnit (theirTransfer p ps) k account u b = afterTheirs (isPlain (p .form)) (theirTransferred p ps k account (readTransfer (p .form) (u ++ (b ∷ []))))
+theirUnit (theySay n) k account u b = afterTheirs true (judgedLine n k account u)
+theirUnit over k account u b = afterTheirs true (effect k account over)
+theirUnit (weSay n) k account u b = afterTheirs true (effect k account over)
+theirUnit (ourTransfer i is) k account u b = afterTheirs true (effect k account over)
 
 -- The log after the whole unit u b of what is next; a line is u, without its CR b.
 abbrev pub applied : List Record → Log → Bytes → ℕ → Log
 applied T l u b =
     cond (isOurs (l .course .next))
-    (record { afterCr = l .afterCr; course = ourUnit T (l .book .framed) (l .course .next) (l .course .account) u; book = l .book })
-    (record {
-      afterCr = endsWithCr (l .course .next);
-      course = theirUnit (l .course .next) (l .book) (l .course .account) u b .course;
-      book = theirUnit (l .course .next) (l .book) (l .course .account) u b .book;
-    })
+    (withCourse l (ourUnit T (l .book) (l .course .next) (l .course .account) u))
+    (theirUnit (l .course .next) (l .book) (l .course .account) u b)
 
 -- "What the rules forbid isn't valid: it changes nothing and ends the log."
 abbrev pub stopped : Log → Log
-stopped l = record { afterCr = l .afterCr; course = record { next = over; account = l .course .account }; book = l .book }
+stopped l = withCourse l (withNext (l .course) over)
 
 -- ---------------------------------------------------------------- the log
 
@@ -367,10 +406,6 @@ cutUnit T n afterCr u (gave b ∷ es) =
     (cond (whole T n u b) (unit u b afterCr es) (cutUnit T n afterCr (u ++ (b ∷ [])) es))
     outOfTurn
 
--- The log with this flag.
-abbrev pub withAfterCr : Log → Bool → Log
-withAfterCr l a = record { afterCr = a; course = l .course; book = l .book }
-
 -- on: the log of the rest
 abbrev pub afterCut : List Record → Log → (Log → List Event → Log) → Cut → Log
 afterCut T l on notWhole = l
@@ -385,11 +420,8 @@ logUnits (suc n) T l es = afterCut T l (λ m rest. logUnits n T m rest) (cutUnit
 -- "open's role and table": at open every record's state is as open found it, and all else is empty
 abbrev pub logOpened : Bool → List ℕ → Log
 logOpened caller states =
-    record {
-      afterCr = false;
-      course = record { next = cond caller (theySay (theirSid true)) (weSay ourGreeting); account = noAccount };
-      book = record { framed = false; level = level0; states = states; kept = [] };
-    }
+    logWith false (courseWith (cond caller (theySay (theirSid true)) (weOpen ourGreeting)) noAccount)
+    (record { framed = false; level = level0; states = states; kept = [] })
 
 -- THE LOG of a trace, from open on.
 unfoldable pub log : List Record → Bool → List ℕ → List Event → Log
@@ -397,16 +429,17 @@ log T caller states es = logUnits (length es) T (logOpened caller states) es
 
 -- ---------------------------------------------------------------- the tally sheet (02, Q-3)
 
+-- "transfers owed": the places of our records, of which we owe them
+abbrev pub owes : Next → List ℕ
+owes (ourTransfer i is) = i ∷ is
+owes over = []
+owes (weSay n) = []
+owes (theySay n) = []
+owes (theirTransfer p ps) = []
+
 -- "those proposed whose FS hasn't come, or which were accepted" and are not sent yet
 abbrev pub unsent : Next → ℕ
-unsent (theySay (theirAnswer is)) = length is
-unsent (ourTransfer i is) = suc (length is)
-unsent (theySay theirText) = 0
-unsent (theySay (theirSid c)) = 0
-unsent (theySay (theirTurn ff ls raw)) = 0
-unsent over = 0
-unsent (weSay n) = 0
-unsent (theirTransfer p ps) = 0
+unsent n = length (dueOn n) + length (owes n)
 
 -- "not settled are those proposed whose FS hasn't come, or which were accepted and aren't forwarded yet": the sent ones too
 abbrev pub unsettled : Course → ℕ

@@ -10,13 +10,13 @@ use lib.ListN.{length, getD}
 use Rattle.grammar.specs.Answers.{accept, decline}
 use Rattle.grammar.proofs.Basics.{or2, or-left, or-right, no-both, not-so}
 use Rattle.mail.specs.Mail.{Record, Message}
-use Rattle.log.specs.Log.{Event, Course, Book, Log, applied, Cut, notWhole, outOfTurn, unit, cutUnit, withAfterCr, afterCut, logUnits}
+use Rattle.log.specs.Log.{Event, Course, Book, Log, applied, Cut, notWhole, outOfTurn, unit, cutUnit, withAfterCr, afterCut, logUnits, owes}
 use Rattle.main_theorem.specs.Deeds.{Deed, answered, sent, turned, weAnswered, nothing, brought, deedOf, deedsCut, deedsFrom, gives, wasDeclined, thenTurned, sentThenTurned, wasForwarded, Fate, messagesBrought}
 use Rattle.log.specs.Effects.{oneOf, isMinus, given}
 use Rattle.phase.specs.Phase.{stateWaiting, stateForwarded, stateDeclined}
 use Rattle.log.proofs.Effects.{made-length, made-other, made-here}
 use Rattle.main_theorem.proofs.DeedStates.{one-append, accepted-one, declined-one}
-use Rattle.main_theorem.proofs.Deeds.{owes, Does, unit-does}
+use Rattle.main_theorem.proofs.Deeds.{Does, unit-does}
 
 -- ---------------------------------------------------------------- states that stay
 

@@ -65,7 +65,7 @@ module _ (M : OpenCall) (e : openedBy M .reply .answer ≡ 0) (cs : CallsOn M) w
   column-only = subst (λ (p : ℕ). StatesOnly p (m .table) (finally M cs .table)) (fresh-partner M) (ran .held .column .table)
 
   pub states-held : statesOf (M .partner) (finally M cs .table) ≡ (on-lists-run.run E (on-lists.opened caller states) (map callOf cs)) .0 .memory .states
-  states-held = ap (λ (p : ℕ). statesOf p (finally M cs .table)) (sym partner-stays) ∙ ran .held .represents .holds .states
+  states-held = ap (λ (p : ℕ). statesOf p (finally M cs .table)) (sym partner-stays) ∙ ran .held .represents .standing .holds .states
 
   pub in-order : GoodAs F (finally M cs) (csOf (finally M cs))
   in-order = held-good F E (freshCs M) (sizesOf F m) (finally M cs) ((on-lists-run.run E (on-lists.opened caller states) (map callOf cs)) .0) (ran .held)
@@ -85,20 +85,20 @@ module _ (M : OpenCall) (e : openedBy M .reply .answer ≡ 0) (cs : CallsOn M) w
   kept-logged = on-lists-demand .inbox ∙ ap (λ (es : List Event). log (E .table) caller states es .book .kept) (sym (ran .events))
 
   pub inbox-logged : messagesOf (finally M cs .inbox) (finally M cs .store) (messageCount (finally M cs)) ≡ logged M cs .book .kept
-  inbox-logged = ran .held .represents .holds .boxed .messages ∙ kept-logged
+  inbox-logged = ran .held .represents .standing .holds .boxed .messages ∙ kept-logged
 
   count-logged : messageCount (finally M cs) ≡ length (logged M cs .book .kept)
-  count-logged = ran .held .represents .holds .boxed .count ∙ ap (λ (ms : List Message). length ms) kept-logged
+  count-logged = ran .held .represents .standing .holds .boxed .count ∙ ap (λ (ms : List Message). length ms) kept-logged
 
   entries-logged : take (length (logged M cs .book .kept) * entryLen) (finally M cs .inbox) ≡ entriesBytes 0 (logged M cs .book .kept)
   entries-logged =
-      let r = ran .held .represents .holds in
+      let r = ran .held .represents .standing .holds in
       subst (λ (ms : List Message). take (length ms * entryLen) (finally M cs .inbox) ≡ entriesBytes 0 ms) kept-logged
       (entries-laid (finally M cs .inbox) 0 0 kept (r .boxed .laid) (omega (arith, r .boxed .count, in-order .box .placed, r .shelved .places, r .shelved .inbox)))
 
   bodies-logged : take (length (bodiesBytes (logged M cs .book .kept))) (finally M cs .store) ≡ bodiesBytes (logged M cs .book .kept)
   bodies-logged =
-      let b = ran .held .represents .holds .boxed in
+      let b = ran .held .represents .standing .holds .boxed in
       subst (λ (ms : List Message). take (length (bodiesBytes ms)) (finally M cs .store) ≡ bodiesBytes ms) kept-logged
       (bodies-laid (finally M cs .store) _ kept (in-order .box .within) (b .bodies))
 

@@ -13,7 +13,7 @@ use Rattle.mail.specs.Mail.{Record}
 use Rattle.session.specs.Choices.{Shelf}
 use Rattle.session.specs.Session.{Session, Stepped, step, ended, opened}
 use Rattle.session.specs.Calls.{oneMore, stoppedAt, stops, receiveOn, receive, give, handedOut}
-use Rattle.log.specs.Log.{Event, took, gave, ourGreeting, theirSid, Next, weSay, theySay, Book, Log, isOurs, ourUnit, theirUnit, endsWithCr, whole, applied, Cut, notWhole, outOfTurn, unit, cutUnit, withAfterCr, logOpened, log}
+use Rattle.log.specs.Log.{Event, took, gave, ourGreeting, theirSid, Next, theySay, Book, Log, isOurs, ourUnit, theirUnit, whole, applied, Cut, notWhole, outOfTurn, unit, cutUnit, withAfterCr, withCourse, weOpen, logOpened, log, owes}
 use Rattle.log.specs.Fed.{Fed, unitByte, outOfOrder, fedByte, fedAll}
 use Rattle.log.proofs.Units.{within, fedOpened, fed-append}
 use Rattle.demand3.specs.Demand.{Call, receiving, giving, refusedCall, run, GoodTable}
@@ -22,7 +22,6 @@ use Rattle.demand3.proofs.Inv.{Inv, inv-book, give-inv}
 use Rattle.demand3.proofs.Step.{step-inv}
 use Rattle.demand3.proofs.Demand.{open-inv}
 use Rattle.main_theorem.specs.Deeds.{deeds, Fate, messagesBrought}
-use Rattle.main_theorem.proofs.Deeds.{owes}
 use Rattle.main_theorem.proofs.Becomes.{Keeps, KeepsCut, KeepsUnits, fate-law, kept-law}
 use Rattle.main_theorem.proofs.Once.{Sends, step-once}
 
@@ -48,12 +47,8 @@ gave-book T f b = go (isOurs (f .log .course .next)) refl
     ours e =
         ap
         (λ (d : Bool). cond {A = Log} d
-        (record { afterCr = f .log .afterCr; course = ourUnit T (f .log .book .framed) (f .log .course .next) (f .log .course .account) (f .raw); book = f .log .book })
-        (record {
-          afterCr = endsWithCr (f .log .course .next);
-          course = theirUnit (f .log .course .next) (f .log .book) (f .log .course .account) (f .raw) b .course;
-          book = theirUnit (f .log .course .next) (f .log .book) (f .log .course .account) (f .raw) b .book;
-        }) .book)
+        (withCourse (f .log) (ourUnit T (f .log .book) (f .log .course .next) (f .log .course .account) (f .raw)))
+        (theirUnit (f .log .course .next) (f .log .book) (f .log .course .account) (f .raw) b) .book)
         e
 
     go : (d : Bool) → isOurs (f .log .course .next) ≡ d → (cond d (unitByte T (f .log) (f .raw) b (f .log .afterCr)) (outOfOrder f)) .log .book ≡ f .log .book
@@ -208,7 +203,7 @@ module _ (E : Shelf) (g : GoodTable (E .table)) (caller : Bool) (states : List �
   pub fates : (i : ℕ) → i < length states → Fate i (deeds (E .table) caller states trace) (getD states i 0) (getD (log (E .table) caller states trace .book .states) i 0)
   unfolding log deeds
   fates i h =
-      fate-law i (E .table) (length trace) trace (logOpened caller states) kept refl (by-cond (λ (n : Next). owes n ≡ []) caller {x = theySay (theirSid true)} {y = weSay ourGreeting} refl refl) h
+      fate-law i (E .table) (length trace) trace (logOpened caller states) kept refl (by-cond (λ (n : Next). owes n ≡ []) caller {x = theySay (theirSid true)} {y = weOpen ourGreeting} refl refl) h
 
   -- WHICH MESSAGES ARE KEPT
   pub messages : log (E .table) caller states trace .book .kept ≡ messagesBrought (deeds (E .table) caller states trace)

@@ -21,6 +21,7 @@ use Rattle.buffer.proofs.Laws.{wrote-nil}
 use Rattle.transfer_read.proofs.Untouched.{kept-same}
 use Rattle.session_memory.specs.State.{loadOf, saveOf}
 use Rattle.session_memory.specs.Session.{Session}
+use Rattle.session_memory.specs.Setters.{withFirst, withThen, withPos, withSay}
 use Rattle.session_memory.specs.declared.Sizes.{Sizes}
 use Rattle.waiting.specs.Waiting.{waitingOf, firstText, thenText}
 use Rattle.pending.specs.Pending.{waits, silentOf}
@@ -65,8 +66,7 @@ give-still s room e = ap (λ (o : Bytes). on-lists.withOut o s) e
 
 -- the state with other numbers of what waits
 abbrev saying : Session → ℕ → ℕ → ℕ → Session
-saying x first then pos =
-    record { now = x .now; say = record { first = first; then = then; pos = pos; signs = x .say .signs }; keep = x .keep; reading = x .reading; line = x .line; tally = x .tally }
+saying x first then pos = withSay (withFirst first (withThen then (withPos pos (x .say)))) x
 
 abbrev csSaying : Cs → ℕ → ℕ → ℕ → Cs
 csSaying c first then pos = cs (saying (c .session) first then pos) (c .table) (c .inbox) (c .store)
@@ -83,7 +83,10 @@ module _ (F : Fixed) (E : Shelf) (c : Cs) (first then pos : ℕ) where
 
   resaid : (s : on-lists.Session) (o : Bytes) → Represents F E c s → Says F (csSaying c first then pos) o → Represents F E (csSaying c first then pos) (withOut s o)
   resaid s o h y =
-      record { entries = h .entries; holds = h .holds; says = y; awaits = awaits-still (s .phase) (h .awaits); part = h .part; afterCr = h .afterCr; tally = h .tally }
+      record {
+        standing = record { entries = h .standing .entries; holds = h .standing .holds; says = y; awaits = awaits-still (s .phase) (h .standing .awaits); part = h .standing .part; afterCr = h .standing .afterCr };
+        tally = h .tally;
+      }
 
 -- ---------------------------------------------------------------- the state after a give
 
@@ -96,14 +99,14 @@ module _ (F : Fixed) (E : Shelf) (c : Cs) (s : on-lists.Session) (h : Represents
 
   -- some of it is left
   left-says : drop (c .session .say .pos + count) waiting ≡ drop room (s .out)
-  left-says = sym (drop-drop count (c .session .say .pos) waiting) ∙ ap (drop count) (h .says) ∙ drop-taken room (s .out)
+  left-says = sym (drop-drop count (c .session .say .pos) waiting) ∙ ap (drop count) (h .standing .says) ∙ drop-taken room (s .out)
 
   -- none is
   none-left : length waiting ≤ c .session .say .pos + count → [] ≡ drop room (s .out)
   none-left l =
       sym
       (drop-of-length-le (s .out) {i = room}
-      (let e = ap length (h .says) in
+      (let e = ap length (h .standing .says) in
       let f = length-drop (c .session .say .pos) waiting in
       let g = length-take room (s .out) in
       omega arith))
@@ -159,7 +162,7 @@ module _ (F : Fixed) (E : Shelf) (c₀ : Cs) (z : Sizes) where
     unfolding putBytes
     some-given =
         let c = csOf m in
-        let e = h .represents .says in
+        let e = h .represents .standing .says in
         let left = handedOf (loadOf (m .sm)) (length (take space (s .out))) (length lot) in
         record {
           replies = ap (λ (o : Bytes). reply 0 0 (length (take space o))) e;
@@ -193,5 +196,5 @@ module _ (F : Fixed) (E : Shelf) (c₀ : Cs) (z : Sizes) where
             let k : space ≡ 0 = let g = ltb-false place (length buf) f in omega arith in
             still (ap (λ (n : ℕ). take n (s .out)) k) (ap (λ (n : ℕ). drop n (s .out)) k)
         go false l e f =
-            let o = null-is (s .out) (sym (waits-law F (csOf m) (s .out) (held-good F E c₀ z m s h) (h .represents .says)) ∙ e) in
+            let o = null-is (s .out) (sym (waits-law F (csOf m) (s .out) (held-good F E c₀ z m s h) (h .represents .standing .says)) ∙ e) in
             still (ap (take space) o ∙ take-nil space) (ap (drop space) o ∙ drop-nil space ∙ sym o)

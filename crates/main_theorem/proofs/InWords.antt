@@ -12,13 +12,12 @@ use Rattle.demand3.specs.Demand.{GoodTable}
 use Rattle.places.specs.Places.{partners}
 use Rattle.layout.specs.Layout.{stateOf}
 use Rattle.entries.specs.Decoded.{recordCount}
-use Rattle.marking.specs.States.{statesOf}
+use Rattle.marking.specs.States.{statesOf, Whole}
 use Rattle.form_closed.specs.Fixed.{Fixed}
 use Rattle.main_theorem.specs.Calls.{Lent, fixedIn, lentIn, statesIn, isCaller}
 use Rattle.main_theorem.specs.Demand3.{finally, traced, logged}
 use Rattle.main_theorem.specs.Deeds.{deeds, Fate, messagesBrought, AsAccepted}
 use Rattle.main_theorem.specs.InWords.{done, ClaimInWords}
-use Rattle.marking.proofs.States.{Whole}
 use Rattle.main_theorem.proofs.Opening.{accepted}
 use Rattle.main_theorem.specs.Demand2.{callOf, shelfOf}
 use Rattle.main_theorem.proofs.Demand3.{open-as, ran, column-only, states-logged, inbox-logged}
@@ -65,7 +64,7 @@ in-words M e cs =
     whole = accepted M e .table .0
 
     whole-end : Whole (end .table)
-    whole-end = ran M e cs .held .represents .holds .shelved .table
+    whole-end = ran M e cs .held .represents .standing .holds .shelved .table
 
     count : recordCount (m .table) ≡ recordCount (end .table)
     count = sym (count-stays (M .partner) (m .table) (end .table) (column-only M e cs))

@@ -118,20 +118,22 @@ module _ (M : OpenCall) (a : Accepted M) where
   unfolding freshOf messagesOf usedBy waitingIn sizesIn
   fresh-represents caller =
       record {
-        entries = λ i h. absurd (omega arith);
-        holds = record {
-          shelved = record { records = refl; known = refl; places = refl; bytes = refl; table = a .table .0; inbox = a .inbox .0 };
-          boxed = record { count = refl; messages = refl; laid = tt; bodies = refl; row = tt; small = omega arith; bytes = refl };
-          framed = refl;
-          terms = record { level = refl; partner = a .partner };
-          states = refl;
-          sending = refl;
-          flags = refl;
+        standing = record {
+          entries = λ i h. absurd (omega arith);
+          holds = record {
+            shelved = record { records = refl; known = refl; places = refl; bytes = refl; table = a .table .0; inbox = a .inbox .0 };
+            boxed = record { count = refl; messages = refl; laid = tt; bodies = refl; row = tt; small = omega arith; bytes = refl };
+            framed = refl;
+            terms = record { level = refl };
+            states = refl;
+            sending = refl;
+            flags = refl;
+          };
+          says = greeting-says caller;
+          awaits = sid-awaited caller;
+          part = refl;
+          afterCr = refl;
         };
-        says = greeting-says caller;
-        awaits = sid-awaited caller;
-        part = refl;
-        afterCr = refl;
         tally = record {
           waiting = refl;
           sizes = ap (λ (n : ℕ). n % sizesRange) (sizes-law ((F M) .titles) ((F M) .names) ((F M) .bodies) (m M .table) (statesIn M));

@@ -124,7 +124,7 @@ module _ (F : Fixed) (E : Shelf) (c₀ : Cs) (z : Sizes) where
       → given F m buf place ≡ record { reply = reply 0 0 0; sm = m .sm; buf = buf }
   unfolding giveOf
   given-none m s h e buf place =
-      rw (h .inForm .form, waits-law F (csOf m) (s .out) (held-good F E c₀ z m s h) (h .represents .says) ∙ ap (λ (o : Bytes). not (null o)) e)
+      rw (h .inForm .form, waits-law F (csOf m) (s .out) (held-good F E c₀ z m s h) (h .represents .standing .says) ∙ ap (λ (o : Bytes). not (null o)) e)
 
   -- and on a live one no bytes
   pub received-none : (m : Lent) (s : on-lists.Session) → Held F E c₀ z m s → on-lists.ended s ≡ false

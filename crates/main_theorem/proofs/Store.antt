@@ -24,7 +24,7 @@ store-exactly M e cs =
       transfer = led .0;
       reached = led .1;
       live = led .2;
-      kept = ran M e cs .held .represents .holds .boxed .messages ∙ calls-kept E (map callOf cs) first at-open;
+      kept = ran M e cs .held .represents .standing .holds .boxed .messages ∙ calls-kept E (map callOf cs) first at-open;
       store = sym (shown .same) ∙ store-written F E (freshCs M) (shown .state) (lastOf M cs) (shown .within) (shown .represents) (shown .spared) (led .2);
     }
   where

@@ -44,7 +44,7 @@ reach-at s n e = ap (λ (p : ℕ). s .keep .used + cond (ltb p phaseTransfer) 0 
 -- A SESSION THAT GOES ON: its store
 pub store-written : (F : Fixed) (E : Shelf) (c₀ c : Cs) (v : on-lists.Session) → c .session .keep .used ≤ length (c .store) → Represents F E c v → Spared c₀ c → on-lists.ended v ≡ false
     → c .store ≡ written v ++ drop (length (written v)) (c₀ .store)
-store-written F E c₀ c v w h p live = go (v .phase) refl (h .awaits)
+store-written F E c₀ c v w h p live = go (v .phase) refl (h .standing .awaits)
   where
     used : ℕ
     used = c .session .keep .used
@@ -53,7 +53,7 @@ store-written F E c₀ c v w h p live = go (v .phase) refl (h .awaits)
     with : (u : Bytes) (n : ℕ) → reachOf (c .session) ≡ used + n → used + n ≤ length (c .store) → take n (drop used (c .store)) ≡ u
         → c .store ≡ (bodiesBytes (v .memory .inbox) ++ u) ++ drop (length (bodiesBytes (v .memory .inbox) ++ u)) (c₀ .store)
     with u n r l e =
-        parted (c .store) (c₀ .store) (bodiesBytes (v .memory .inbox)) u used n l (h .holds .boxed .bodies) e
+        parted (c .store) (c₀ .store) (bodiesBytes (v .memory .inbox)) u used n l (h .standing .holds .boxed .bodies) e
         (subst (λ (k : ℕ). drop k (c .store) ≡ drop k (c₀ .store)) r (p .store .past))
 
     -- none are

@@ -14,7 +14,7 @@ use Rattle.grammar.specs.Answers.{Sign, accept, decline, defer, readFs, level0}
 use Rattle.grammar.specs.Transfers.{Content, readTransfer}
 use Rattle.mail.specs.Mail.{Record, Message}
 use Rattle.log.specs.Effects.{keptAs}
-use Rattle.log.specs.Log.{Event, Ours, ourGreeting, ourFirstPrompt, ourSidLine, ourTurn, ourAnswer, Theirs, theirText, theirSid, theirTurn, theirAnswer, Next, over, weSay, theySay, theirTransfer, ourTransfer, Log, Said, unfinished, farewell, wrong, turn, said, checked, applied, Cut, notWhole, outOfTurn, unit, cutUnit, withAfterCr, logOpened, Book, levelInForce}
+use Rattle.log.specs.Log.{Event, Ours, ourOpening, ourTurn, ourAnswer, Theirs, theirText, theirSid, theirTurn, theirAnswer, Next, over, weSay, theySay, theirTransfer, ourTransfer, Log, Said, unfinished, farewell, wrong, turn, said, checked, applied, Cut, notWhole, outOfTurn, unit, cutUnit, withAfterCr, logOpened, Book, levelInForce}
 use Rattle.phase.specs.Phase.{stateWaiting, stateForwarded, stateDeclined}
 
 -- ---------------------------------------------------------------- what a whole unit does
@@ -64,9 +64,7 @@ theirDeed (theirTurn ff ls raw) k u = turnDeed (said ff (ls ++ (checked raw (rea
 theirDeed (theirAnswer is) k u = answerDeed is (readFs (levelInForce k) (length is) (trim u))
 
 abbrev pub ourDeed : Ours → Bytes → Deed
-ourDeed ourGreeting u = nothing
-ourDeed ourFirstPrompt u = nothing
-ourDeed ourSidLine u = nothing
+ourDeed (ourOpening o) u = nothing
 ourDeed (ourTurn ff ls) u = nothing
 ourDeed (ourAnswer ps) u = ourAnswerDeed (readFs level0 (length ps) u)
 

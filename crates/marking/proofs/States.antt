@@ -24,7 +24,7 @@ use Rattle.layout.specs.Layout.{byteAt, le2At, le4At, fieldIn, entryAt, recordS
 use Rattle.layout.proofs.Places.{part-in}
 use Rattle.entries.specs.Decoded.{entries, recordCount, recordsOf}
 use Rattle.entries.proofs.Laws.{entries-length, entries-at, entries-same}
-use Rattle.marking.specs.States.{InColumn, statesOf, setState, markAll, withStatesFrom, withStates, StatesOnly}
+use Rattle.marking.specs.States.{InColumn, statesOf, setState, markAll, withStatesFrom, withStates, StatesOnly, Whole}
 
 -- ---------------------------------------------------------------- a byte of an entry is set: what is read beside it stays
 
@@ -144,10 +144,6 @@ records-set ti na bo p t i v l =
         subst (λ (k : ℕ). recordOf ti na bo (entryAt recordSize (setState p t i v) k) ≡ recordOf ti na bo (entryAt recordSize t k)) (sym (eqb-true j i e))
         (ap (recordOf ti na bo) (entry-same p t i v l) ∙ record-beside ti na bo (entryAt recordSize t i) p v l)
     go j false e = ap (recordOf ti na bo) (entry-other p t i v l j (eqb-false j i e))
-
--- a table of whole records
-abbrev pub Whole : Bytes → Type 0
-Whole t = length t ≡ recordCount t * recordLen
 
 pub entry-whole : (t : Bytes) (j : ℕ) → Whole t → j < recordCount t → entryAt recordSize t j ≡ take recordLen (drop (j * recordLen) t)
 entry-whole t j w h = part-in t (j * recordLen) recordLen (omega (arith, w))

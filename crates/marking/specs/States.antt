@@ -34,6 +34,10 @@ withStatesFrom p i (v ∷ vs) table = withStatesFrom p (suc i) vs (setState p ta
 unfoldable pub withStates : ℕ → List ℕ → Bytes → Bytes
 withStates p states table = withStatesFrom p 0 states table
 
+-- A table of whole records.
+abbrev pub Whole : Bytes → Type 0
+Whole t = length t ≡ recordCount t * recordSize
+
 -- Of two tables: only states for partner p may differ.
 pub record StatesOnly (p : ℕ) (was is : Bytes) : Type 0 where
   pub size : length is ≡ length was

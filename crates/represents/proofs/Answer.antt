@@ -109,7 +109,7 @@ module _ (F : Fixed) (E : Shelf) (c : Cs) (m : Memory) (ready : Ready F E c m) w
         (
           subst (λ (js : List ℕ). Standing F E (cs (afterLine true (answerTaken zs s .next)) u i st) (on-lists.between (on-lists.newTurn false) true (transfersText (E .table) js) (on-lists.answerMarks is ss m)))
               (picked-accepted is ss z)
-              (sending-law (picked plusSign is zs) (flagged (picked equalSign is zs) (k .deferred)) u (on-lists.answerMarks is ss m) (holds-answer F E k (c .table) i st m (ready .holds) is ss z idle)),
+              (sending-law (picked plusSign is zs) (flagged (picked equalSign is zs) (k .deferred)) u (on-lists.answerMarks is ss m) (holds-answer F E k (c .table) i st m (ready .holds) (ready .keep .terms .partner) is ss z idle)),
           record { counts = counted is ss z ∙ none-more _; few = few minusSign zs; less = few equalSign zs },
         ),
       )

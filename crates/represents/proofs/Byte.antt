@@ -28,7 +28,7 @@ use Rattle.represents.specs.Link.{Moving, Receiving}
 use Rattle.represents.proofs.Says.{first-nothing, then-nothing}
 use Rattle.form_closed.proofs.Waiting.{waits-none}
 use Rattle.represents.proofs.Parts.{refuse-law}
-use Rattle.represents.proofs.LineStep.{line-below, awaits-line, says-line, line-step}
+use Rattle.represents.proofs.LineStep.{line-below, in-line, line-step}
 use Rattle.represents.proofs.TransferStep.{reach-least, transfer-step}
 use Rattle.form_closed.specs.Facts.{Octets, Good}
 use Rattle.phase.specs.Phase.{phaseTransfer, phaseLeaving}
@@ -67,7 +67,7 @@ waits-law F c o g h = go (waits (c .session .say)) refl
 
 pub over-law : (F : Fixed) (E : Shelf) {nt ni ns : ℕ} (c : Cs) (v : on-lists.Session) → Good F nt ni ns c → Represents F E c v → overOf (c .session) ≡ on-lists.ended v
 unfolding overOf
-over-law F E c v g h = go (v .phase) (h .awaits)
+over-law F E c v g h = go (v .phase) (h .standing .awaits)
   where
     at : (n : ℕ) → c .session .now .phase ≡ n
         → cond (ltb (c .session .now .phase) phaseLeaving) false (cond (ltb phaseLeaving (c .session .now .phase)) true (not (waits (c .session .say))))
@@ -83,7 +83,7 @@ over-law F E c v g h = go (v .phase) (h .awaits)
     go (on-lists.aLine l) a =
         at (lineNumber l) (a .0) ∙ ap (λ (q : Bool). cond q false (cond (ltb phaseLeaving (lineNumber l)) true (not (waits (c .session .say))))) (lt-ltb (lineNumber l) phaseLeaving (omega (arith, line-below l)))
     go (on-lists.awaitsTransfer p ps sc) a = at phaseTransfer (a .0)
-    go on-lists.leaving a = at phaseLeaving a ∙ ap not (waits-law F c (v .out) g (h .says)) ∙ not-not (null (v .out))
+    go on-lists.leaving a = at phaseLeaving a ∙ ap not (waits-law F c (v .out) g (h .standing .says)) ∙ not-not (null (v .out))
     go on-lists.over a =
         rw (le-ltb (c .session .now .phase) phaseLeaving (omega arith), lt-ltb phaseLeaving (c .session .now .phase) (omega arith))
 
@@ -111,15 +111,7 @@ module _ (F : Fixed) (E : Shelf) {nt ni ns : ℕ} (c : Cs) (g : Good F nt ni ns 
   dropped-law =
       record {
         answer = refl;
-        represents = record {
-          entries = h .entries;
-          holds = h .holds;
-          says = says-line F (c .session) (c .table) (c .inbox) (c .store) (lfDropped (c .session) .line) (v .out) (h .says);
-          awaits = awaits-line (v .phase) (c .session) (c .table) (c .inbox) (c .store) (lfDropped (c .session) .line) (h .awaits);
-          part = h .part;
-          afterCr = refl;
-          tally = h .tally;
-        };
+        represents = in-line F E c v h (lfDropped (c .session) .line) (v .part) false (h .standing .part) refl;
         spared = record { inbox = kept-same _ _ (c .inbox) (omega arith); store = kept-same _ _ (c .store) (omega arith) };
       }
 
@@ -163,17 +155,17 @@ module _ (F : Fixed) (E : Shelf) {nt ni ns : ℕ} (c : Cs) (g : Good F nt ni ns 
   free-law : on-lists.ended v ≡ false → (q : Bool) → waits (c .session .say) ≡ q → (o : Bytes) → v .out ≡ o
       → Moves (cond q (moved bytesWait (cs (refusedOf bytesWait (c .session)) (c .table) (c .inbox) (c .store))) (cond (eqb (c .session .now .phase) phaseTransfer) (transferStepOf c b) (lineByteOf (F .known) c b)))
       (on-lists.freeStep E o v b)
-  free-law live true e [] f = absurd (no-both true refl (sym e ∙ waits-law F c (v .out) g (h .says) ∙ ap (λ (l : Bytes). not (null l)) f))
+  free-law live true e [] f = absurd (no-both true refl (sym e ∙ waits-law F c (v .out) g (h .standing .says) ∙ ap (λ (l : Bytes). not (null l)) f))
   free-law live true e (x ∷ o) f = refused-law bytesWait
-  free-law live false e [] f = phase-law e live (ap null f) (v .phase) refl (h .awaits)
-  free-law live false e (x ∷ o) f = absurd (no-both false (sym e ∙ waits-law F c (v .out) g (h .says) ∙ ap (λ (l : Bytes). not (null l)) f) refl)
+  free-law live false e [] f = phase-law e live (ap null f) (v .phase) refl (h .standing .awaits)
+  free-law live false e (x ∷ o) f = absurd (no-both false (sym e ∙ waits-law F c (v .out) g (h .standing .says) ∙ ap (λ (l : Bytes). not (null l)) f) refl)
 
 -- A BYTE: the same answer, the session after it, and the rest spared.
 pub byte-law : (F : Fixed) (E : Shelf) {nt ni ns : ℕ} (c : Cs) (v : on-lists.Session) (b : ℕ) → Good F nt ni ns c → Represents F E c v → on-lists.ended v ≡ false
     → Moving F E c (byteOf (F .known) c b) (on-lists.step E v b)
 unfolding byteOf
 byte-law F E c v b g h live =
-    subst (λ (q : Bool). Moving F E c (cond (q && eqb b LF) dropped free) (on-lists.step E v b)) (sym (h .afterCr)) (go (v .afterCr && eqb b LF))
+    subst (λ (q : Bool). Moving F E c (cond (q && eqb b LF) dropped free) (on-lists.step E v b)) (sym (h .standing .afterCr)) (go (v .afterCr && eqb b LF))
   where
     dropped : Moved
     dropped = moved 0 (cs (lfDropped (c .session)) (c .table) (c .inbox) (c .store))

@@ -93,7 +93,7 @@ module _ (F : Fixed) (E : Shelf) {nt ni ns : ℕ} (c : Cs) (g : Good F nt ni ns 
         under .places,
         owed-pluses (u .say .signs) (u .now .block) (u .now .proposals) (g .say .signs) (under .signs) (u .now .current),
         ap (λ (l : List Proposal). length l) (a .1),
-        h .holds .shelved .places,
+        h .standing .holds .shelved .places,
       )
 
   fitting : Fitting (u .keep .kept) (u .keep .used) (c .inbox) st (E .places) n
@@ -101,8 +101,8 @@ module _ (F : Fixed) (E : Shelf) {nt ni ns : ℕ} (c : Cs) (g : Good F nt ni ns 
       let fits = k .fits in
       let behind-size = length-drop (u .keep .used) (c .store) in
       record {
-        size = h .holds .shelved .inbox;
-        few = omega (arith, g .box .limit, h .holds .shelved .places);
+        size = h .standing .holds .shelved .inbox;
+        few = omega (arith, g .box .limit, h .standing .holds .shelved .places);
         free = omega (arith, places);
         limit = omega arith;
         sum = g .box .used;
@@ -123,7 +123,7 @@ module _ (F : Fixed) (E : Shelf) {nt ni ns : ℕ} (c : Cs) (g : Good F nt ni ns 
   pub inbox-kept : Kept (u .keep .kept * entryLen) ((u .keep .kept + 1) * entryLen) (c .inbox) inbox′
   inbox-kept =
       subst (λ (j : ℕ). Kept (u .keep .kept * entryLen) j (c .inbox) inbox′) (omega (arith, entry-fits))
-      (kept-put (c .inbox) (entryOut entry title (u .keep .used) n) (u .keep .kept * entryLen) (omega (arith, entry-fits, h .holds .shelved .inbox, places)))
+      (kept-put (c .inbox) (entryOut entry title (u .keep .used) n) (u .keep .kept * entryLen) (omega (arith, entry-fits, h .standing .holds .shelved .inbox, places)))
 
   holds″ : Holds F E (keptKeep u) (c .table) inbox′ st m′
   holds″ =
@@ -141,7 +141,7 @@ module _ (F : Fixed) (E : Shelf) {nt ni ns : ℕ} (c : Cs) (g : Good F nt ni ns 
         };
         boxed = subst (λ (x : Message). Boxed (u .keep .kept + 1) (u .keep .used + n) inbox′ st (v .memory .inbox ++ (x ∷ [])))
             (ap (λ (q : Proposal). withContent q title (take n (drop (u .keep .used) st))) (sym this) ∙ ap (λ (x : Bytes). withContent p title (take n x)) (behind-back F E c g v h b))
-            (box-more (u .keep .kept) (u .keep .used) (c .inbox) st (v .memory .inbox) (E .places) n entry title fitting (omega (arith, entry-size)) title-short (h .entries (u .now .current) (under .current)) (H .boxed));
+            (box-more (u .keep .kept) (u .keep .used) (c .inbox) st (v .memory .inbox) (E .places) n entry title fitting (omega (arith, entry-size)) title-short (h .standing .entries (u .now .current) (under .current)) (H .boxed));
         framed = H .framed;
         terms = H .terms;
         states = H .states;
@@ -167,19 +167,19 @@ module _ (F : Fixed) (E : Shelf) {nt ni ns : ℕ} (c : Cs) (g : Good F nt ni ns 
       → Next (nextJudged u j) (on-lists.nextTransfer E l m′)
   next-law [] j found =
       subst (λ (x : ℕ). Next (nextJudged u x) (on-lists.ourTurn E [] false m′)) (sym found)
-      (goes-speaking F E d (isPlainAt u) (v .memory) noMarks (d .session) m′ [] (h .entries) holds″ refl refl (omega arith) (omega arith) (first-nothing (d .session) first) false)
+      (goes-speaking F E d (isPlainAt u) (v .memory) noMarks (d .session) m′ [] (h .standing .entries) holds″ refl refl (omega arith) (omega arith) (first-nothing (d .session) first) false)
   next-law (q ∷ qs) j found =
       let o = owing (u .say .signs) (u .now .block) (u .now .proposals) (g .say .signs) (under .signs) (suc (u .now .current)) j q qs found in
       rw (ne-eqb j noProposal (λ e. omega (arith, o .within, g .now .proposals)))
-      (goes-quiet F E d (isPlainAt u) (v .memory) noMarks (toTransferAt j (d .session)) m′ [] (h .entries) holds″ refl refl (omega arith) (omega arith) (first-nothing (toTransferAt j (d .session)) first)
-      (on-lists.awaitsTransfer q qs (scanFrom (q .form))) ((waits-none (c .session .say) quiet) .1) (await-transfer (d .session) (c .table) inbox′ st j q qs (h .entries) (g .say .signs) (k .array) o))
+      (goes-quiet F E d (isPlainAt u) (v .memory) noMarks (toTransferAt j (d .session)) m′ [] (h .standing .entries) holds″ refl refl (omega arith) (omega arith) (first-nothing (toTransferAt j (d .session)) first)
+      (on-lists.awaitsTransfer q qs (scanFrom (q .form))) ((waits-none (c .session .say) quiet) .1) (await-transfer (d .session) (c .table) inbox′ st j q qs (h .standing .entries) (g .say .signs) (k .array) o))
 
   -- THE MESSAGE KEPT, at its last byte
   pub keep-law : Settling F E d (keepOf u (c .table)) (on-lists.settled v (on-lists.isPlain (p .form)) (on-lists.nextTransfer E ps m′))
   unfolding keepOf nextAccepted
   keep-law =
       subst (λ (x : Bool). Settling F E d (keepOf u (c .table)) (on-lists.settled v x (on-lists.nextTransfer E ps m′))) plain
-      (settle-goes F E d (isPlainAt u) (v .memory) (h .tally) (h .holds .states) v (nextJudged u (nextAccepted (u .say .signs) (u .now .current + 1))) (on-lists.nextTransfer E ps m′)
+      (settle-goes F E d (isPlainAt u) (v .memory) (h .tally) (h .standing .holds .states) v (nextJudged u (nextAccepted (u .say .signs) (u .now .current + 1))) (on-lists.nextTransfer E ps m′)
       (subst (λ (x : ℕ). Next (nextJudged u (plusFrom x (drop x (held (u .say .signs))))) (on-lists.nextTransfer E ps m′)) (sym (add-one (u .now .current)))
       (next-law ps (plusFrom (suc (u .now .current)) (drop (suc (u .now .current)) (held (u .say .signs))))
       (subst (λ (l : List Proposal). Found (drop (suc (u .now .current)) (held (u .say .signs))) (drop (suc (u .now .current)) (proposalsOf (u .now .block) (u .now .proposals))) (suc (u .now .current))
@@ -187,4 +187,4 @@ module _ (F : Fixed) (E : Shelf) {nt ni ns : ℕ} (c : Cs) (g : Good F nt ni ns 
       (next-found (u .say .signs) (u .now .block) (u .now .proposals) (g .say .signs) (under .signs) (suc (u .now .current)))))))
     where
       plain : isPlainAt u ≡ on-lists.isPlain (p .form)
-      plain = plain-law (byteAt entry formAt) (written-form (h .entries (u .now .current) (under .current))) ∙ ap (λ (q : Proposal). on-lists.isPlain (q .form)) (sym this)
+      plain = plain-law (byteAt entry formAt) (written-form (h .standing .entries (u .now .current) (under .current))) ∙ ap (λ (q : Proposal). on-lists.isPlain (q .form)) (sym this)

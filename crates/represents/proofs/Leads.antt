@@ -149,12 +149,14 @@ module _ (F : Fixed) (E : Shelf) (c : Cs) (a : Bool) (m₀ : Memory) where
         let w = spokenOf j a t .now in
         let x = h .0 in
         record {
-          entries = x .entries;
-          holds = x .holds;
-          says = x .says;
-          awaits = awaits-tally p (spokenOf j a t) t (c .inbox) (c .store) (talliedOf j w t) (x .awaits);
-          part = x .part;
-          afterCr = x .afterCr;
+          standing = record {
+            entries = x .entries;
+            holds = x .holds;
+            says = x .says;
+            awaits = awaits-tally p (spokenOf j a t) t (c .inbox) (c .store) (talliedOf j w t) (x .awaits);
+            part = x .part;
+            afterCr = x .afterCr;
+          };
           tally = tallied-law F E (c .table) m₀ m j w (subst (λ (y : Carried). Tallies E (y .tally) m₀) (sym same) before)
               (ap (λ (y : Carried). statesOf (y .partner) (c .table)) same ∙ states) (h .1) (ap (λ (k : Keep). k .terms .partner) (keep-spoken j a t)) (x .holds);
         }
@@ -184,4 +186,4 @@ settle-law F E c a v g j (refuses n) h =
     (subst (λ (l : ℕ). Settling F E c (cond (eqb l 0) (settled 0 (countedOf j t (spokenOf j a t)) t) (settled l (refusedOf l (c .session)) (c .table))) (on-lists.refused v n)) (sym (h .0))
     (subst (λ (x : Bool). Settling F E c (cond x (settled 0 (countedOf j t (spokenOf j a t)) t) (settled n (refusedOf n (c .session)) (c .table))) (on-lists.refused v n)) (sym (h .1))
     (record { answer = refl; represents = refuse-law F E c v n g; count = refl; spent = refl })))
-settle-law F E c a v g j (goesOn p m o) h = settle-goes F E c a (v .memory) (g .tally) (g .holds .states) v j (goesOn p m o) h
+settle-law F E c a v g j (goesOn p m o) h = settle-goes F E c a (v .memory) (g .tally) (g .standing .holds .states) v j (goesOn p m o) h

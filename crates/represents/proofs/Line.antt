@@ -186,7 +186,7 @@ module _ (F : Fixed) (E : Shelf) (c : Cs) (m : Memory) (ready : Ready F E c m) w
           → Lead (cond (eqb n 0) (cond ff (refusal lineNotAllowed s) (judge.wholeTurn ourTurnAfterFF s)) (refusal lineNotAllowed s))
           (on-lists.turnJudged E saysFF ff (proposalsOf (w .block) n) lines raw m)
       go zero true = (refl, refl, refl)
-      go zero false = speaks true (judge.turnMarks k) y (judge.settledKeep k) (on-lists.turnMarks m) [] (holds-turn F E k t i st m h) refl turn-counts few (omega arith) (first-nothing (withSay y (withKeep (judge.settledKeep k) s)) (ready .first))
+      go zero false = speaks true (judge.turnMarks k) y (judge.settledKeep k) (on-lists.turnMarks m) [] (holds-turn F E k t i st m h (ready .keep .terms .partner)) refl turn-counts few (omega arith) (first-nothing (withSay y (withKeep (judge.settledKeep k) s)) (ready .first))
       go (suc n) ff = rw (ne-eqb (suc n) 0 (λ e. omega arith)) (refl, refl, refl)
 
   pub fq-law : (lines raw : Bytes) → Lead (fqLine s) (on-lists.turnJudged E saysFQ (w .ff) (proposalsOf (w .block) (w .proposals)) lines raw m)
@@ -240,12 +240,12 @@ module _ (F : Fixed) (E : Shelf) (c : Cs) (m : Memory) (ready : Ready F E c m) w
         → Lead (judge.answered signs j s) (on-lists.answering E ss l (on-lists.turnMarks m))
     answered-law [] j found =
         subst (λ (n : ℕ). Lead (judge.answered signs n s) (on-lists.answering E ss [] (on-lists.turnMarks m))) (sym found)
-        (speaks false (judge.turnMarks k) said (judge.settledKeep k) (on-lists.turnMarks m) (withCr (fsLine ss)) (holds-turn F E k t i st m h) refl turn-counts few (omega arith) (fs-said (withSay said (withKeep (judge.settledKeep k) s)) refl))
+        (speaks false (judge.turnMarks k) said (judge.settledKeep k) (on-lists.turnMarks m) (withCr (fsLine ss)) (holds-turn F E k t i st m h (ready .keep .terms .partner)) refl turn-counts few (omega arith) (fs-said (withSay said (withKeep (judge.settledKeep k) s)) refl))
     answered-law (p ∷ qs) j found =
         let o = owing signs (w .block) (w .proposals) signs-ok (length-map ss writeSign ∙ one) 0 j p qs found in
         let s′ = withSay said (withKeep (judge.settledKeep k) s) in
         rw (ne-eqb j noProposal (λ e. omega (arith, o .within, ready .now .proposals)))
-        (goes-quiet F E c true m (judge.turnMarks k) (toTransferAt j s′) (on-lists.turnMarks m) (withCr (fsLine ss)) b (holds-turn F E k t i st m h) refl turn-counts few (omega arith) (fs-said (toTransferAt j s′) refl)
+        (goes-quiet F E c true m (judge.turnMarks k) (toTransferAt j s′) (on-lists.turnMarks m) (withCr (fsLine ss)) b (holds-turn F E k t i st m h (ready .keep .terms .partner)) refl turn-counts few (omega arith) (fs-said (toTransferAt j s′) refl)
         (on-lists.awaitsTransfer p qs (scanFrom (p .form))) (ready .then) (await-transfer s′ (marking k (judge.turnMarks k) t) i st j p qs b signs-ok (ready .heading) o))
 
   -- our answers on lent memory are those on lists

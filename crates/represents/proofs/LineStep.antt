@@ -47,16 +47,32 @@ line-below (on-lists.awaitsTurn ff ps lines) = omega arith
 line-below (on-lists.awaitsAnswer is) = omega arith
 
 -- what is awaited doesn't depend on the line
-pub awaits-line : (p : Phase) (s : Session) (t i st : Bytes) (l : Line) → Awaits (cs s t i st) p → Awaits (cs (withLine l s) t i st) p
+awaits-line : (p : Phase) (s : Session) (t i st : Bytes) (l : Line) → Awaits (cs s t i st) p → Awaits (cs (withLine l s) t i st) p
 awaits-line (on-lists.aLine a) s t i st l h = h
 awaits-line (on-lists.awaitsTransfer p ps sc) s t i st l h = h
 awaits-line on-lists.leaving s t i st l h = h
 awaits-line on-lists.over s t i st l h = h
 
 -- what waits does not depend on the line
-pub says-line : (F : Fixed) (s : Session) (t i st : Bytes) (l : Line) (o : Bytes) → Says F (cs s t i st) o → Says F (cs (withLine l s) t i st) o
+says-line : (F : Fixed) (s : Session) (t i st : Bytes) (l : Line) (o : Bytes) → Says F (cs s t i st) o → Says F (cs (withLine l s) t i st) o
 unfolding waitingOf firstText thenText
 says-line F s t i st l o h = h
+
+-- another line is under way
+pub in-line : (F : Fixed) (E : Shelf) (c : Cs) (v : on-lists.Session) → Represents F E c v → (l : Line) (part : Bytes) (a : Bool) → take (l .len) (l .bytes) ≡ part → l .«after_cr» ≡ a
+    → Represents F E (cs (withLine l (c .session)) (c .table) (c .inbox) (c .store)) (on-lists.withPart part (on-lists.withAfterCr a v))
+in-line F E c v h l part a e f =
+    record {
+      standing = record {
+        entries = h .standing .entries;
+        holds = h .standing .holds;
+        says = says-line F (c .session) (c .table) (c .inbox) (c .store) l (v .out) (h .standing .says);
+        awaits = awaits-line (v .phase) (c .session) (c .table) (c .inbox) (c .store) l (h .standing .awaits);
+        part = e;
+        afterCr = f;
+      };
+      tally = h .tally;
+    }
 
 module _ (F : Fixed) (E : Shelf) {nt ni ns : ℕ} (c : Cs) (g : Good F nt ni ns c) (v : on-lists.Session) (h : Represents F E c v) (quiet : waits (c .session .say) ≡ false) where
   abbrev s : Session
@@ -70,7 +86,7 @@ module _ (F : Fixed) (E : Shelf) {nt ni ns : ℕ} (c : Cs) (g : Good F nt ni ns 
 
   ready : Ready F E c m
   ready =
-      record { now = g .now; heading = g .heading .size; entries = h .entries; keep = g .keep; holds = h .holds; first = (waits-none (s .say) quiet) .0; then = (waits-none (s .say) quiet) .1 }
+      record { now = g .now; heading = g .heading .size; entries = h .standing .entries; keep = g .keep; holds = h .standing .holds; first = (waits-none (s .say) quiet) .0; then = (waits-none (s .say) quiet) .1 }
 
   -- ---------------------------------------------------------------- the line judged
 
@@ -88,7 +104,7 @@ module _ (F : Fixed) (E : Shelf) {nt ni ns : ℕ} (c : Cs) (g : Good F nt ni ns 
     read-law (on-lists.awaitsSid false) a = sid-law F E c m ready false (ap (λ (p : ℕ). eqb p phaseCallerSid) (a .0)) (readSid ln)
     read-law on-lists.awaitsPrompt a = text-law F E c m ready (a .0) (isPrompt ln)
     read-law (on-lists.awaitsTurn ff ps lines) a =
-        subst (λ (o : Outcome). Lead (judgedIn phaseTurn) o) (same (h .holds .framed) (a .1 .0) (a .1 .1))
+        subst (λ (o : Outcome). Lead (judgedIn phaseTurn) o) (same (h .standing .holds .framed) (a .1 .0) (a .1 .1))
         (turn-law F E c m ready (a .0) lines raw (a .1 .2) (s .keep .framed) (readTurnLine (s .keep .framed) ln) (turn-read-ok (s .keep .framed) ln))
       where
         same : {d e : Bool} {f g : Bool} {qs rs : List Proposal} → d ≡ e → f ≡ g → qs ≡ rs
@@ -96,7 +112,7 @@ module _ (F : Fixed) (E : Shelf) {nt ni ns : ℕ} (c : Cs) (g : Good F nt ni ns 
         same p q r = rw (p, q, r)
     read-law (on-lists.awaitsAnswer is) a =
         subst (λ (js : List ℕ). Lead (judgedIn phaseFs) (on-lists.answerJudged E js m (fsNumber (m .terms .level) (length js) ln) (readFs (m .terms .level) (length js) ln))) (a .1)
-        (subst (λ (v : ℕ). Lead (judgedIn phaseFs) (on-lists.answerJudged E (held (s .now .ours)) m (fsNumber v (length (held (s .now .ours))) ln) (readFs v (length (held (s .now .ours))) ln))) (h .holds .terms .level)
+        (subst (λ (v : ℕ). Lead (judgedIn phaseFs) (on-lists.answerJudged E (held (s .now .ours)) m (fsNumber v (length (held (s .now .ours))) ln) (readFs v (length (held (s .now .ours))) ln))) (h .standing .holds .terms .level)
         (fs-law F E c m ready ln (g .awaited .quiet (λ e. omega (arith, e, a .0)) (omega (arith, a .0)))))
 
     -- "A line that begins with `;` is ignored wherever a line is awaited"
@@ -106,7 +122,7 @@ module _ (F : Fixed) (E : Shelf) {nt ni ns : ℕ} (c : Cs) (g : Good F nt ni ns 
     judge-law a w = go (isComment ln)
       where
         go : (x : Bool) → Lead (cond x (wentOn s) (judgedIn (s .now .phase))) (cond x (goesOn (on-lists.aLine a) m []) (on-lists.awaitedJudged E a m raw))
-        go true = went-on F E c m ready (s .now) (s .keep) (on-lists.aLine a) m (h .entries) (h .holds) refl refl w
+        go true = went-on F E c m ready (s .now) (s .keep) (on-lists.aLine a) m (h .standing .entries) (h .standing .holds) refl refl w
         go false = subst (λ (q : ℕ). Lead (judgedIn q) (on-lists.awaitedJudged E a m raw)) (sym (w .0)) (read-law a w)
 
   -- ---------------------------------------------------------------- a byte
@@ -127,7 +143,7 @@ module _ (F : Fixed) (E : Shelf) {nt ni ns : ℕ} (c : Cs) (g : Good F nt ni ns 
       go false false e = tt
 
   line-length : length (v .part) ≡ s .line .len
-  line-length = ap length (sym (h .part)) ∙ length-take-le (s .line .len) (s .line .bytes) (omega (arith, g .line .len, g .line .size))
+  line-length = ap length (sym (h .standing .part)) ∙ length-take-le (s .line .len) (s .line .bytes) (omega (arith, g .line .len, g .line .size))
 
   abbrev Moves : Settled → on-lists.Stepped → Type 0
   Moves x o = Settling F E c x o
@@ -139,24 +155,18 @@ module _ (F : Fixed) (E : Shelf) {nt ni ns : ℕ} (c : Cs) (g : Good F nt ni ns 
   byte-moves b a x ends room =
       subst
       (λ (w : Bytes). Moves (lineMoved ends s b (c .table) (F .known) (c .inbox) (length (c .store))) (on-lists.settled v true (on-lists.lineJudged E a m w)))
-      (h .part)
+      (h .standing .part)
       (settle-law F E c true v h
       (judgeOf (take (s .line .len) (s .line .bytes)) s (c .table) (F .known) (c .inbox) (length (c .store)))
       (on-lists.lineJudged E a m (take (s .line .len) (s .line .bytes)))
-      (judge-law (take (s .line .len) (s .line .bytes)) a (subst (Awaits c) x (h .awaits))))
+      (judge-law (take (s .line .len) (s .line .bytes)) a (subst (Awaits c) x (h .standing .awaits))))
   byte-moves b a x grows room =
       record {
         answer = refl;
-        represents = record {
-          entries = h .entries;
-          holds = h .holds;
-          says = says-line F s (c .table) (c .inbox) (c .store) (longer s b .line) (v .out) (h .says);
-          awaits = awaits-line (v .phase) s (c .table) (c .inbox) (c .store) (longer s b .line) (h .awaits);
-          part = ap (λ (n : ℕ). take n (set (s .line .bytes) (s .line .len) b)) (add-one (s .line .len))
-              ∙ take-suc-set (s .line .bytes) (s .line .len) b (omega (arith, room, g .line .size)) ∙ ap (λ (l : Bytes). l ++ (b ∷ [])) (h .part);
-          afterCr = refl;
-          tally = h .tally;
-        };
+        represents = in-line F E c v h (longer s b .line) (v .part ++ (b ∷ [])) false
+            (ap (λ (n : ℕ). take n (set (s .line .bytes) (s .line .len) b)) (add-one (s .line .len))
+            ∙ take-suc-set (s .line .bytes) (s .line .len) b (omega (arith, room, g .line .size)) ∙ ap (λ (l : Bytes). l ++ (b ∷ [])) (h .standing .part))
+            refl;
         count = refl;
         spent = refl;
       }

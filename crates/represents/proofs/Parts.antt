@@ -14,6 +14,7 @@ use Rattle.pending.specs.Pending.{errorPiece}
 use Rattle.receive_defined.specs.Receiving.{Cs, cs, refusedOf}
 use Rattle.form_closed.specs.Fixed.{Fixed}
 use Rattle.represents.specs.Represents.{Represents, Entries, Holds}
+use Rattle.represents.specs.Tallies.{Tallies}
 use Rattle.form_closed.specs.Facts.{AwaitOk, KeepOk}
 use Rattle.phase.specs.Phase.{pieceNone}
 use Rattle.places.specs.Places.{headingLen}
@@ -35,17 +36,24 @@ pub record Ready (F : Fixed) (E : Shelf) (c : Cs) (m : Memory) : Type 0 where
 
 -- ---------------------------------------------------------------- a refusal
 
--- nothing is said any more but why, and what is kept stands
-pub refuse-law : (F : Fixed) (E : Shelf) (c : Cs) (s : on-lists.Session) (n : ℕ) → Represents F E c s
+-- nothing is said any more but why, and what is kept and counted stands
+pub refused-stands : (F : Fixed) (E : Shelf) (c : Cs) (s : on-lists.Session) (n : ℕ) → Entries (c .session .now .block) (c .session .now .proposals)
+    → Holds F E (c .session .keep) (c .table) (c .inbox) (c .store) (s .memory) → Tallies E (c .session .tally) (s .memory)
     → Represents F E (cs (refusedOf n (c .session)) (c .table) (c .inbox) (c .store)) (on-lists.refused s n .session)
 unfolding refusedOf waitingOf firstText thenText
-refuse-law F E c s n h =
+refused-stands F E c s n b h t =
     record {
-      entries = h .entries;
-      holds = h .holds;
-      says = append-nil (firstBy (errorPiece n) (c .session)) ∙ error-piece n (c .session);
-      awaits = omega arith;
-      part = refl;
-      afterCr = refl;
-      tally = h .tally;
+      standing = record {
+        entries = b;
+        holds = h;
+        says = append-nil (firstBy (errorPiece n) (c .session)) ∙ error-piece n (c .session);
+        awaits = omega arith;
+        part = refl;
+        afterCr = refl;
+      };
+      tally = t;
     }
+
+pub refuse-law : (F : Fixed) (E : Shelf) (c : Cs) (s : on-lists.Session) (n : ℕ) → Represents F E c s
+    → Represents F E (cs (refusedOf n (c .session)) (c .table) (c .inbox) (c .store)) (on-lists.refused s n .session)
+refuse-law F E c s n h = refused-stands F E c s n (h .standing .entries) (h .standing .holds) (h .tally)

@@ -14,7 +14,7 @@ use Rattle.session_memory.specs.Session.{Session}
 use Rattle.phase.specs.Phase.{pieceNone, pieceProtocolError, pieceChecksumError}
 use Rattle.waiting.specs.Waiting.{proposalAt, blockText, sendingText, firstBy, firstText, thenBy, thenText}
 use Rattle.pending.specs.Pending.{errorPiece}
-use Rattle.marking.proofs.States.{Whole}
+use Rattle.marking.specs.States.{Whole}
 use Rattle.represents.proofs.Table.{record-at}
 
 -- ---------------------------------------------------------------- nothing

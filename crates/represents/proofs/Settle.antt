@@ -55,14 +55,14 @@ shelved-mark F E p b t i st is v h =
 
 module _ (F : Fixed) (E : Shelf) (k : Keep) (t i st : Bytes) (m : Memory) (h : Holds F E k t i st m) where
   -- what was being sent is forwarded
-  pub holds-turn : Holds F E (settledKeep k) (markAll (k .terms .partner) (held (k .sending)) stateForwarded t) i st (on-lists.turnMarks m)
-  holds-turn =
+  pub holds-turn : k .terms .partner < partners → Holds F E (settledKeep k) (markAll (k .terms .partner) (held (k .sending)) stateForwarded t) i st (on-lists.turnMarks m)
+  holds-turn l =
       record {
-        shelved = shelved-mark F E (k .terms .partner) (h .terms .partner) t i st (held (k .sending)) stateForwarded (h .shelved);
+        shelved = shelved-mark F E (k .terms .partner) l t i st (held (k .sending)) stateForwarded (h .shelved);
         boxed = h .boxed;
         framed = h .framed;
         terms = h .terms;
-        states = states-marked (k .terms .partner) (held (k .sending)) t (h .terms .partner) (h .shelved .table) ∙ ap (marked (held (k .sending))) (h .states)
+        states = states-marked (k .terms .partner) (held (k .sending)) t l (h .shelved .table) ∙ ap (marked (held (k .sending))) (h .states)
             ∙ ap (λ (is : List ℕ). marked is (m .states)) (h .sending);
         sending = refl;
         flags = h .flags;
@@ -75,22 +75,22 @@ module _ (F : Fixed) (E : Shelf) (k : Keep) (t i st : Bytes) (m : Memory) (h : H
 
   -- what the partner's SID settles
   pub holds-sid : (fs : List ℕ) → Holds F E (judge.inMode (framed fs) (levelInForce fs) k) t i st (on-lists.withSid fs m)
-  holds-sid fs = record { shelved = h .shelved; boxed = h .boxed; framed = refl; terms = record { level = refl; partner = h .terms .partner }; states = h .states; sending = h .sending; flags = h .flags }
+  holds-sid fs = record { shelved = h .shelved; boxed = h .boxed; framed = refl; terms = record { level = refl }; states = h .states; sending = h .sending; flags = h .flags }
 
   -- the partner's signs on our records at these places
-  pub holds-answer : (is : List ℕ) (ss : List Sign) (z : ℕ) → k .sending .count ≡ 0
+  pub holds-answer : k .terms .partner < partners → (is : List ℕ) (ss : List Sign) (z : ℕ) → k .sending .count ≡ 0
       → Holds F E (sends (fiveOf (picked plusSign is (zerosAfter ss z))) (flagged (picked equalSign is (zerosAfter ss z)) (k .deferred)) k)
       (markAll (k .terms .partner) (held (fiveOf (picked minusSign is (zerosAfter ss z)))) stateDeclined t) i st (on-lists.answerMarks is ss m)
-  holds-answer is ss z none =
+  holds-answer l is ss z none =
       let zs = zerosAfter ss z in
       let before : m .sending ≡ [] = sym (h .sending) ∙ ap (λ (n : ℕ). take n (k .sending .items)) none in
       record {
-        shelved = shelved-mark F E (k .terms .partner) (h .terms .partner) t i st (held (fiveOf (picked minusSign is zs))) stateDeclined (h .shelved);
+        shelved = shelved-mark F E (k .terms .partner) l t i st (held (fiveOf (picked minusSign is zs))) stateDeclined (h .shelved);
         boxed = h .boxed;
         framed = h .framed;
         terms = h .terms;
         states = ap (λ (js : List ℕ). statesOf (k .terms .partner) (markAll (k .terms .partner) js stateDeclined t)) (held-five (picked minusSign is zs))
-            ∙ states-declined (k .terms .partner) (h .terms .partner) is ss z t (h .shelved .table)
+            ∙ states-declined (k .terms .partner) l is ss z t (h .shelved .table)
             ∙ ap (declined is ss) (h .states);
         sending = held-five (picked plusSign is zs) ∙ picked-accepted is ss z ∙ ap (λ (js : List ℕ). js ++ accepted ss is) (sym before);
         flags = flags-deferred is ss z (k .deferred) ∙ ap (on-lists.deferring is ss) (h .flags);

@@ -16,8 +16,8 @@ use Rattle.places.specs.Places.{recordLen, partners}
 use Rattle.layout.specs.Layout.{entryAt, recordSize, recordOf}
 use Rattle.layout.proofs.Places.{part-in}
 use Rattle.entries.specs.Decoded.{entries, recordCount, recordsOf}
-use Rattle.marking.specs.States.{statesOf, setState, markAll}
-use Rattle.marking.proofs.States.{Whole, whole-set, states-set}
+use Rattle.marking.specs.States.{statesOf, setState, markAll, Whole}
+use Rattle.marking.proofs.States.{whole-set, states-set}
 use Rattle.entries.proofs.Laws.{entries-length, entries-at}
 use Rattle.line_effect.specs.Judge.{picked, flagged}
 use Rattle.session.specs.Session.{deferring}

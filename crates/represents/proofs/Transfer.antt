@@ -2,7 +2,7 @@
 -- the message is kept; then the next accepted transfer is awaited, or it is our turn.
 use mathlib.Core.Path.{_≡_, refl, sym, ap, _∙_, subst}
 use mathlib.Core.Bool.{false, cond}
-use mathlib.Core.List.{List, [], _∷_, _++_, append-nil}
+use mathlib.Core.List.{List, [], _∷_, _++_}
 use Prim.Native.Nat.{ℕ, _+_, min}
 use native.Mathlib.Omega.{arith}
 use lib.ListN.{take, drop, length-drop}
@@ -23,12 +23,11 @@ use Rattle.transfer_read.specs.Meaning.{Stands, FedAs, Kept, Untouched}
 use Rattle.transfer_read.proofs.Follows.{feed-stands}
 use Rattle.transfer_read.proofs.Untouched.{feed-untouched}
 use Rattle.session_memory.specs.Session.{Session}
-use Rattle.waiting.specs.Waiting.{waitingOf, firstBy, firstText, thenText}
-use Rattle.pending.specs.Pending.{errorPiece}
+use Rattle.waiting.specs.Waiting.{waitingOf, firstText, thenText}
 use Rattle.receive_defined.specs.Receiving.{Cs, cs, reading, refusedOf}
 use Rattle.form_closed.specs.Fixed.{Fixed}
 use Rattle.represents.specs.Represents.{Awaits, Represents, Holds}
-use Rattle.represents.proofs.Says.{error-piece}
+use Rattle.represents.proofs.Parts.{refused-stands}
 use Rattle.represents.proofs.Inbox.{box-store}
 use Rattle.represents.proofs.Frame.{kept-behind}
 use Rattle.form_closed.specs.Facts.{Good}
@@ -98,11 +97,11 @@ module _ (F : Fixed) (E : Shelf) {nt ni ns : ℕ} (c : Cs) (g : Good F nt ni ns 
   room-same = ap (λ (n : ℕ). min n bodyLimit) (one-kept (roomOf behind) (s .reading .reader) b (s .reading .heading) behind .size)
 
   pub room-law : on-lists.roomFor E (v .memory) ≡ roomOf behind
-  room-law = omega (arith, length-drop (s .keep .used) (c .store), h .holds .shelved .bytes, h .holds .boxed .bytes)
+  room-law = omega (arith, length-drop (s .keep .used) (c .store), h .standing .holds .shelved .bytes, h .standing .holds .boxed .bytes)
 
   pub holds′ : Holds F E (s .keep) (c .table) (c .inbox) store′ (v .memory)
   holds′ =
-      let k = h .holds in
+      let k = h .standing .holds in
       let l = k .shelved in
       record {
         shelved = record { records = l .records; known = l .known; places = l .places; bytes = store-kept .size ∙ l .bytes; table = l .table; inbox = l .inbox };
@@ -123,29 +122,21 @@ module _ (F : Fixed) (E : Shelf) {nt ni ns : ℕ} (c : Cs) (g : Good F nt ni ns 
   unfolding waitingOf firstText thenText
   goes-on p ps sc sc′ a k =
       record {
-        entries = h .entries;
-        holds = holds′;
-        says = h .says;
-        awaits = (
-          a .0,
-          a .1,
-          subst (λ (l : Bytes). Stands (roomOf l) (stepped .reader) heading′ l sc′) (sym behind-back)
-              (subst (λ (n : ℕ). Stands n (stepped .reader) heading′ behind′ sc′) (sym room-same) k),
-        );
-        part = h .part;
-        afterCr = refl;
+        standing = record {
+          entries = h .standing .entries;
+          holds = holds′;
+          says = h .standing .says;
+          awaits = (
+            a .0,
+            a .1,
+            subst (λ (l : Bytes). Stands (roomOf l) (stepped .reader) heading′ l sc′) (sym behind-back)
+                (subst (λ (n : ℕ). Stands n (stepped .reader) heading′ behind′ sc′) (sym room-same) k),
+          );
+          part = h .standing .part;
+          afterCr = refl;
+        };
         tally = h .tally;
       }
 
   pub refused-here : (n : ℕ) → Represents F E (cs (refusedOf n s′) (c .table) (c .inbox) store′) (on-lists.refused v n .session)
-  unfolding refusedOf waitingOf firstText thenText
-  refused-here n =
-      record {
-        entries = h .entries;
-        holds = holds′;
-        says = append-nil (firstBy (errorPiece n) (c .session)) ∙ error-piece n (c .session);
-        awaits = omega arith;
-        part = refl;
-        afterCr = refl;
-        tally = h .tally;
-      }
+  refused-here n = refused-stands F E (cs s′ (c .table) (c .inbox) store′) v n (h .standing .entries) holds′ (h .tally)

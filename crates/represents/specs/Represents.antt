@@ -14,16 +14,15 @@ use Rattle.grammar.specs.Transfers.{partOf, byteSum}
 use Rattle.mail.specs.Mail.{Message, accepted}
 use Rattle.session.specs.Choices.{Shelf, bodyBytes}
 use Rattle.session.specs.Session as on-lists
-use Rattle.places.specs.Places.{partners}
-use Rattle.layout.specs.Layout.{entryAt, recordSize, entrySize, proposalSize, proposalOf, messageOf, bodyStart, bodyLength}
+use Rattle.layout.specs.Layout.{entryAt, entrySize, proposalSize, proposalOf, messageOf, bodyStart, bodyLength}
 use Rattle.transfer_read.specs.Feed.{roomOf}
 use Rattle.transfer_read.specs.Meaning.{Stands}
 use Rattle.session_memory.specs.State.{held}
 use Rattle.session_memory.specs.declared.Terms.{Terms}
 use Rattle.session_memory.specs.Session.{Await}
 use Rattle.session_memory.specs.Session.{Session}
-use Rattle.entries.specs.Decoded.{recordsOf, knownBids, proposalsOf, placeCount, recordCount}
-use Rattle.marking.specs.States.{statesOf}
+use Rattle.entries.specs.Decoded.{recordsOf, knownBids, proposalsOf, placeCount}
+use Rattle.marking.specs.States.{statesOf, Whole}
 use Rattle.waiting.specs.Waiting.{waitingOf}
 use Rattle.receive_defined.specs.Receiving.{Cs}
 use Rattle.represents.specs.Laid.{proposalBytes, messageBytes, bodiesBytes}
@@ -84,7 +83,7 @@ pub record Shelved (F : Fixed) (E : Shelf) (t i st : Bytes) : Type 0 where
   pub known : knownBids (F .known) ≡ E .known
   pub places : placeCount i ≡ E .places
   pub bytes : length st ≡ E .bytes
-  pub table : length t ≡ recordCount t * recordSize
+  pub table : Whole t
   pub inbox : length i ≡ E .places * entrySize
 
 -- So many messages are kept, and these they are; their bodies lie in a row at the beginning of the store, use so many bytes of it, and each has 65,535
@@ -98,10 +97,9 @@ pub record Boxed (kept used : ℕ) (i st : Bytes) (ms : List Message) : Type 0 w
   pub small : used ≤ kept * bodyLimit
   pub bytes : used ≡ bodyBytes ms
 
--- What is settled with the partner, who has a column of the table; the session on lists is handed that column and knows of no other.
+-- What is settled with the partner. Its column of the table is no part of it: the session on lists is handed that column and knows of no other.
 pub record Agreed (t : Terms) (u : on-lists.Terms) : Type 0 where
   pub level : t .level ≡ u .level
-  pub partner : t .partner < partners
 
 -- The session's memory: what is kept k, with table, inbox and store.
 pub record Holds (F : Fixed) (E : Shelf) (k : Keep) (t i st : Bytes) (m : on-lists.Memory) : Type 0 where
@@ -150,11 +148,7 @@ pub record Standing (F : Fixed) (E : Shelf) (c : Cs) (s : on-lists.Session) : Ty
   pub part : take (c .session .line .len) (c .session .line .bytes) ≡ s .part
   pub afterCr : c .session .line .«after_cr» ≡ s .afterCr
 
+-- With it.
 pub record Represents (F : Fixed) (E : Shelf) (c : Cs) (s : on-lists.Session) : Type 0 where
-  pub entries : Entries (c .session .now .block) (c .session .now .proposals)
-  pub holds : Holds F E (c .session .keep) (c .table) (c .inbox) (c .store) (s .memory)
-  pub says : Says F c (s .out)
-  pub awaits : Awaits c (s .phase)
-  pub part : take (c .session .line .len) (c .session .line .bytes) ≡ s .part
-  pub afterCr : c .session .line .«after_cr» ≡ s .afterCr
+  pub standing : Standing F E c s
   pub tally : Tallies E (c .session .tally) (s .memory)

@@ -16,7 +16,7 @@ use Rattle.grammar.proofs.Basics.{no-both, and-false, snoc-cons, Lacks, all-lac
 use Rattle.grammar.proofs.OurLines.{good-line}
 use Rattle.grammar.proofs.Errors.{isProtocol, error-read}
 use Rattle.session.specs.Choices.{Shelf}
-use Rattle.session.specs.Session.{awaitsTurn, Phase, aLine, newTurn, over, Memory, Session, withAfterCr, withOut, Stepped, moved, refused, freeStep, step, ended, endedIn}
+use Rattle.session.specs.Session.{awaitsTurn, Phase, aLine, newTurn, over, Memory, Session, withPart, withAfterCr, withOut, between, Stepped, moved, refused, freeStep, step, ended, endedIn}
 use Rattle.log.specs.Log.{Event, took, gave}
 use Rattle.demand2.specs.Refusals.{WholeLine, inTurn, isAllowed, no5}
 use Rattle.demand2.proofs.Situations.{refuses-with}
@@ -65,7 +65,7 @@ line = fixedText protocolError
 module _ (E : Shelf) (m : Memory) where
   -- the partner's turn is awaited, of its line u has come, and o waits
   abbrev awaits : Bool → Bytes → Bytes → Session
-  awaits cr u o = record { phase = newTurn false; part = u; afterCr = cr; out = o; memory = m }
+  awaits cr u o = withPart u (between (newTurn false) cr o m)
 
   -- the memory is as it was, and no FQ came: a session that a refusal ended does not stand after a CR
   abbrev pub Spared : Session → Type 0

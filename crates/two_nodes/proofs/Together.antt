@@ -14,7 +14,7 @@ use Rattle.grammar.specs.Errors.{errorText}
 use Rattle.grammar.proofs.Basics.{and2, no-both, snoc-cons}
 use borrow.Author.Tests.{eqb-true}
 use Rattle.session.specs.Choices.{Shelf}
-use Rattle.session.specs.Session.{Phase, newTurn, leaving, over, Memory, Session, withAfterCr, withOut, between, Stepped, moved, refused, freeStep, step, ended, endedIn}
+use Rattle.session.specs.Session.{Phase, newTurn, leaving, over, Memory, Session, withPhase, withPart, withAfterCr, withOut, between, Stepped, moved, refused, freeStep, step, ended, endedIn}
 use Rattle.log.specs.Log.{Event, took, gave}
 use Rattle.demand2.specs.Events.{proposed}
 use Rattle.demand2.specs.Units.{lineBegun}
@@ -139,14 +139,12 @@ nothing (x ∷ f) o e = let y : _≡_ {A = ℕ} 0 1 = cc in absurd (omega arith)
 -- a speaker that has said all is a listener
 as-listener : (A : Session) → A .part ≡ [] → A .out ≡ [] → A ≡ lineBegun (A .phase) (A .memory) (A .afterCr) []
 as-listener A p o =
-    ap (λ (l : Bytes). record { phase = A .phase; part = l; afterCr = A .afterCr; out = A .out; memory = A .memory }) p
-    ∙ ap (λ (l : Bytes). record { phase = A .phase; part = []; afterCr = A .afterCr; out = l; memory = A .memory }) o
+    ap (λ (l : Bytes). withPart l A) p ∙ ap (λ (l : Bytes). withOut l (withPart [] A)) o
 
 -- one that awaits a turn, whatever of its own still waits
-as-awaiting : (A : Session) → A .phase ≡ newTurn false → A .part ≡ [] → A ≡ record { phase = newTurn false; part = []; afterCr = A .afterCr; out = A .out; memory = A .memory }
+as-awaiting : (A : Session) → A .phase ≡ newTurn false → A .part ≡ [] → A ≡ withPhase (newTurn false) (withPart [] A)
 as-awaiting A e p =
-    ap (λ (q : Phase). record { phase = q; part = A .part; afterCr = A .afterCr; out = A .out; memory = A .memory }) e
-    ∙ ap (λ (l : Bytes). record { phase = newTurn false; part = l; afterCr = A .afterCr; out = A .out; memory = A .memory }) p
+    ap (λ (q : Phase). withPhase q A) e ∙ ap (λ (l : Bytes). withPhase (newTurn false) (withPart l A)) p
 
 -- the listener, now B, has heard a byte; r is what it has still to hear
 module _ (n : ℕ) (ih : Along n) (E F : Shelf) (SE : Sound E) (SF : Sound F) (s t : List ℕ) (A B : Session) (f : Bytes) (es fs : List Event) (l : length es + length fs ≤ n)
@@ -155,7 +153,7 @@ module _ (n : ℕ) (ih : Along n) (E F : Shelf) (SE : Sound E) (SF : Sound F) (s
   broken k =
       let g = only-gave F fs B (k .phase) pb in
       let b : Begins (tookIn es) (withCr (fixedText protocolError)) = subst (Begins (tookIn es)) (k .why) (begins-twice (tookIn es) (gaveIn fs) (B .out) y (g .given)) in
-      let a : A ≡ record { phase = newTurn false; part = []; afterCr = A .afterCr; out = A .out; memory = A .memory } = as-awaiting A (k .speaker) fresh in
+      let a : A ≡ withPhase (newTurn false) (withPart [] A) = as-awaiting A (k .speaker) fresh in
       let h : Spared E (A .memory) (after E A es) =
       subst (λ (u : Session). Possible E u es → Spared E (A .memory) (after E u es)) (sym a)
       (λ p. hears-why E (A .memory) es (A .afterCr) [] (fixedText protocolError) (A .out) refl (line-whole .0) (line-whole .1) (line-whole .2) p b) pa in
@@ -209,7 +207,7 @@ module _ (n : ℕ) (ih : Along n) (E F : Shelf) (SE : Sound E) (SF : Sound F) (s
 
 -- ---------------------------------------------------------------- no byte is consumed before it was given
 
-free-refuses : (E : Shelf) (o : Bytes) (A : Session) (c : ℕ) → null o ≡ false → freeStep E o A c .session ≡ record { phase = over; part = []; afterCr = false; out = []; memory = A .memory }
+free-refuses : (E : Shelf) (o : Bytes) (A : Session) (c : ℕ) → null o ≡ false → freeStep E o A c .session ≡ between over false [] (A .memory)
 unfolding errorText
 free-refuses E [] A c h = absurd (no-both true refl h)
 free-refuses E (x ∷ o) A c h = refl
@@ -224,9 +222,9 @@ stuck E F SF A B c b es fs h q pa pb x y = go (A .afterCr && eqb c LF) refl
         no-lf-first F (SF .texts) (took b ∷ fs) B (ap headLf q) pb (tookIn es ++ y .rest)
         (y .whole ∙ ap (λ (k : ℕ). k ∷ (tookIn es ++ y .rest)) (eqb-true c LF ((and2 (A .afterCr) (eqb c LF) e) .1)))
     go false e =
-        let u : step E A c .session ≡ record { phase = over; part = []; afterCr = false; out = []; memory = A .memory }
+        let u : step E A c .session ≡ between over false [] (A .memory)
         = ap (λ (d : Bool). cond d (moved (withAfterCr false A)) (freeStep E (A .out) A c) .session) e ∙ free-refuses E (A .out) A c h in
-        let z : es ≡ [] = ended-none E (record { phase = over; part = []; afterCr = false; out = []; memory = A .memory }) es refl refl (subst (λ (k : Session). Possible E k es) u (pa .1)) in
+        let z : es ≡ [] = ended-none E (between over false [] (A .memory)) es refl refl (subst (λ (k : Session). Possible E k es) u (pa .1)) in
         let w = none-begins (b ∷ tookIn fs) (subst (λ (k : List Event). Begins (b ∷ tookIn fs) (gaveIn k)) z x) in
         let v : _≡_ {A = ℕ} 0 1 = cc in
         omega arith

@@ -52,14 +52,14 @@ states-are : (x : Box) → statesAfter x ≡ on-lists-end.ran (endOf x) .memory 
 states-are x = states-held (x .opening) (x .opens) (x .calls)
 
 kept-are : (x : Box) → kept x ≡ on-lists-end.ran (endOf x) .memory .inbox
-kept-are x = ran (x .opening) (x .opens) (x .calls) .held .represents .holds .boxed .messages
+kept-are x = ran (x .opening) (x .opens) (x .calls) .held .represents .standing .holds .boxed .messages
 
 events-are : (x : Box) → events x ≡ on-lists-end.traced (endOf x)
 events-are x = ran (x .opening) (x .opens) (x .calls) .events
 
 records-stay : (x : Box)
     → recordsOf (x .opening .titles .bytes) (x .opening .names .bytes) (x .opening .bodies .bytes) (finally (x .opening) (x .calls) .table) ≡ records x
-records-stay x = ran (x .opening) (x .opens) (x .calls) .held .represents .holds .shelved .records
+records-stay x = ran (x .opening) (x .opens) (x .calls) .held .represents .standing .holds .shelved .records
 
 -- ---------------------------------------------------------------- what open accepts is sound
 
@@ -251,7 +251,7 @@ fq-on-lists x h =
 
 none-left : (x : Box) → on-lists-end.NoneLeft (endOf x) → NoneLeft x
 none-left x h i =
-    let r = ran (x .opening) (x .opens) (x .calls) .held .represents .holds in
+    let r = ran (x .opening) (x .opens) (x .calls) .held .represents .standing .holds in
     ap (λ (l : List ℕ). mayPropose (records x) true l (loadOf (finally (x .opening) (x .calls) .sm) .keep .deferred) i) (states-are x)
     ∙ ap (λ (l : List ℕ). mayPropose (records x) true (on-lists-end.ran (endOf x) .memory .states) l i) (r .flags)
     ∙ h i
