@@ -76,14 +76,14 @@ module _ (M : OpenCall) where
   unfolding sizesOk
   accepted e =
       let p = open-passed (lendingOf M) e in
-      let q₁ = and2 (eqb (length (m .sm)) sessionSize) _ (p .sizes) in
+      let q₁ = and2 (eqb (length (m .sm)) sessionSize) _ (p .before .sizes) in
       let q₂ = and2 (entriesOk (length (m .table)) recordLen recordLimit) _ (q₁ .1) in
       let q₃ = and2 (entriesOk (length (F .known)) knownLen knownLimit) (entriesOk (length (m .inbox)) entryLen placeLimit) (q₂ .1) in
       let t = entries-are (length (m .table)) recordLen recordLimit (q₂ .0) in
       let w = entries-are (length (F .known)) knownLen knownLimit (q₃ .0) in
       let i = entries-are (length (m .inbox)) entryLen placeLimit (q₃ .1) in
       record {
-        partner = p .partner;
+        partner = p .before .partner;
         session = eqb-true (length (m .sm)) sessionSize (q₁ .0);
         table = (omega arith, omega arith);
         known = omega arith;
