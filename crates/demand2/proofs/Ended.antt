@@ -48,7 +48,7 @@ module _ (E : Shelf) (s : Session) (b : ℕ) (L : Live s) where
   way-other o (isRefused n k w) e = λ z. why-other n w (sym e ∙ z)
   way-other o (dropsLf x) e = λ z. omega arith
   way-other o (growsLine a w x y) e = λ z. omega arith
-  way-other o (ignoresLine a w x y) e = λ z. omega arith
+  way-other o (ignoresLine a w x y t n) e = λ z. omega arith
   way-other o (hearsLine a w x y z j) e =
       line-other (ap awaitsLine (w .awaited))
       (judged-found E [] s b a (w .awaited) (record { heeded = heeded E [] s b w; end = eqb-true b CR x; bytes = refl; judged = y }) z j)

@@ -150,7 +150,7 @@ way-over : (E : Shelf) (s : Session) (b : ℕ) (o : Stepped) → Way E s b o →
 way-over E s b o (isRefused n k w) e = refl
 way-over E s b o (dropsLf x) e = absurd (no-both true refl e)
 way-over E s b o (growsLine a w x y) e = absurd (no-both true refl e)
-way-over E s b o (ignoresLine a w x y) e = absurd (no-both true refl e)
+way-over E s b o (ignoresLine a w x y t n) e = absurd (no-both true refl e)
 way-over E s b o (hearsLine a w x y z j) e = settled-over s true z e
 way-over E s b o (readsOn p ps sc on w x) e = absurd (no-both true refl e)
 way-over E s b o (readsLast p ps sc h x w y) e =

@@ -167,7 +167,7 @@ module _ (E : Shelf) where
     way-sound h o (growsLine a w x y) =
         let k = subst (Sound E s) (h .between (ap owed (w .awaited))) h in
         after-line a w (o .session) (record { soFar = k .soFar; between = k .between; asked = k .asked; parting = k .parting })
-    way-sound h o (ignoresLine a w x y) =
+    way-sound h o (ignoresLine a w x y t n) =
         after-line a w (o .session) (record { soFar = tt; between = λ e. refl; asked = λ is e. h .asked is (w .awaited ∙ e); parting = λ e. nothing-left refl })
     way-sound h o (hearsLine a w x y z j) = after-line a w (settled s true z .session) (settled-sound s true z (judged-fair a (s .memory) (s .part) z j))
     way-sound h o (readsOn p ps sc on w e) =

@@ -162,7 +162,7 @@ module _ (E : Shelf) (q : Bytes) (s : Session) (b : ℕ) (L : Live s) (S : SoFar
   way-found o (isRefused n k w) = why-found n w
   way-found o (dropsLf e) = happened _ (lfGoes e)
   way-found o (growsLine a w x y) = happened _ (lineGrows (heeded E q s b w) (ap awaitsLine (w .awaited)) x (ltb-true (length (s .part)) lineLimit y))
-  way-found o (ignoresLine a w x y) = happened _ (ignored (heeded E q s b w) (ap awaitsLine (w .awaited)) (eqb-true b CR x) y)
+  way-found o (ignoresLine a w x y t n) = happened _ (ignored (heeded E q s b w) (ap awaitsLine (w .awaited)) (eqb-true b CR x) y)
   way-found o (hearsLine a w x y z j) =
       judged-found E q s b a (w .awaited) (record { heeded = heeded E q s b w; end = eqb-true b CR x; bytes = refl; judged = y }) z j
   way-found o (readsOn p ps sc on w e) =

@@ -15,7 +15,7 @@ use Rattle.grammar.proofs.Signs.{fs-only}
 use Rattle.mail.specs.Mail.{recordLimit, accepted, messageOf}
 use Rattle.session.specs.Choices.{Shelf}
 use Rattle.session.specs.Session.{Awaited, awaitsSid, awaitsPrompt, awaitsTurn, awaitsAnswer, Phase, aLine, newTurn, awaitsTransfer, leaving, over, Memory, Session, withSid, Outcome, refuses, goesOn, turnMarks, answerMarks, afterSid, Stepped, settled, keptIn, nextTransfer, isPlain, step, opened, levelInForce}
-use Rattle.session.proofs.Ways.{Passes, toEnd, toTurn, toAnswer, toTransfer, our-turn, our-answer, next-transfer, Wrong, noSid, noF, noTurnLine, ffAfterFf, ffInBlock, fqFirst, fqInBlock, emptyBlock, emptySummed, tooMany, wrongHex, noAnswer, Judged, isWrong, hearsSid, hearsText, hearsPrompt, hearsProposal, hearsFF, hearsFQ, hearsEnd, hearsFs, Why, waits, hasLeft, isOver, tooLong, unread, unsummed, unkept, Way, isRefused, dropsLf, growsLine, ignoresLine, hearsLine, readsOn, readsLast, way}
+use Rattle.session.proofs.Ways.{Passes, toEnd, toTurn, toAnswer, toTransfer, our-turn, our-answer, next-transfer, Wrong, noSid, noF, noTurnLine, ffAfterFf, ffInBlock, fqFirst, fqInBlock, emptyBlock, emptySummed, tooMany, wrongHex, noAnswer, Judged, isWrong, hearsSid, hearsText, hearsPrompt, hearsProposal, hearsFF, hearsFQ, hearsEnd, hearsFs, why-number, Way, isRefused, dropsLf, growsLine, ignoresLine, hearsLine, readsOn, readsLast, way}
 use Rattle.session.specs.Calls.{give}
 use Rattle.log.specs.Log.{dueOn, owes, unsent}
 use Rattle.demand3.specs.Tally.{isRefusal}
@@ -39,14 +39,17 @@ pub asked-is : (p : Phase) → unsent (nextOf p) ≡ length (asked p)
 asked-is p = let e = ap length (none-owed p) in omega arith
 
 -- what is asked and what is being sent are open places; records are being sent only from an FS line to the partner's turn
+abbrev HeldIn : Phase → List ℕ → List ℕ → List ℕ → Type 0
+HeldIn (aLine (awaitsAnswer is)) sending st fl = (sending ≡ []) × Rise st fl 0 is
+HeldIn (aLine (awaitsSid c)) sending st fl = sending ≡ []
+HeldIn (aLine awaitsPrompt) sending st fl = sending ≡ []
+HeldIn (aLine (awaitsTurn ff ps raw)) sending st fl = Rise st fl 0 sending
+HeldIn (awaitsTransfer p ps sc) sending st fl = sending ≡ []
+HeldIn leaving sending st fl = sending ≡ []
+HeldIn over sending st fl = Rise st fl 0 sending
+
 abbrev Held : Phase → Memory → Type 0
-Held (aLine (awaitsAnswer is)) m = (m .sending ≡ []) × Rise (m .states) (m .deferred) 0 is
-Held (aLine (awaitsSid c)) m = m .sending ≡ []
-Held (aLine awaitsPrompt) m = m .sending ≡ []
-Held (aLine (awaitsTurn ff ps raw)) m = Rise (m .states) (m .deferred) 0 (m .sending)
-Held (awaitsTransfer p ps sc) m = m .sending ≡ []
-Held leaving m = m .sending ≡ []
-Held over m = Rise (m .states) (m .deferred) 0 (m .sending)
+Held p m = HeldIn p (m .sending) (m .states) (m .deferred)
 
 -- how many are settled
 abbrev settledCount : Memory → ℕ
@@ -199,15 +202,6 @@ module _ (E : Shelf) where
   settled-balances s cr (refuses n) e h = absurd (no-both true refl (sym h ∙ ap isRefusal e))
   settled-balances s cr (goesOn p m o) e h = h
 
-  why-number : (s : Session) (b n : ℕ) → Why E s b n → n ≡ 0 → ⊥
-  why-number s b n (waits k w) e = omega arith
-  why-number s b n (hasLeft w) e = omega arith
-  why-number s b n (isOver w) e = omega arith
-  why-number s b n (tooLong a w x y) e = omega arith
-  why-number s b n (unread p ps sc w x) e = omega arith
-  why-number s b n (unsummed p ps sc w x) e = omega arith
-  why-number s b n (unkept p ps sc w x) e = omega arith
-
   -- A BYTE THAT IS TAKEN
   pub byte-balances : (s : Session) (b : ℕ) → step E s b .answer ≡ 0 → SessionBalanced s → SessionBalanced (step E s b .session)
   unfolding BalancedAfter
@@ -217,10 +211,10 @@ module _ (E : Shelf) where
       at p e = subst (λ (q : Phase). Balanced E q (s .memory)) e B
 
       go : (o : Stepped) → Way E s b o → o .answer ≡ 0 → SessionBalanced (o .session)
-      go o (isRefused n k w) e = absurd (why-number s b n w e)
+      go o (isRefused n k w) e = absurd (why-number E s b n w e)
       go o (dropsLf x) e = B
       go o (growsLine a w x y) e = B
-      go o (ignoresLine a w x y) e = at (aLine a) (w .awaited)
+      go o (ignoresLine a w x y t n) e = let k = at (aLine a) (w .awaited) in record { sum = k .sum; places = k .places; held = k .held }
       go o (hearsLine a w x y z j) e = settled-balances s true z e (line-balances (s .memory) (s .part) a z (at (aLine a) (w .awaited)) j)
       go o (readsOn p ps sc on w x) e = elsewhere _ _ (s .memory) (at (awaitsTransfer p ps sc) (w .awaited)) refl (at (awaitsTransfer p ps sc) (w .awaited) .held)
       go o (readsLast p ps sc h x w y) e =

@@ -43,7 +43,7 @@ refusal-keeps E s b = go (step E s b) (way E s b)
     go o (isRefused n k w) e = refl
     go o (dropsLf x) e = refl
     go o (growsLine a w x y) e = refl
-    go o (ignoresLine a w x y) e = refl
+    go o (ignoresLine a w x y t n) e = absurd (no-both false e refl)
     go o (hearsLine a w x y z j) e = settled-keeps true z e
     go o (readsOn p ps sc on w x) e = refl
     go o (readsLast p ps sc h x w y) e = settled-keeps (isPlain (p .form)) (nextTransfer E ps (keptIn (s .memory) (messageOf p (record { heading = h; body = x })))) e

@@ -207,11 +207,11 @@ pub open-closed : (L : Lending) → Octets (L .session) → Octets (L .table) �
     → InForm (fixedOf L) (openOf L .sm) (L .table) (L .inbox) (L .store)
 open-closed L o ot oi os h e =
     let p = open-passed L e in
-    let q = sizes-in (L .session) (L .table) (L .known) (L .inbox) (p .sizes) in
+    let q = sizes-in (L .session) (L .table) (L .known) (L .inbox) (p .before .sizes) in
     let n = q .0 in
     let sm = L .session in
     let z = sizesLent L in
-    let g = fresh-good (fixedOf L) (eqb (L .role) roleCaller) (L .partner) (p .partner) (counted (L .partner) (L .table) noSheet) (open-counted (L .partner) (L .table)) (L .table) (L .inbox) (L .store) ot oi os (h .store) (q .1) in
+    let g = fresh-good (fixedOf L) (eqb (L .role) roleCaller) (L .partner) (p .before .partner) (counted (L .partner) (L .table) noSheet) (open-counted (L .partner) (L .table)) (L .table) (L .inbox) (L .store) ot oi os (h .store) (q .1) in
     let y : sameSizes (loadSizes (saveSizes sm z)) z ≡ true = rw (load-sizes sm z (omega arith) h) (same-itself z) in
     subst (λ (l : Bytes). InForm (fixedOf L) l (L .table) (L .inbox) (L .store)) (sym (p .left))
     (saved-form (fixedOf L) (saveSizes sm z) (length (L .table)) (length (L .inbox)) (length (L .store)) (cs (begun L) (L .table) (L .inbox) (L .store)) g

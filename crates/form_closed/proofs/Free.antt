@@ -4,14 +4,14 @@ use mathlib.Core.Path.{_≡_, refl, _∙_}
 use mathlib.Core.Bool.{Bool, true, false, cond}
 use Prim.Native.Nat.{ℕ, _-_}
 use native.Mathlib.Omega.{arith}
-use lib.Dec.{eqb, ltb, leb}
+use lib.Dec.{eqb, ltb}
 use lib.ListN.{length}
-use borrow.Author.Tests.{eqb-true, ltb-true}
+use borrow.Author.Tests.{eqb-true}
 use Rattle.grammar.specs.Bytes.{Bytes}
 use Rattle.grammar.specs.Refusals.{badMemory, noPlace, sessionEnded}
 use Rattle.grammar.proofs.Basics.{and2}
 use Rattle.buffer.specs.Put.{cut}
-use Rattle.places.specs.Places.{markAt, partners, sessionLen}
+use Rattle.places.specs.Places.{markAt, sessionLen}
 use Rattle.layout.proofs.Places.{part-after}
 use Rattle.session_memory.specs.State.{loadOf, saveOf, sizesOut, saveSizes}
 use Rattle.session_memory.specs.Session.{Session}
@@ -22,7 +22,8 @@ use Rattle.pending.specs.Pending.{waits, overOf}
 use Rattle.form_test.specs.Form.{formOf}
 use Rattle.give.specs.Giving.{Given, reply, handedOf, handing, giveOf}
 use Rattle.open.specs.Lending.{Lending, roleCaller}
-use Rattle.open.specs.Opening.{knownOk, sizesOk, sizesLent, faultIn, begun, openBy, openOf}
+use Rattle.open.specs.Opening.{sizesOk, sizesLent, faultIn, begun, beforeOk, openBy, openOf}
+use Rattle.open.proofs.Accepted.{Before, before-told}
 use Rattle.receive_defined.specs.Receiving.{cs, receiveFrom, Received, unchanged, saved, receiveOf}
 use Rattle.form_closed.specs.Fixed.{Fixed, fixedOf}
 use Rattle.form_closed.specs.Facts.{Octets}
@@ -116,23 +117,21 @@ module _ (F : Fixed) (sm table inbox store : Bytes) (o : Octets sm) (ot : Octets
 -- ---------------------------------------------------------------- open
 
 module _ (L : Lending) where
-  long : sizesOk (L .session) (L .table) (L .known) (L .inbox) ≡ true → length (L .session) ≡ sessionLen
+  long : Before L → length (L .session) ≡ sessionLen
   unfolding sizesOk
-  long e = eqb-true (length (L .session)) sessionLen (and2 (eqb (length (L .session)) sessionLen) _ e .0)
+  long p = eqb-true (length (L .session)) sessionLen (and2 (eqb (length (L .session)) sessionLen) _ (p .sizes) .0)
 
   -- OPEN
   pub open-free : FreeStays (L .session) (openOf L .sm)
   unfolding openOf
-  open-free = go (ltb (L .partner) partners) refl (leb (L .role) roleCaller) (sizesOk (L .session) (L .table) (L .known) (L .inbox)) refl (knownOk (L .known)) (eqb (faultIn L) noPlace)
+  open-free = go (beforeOk L) refl (eqb (faultIn L) noPlace)
     where
-      go : (o : Bool) → ltb (L .partner) partners ≡ o → (a b : Bool) → sizesOk (L .session) (L .table) (L .known) (L .inbox) ≡ b → (c d : Bool) → FreeStays (L .session) (openBy L o a b c d .sm)
-      go true k true true e true true =
-          let n = long e in
+      go : (a : Bool) → beforeOk L ≡ a → (b : Bool) → FreeStays (L .session) (openBy L a b .sm)
+      go true e true =
+          let p = before-told L e in
+          let n = long p in
           let sm = L .session in
           let z = sizesLent L in
-          then-free (sizes-free sm z n) (saved-free (saveSizes sm z) (begun L) (sizes-length sm z ∙ n) (fresh-shaped (fixedOf L) (eqb (L .role) roleCaller) (L .partner) (ltb-true (L .partner) partners k) (counted (L .partner) (L .table) noSheet) (open-counted (L .partner) (L .table))))
-      go true k true true e true false = same-free (L .session)
-      go true k true true e false d = same-free (L .session)
-      go true k true false e c d = same-free (L .session)
-      go true k false b e c d = same-free (L .session)
-      go false k a b e c d = same-free (L .session)
+          then-free (sizes-free sm z n) (saved-free (saveSizes sm z) (begun L) (sizes-length sm z ∙ n) (fresh-shaped (fixedOf L) (eqb (L .role) roleCaller) (L .partner) (p .partner) (counted (L .partner) (L .table) noSheet) (open-counted (L .partner) (L .table))))
+      go true e false = same-free (L .session)
+      go false e b = same-free (L .session)

@@ -8,7 +8,8 @@ use lib.Dec.{eqb}
 use lib.ListN.{length, length-append}
 use borrow.Author.Tests.{not-true, eqb-false, eqb-true}
 use Rattle.grammar.specs.Bytes.{Bytes}
-use Rattle.grammar.specs.Turns.{withCr, fixedText, ourSid, ourPrompt, ourFF, ourFQ, protocolError, checksumError, Proposal}
+use Rattle.grammar.specs.Turns.{withCr, fixedText, ourFF, ourFQ, Proposal}
+use Rattle.grammar.proofs.Basics.{no-both, by-cond, by-test}
 use Rattle.mail.specs.Mail as mail
 use Rattle.mail.specs.Mail.{Record, turnText}
 use Rattle.layout.specs.Layout.{entryAt, recordSize, recordOf}
@@ -46,17 +47,14 @@ some-transfer file h x = omega arith
 
 first-some : (s : Session) → eqb (s .say .first) pieceNone ≡ false → 0 < length (firstText s)
 unfolding firstText fsText
-first-some s e = go (eqb (s .say .first) pieceNone) (eqb (s .say .first) pieceSidAndPrompt) (eqb (s .say .first) pieceSid) (eqb (s .say .first) pieceProtocolError) (eqb (s .say .first) pieceChecksumError) e
-  where
-    go : (a b c d f : Bool) → a ≡ false
-        → 0 < length (cond a [] (cond b (withCr (fixedText ourSid) ++ withCr (fixedText ourPrompt)) (cond c (withCr (fixedText ourSid))
-        (cond d (withCr (fixedText protocolError)) (cond f (withCr (fixedText checksumError)) (fsText (held (s .say .signs))))))))
-    go true b c d f e = let z : _≡_ {A = ℕ} 0 1 = cc in absurd (omega arith)
-    go false true c d f e = omega arith
-    go false false true d f e = omega arith
-    go false false false true f e = omega arith
-    go false false false false true e = omega arith
-    go false false false false false e = omega arith
+first-some s e =
+    let P : Bytes → Type 0 = λ l. 0 < length l in
+    by-test P (eqb (s .say .first) pieceNone) (λ n. absurd (no-both (eqb (s .say .first) pieceNone) n e)) (λ n.
+    by-cond P (eqb (s .say .first) pieceSidAndPrompt) (omega arith)
+    (by-cond P (eqb (s .say .first) pieceSid) (omega arith)
+    (by-cond P (eqb (s .say .first) pieceProtocolError) (omega arith)
+    (by-cond P (eqb (s .say .first) pieceChecksumError) (omega arith)
+    (omega arith)))))
 
 sending-some : (table ti na bo : Bytes) (is : List ℕ) → 0 < length is → 0 < length (sendingText table ti na bo is)
 unfolding sendingText

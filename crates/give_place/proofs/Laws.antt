@@ -18,12 +18,12 @@ use Rattle.session_memory.specs.State.{held, fiveAt, loadOf}
 use Rattle.session_memory.specs.declared.Five.{Five}
 use Rattle.session_memory.specs.Session.{Session}
 use Rattle.session_memory.proofs.Laws.{array-length}
-use Rattle.phase.specs.Phase.{blockLimit, pieceNone, pieceSidAndPrompt, pieceSid, pieceProtocolError, pieceChecksumError, pieceBlock}
+use Rattle.phase.specs.Phase.{blockLimit, pieceBlock}
 use Rattle.text_length.specs.Lengths.{fixedLength, besideSigns}
 use Rattle.waiting.specs.Waiting.{firstText}
 use Rattle.waiting.specs.Pieces.{joined, blockPieces, piecesOf}
 use Rattle.waiting.proofs.Pieces.{pieces-more, pieces-end, block-end, piece-first, piece-FF, piece-FQ}
-use Rattle.waiting.proofs.Said.{first-signs, block-text, said, sent-text}
+use Rattle.waiting.proofs.Said.{Unnamed, first-signs, block-text, said, sent-text}
 use Rattle.give_place.specs.declared.Place.{Place}
 use Rattle.give_place.specs.Located.{At, Located}
 
@@ -34,9 +34,9 @@ fs-length : (signs : Five) → length (signs .items) ≡ blockLimit → {n : ℕ
 unfolding fsText
 fs-length signs h q = simp (length-append, length-take) (omega arith)
 
-pub signs-length : (s : Session) → length (s .say .signs .items) ≡ blockLimit → (s .say .first ≡ pieceNone → ⊥) → (s .say .first ≡ pieceSidAndPrompt → ⊥) → (s .say .first ≡ pieceSid → ⊥)
-    → (s .say .first ≡ pieceProtocolError → ⊥) → (s .say .first ≡ pieceChecksumError → ⊥) → {n : ℕ} → n ≡ min blockLimit (s .say .signs .count) → besideSigns + n ≡ length (firstText s)
-signs-length s h h₀ h₁ h₂ h₄ h₅ q = fs-length (s .say .signs) h q ∙ ap length (first-signs s h₀ h₁ h₂ h₄ h₅ {x = held (s .say .signs)} refl)
+pub signs-length : (s : Session) → length (s .say .signs .items) ≡ blockLimit → Unnamed (s .say .first) → {n : ℕ} → n ≡ min blockLimit (s .say .signs .count)
+    → besideSigns + n ≡ length (firstText s)
+signs-length s h u q = fs-length (s .say .signs) h q ∙ ap length (first-signs s u {x = held (s .say .signs)} refl)
 
 -- a piece of our block
 module _ (sm table : Bytes) (k : ℕ) (p : 1 ≤ k) {n : ℕ} (q : n ≡ min blockLimit (byteAt sm oursAt)) where

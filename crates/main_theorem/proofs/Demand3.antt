@@ -22,7 +22,7 @@ use Rattle.represents.specs.Laid.{entriesBytes, bodiesBytes}
 use Rattle.form_closed.specs.Fixed.{Fixed}
 use Rattle.represents.specs.Represents.{messagesOf}
 use Rattle.marking.specs.States.{withStates, StatesOnly}
-use Rattle.main_theorem.specs.Demand2.{callOf, shelfOf}
+use Rattle.main_theorem.specs.Demand2.{callOf, shelfIn}
 use Rattle.main_theorem.specs.Calls.{Lent, OpenCall, fixedIn, lentIn, sizesOf, lentSession, messageCount, received, given, withSession, run, openedBy, partnerIn, statesIn, isCaller}
 use Rattle.main_theorem.specs.Demand3.{CallsOn, finally, logged, Claim}
 use Rattle.marking.proofs.States.{with-law}
@@ -41,7 +41,7 @@ module _ (M : OpenCall) (e : openedBy M .reply .answer ≡ 0) (cs : CallsOn M) w
   m = lentIn M
 
   abbrev pub E : Shelf
-  E = shelfOf F m
+  E = shelfIn M
 
   abbrev pub caller : Bool
   caller = isCaller M

@@ -19,7 +19,7 @@ use Rattle.main_theorem.specs.Demand3.{finally, traced, logged}
 use Rattle.main_theorem.specs.Deeds.{deeds, Fate, messagesBrought, AsAccepted}
 use Rattle.main_theorem.specs.InWords.{done, ClaimInWords}
 use Rattle.main_theorem.proofs.Opening.{accepted}
-use Rattle.main_theorem.specs.Demand2.{callOf, shelfOf}
+use Rattle.main_theorem.specs.Demand2.{callOf, shelfIn}
 use Rattle.main_theorem.proofs.Demand3.{open-as, ran, column-only, states-logged, inbox-logged}
 use Rattle.main_theorem.proofs.Deeds.{accepted-law, brought-law}
 use Rattle.main_theorem.proofs.Fates.{fates, messages}
@@ -49,7 +49,7 @@ in-words M e cs =
     st = statesIn M
 
     shelf : Shelf
-    shelf = shelfOf F m
+    shelf = shelfIn M
 
     good : GoodTable (shelf .table)
     good = open-as M e cs .good

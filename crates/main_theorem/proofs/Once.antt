@@ -147,11 +147,14 @@ chosen-fit T md st fl = block-fit (sizeAt T) st 0 0 (candidates md st fl 0 T) (c
 -- ---------------------------------------------------------------- the session
 
 -- what is being sent where each line is awaited, and what we proposed
+abbrev pub SendsIn : Awaited → List ℕ → List ℕ → Type 0
+SendsIn (awaitsSid c) sending st = sending ≡ []
+SendsIn awaitsPrompt sending st = sending ≡ []
+SendsIn (awaitsTurn ff ps raw) sending st = Waiting sending st
+SendsIn (awaitsAnswer is) sending st = (sending ≡ []) × Fit st is
+
 abbrev pub SendsLine : Awaited → Memory → Type 0
-SendsLine (awaitsSid c) m = m .sending ≡ []
-SendsLine awaitsPrompt m = m .sending ≡ []
-SendsLine (awaitsTurn ff ps raw) m = Waiting (m .sending) (m .states)
-SendsLine (awaitsAnswer is) m = (m .sending ≡ []) × Fit (m .states) is
+SendsLine a m = SendsIn a (m .sending) (m .states)
 
 abbrev pub Sends : Phase → Memory → Type 0
 Sends (aLine a) m = SendsLine a m
@@ -213,7 +216,7 @@ module _ (E : Shelf) (s : Session) (w : Sends (s .phase) (s .memory)) where
   way-ok b o (isRefused n k x) = record { keeps = same-states (s .memory); sends = tt }
   way-ok b o (dropsLf e) = record { keeps = same-states (s .memory); sends = w }
   way-ok b o (growsLine a x y z) = record { keeps = same-states (s .memory); sends = w }
-  way-ok b o (ignoresLine a x y z) = record { keeps = same-states (s .memory); sends = in-phase (aLine a) (x .awaited) }
+  way-ok b o (ignoresLine a x y z t n) = record { keeps = same-states (s .memory); sends = in-phase (aLine a) (x .awaited) }
   way-ok b o (hearsLine a x y z r j) = settled-ok true r (judged-ok E (s .memory) (s .part) a r j (in-phase (aLine a) (x .awaited)))
   way-ok b o (readsOn p ps sc on x e) = record { keeps = same-states (s .memory); sends = in-phase (awaitsTransfer p ps sc) (x .awaited) }
   way-ok b o (readsLast p ps sc g y x e) =

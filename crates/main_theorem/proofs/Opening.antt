@@ -28,7 +28,7 @@ use Rattle.form_closed.specs.Fixed.{Fixed}
 use Rattle.represents.specs.Represents.{Says, Awaits, Represents, messagesOf}
 use Rattle.represents.specs.Frame.{Spared}
 use Rattle.main_theorem.specs.Calls.{Lent, OpenCall, lendingOf, fixedIn, lentIn, openedBy, isCaller, statesIn, sizesOf, withSession, Buffer}
-use Rattle.main_theorem.specs.Demand2.{shelfOf}
+use Rattle.main_theorem.specs.Demand2.{shelfIn}
 use Rattle.represents.proofs.Byte.{spared-same}
 use Rattle.main_theorem.proofs.Held.{Held}
 use Rattle.main_theorem.proofs.Accepted.{table-good}
@@ -76,14 +76,14 @@ module _ (M : OpenCall) where
   unfolding sizesOk
   accepted e =
       let p = open-passed (lendingOf M) e in
-      let q₁ = and2 (eqb (length (m .sm)) sessionSize) _ (p .sizes) in
+      let q₁ = and2 (eqb (length (m .sm)) sessionSize) _ (p .before .sizes) in
       let q₂ = and2 (entriesOk (length (m .table)) recordLen recordLimit) _ (q₁ .1) in
       let q₃ = and2 (entriesOk (length (F .known)) knownLen knownLimit) (entriesOk (length (m .inbox)) entryLen placeLimit) (q₂ .1) in
       let t = entries-are (length (m .table)) recordLen recordLimit (q₂ .0) in
       let w = entries-are (length (F .known)) knownLen knownLimit (q₃ .0) in
       let i = entries-are (length (m .inbox)) entryLen placeLimit (q₃ .1) in
       record {
-        partner = p .partner;
+        partner = p .before .partner;
         session = eqb-true (length (m .sm)) sessionSize (q₁ .0);
         table = (omega arith, omega arith);
         known = omega arith;
@@ -114,7 +114,7 @@ module _ (M : OpenCall) (a : Accepted M) where
   sid-awaited true = (refl, tt)
   sid-awaited false = (refl, tt)
 
-  fresh-represents : (caller : Bool) → Represents (F M) (shelfOf (F M) (m M)) (cs (begins M caller) (M .table .bytes) (M .inbox .bytes) (M .store .bytes)) (on-lists.opened caller (statesIn M))
+  fresh-represents : (caller : Bool) → Represents (F M) (shelfIn M) (cs (begins M caller) (M .table .bytes) (M .inbox .bytes) (M .store .bytes)) (on-lists.opened caller (statesIn M))
   unfolding freshOf messagesOf usedBy waitingIn sizesIn
   fresh-represents caller =
       record {
@@ -144,15 +144,15 @@ module _ (M : OpenCall) (a : Accepted M) where
 -- ---------------------------------------------------------------- the call
 
 pub record OpenedAs (M : OpenCall) : Type 0 where
-  pub good : GoodTable (shelfOf (fixedIn M) (lentIn M) .table)
-  pub held : Held (fixedIn M) (shelfOf (fixedIn M) (lentIn M)) (freshCs M) (sizesOf (fixedIn M) (lentIn M)) (withSession (lentIn M) (openedBy M .sm))
+  pub good : GoodTable (shelfIn M .table)
+  pub held : Held (fixedIn M) (shelfIn M) (freshCs M) (sizesOf (fixedIn M) (lentIn M)) (withSession (lentIn M) (openedBy M .sm))
       (on-lists.opened (isCaller M) (statesIn M))
 
 pub open-law : (M : OpenCall) → openedBy M .reply .answer ≡ 0 → OpenedAs M
 open-law M e =
     record {
       good = table-good (m M .table) ((F M) .titles) ((F M) .names) ((F M) .bodies) (a .fault);
-      held = subst (λ (x : Bytes). Held (F M) (shelfOf (F M) (m M)) (freshCs M) (sizesOf (F M) (m M)) (withSession (m M) x) (on-lists.opened (isCaller M) (statesIn M))) (sym (a .left)) held;
+      held = subst (λ (x : Bytes). Held (F M) (shelfIn M) (freshCs M) (sizesOf (F M) (m M)) (withSession (m M) x) (on-lists.opened (isCaller M) (statesIn M))) (sym (a .left)) held;
     }
   where
     a : Accepted M
@@ -177,13 +177,13 @@ open-law M e =
     back : loadOf (begunIn (lendingOf M)) ≡ begins M caller
     back = load-save (saveSizes (m M .sm) (sizesOf (F M) (m M))) (begins M caller) n (fresh-shaped (F M) caller (M .partner) (a .partner) (countedIn M) (open-counted (M .partner) (m M .table)))
 
-    held : Held (F M) (shelfOf (F M) (m M)) (freshCs M) (sizesOf (F M) (m M)) (withSession (m M) (begunIn (lendingOf M))) (on-lists.opened caller (statesIn M))
+    held : Held (F M) (shelfIn M) (freshCs M) (sizesOf (F M) (m M)) (withSession (m M) (begunIn (lendingOf M))) (on-lists.opened caller (statesIn M))
     held =
         record {
           inForm = subst (λ (x : Bytes). InForm (F M) x (m M .table) (m M .inbox) (m M .store)) (a .left)
               (open-closed (lendingOf M) (octets (M .session)) (octets (M .table)) (octets (M .inbox)) (octets (M .store)) sized e);
           sizes = save-sizes-kept (saveSizes (m M .sm) (sizesOf (F M) (m M))) (begins M caller) (let k = n in omega arith) ∙ load-sizes (m M .sm) (sizesOf (F M) (m M)) (omega (arith, a .session)) sized;
-          represents = subst (λ (x : Session). Represents (F M) (shelfOf (F M) (m M)) (cs x (m M .table) (m M .inbox) (m M .store)) (on-lists.opened caller (statesIn M))) (sym back) (fresh-represents M a caller);
+          represents = subst (λ (x : Session). Represents (F M) (shelfIn M) (cs x (m M .table) (m M .inbox) (m M .store)) (on-lists.opened caller (statesIn M))) (sym back) (fresh-represents M a caller);
           spared = subst (λ (x : Session). Spared (freshCs M) (cs x (m M .table) (m M .inbox) (m M .store))) (sym back) (spared-same (freshCs M));
           column = subst (λ (x : Session). OneColumn (freshCs M) (cs x (m M .table) (m M .inbox) (m M .store))) (sym back) (column-same (freshCs M));
         }

@@ -6,29 +6,36 @@ use native.Mathlib.Omega.{arith}
 use lib.Dec.{eqb, leb, ltb}
 use borrow.Author.Tests.{eqb-true, leb-true, ltb-true}
 use Rattle.grammar.specs.Refusals.{noPlace}
+use Rattle.grammar.proofs.Basics.{and2}
 use Rattle.places.specs.Places.{partners}
 use Rattle.open.specs.Lending.{Lending, roleCaller}
-use Rattle.open.specs.Opening.{knownOk, sizesOk, Opened, faultIn, begunIn, openBy, openOf}
+use Rattle.open.specs.Opening.{knownOk, sizesOk, Opened, faultIn, begunIn, beforeOk, openBy, openOf}
 
--- o: what such an open comes to
-pub record Passed (L : Lending) (o : Opened) : Type 0 where
+-- what the tests before the records say, one by one
+pub record Before (L : Lending) : Type 0 where
   pub partner : L .partner < partners
   pub role : L .role ≤ roleCaller
   pub sizes : sizesOk (L .session) (L .table) (L .known) (L .inbox) ≡ true
   pub known : knownOk (L .known) ≡ true
+
+pub before-told : (L : Lending) → beforeOk L ≡ true → Before L
+before-told L e =
+    let p = and2 (ltb (L .partner) partners) _ e in
+    let q = and2 (leb (L .role) roleCaller) _ (p .1) in
+    let r = and2 (sizesOk (L .session) (L .table) (L .known) (L .inbox)) _ (q .1) in
+    record { partner = ltb-true (L .partner) partners (p .0); role = leb-true (L .role) roleCaller (q .0); sizes = r .0; known = r .1 }
+
+-- o: what such an open comes to
+pub record Passed (L : Lending) (o : Opened) : Type 0 where
+  pub before : Before L
   pub fault : faultIn L ≡ noPlace
   pub left : o .sm ≡ begunIn L
 
 pub open-passed : (L : Lending) → openOf L .reply .answer ≡ 0 → Passed L (openOf L)
 unfolding openOf
-open-passed L = go _ _ _ _ _ refl refl refl refl refl
+open-passed L = go (beforeOk L) (eqb (faultIn L) noPlace) refl refl
   where
-    go : (o a b c d : Bool) → ltb (L .partner) partners ≡ o → leb (L .role) roleCaller ≡ a → sizesOk (L .session) (L .table) (L .known) (L .inbox) ≡ b → knownOk (L .known) ≡ c → eqb (faultIn L) noPlace ≡ d
-        → openBy L o a b c d .reply .answer ≡ 0 → Passed L (openBy L o a b c d)
-    go true true true true true p q r s t e =
-        record { partner = ltb-true (L .partner) partners p; role = leb-true (L .role) roleCaller q; sizes = r; known = s; fault = eqb-true (faultIn L) noPlace t; left = refl }
-    go true true true true false p q r s t e = absurd (omega arith)
-    go true true true false d p q r s t e = absurd (omega arith)
-    go true true false c d p q r s t e = absurd (omega arith)
-    go true false b c d p q r s t e = absurd (omega arith)
-    go false a b c d p q r s t e = absurd (omega arith)
+    go : (a b : Bool) → beforeOk L ≡ a → eqb (faultIn L) noPlace ≡ b → openBy L a b .reply .answer ≡ 0 → Passed L (openBy L a b)
+    go true true p q e = record { before = before-told L p; fault = eqb-true (faultIn L) noPlace q; left = refl }
+    go true false p q e = absurd (omega arith)
+    go false b p q e = absurd (omega arith)

@@ -6,7 +6,7 @@ use native.Mathlib.Omega.{arith}
 use native.Mathlib.Numerals.{add-one}
 use lib.Dec.{eqb, leb}
 use lib.ListN.{length}
-use borrow.Author.Tests.{le-leb, lt-leb, le-ltb, lt-ltb, eq-eqb, ne-eqb, eqb-true}
+use borrow.Author.Tests.{le-leb, lt-leb, eq-eqb, ne-eqb, eqb-true}
 use Rattle.grammar.specs.Bytes.{Bytes}
 use Rattle.grammar.specs.Fields.{Form, isBid, isBody}
 use Rattle.grammar.specs.Transfers.{partOf}
@@ -24,9 +24,10 @@ use Rattle.session_memory.proofs.Laws.{sizes-length}
 use Rattle.entries.specs.Decoded.{entries}
 use Rattle.give.specs.Giving.{reply}
 use Rattle.give.specs.declared.Reply.{Reply}
-use Rattle.places.specs.Places.{bidMax, partners, recordBid}
+use Rattle.places.specs.Places.{bidMax, recordBid}
 use Rattle.open.specs.Lending.{Lending, roleCaller}
-use Rattle.open.specs.Opening.{lengthOk, statesFrom, within, recordOk, placeOk, faultFrom, bidsOk, knownOk, sizesOk, Opened, opened, sizesLent, faultIn, openOf}
+use Rattle.open.specs.Opening.{lengthOk, statesFrom, within, recordOk, placeOk, faultFrom, bidsOk, sizesOk, Opened, opened, sizesLent, faultIn, beforeOk, openBy, openOf}
+use Rattle.open.proofs.Accepted.{before-told}
 
 -- ---------------------------------------------------------------- the body
 
@@ -141,43 +142,29 @@ module _ (L : Lending) where
   abbrev told-by : Reply → Opened
   told-by r = opened r (L .session)
 
-  pub open-partner : (r : Reply) → r ≡ reply badMemory noPlace 0 → partners ≤ L .partner → told-by r ≡ answer
-  unfolding openOf
-  open-partner r e h = rw (le-ltb (L .partner) partners h) (ap told-by e)
-
-  pub open-role : L .partner < partners → (r : Reply) → r ≡ reply badMemory noPlace 0 → roleCaller < L .role → told-by r ≡ answer
-  unfolding openOf
-  open-role b r e h = rw (lt-ltb (L .partner) partners b, lt-leb (L .role) roleCaller h) (ap told-by e)
-
-  module _ (b : L .partner < partners) (h : L .role ≤ roleCaller) {t : Bool} (f : t ≡ sizesOk (L .session) (L .table) (L .known) (L .inbox)) where
-    pub open-sizes : not t ≡ true → (r : Reply) → r ≡ reply badMemory noPlace 0 → told-by r ≡ answer
+  module _ {t : Bool} (f : t ≡ beforeOk L) where
+    pub open-before : not t ≡ true → (r : Reply) → r ≡ reply badMemory noPlace 0 → told-by r ≡ answer
     unfolding openOf
-    open-sizes g r e = rw (lt-ltb (L .partner) partners b, le-leb (L .role) roleCaller h, told-not f g) (ap told-by e)
+    open-before g r e = ap told-by e ∙ sym (ap (λ (b : Bool). openBy L b (eqb (faultIn L) noPlace)) (told-not f g))
 
-    module _ (g : not t ≡ false) {u : Bool} (k : u ≡ knownOk (L .known)) where
-      pub open-known : not u ≡ true → (r : Reply) → r ≡ reply badMemory noPlace 0 → told-by r ≡ answer
+    module _ (g : not t ≡ false) (place : ℕ) (q : place ≡ faultIn L) where
+      by-records : {b : Bool} → eqb (faultIn L) noPlace ≡ b → openBy L true b ≡ answer
       unfolding openOf
-      open-known l r e = rw (lt-ltb (L .partner) partners b, le-leb (L .role) roleCaller h, told f g, told-not k l) (ap told-by e)
+      by-records e = sym (ap (λ (b : Bool). openBy L b (eqb (faultIn L) noPlace)) (told f g) ∙ ap (openBy L true) e)
 
-      module _ (l : not u ≡ false) (place : ℕ) (q : place ≡ faultIn L) where
-        pub open-fault : (place ≡ noPlace → ⊥) → (r : Reply) → r ≡ reply badMemory place 0 → told-by r ≡ answer
-        unfolding openOf
-        open-fault n r e =
-            rw (lt-ltb (L .partner) partners b, le-leb (L .role) roleCaller h, told f g, told k l, ne-eqb (faultIn L) noPlace (λ x. n (q ∙ x)))
-            (ap told-by (e ∙ ap (λ (p : ℕ). reply badMemory p 0) q))
+      pub open-fault : (place ≡ noPlace → ⊥) → (r : Reply) → r ≡ reply badMemory place 0 → told-by r ≡ answer
+      open-fault n r e = ap told-by (e ∙ ap (λ (p : ℕ). reply badMemory p 0) q) ∙ by-records (ne-eqb (faultIn L) noPlace (λ x. n (q ∙ x)))
 
-        pub open-good : place ≡ noPlace → (m : Bytes) → m ≡ saveSizes (L .session) (sizesLent L) → (t : Tally) → t ≡ counted (L .partner) (L .table) noSheet
-            → (n : Bytes) → n ≡ saveOf m (freshOf (eqb (L .role) roleCaller) (L .partner) t) → opened (reply 0 0 0) n ≡ answer
-        unfolding openOf
-        open-good d m v t w n z =
-            rw (lt-ltb (L .partner) partners b, le-leb (L .role) roleCaller h, told f g, told k l, eq-eqb (faultIn L) noPlace (sym q ∙ d))
-            (ap (λ (x : Bytes). opened (reply 0 0 0) x)
-            (z ∙ ap (λ (x : Bytes). saveOf x (freshOf (eqb (L .role) roleCaller) (L .partner) t)) v
-            ∙ ap (λ (x : Tally). saveOf (saveSizes (L .session) (sizesLent L)) (freshOf (eqb (L .role) roleCaller) (L .partner) x)) w))
+      pub open-good : place ≡ noPlace → (m : Bytes) → m ≡ saveSizes (L .session) (sizesLent L) → (t : Tally) → t ≡ counted (L .partner) (L .table) noSheet
+          → (n : Bytes) → n ≡ saveOf m (freshOf (eqb (L .role) roleCaller) (L .partner) t) → opened (reply 0 0 0) n ≡ answer
+      open-good d m v t w n z =
+          ap (λ (x : Bytes). opened (reply 0 0 0) x)
+          (z ∙ ap (λ (x : Bytes). saveOf x (freshOf (eqb (L .role) roleCaller) (L .partner) t)) v
+          ∙ ap (λ (x : Tally). saveOf (saveSizes (L .session) (sizesLent L)) (freshOf (eqb (L .role) roleCaller) (L .partner) x)) w)
+          ∙ by-records (eq-eqb (faultIn L) noPlace (sym q ∙ d))
 
 -- the size that was tested, after the sizes are saved
-pub size-told : (sm table known inbox : Bytes) {b : Bool} → b ≡ sizesOk sm table known inbox → not b ≡ false → (z : Sizes) {m : Bytes} → m ≡ saveSizes sm z
-    → length m ≡ sessionSize
+pub size-told : (L : Lending) {b : Bool} → b ≡ beforeOk L → not b ≡ false → (z : Sizes) {m : Bytes} → m ≡ saveSizes (L .session) z → length m ≡ sessionSize
 unfolding sizesOk
-size-told sm table known inbox e h z f =
-    ap length f ∙ sizes-length sm z ∙ eqb-true (length sm) sessionSize (and2 (eqb (length sm) sessionSize) _ (told e h) .0)
+size-told L e h z f =
+    ap length f ∙ sizes-length (L .session) z ∙ eqb-true (length (L .session)) sessionSize (and2 (eqb (length (L .session)) sessionSize) _ (before-told L (told e h) .sizes) .0)

@@ -132,21 +132,24 @@ begun L = freshOf (eqb (L .role) roleCaller) (L .partner) (counted (L .partner) 
 abbrev pub begunIn : Lending → Bytes
 begunIn L = saveOf (saveSizes (L .session) (sizesLent L)) (begun L)
 
--- What its tests come to, in the order in which they are made: partner, role, sizes, known BIDs, records.
-abbrev pub openBy : Lending → Bool → Bool → Bool → Bool → Bool → Opened
-openBy L partner role sizes known records =
-    cond partner
-    (cond role
-    (cond sizes
-    (cond known
+-- What is tested before the records, in this order. Each that fails is answered alike, so one more test is one more conjunct.
+abbrev pub beforeOk : Lending → Bool
+beforeOk L =
+    -- 02: "partner 8 or more gets 1 with place 255, tested first"
+    ltb (L .partner) partners
+    -- 01: "Open checks role (0 called, 1 caller), ..
+    && (leb (L .role) roleCaller
+    -- .. sizes ..
+    && (sizesOk (L .session) (L .table) (L .known) (L .inbox)
+    -- .. and known BIDs first"
+    && knownOk (L .known)))
+
+-- What the tests come to: those before the records, "then records in order".
+abbrev pub openBy : Lending → Bool → Bool → Opened
+openBy L before records =
+    cond before
     (cond records (opened (reply 0 0 0) (begunIn L)) (refusedAt L (faultIn L)))
-    (refusedAt L noPlace))
-    (refusedAt L noPlace))
-    (refusedAt L noPlace))
     (refusedAt L noPlace)
 
--- "partner 8 or more gets 1 with place 255, tested first"
 unfoldable pub openOf : Lending → Opened
-openOf L =
-    openBy L (ltb (L .partner) partners) (leb (L .role) roleCaller) (sizesOk (L .session) (L .table) (L .known) (L .inbox)) (knownOk (L .known))
-    (eqb (faultIn L) noPlace)
+openOf L = openBy L (beforeOk L) (eqb (faultIn L) noPlace)

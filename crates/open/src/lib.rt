@@ -11,6 +11,7 @@ use session_memory::Sizes;
 use sheet::Sheet;
 ghost use mathlib.Core.Path.{_≡_};
 ghost use mathlib.Core.Bool.{_&&_, not};
+ghost use mathlib.Core.List.{[]};
 ghost use Prim.Native.Nat.{_<_};
 ghost use lib.Dec.{eqb};
 ghost use Rattle.grammar.specs.Fields.{formIs, isCall, isAt, isBid, isBody};
@@ -26,7 +27,7 @@ ghost use Rattle.mail.specs.Mail.{recordLimit, placeLimit};
 ghost use Rattle.record_text.specs.Texts.{fileForm};
 ghost use Rattle.sheet.specs.Sheet.{noSheet};
 ghost use Rattle.open.specs.Lending.{lending};
-ghost use Rattle.open.specs.Opening.{lengthOk, statesOk, numbersOk, fieldsOk, within, headingOk, textsOk, recordOk, placeOk, tableFault, knownOk, entriesOk, sizesOk, openOf, Opened};
+ghost use Rattle.open.specs.Opening.{lengthOk, statesOk, numbersOk, fieldsOk, within, headingOk, textsOk, recordOk, placeOk, tableFault, knownOk, entriesOk, sizesOk, beforeOk, openOf, Opened};
 
 // Roles: called, caller.
 const CALLER: u8 = 1;
@@ -329,6 +330,22 @@ fn sizes_ok(sm: usize, table: usize, known: usize, inbox: usize) -> bool
     entries_ok(inbox, ENTRY, MESSAGES)
 }
 
+// All that is tested before the records: partner, role, sizes, known BIDs. It is not shown the stores: no such test looks at them.
+fn before_ok(role: u8, partner: u8, sm: &[u8], table: &[u8], known: &[u8], inbox: &[u8]) -> bool
+    ensures { λ r. ⌜ r ≡ beforeOk (lending role partner (now (sm .entry)) (now (table .entry)) [] [] [] (now (known .entry)) (now (inbox .entry)) []) ⌝ }
+{
+    if places::PARTNERS <= partner {
+        return false;
+    }
+    if CALLER < role {
+        return false;
+    }
+    if !sizes_ok(sm.len(), table.len(), known.len(), inbox.len()) {
+        return false;
+    }
+    known_ok(known)
+}
+
 // Answer 1, bad memory, with this place.
 fn bad(place: u8) -> Reply
     ensures { λ r. ⌜ r ≡ reply badMemory place 0 ⌝ }
@@ -368,16 +385,7 @@ pub fn open(
 ) -> Reply
     ensures { λ r. ⌜ record { reply = r; sm = now (sm .exit) } ≡ openOf (lending role partner (now (sm .entry)) (now (table .entry)) (now (titles .entry)) (now (names .entry)) (now (bodies .entry)) (now (known .entry)) (now (inbox .entry)) (now (store .entry))) ⌝ }
 {
-    if places::PARTNERS <= partner {
-        return bad(NO_PLACE);
-    }
-    if CALLER < role {
-        return bad(NO_PLACE);
-    }
-    if !sizes_ok(sm.len(), table.len(), known.len(), inbox.len()) {
-        return bad(NO_PLACE);
-    }
-    if !known_ok(known) {
+    if !before_ok(role, partner, sm, table, known, inbox) {
         return bad(NO_PLACE);
     }
     let place = table_fault(table, titles, names, bodies);

@@ -16,7 +16,7 @@ use Rattle.places.specs.Places.{bidMax, partners, recordLen, knownLen, entryLen
 use Rattle.layout.specs.Layout.{byteAt, fieldIn, entryAt, knownSize, knownOf}
 use Rattle.entries.specs.Decoded.{knownCount, knownBids, knownLimit}
 use Rattle.entries.proofs.Laws.{entries-at, entries-length}
-use Rattle.open.specs.Opening.{lengthOk, bidsOk, knownOk, entriesOk, sizesOk}
+use Rattle.open.specs.Opening.{lengthOk, bidsOk, knownOk, entriesOk, sizesOk, beforeOk}
 use Rattle.open_accepts.specs.Words.{Bid, Field}
 use Rattle.open.specs.Lending.{Lending, roleCalled, roleCaller}
 use Rattle.open_accepts.specs.Lent.{knownIn, bidIn, knownBytesIn}
@@ -117,7 +117,7 @@ module _ (L : Lending) where
           (h j (subst (λ (n : ℕ). j < n) (sym known-count) (omega arith)))))
 
   -- THE LAW
-  pub sound-decides : Decides (ltb (L .partner) partners && (leb (L .role) roleCaller && (sizesOk (L .session) (L .table) (L .known) (L .inbox) && knownOk (L .known)))) (Sound L)
+  pub sound-decides : Decides (beforeOk L) (Sound L)
   sound-decides =
       as-well (both-decide (ltb (L .partner) partners) _ (ltb-true (L .partner) partners, lt-ltb (L .partner) partners)
       (both-decide (leb (L .role) roleCaller) _ (role-decides (L .role))

@@ -1,18 +1,18 @@
 -- THE THEOREM: when open accepts. Idea: open is in one of three situations, each with its outcome, and no two of them can be at once; each `exactly`
 -- follows. And nothing else is an open: two outcomes of which the claim holds are one. Assumes nothing.
 use mathlib.Core.Path.{_≡_, refl, sym, ap, _∙_, subst}
-use mathlib.Core.Bool.{Bool, true, false, cond, _&&_}
+use mathlib.Core.Bool.{Bool, true, false, cond}
 use mathlib.Core.List.{[], _∷_, _++_}
 use mathlib.Core.Logic.{_⊎_, inl, inr, _≢_}
 use Prim.Native.Nat.{ℕ, zero, suc, _+_, _-_, _/_, _%_, _≤_, _<_}
 use native.Mathlib.Omega.{arith}
-use lib.Dec.{eqb, ltb, leb}
+use lib.Dec.{eqb, leb}
 use lib.ListN.{length, take, drop, replicate}
 use lib.Seq.{drop-drop}
 use borrow.Author.Tests.{eqb-true, eqb-false, eq-eqb, ne-eqb, leb-true, leb-false}
 use Rattle.grammar.specs.Bytes.{Bytes, fourByteValues}
 use Rattle.grammar.specs.Refusals.{badMemory, noPlace}
-use Rattle.places.specs.Places.{numbersStart, tallyProposedAt, numbersEnd, freeLen, arraysLen, arraysEnd, partners, sessionLen}
+use Rattle.places.specs.Places.{numbersStart, tallyProposedAt, numbersEnd, freeLen, arraysLen, arraysEnd, sessionLen}
 use Rattle.session_memory.specs.State.{saveSizes, sizesOut, freshTally, freshOf, numberPart, smallOut, numbersOut, tailOut, arraysOut}
 use Rattle.session_memory.proofs.Laws.{saved, sizes-saved, sizes-length}
 use Rattle.mail.specs.Mail.{recordLimit}
@@ -25,7 +25,7 @@ use Rattle.tally.specs.Tally.{waitingIn, sizesIn, counted}
 use Rattle.entries.specs.Decoded.{recordCount, recordsOf}
 use Rattle.give.specs.Giving.{reply}
 use Rattle.give.specs.declared.Reply.{Reply}
-use Rattle.open.specs.Opening.{placeOk, faultFrom, tableFault, knownOk, sizesOk, Opened, opened, refusedAt, sizesLent, faultIn, begun, begunIn, openBy, openOf}
+use Rattle.open.specs.Opening.{placeOk, faultFrom, tableFault, Opened, opened, refusedAt, sizesLent, faultIn, begun, begunIn, beforeOk, openOf}
 use Rattle.open.specs.Lending.{Lending, roleCaller}
 use Rattle.open_accepts.specs.Good.{IsRole, Sound, Acceptable, FirstBad}
 use Rattle.open_accepts.specs.Claim.{numbersAtFirst, tallyAtFirst, sizesKept, sessionAtFirst, Refusal, Opens, OpenClaim}
@@ -130,28 +130,18 @@ data Situation (L : Lending) : Type 0 where
   unsound : (Sound L → ⊥) → openOf L ≡ refusedAt L noPlace → Situation L
 
 module _ (L : Lending) where
-  abbrev before : Bool
-  before = ltb (L .partner) partners && (leb (L .role) roleCaller && (sizesOk (L .session) (L .table) (L .known) (L .inbox) && knownOk (L .known)))
-
-  by-tests : openOf L ≡ cond before (cond (eqb (faultIn L) noPlace) (opened (reply 0 0 0) (begunIn L)) (refusedAt L (faultIn L))) (refusedAt L noPlace)
+  by-tests : openOf L ≡ cond (beforeOk L) (cond (eqb (faultIn L) noPlace) (opened (reply 0 0 0) (begunIn L)) (refusedAt L (faultIn L))) (refusedAt L noPlace)
   unfolding openOf
-  by-tests = go (ltb (L .partner) partners) (leb (L .role) roleCaller) (sizesOk (L .session) (L .table) (L .known) (L .inbox)) (knownOk (L .known)) (eqb (faultIn L) noPlace)
-    where
-      go : (o a b c d : Bool) → openBy L o a b c d ≡ cond (o && (a && (b && c))) (cond d (opened (reply 0 0 0) (begunIn L)) (refusedAt L (faultIn L))) (refusedAt L noPlace)
-      go true true true true d = refl
-      go true true true false d = refl
-      go true true false c d = refl
-      go true false b c d = refl
-      go false a b c d = refl
+  by-tests = refl
 
   few : recordCount (L .table) ≤ recordLimit
   few = omega arith
 
   situation : Situation L
   unfolding tableFault
-  situation = go before refl (fault-found L (recordCount (L .table)) 0)
+  situation = go (beforeOk L) refl (fault-found L (recordCount (L .table)) 0)
     where
-      go : (t : Bool) → before ≡ t → None L 0 (recordCount (L .table)) (faultIn L) ⊎ First L 0 (recordCount (L .table)) (faultIn L) → Situation L
+      go : (t : Bool) → beforeOk L ≡ t → None L 0 (recordCount (L .table)) (faultIn L) ⊎ First L 0 (recordCount (L .table)) (faultIn L) → Situation L
       go false e x = unsound (denied (sound-decides L) e) (by-tests ∙ rw e)
       go true e (inl x) =
           let s = sound-decides L .0 e in

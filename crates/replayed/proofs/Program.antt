@@ -21,7 +21,7 @@ use Rattle.open.specs.Lending.{roleCalled}
 use Rattle.open.specs.Opening.{knownOk, sizesOk, tableFault, openOf}
 use Rattle.receive_defined.specs.Receiving.{Cs}
 use Rattle.main_theorem.specs.Calls.{Buffer, OpenCall, fixedIn, lentIn, sizesOf, statesIn}
-use Rattle.main_theorem.specs.Demand2.{shelfOf}
+use Rattle.main_theorem.specs.Demand2.{shelfIn}
 use Rattle.main_theorem.proofs.Held.{Held}
 use Rattle.main_theorem.proofs.Opening.{freshCs, open-law}
 use Rattle.refusal_line.specs.Line.{refusalLine}
@@ -129,7 +129,7 @@ module _ (s : Station) (l : Lends s) where
   unfolding openOf sizesOk knownOk tableFault
   accepts = rw (l .session, l .inbox)
 
-  shelf-is : shelfOf (fixedIn call) (lentIn call) ≡ emptyShelf
+  shelf-is : shelfIn call ≡ emptyShelf
   unfolding recordsOf knownBids
   shelf-is = rw (l .inbox, l .store)
 

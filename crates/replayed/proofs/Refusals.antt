@@ -73,7 +73,7 @@ way-can : (s : Session) (b : ℕ) (o : Stepped) → ways.Way emptyShelf s b o �
 way-can s b o (ways.isRefused n e w) l = why-can s b n w l
 way-can s b o (ways.dropsLf e) l = refl
 way-can s b o (ways.growsLine a w e f) l = refl
-way-can s b o (ways.ignoresLine a w e f) l = refl
+way-can s b o (ways.ignoresLine a w e f t n) l = refl
 way-can s b o (ways.hearsLine a w e f x j) l = settled-can s true x (line-fine (s .memory) (s .part) a x j (subst Calm (w .awaited) (l .quiet .0)))
 way-can s b o (ways.readsOn p ps sc on w e) l = refl
 way-can s b o (ways.readsLast p ps sc h x w e) l =

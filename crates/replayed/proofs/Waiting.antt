@@ -93,7 +93,7 @@ way-quiet : (s : Session) (b : ℕ) {o : Stepped} → ways.Way emptyShelf s b o 
 way-quiet s b (ways.isRefused n e w) k = (tt, reason-length n)
 way-quiet s b (ways.dropsLf e) k = k
 way-quiet s b (ways.growsLine a w e f) k = k
-way-quiet s b (ways.ignoresLine a w e f) k = (subst Calm (w .awaited) (k .0), omega arith)
+way-quiet s b (ways.ignoresLine a w e f t n) k = (subst Calm (w .awaited) (k .0), omega arith)
 way-quiet s b (ways.hearsLine a w e f o j) k = settled-quiet s true o (line-says (s .memory) (s .part) j (subst Calm (w .awaited) (k .0)))
 way-quiet s b (ways.readsOn p ps sc on w e) k = (tt, k .1)
 way-quiet s b (ways.readsLast p ps sc h x w e) k =

@@ -5,6 +5,7 @@ use mathlib.Core.Bool.{Bool, true, false, cond, _&&_}
 use mathlib.Core.Option.{Option, none, some}
 use mathlib.Core.List.{List, [], _∷_, _++_}
 use Prim.Native.Nat.{ℕ}
+use native.Mathlib.Omega.{arith}
 use lib.Dec.{eqb, ltb}
 use lib.ListN.{length}
 use Rattle.grammar.specs.Bytes.{Bytes, CR, LF, null}
@@ -17,7 +18,7 @@ use Rattle.grammar.specs.Scan.{Scan, Scanned, goes, got, malformed, wrongSum, n
 use Rattle.grammar.specs.Transfers.{sumRight}
 use Rattle.mail.specs.Mail.{messageOf, transfersText, accepted}
 use Rattle.session.specs.Choices.{Shelf, chosen, answersTo}
-use Rattle.session.specs.Session.{Awaited, awaitsSid, awaitsPrompt, awaitsTurn, awaitsAnswer, Phase, aLine, newTurn, awaitsTransfer, leaving, over, Memory, Session, withSid, withPhase, withPart, withAfterCr, between, Outcome, refuses, goesOn, proposing, speaking, ourTurn, turnMarks, answering, answered, turnJudged, answerMarks, answerJudged, afterSid, sidJudged, textJudged, awaitedJudged, lineJudged, Stepped, refused, moved, settled, lineMoved, isPlain, keptIn, nextTransfer, transferMoved, roomFor, phaseStep, freeStep, step, levelInForce}
+use Rattle.session.specs.Session.{Awaited, awaitsSid, awaitsPrompt, awaitsTurn, awaitsAnswer, Phase, aLine, newTurn, awaitsTransfer, leaving, over, Terms, Memory, Session, withTerms, withSid, withPhase, withPart, withAfterCr, between, Outcome, refuses, goesOn, proposing, speaking, ourTurn, turnMarks, answering, answered, turnJudged, answerMarks, answerJudged, afterSid, sidJudged, textJudged, awaitedJudged, lineJudged, Stepped, refused, moved, settled, lineMoved, isPlain, keptIn, nextTransfer, transferMoved, roomFor, phaseStep, freeStep, step, levelInForce}
 
 -- ---------------------------------------------------------------- what we say
 
@@ -158,13 +159,28 @@ pub data Why (E : Shelf) (s : Session) (b : ℕ) : ℕ → Type 0 where
   unsummed : (p : Proposal) (ps : List Proposal) (sc : Scan) → At s b (awaitsTransfer p ps sc) → scanByte (roomFor E (s .memory)) sc b ≡ wrongSum → Why E s b badChecksum
   unkept : (p : Proposal) (ps : List Proposal) (sc : Scan) → At s b (awaitsTransfer p ps sc) → scanByte (roomFor E (s .memory)) sc b ≡ noRoom → Why E s b storeFull
 
+-- no refusal has the number 0
+pub why-number : (E : Shelf) (s : Session) (b n : ℕ) → Why E s b n → n ≡ 0 → ⊥
+why-number E s b n (waits k w) e = omega arith
+why-number E s b n (hasLeft w) e = omega arith
+why-number E s b n (isOver w) e = omega arith
+why-number E s b n (tooLong a w x y) e = omega arith
+why-number E s b n (unread p ps sc w x) e = omega arith
+why-number E s b n (unsummed p ps sc w x) e = omega arith
+why-number E s b n (unkept p ps sc w x) e = omega arith
+
+-- What a line that is ignored leaves of the terms: all of them. What a request has such a line tell joins here.
+pub data Noted (E : Shelf) (a : Awaited) (m : Memory) (ln : Bytes) : Terms → Type 0 where
+  asBefore : Noted E a m ln (m .terms)
+
 -- What it comes to.
 pub data Way (E : Shelf) (s : Session) (b : ℕ) : Stepped → Type 0 where
   isRefused : (n : ℕ) → s .afterCr && eqb b LF ≡ false → Why E s b n → Way E s b (refused s n)
   dropsLf : s .afterCr && eqb b LF ≡ true → Way E s b (moved (withAfterCr false s))
   growsLine : (a : Awaited) → At s b (aLine a) → eqb b CR ≡ false → ltb (length (s .part)) lineLimit ≡ true
       → Way E s b (moved (withPart (s .part ++ (b ∷ [])) (withAfterCr false s)))
-  ignoresLine : (a : Awaited) → At s b (aLine a) → eqb b CR ≡ true → isComment (trim (s .part)) ≡ true → Way E s b (moved (between (aLine a) true [] (s .memory)))
+  ignoresLine : (a : Awaited) → At s b (aLine a) → eqb b CR ≡ true → isComment (trim (s .part)) ≡ true → (t : Terms) → Noted E a (s .memory) (s .part) t
+      → Way E s b (moved (between (aLine a) true [] (withTerms t (s .memory))))
   hearsLine : (a : Awaited) → At s b (aLine a) → eqb b CR ≡ true → isComment (trim (s .part)) ≡ false
       → (o : Outcome) → Judged E (s .memory) (s .part) a o → Way E s b (settled s true o)
   readsOn : (p : Proposal) (ps : List Proposal) (sc on : Scan) → At s b (awaitsTransfer p ps sc) → scanByte (roomFor E (s .memory)) sc b ≡ goes on
@@ -179,7 +195,7 @@ module _ (E : Shelf) (s : Session) (b : ℕ) where
   line-way a w true d e x y z = go e z
     where
       go : (e : Bool) → isComment (trim (s .part)) ≡ e → Way E s b (settled s true (lineJudged E a (s .memory) (s .part)))
-      go true z = rw z (ignoresLine a w x z)
+      go true z = rw z (ignoresLine a w x z _ asBefore)
       go false z = rw z (hearsLine a w x z _ (judged E (s .memory) (s .part) a))
   line-way a w false true e x y z = growsLine a w x y
   line-way a w false false e x y z = isRefused lineTooLong (w .kept) (tooLong a w x y)

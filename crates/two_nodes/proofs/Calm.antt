@@ -124,7 +124,7 @@ module _ (E : Shelf) (h : allSendable (E .table) ≡ true) where
   way-calm s b c o (isRefused n k w) = error-calm n
   way-calm s b c o (dropsLf k) = c
   way-calm s b c o (growsLine a w x y) = c
-  way-calm s b c o (ignoresLine a w x y) = refl
+  way-calm s b c o (ignoresLine a w x y t n) = refl
   way-calm s b c o (hearsLine a w x y j d) = settled-calm s true j (line-judged (s .memory) (s .part) j d)
   way-calm s b c o (readsOn p ps sc on w k) = c
   way-calm s b c o (readsLast p ps sc x y w k) =

@@ -22,7 +22,7 @@ use Rattle.grammar.proofs.Basics.{no-both, by-cond, or2}
 use Rattle.mail.specs.Mail.{messageOf, accepted}
 use Rattle.session.specs.Choices.{Shelf, chosen, answersTo}
 use Rattle.session.specs.Session.{Awaited, Phase, over, Memory, Session, Outcome, refuses, goesOn, speaking, turnMarks, answering, levelInForce, Stepped, settled, isPlain, keptIn, nextTransfer, step, ended, endedIn, opened}
-use Rattle.session.proofs.Ways.{Wrong, noSid, noF, noTurnLine, ffAfterFf, ffInBlock, fqFirst, fqInBlock, emptyBlock, emptySummed, tooMany, wrongHex, noAnswer, Judged, isWrong, hearsSid, hearsText, hearsPrompt, hearsProposal, hearsFF, hearsFQ, hearsEnd, hearsFs, Why, waits, hasLeft, isOver, tooLong, unread, unsummed, unkept, Way, isRefused, dropsLf, growsLine, ignoresLine, hearsLine, readsOn, readsLast, way}
+use Rattle.session.proofs.Ways.{Wrong, noSid, noF, noTurnLine, ffAfterFf, ffInBlock, fqFirst, fqInBlock, emptyBlock, emptySummed, tooMany, wrongHex, noAnswer, Judged, isWrong, hearsSid, hearsText, hearsPrompt, hearsProposal, hearsFF, hearsFQ, hearsEnd, hearsFs, why-number, Way, isRefused, dropsLf, growsLine, ignoresLine, hearsLine, readsOn, readsLast, way}
 use Rattle.demand3.specs.Demand.{Call, receiving, giving, refusedCall, run}
 use Rattle.two_nodes.specs.Session.{End, ran, FqArrives}
 use Rattle.session.specs.Calls.{Received, oneMore, stoppedAt, stops, receiveOn, receive, give, handedOut}
@@ -108,20 +108,11 @@ module _ (E : Shelf) where
       go ff (i ∷ is) k = never k
   kept-ends s a (p ∷ ps) m e f = never f
 
-  why-numbered : (s : Session) (b n : ℕ) → Why E s b n → n ≡ 0 → ⊥
-  why-numbered s b n (waits k w) h = omega arith
-  why-numbered s b n (hasLeft w) h = omega arith
-  why-numbered s b n (isOver w) h = omega arith
-  why-numbered s b n (tooLong a w x y) h = omega arith
-  why-numbered s b n (unread p ps sc w e) h = omega arith
-  why-numbered s b n (unsummed p ps sc w e) h = omega arith
-  why-numbered s b n (unkept p ps sc w e) h = omega arith
-
   way-ends : (s : Session) (b : ℕ) → ended s ≡ false → (o : Stepped) → Way E s b o → EndsByFq o
-  way-ends s b l o (isRefused n k w) e f = absurd (why-numbered s b n w e)
+  way-ends s b l o (isRefused n k w) e f = absurd (why-number E s b n w e)
   way-ends s b l o (dropsLf k) e f = absurd (no-both (ended s) f l)
   way-ends s b l o (growsLine a w x y) e f = absurd (no-both (ended s) f l)
-  way-ends s b l o (ignoresLine a w x y) e f = never f
+  way-ends s b l o (ignoresLine a w x y t n) e f = never f
   way-ends s b l o (hearsLine a w x y j d) e f = settled-ends s j (line-ends (s .memory) (s .part) j d) e f
   way-ends s b l o (readsOn p ps sc on w k) e f = never f
   way-ends s b l o (readsLast p ps sc h x w k) e f = kept-ends s (isPlain (p .form)) ps (keptIn (s .memory) (messageOf p (record { heading = h; body = x }))) e f

@@ -158,7 +158,7 @@ module _ (E : Shelf) where
   way-new s b h o (isRefused n k w) = kept-new (s .phase) (s .memory) h
   way-new s b h o (dropsLf k) = h
   way-new s b h o (growsLine a w x y) = h
-  way-new s b h o (ignoresLine a w x y) = found s b (aLine a) w h
+  way-new s b h o (ignoresLine a w x y t n) = found s b (aLine a) w h
   way-new s b h o (hearsLine a w x y j d) = settled-new s true j h (line-new (s .memory) (s .part) j d (found s b (aLine a) w h))
   way-new s b h o (readsOn p ps sc on w k) = found s b (awaitsTransfer p ps sc) w h
   way-new s b h o (readsLast p ps sc x y w k) = kept-on s p ps x y (found s b (awaitsTransfer p ps sc) w h) h

@@ -22,6 +22,10 @@ use Rattle.waiting.proofs.Pieces.{item-read, count-none, block-proposal
 
 -- ---------------------------------------------------------------- the first piece, by its number
 
+-- the number is that of no piece with a name of its own
+abbrev pub Unnamed : ℕ → Type 0
+Unnamed n = (n ≡ pieceNone → ⊥) × (n ≡ pieceSidAndPrompt → ⊥) × (n ≡ pieceSid → ⊥) × (n ≡ pieceProtocolError → ⊥) × (n ≡ pieceChecksumError → ⊥)
+
 module _ (s : Session) where
   pub first-none : s .say .first ≡ pieceNone → [] ≡ firstText s
   unfolding firstText
@@ -43,10 +47,9 @@ module _ (s : Session) where
   unfolding firstText
   first-checksum e = ap (λ (n : ℕ). firstBy n s) (sym e)
 
-  pub first-signs : (s .say .first ≡ pieceNone → ⊥) → (s .say .first ≡ pieceSidAndPrompt → ⊥) → (s .say .first ≡ pieceSid → ⊥) → (s .say .first ≡ pieceProtocolError → ⊥)
-      → (s .say .first ≡ pieceChecksumError → ⊥) → {x : Bytes} → x ≡ held (s .say .signs) → fsText x ≡ firstText s
+  pub first-signs : Unnamed (s .say .first) → {x : Bytes} → x ≡ held (s .say .signs) → fsText x ≡ firstText s
   unfolding firstText
-  first-signs h₀ h₁ h₂ h₄ h₅ e = rw (ne-eqb _ _ h₀, ne-eqb _ _ h₁, ne-eqb _ _ h₂, ne-eqb _ _ h₄, ne-eqb _ _ h₅) (ap fsText e)
+  first-signs h e = rw (ne-eqb _ _ (h .0), ne-eqb _ _ (h .1), ne-eqb _ _ (h .2), ne-eqb _ _ (h .3), ne-eqb _ _ (h .4)) (ap fsText e)
 
 -- ---------------------------------------------------------------- a piece, by what is said
 

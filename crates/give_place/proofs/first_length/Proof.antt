@@ -52,7 +52,7 @@ add-result-2 c = search needs
 
 returns-6 : tie.Need-returns-6
 unfolding loadOf loadSay
-returns-6 c = let a = c .before .before .before .before .before .before .before .before .before .args in signs-length (loadOf (a .sm .now)) (array-length blockLimit (a .sm .now) (signsAt + 1)) (c .before .before .before .before .before .before .if1 .left) (c .before .before .before .before .before .if2 .left) (c .before .before .before .before .if3 .left) (c .before .before .before .if4 .left) (c .before .before .if5 .left) (c .in-use .ensures)
+returns-6 c = let a = c .before .before .before .before .before .before .before .before .before .args in signs-length (loadOf (a .sm .now)) (array-length blockLimit (a .sm .now) (signsAt + 1)) (search needs) (c .in-use .ensures)
 
 pub first-length-spec : {M : Type 1} → statement M
 first-length-spec =

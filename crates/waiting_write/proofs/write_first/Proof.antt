@@ -96,7 +96,7 @@ same-length-6 c = search needs
 
 returns-6 : tie.Need-returns-6
 unfolding loadOf loadSay
-returns-6 c = let a = c .before .before .before .before .before .before .before .before .before .before .before .before .before .before .before .args in puts-as (a .buf .now) (a .c) (first-signs (loadOf (a .sm .now)) (c .before .before .before .before .before .before .before .before .before .before .before .if1 .left) (c .before .before .before .before .before .before .before .before .before .before .if2 .left) (c .before .before .before .before .before .before .before .before .before .if3 .left) (c .before .before .before .before .before .before .before .before .if4 .left) (c .before .before .before .before .before .before .before .if5 .left) (signs-read (a .sm .now) (omega (arith, c .before .before .before .before .before .before .before .before .before .before .before .before .before .before .before .pre)) (c .before .before .before .before .before .in-use .ensures))) (c .before .before .write-fs .ensures)
+returns-6 c = let a = c .before .before .before .before .before .before .before .before .before .before .before .before .before .before .before .args in puts-as (a .buf .now) (a .c) (first-signs (loadOf (a .sm .now)) (search needs) (signs-read (a .sm .now) (omega (arith, c .before .before .before .before .before .before .before .before .before .before .before .before .before .before .before .pre)) (c .before .before .before .before .before .in-use .ensures))) (c .before .before .write-fs .ensures)
 
 pub write-first-spec : {M : Type 1} → statement M
 write-first-spec =
