@@ -11,8 +11,8 @@ use lib.ListN.{length, getD, take, drop}
 use lib.Seq.{getD-drop}
 use Rattle.grammar.specs.Bytes.{Bytes, byteValues, fourByteValues}
 use Rattle.session.specs.Choices.{recordBids, messageBids, bodyBytes}
-use Rattle.places.specs.Places.{bidAt, bidMax, recordBid}
-use Rattle.layout.specs.Layout.{byteAt, le4At, fieldIn, entryAt, recordOf, messageOf, recordSize, entrySize}
+use Rattle.places.specs.Places.{bidAt, bidMax, recordBid, entryLen, recordLen}
+use Rattle.layout.specs.Layout.{byteAt, le4At, fieldIn, entryAt, recordOf, messageOf}
 use Rattle.layout.proofs.Laws.{le4-small}
 use Rattle.entries.specs.Decoded.{entriesFrom, entries}
 
@@ -53,16 +53,16 @@ entries-same {A} f g size s t i (suc n) h =
     ∙ ap (λ (l : List A). g (entryAt size t i) ∷ l) (entries-same f g size s t (suc i) n (λ j k. h j (omega arith)))
 
 -- BIDs of entries are a field of them
-pub record-bids : (s : Bytes) (i n : ℕ) → recordBids (entriesFrom (recordOf [] [] []) recordSize s i n) ≡ entriesFrom (fieldIn bidMax recordBid) recordSize s i n
+pub record-bids : (s : Bytes) (i n : ℕ) → recordBids (entriesFrom (recordOf [] [] []) recordLen s i n) ≡ entriesFrom (fieldIn bidMax recordBid) recordLen s i n
 record-bids s i zero = refl
-record-bids s i (suc n) = ap (λ (l : List Bytes). fieldIn bidMax recordBid (entryAt recordSize s i) ∷ l) (record-bids s (suc i) n)
+record-bids s i (suc n) = ap (λ (l : List Bytes). fieldIn bidMax recordBid (entryAt recordLen s i) ∷ l) (record-bids s (suc i) n)
 
-pub message-bids : (s : Bytes) (i n : ℕ) → messageBids (entriesFrom (λ (c : Bytes). messageOf c []) entrySize s i n) ≡ entriesFrom (fieldIn bidMax bidAt) entrySize s i n
+pub message-bids : (s : Bytes) (i n : ℕ) → messageBids (entriesFrom (λ (c : Bytes). messageOf c []) entryLen s i n) ≡ entriesFrom (fieldIn bidMax bidAt) entryLen s i n
 message-bids s i zero = refl
-message-bids s i (suc n) = ap (λ (l : List Bytes). fieldIn bidMax bidAt (entryAt entrySize s i) ∷ l) (message-bids s (suc i) n)
+message-bids s i (suc n) = ap (λ (l : List Bytes). fieldIn bidMax bidAt (entryAt entryLen s i) ∷ l) (message-bids s (suc i) n)
 
 -- bodies are left out
-pub no-bodies : (s : Bytes) (i n : ℕ) → bodyBytes (entriesFrom (λ (c : Bytes). messageOf c []) entrySize s i n) ≡ 0
+pub no-bodies : (s : Bytes) (i n : ℕ) → bodyBytes (entriesFrom (λ (c : Bytes). messageOf c []) entryLen s i n) ≡ 0
 no-bodies s i zero = refl
 no-bodies s i (suc n) = omega (arith, no-bodies s (suc i) n)
 
@@ -81,5 +81,5 @@ entry-small size s j h i = go (leb (j * size) (length s)) (leb size (length s - 
     go true false = omega arith
     go false b = omega arith
 
-pub size-small : (s : Bytes) (j at : ℕ) → ((i : ℕ) → byteAt s i < byteValues) → le4At (entryAt recordSize s j) at < fourByteValues
-size-small s j at h = le4-small (entryAt recordSize s j) (entry-small recordSize s j h) at
+pub size-small : (s : Bytes) (j at : ℕ) → ((i : ℕ) → byteAt s i < byteValues) → le4At (entryAt recordLen s j) at < fourByteValues
+size-small s j at h = le4-small (entryAt recordLen s j) (entry-small recordLen s j h) at

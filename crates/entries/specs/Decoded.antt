@@ -5,7 +5,8 @@ use lib.ListN.{length}
 use Rattle.grammar.specs.Bytes.{Bytes}
 use Rattle.grammar.specs.Turns.{Proposal}
 use Rattle.mail.specs.Mail.{Record, Message, recordLimit}
-use Rattle.layout.specs.Layout.{byteAt, entryAt, recordSize, knownSize, entrySize, proposalSize, recordOf, knownOf, proposalOf, messageOf}
+use Rattle.layout.specs.Layout.{byteAt, entryAt, recordOf, knownOf, proposalOf, messageOf}
+use Rattle.places.specs.Places.{entryLen, knownLen, proposalLen, recordLen}
 
 -- What f makes of n entries of this size, from entry i on.
 abbrev pub entriesFrom : {A : Type 0} → (Bytes → A) → ℕ → Bytes → ℕ → ℕ → List A
@@ -21,25 +22,25 @@ knownLimit = 1024
 
 -- "0 to 64 records"; open refuses more
 abbrev pub recordCount : Bytes → ℕ
-recordCount table = min recordLimit (length table / recordSize)
+recordCount table = min recordLimit (length table / recordLen)
 
 abbrev pub knownCount : Bytes → ℕ
-knownCount known = min knownLimit (length known / knownSize)
+knownCount known = min knownLimit (length known / knownLen)
 
 abbrev pub placeCount : Bytes → ℕ
-placeCount inbox = length inbox / entrySize
+placeCount inbox = length inbox / entryLen
 
 -- The table's records, with their titles, names and bodies from three stores.
 unfoldable pub recordsOf : Bytes → Bytes → Bytes → Bytes → List Record
-recordsOf titles names bodies table = entries (recordOf titles names bodies) recordSize table (recordCount table)
+recordsOf titles names bodies table = entries (recordOf titles names bodies) recordLen table (recordCount table)
 
 unfoldable pub knownBids : Bytes → List Bytes
-knownBids known = entries knownOf knownSize known (knownCount known)
+knownBids known = entries knownOf knownLen known (knownCount known)
 
 -- The first n messages of the inbox, without their bodies.
 unfoldable pub headsOf : Bytes → ℕ → List Message
-headsOf inbox n = entries (λ (c : Bytes). messageOf c []) entrySize inbox n
+headsOf inbox n = entries (λ (c : Bytes). messageOf c []) entryLen inbox n
 
 -- The first n proposals of a block.
 unfoldable pub proposalsOf : Bytes → ℕ → List Proposal
-proposalsOf block n = entries proposalOf proposalSize block n
+proposalsOf block n = entries proposalOf proposalLen block n

@@ -9,7 +9,7 @@ use lib.Dec.{eqb}
 use lib.ListN.{length}
 use Rattle.grammar.specs.Bytes.{Bytes, byteValues}
 use Rattle.grammar.specs.Turns.{blockLimit}
-use Rattle.layout.specs.Layout.{byteAt, entryAt, proposalSize}
+use Rattle.layout.specs.Layout.{byteAt, entryAt}
 use Rattle.transfer_step.specs.declared.Reader.{Reader}
 use Rattle.transfer_step.specs.Step.{reader}
 use Rattle.transfer_step.specs.Names.{titlePlace, startPlace}
@@ -29,7 +29,7 @@ use Rattle.line_effect.specs.Judged.{Judged}
 use Rattle.receive_defined.specs.Receiving.{Cs}
 use Rattle.form_test.specs.Form.{usedBy}
 use Rattle.phase.specs.Phase.{phaseTurn, phaseTransfer, phaseLeaving, pieceBlock, notOurTurn}
-use Rattle.places.specs.Places.{deferredLen}
+use Rattle.places.specs.Places.{deferredLen, proposalLen}
 use Rattle.form_closed.specs.Fixed.{Fixed}
 use Rattle.form_closed.specs.Facts.{Octets, FiveOk, AwaitOk, SayOk, KeepOk, ReaderOk, HeadingOk, LineOk, TallyOk, Box, Last, Awaited, Lent, Good}
 use Rattle.form_closed.proofs.Laws.{octets-zeros}
@@ -121,7 +121,7 @@ sends-ok f flags k g h l o = record { terms = g .terms; sending = h; flags = l; 
 
 pub reader-ok : (w : Await) (i : ℕ) → ReaderOk (readerFor w i)
 unfolding readerFor
-reader-ok w i = go (eqb (byteAt (entryAt proposalSize (w .block) i) 0) 0)
+reader-ok w i = go (eqb (byteAt (entryAt proposalLen (w .block) i) 0) 0)
   where
     go : (c : Bool) → ReaderOk (reader (cond c titlePlace startPlace) 0 0 0 0 0 0)
     go true = record { place = omega arith; len = omega arith; head = omega arith; off = omega arith; left = omega arith; sum = omega arith; body = omega arith }

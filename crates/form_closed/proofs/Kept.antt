@@ -12,7 +12,7 @@ use Rattle.grammar.specs.Bytes.{Bytes}
 use Rattle.grammar.proofs.Basics.{no-both, by-test}
 use Rattle.buffer.proofs.Laws.{put-length}
 use Rattle.places.specs.Places.{entryLen, fieldsSize, proposalLen, headingMax}
-use Rattle.layout.specs.Layout.{entryAt, proposalSize, entryOut, le2, le4}
+use Rattle.layout.specs.Layout.{entryAt, entryOut, le2, le4}
 use Rattle.layout.proofs.Laws.{entry-length, length-back}
 use Rattle.layout.proofs.Places.{part-in}
 use Rattle.session_memory.specs.State.{at, held}
@@ -33,18 +33,18 @@ use Rattle.form_closed.proofs.Settled.{settle-ok}
 module _ (F : Fixed) (nt ni ns : ℕ) (s : Session) (table inbox st : Bytes)
     (G : SessionOk inbox st s) (U : Under (s .now) (s .say) (s .keep) (s .reading .reader) inbox st) (Z : s .keep .sending .count ≡ 0) (T : s .say .then ≡ pieceNone) (M : Lent nt ni ns table inbox st) where
   -- the proposal that it answers, as it lies in the block
-  proposed-length : length (entryAt proposalSize (s .now .block) (s .now .current)) ≡ proposalLen
+  proposed-length : length (entryAt proposalLen (s .now .block) (s .now .current)) ≡ proposalLen
   proposed-length =
       let h : s .now .current * proposalLen + proposalLen ≤ length (s .now .block) = omega (arith, G .now .block, G .now .proposals, U .current) in
       ap length (part-in (s .now .block) (s .now .current * proposalLen) proposalLen h)
       ∙ length-take-le proposalLen (drop (s .now .current * proposalLen) (s .now .block)) (simp length-drop (omega arith))
 
   abbrev entry : Bytes
-  entry = entryOut (entryAt proposalSize (s .now .block) (s .now .current)) (take (s .reading .reader .head) (s .reading .heading)) (s .keep .used) (s .reading .reader .body)
+  entry = entryOut (entryAt proposalLen (s .now .block) (s .now .current)) (take (s .reading .reader .head) (s .reading .heading)) (s .keep .used) (s .reading .reader .body)
 
   entry-octets : Octets entry
   entry-octets =
-      let c : Bytes = entryAt proposalSize (s .now .block) (s .now .current) in
+      let c : Bytes = entryAt proposalLen (s .now .block) (s .now .current) in
       octets-append _ _ (octets-part c 0 fieldsSize (octets-part (s .now .block) (s .now .current * proposalLen) proposalLen (G .now .octets)))
       (octets-append _ _ (octets-field headingMax (take (s .reading .reader .head) (s .reading .heading)) (octets-take (s .reading .reader .head) (s .reading .heading) (G .heading .octets)))
       (octets-append (le4 (s .keep .used)) (le2 (s .reading .reader .body)) (octets-le4 (s .keep .used)) (octets-le2 (s .reading .reader .body))))
@@ -70,7 +70,7 @@ module _ (F : Fixed) (nt ni ns : ℕ) (s : Session) (table inbox st : Bytes)
   kept-used : usedBy (keptInbox s inbox) (s .keep .kept + 1) ≡ s .keep .used + s .reading .reader .body
   unfolding keptInbox
   kept-used =
-      let c : Bytes = entryAt proposalSize (s .now .block) (s .now .current) in
+      let c : Bytes = entryAt proposalLen (s .now .block) (s .now .current) in
       let h : Bytes = take (s .reading .reader .head) (s .reading .heading) in
       let l : fieldsSize ≤ length c = omega (arith, proposed-length) in
       ap (usedBy (keptInbox s inbox)) (add-one (s .keep .kept))

@@ -17,7 +17,7 @@ use Rattle.grammar.proofs.Basics.{and2, both, all-append, all-replicate, octet}
 use Rattle.buffer.specs.Put.{putBytes, cut}
 use Rattle.buffer.specs.declared.Cursor.{Cursor}
 use Rattle.places.specs.Places.{entryLen}
-use Rattle.layout.specs.Layout.{le2, le4, le8, entryAt, entrySize, bodyLength, fieldOut}
+use Rattle.layout.specs.Layout.{le2, le4, le8, entryAt, bodyLength, fieldOut}
 use Rattle.layout.proofs.Places.{entry-written, entry-kept}
 use Rattle.session_memory.specs.State.{at, held, fiveOf}
 use Rattle.session_memory.specs.declared.Five.{Five}
@@ -198,15 +198,15 @@ signs-octets (defer ∷ ss) = octets-cons (omega arith) (signs-octets ss)
 
 -- ---------------------------------------------------------------- the bytes that kept messages use
 
-used-snoc : (inbox : Bytes) (i n : ℕ) → usedFrom inbox i (suc n) ≡ usedFrom inbox i n + bodyLength (entryAt entrySize inbox (i + n))
+used-snoc : (inbox : Bytes) (i n : ℕ) → usedFrom inbox i (suc n) ≡ usedFrom inbox i n + bodyLength (entryAt entryLen inbox (i + n))
 used-snoc inbox i zero = let e : i + 0 ≡ i = add-zero i in rw e (omega arith)
 used-snoc inbox i (suc n) =
     let h = used-snoc inbox (suc i) n in
     let e : suc i + n ≡ i + suc n = omega arith in
-    let k = subst (λ (m : ℕ). usedFrom inbox (suc i) (suc n) ≡ usedFrom inbox (suc i) n + bodyLength (entryAt entrySize inbox m)) e h in
+    let k = subst (λ (m : ℕ). usedFrom inbox (suc i) (suc n) ≡ usedFrom inbox (suc i) n + bodyLength (entryAt entryLen inbox m)) e h in
     omega (arith, k)
 
-used-kept : (d e : Bytes) (i n : ℕ) → ((j : ℕ) → j < i + n → entryAt entrySize e j ≡ entryAt entrySize d j) → usedFrom e i n ≡ usedFrom d i n
+used-kept : (d e : Bytes) (i n : ℕ) → ((j : ℕ) → j < i + n → entryAt entryLen e j ≡ entryAt entryLen d j) → usedFrom e i n ≡ usedFrom d i n
 used-kept d e i zero h = refl
 used-kept d e i (suc n) h = rw (h i (omega arith), used-kept d e (suc i) n (λ j k. h j (omega arith)))
 
@@ -219,6 +219,6 @@ used-more inbox k c n l h b =
     let e : Bytes = putBytes inbox (at (k * entryLen)) c in
     used-snoc e 0 k
     ∙ (let p = used-kept inbox e 0 k (λ j q. entry-kept entryLen inbox k c l m j (omega arith)) in
-    let w : bodyLength (entryAt entrySize e k) ≡ n = ap bodyLength (entry-written entryLen inbox k c l m) ∙ b in
+    let w : bodyLength (entryAt entryLen e k) ≡ n = ap bodyLength (entry-written entryLen inbox k c l m) ∙ b in
     let z : 0 + k ≡ k = omega arith in
     rw (z, p, w))

@@ -12,7 +12,7 @@ use Rattle.grammar.specs.Turns.{withCr, fixedText, ourFF, ourFQ, Proposal}
 use Rattle.grammar.proofs.Basics.{no-both, by-cond, by-test}
 use Rattle.mail.specs.Mail as mail
 use Rattle.mail.specs.Mail.{Record, turnText}
-use Rattle.layout.specs.Layout.{entryAt, recordSize, recordOf}
+use Rattle.layout.specs.Layout.{entryAt, recordOf}
 use Rattle.our_line.specs.Lines.{fsText}
 use Rattle.session_memory.specs.State.{held}
 use Rattle.session_memory.specs.Session.{Session}
@@ -24,6 +24,7 @@ use Rattle.form_closed.proofs.Laws.{held-length}
 use Rattle.grammar.specs.Fields.{Form, plain, message, file}
 use Rattle.grammar.specs.Transfers.{writeTransfer}
 use Rattle.session_memory.specs.declared.Say.{Say}
+use Rattle.places.specs.Places.{recordLen}
 
 -- nothing waits
 pub waits-none : (y : Say) → waits y ≡ false → (y .first ≡ pieceNone) × (y .then ≡ pieceNone)
@@ -60,7 +61,7 @@ sending-some : (table ti na bo : Bytes) (is : List ℕ) → 0 < length is → 0 
 unfolding sendingText
 sending-some table ti na bo [] h = absurd (omega arith)
 sending-some table ti na bo (i ∷ is) h =
-    let r : Record = recordOf ti na bo (entryAt recordSize table i) in
+    let r : Record = recordOf ti na bo (entryAt recordLen table i) in
     simp length-append (omega (arith, some-transfer (r .form) (mail.headingFor (r .form) r) (r .body)))
 
 then-some : (s : Session) (table ti na bo : Bytes) → eqb (s .say .then) pieceNone ≡ false → (pieceBlock < s .say .then → 0 < length (held (s .keep .sending)))

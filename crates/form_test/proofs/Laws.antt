@@ -11,13 +11,13 @@ use lib.ListN.{length, getD, take, drop, length-take, drop-of-length-le, List·g
 use lib.Seq.{drop-cons, getD-take, getD-drop}
 use borrow.Author.Tests.{eq-eqb, ne-eqb, eqb-true, eqb-false, le-leb, lt-leb, leb-true, leb-false, not-true, not-false}
 use Rattle.grammar.specs.Bytes.{Bytes, byteValues}
-use Rattle.layout.specs.Layout.{byteAt, le2At, le4At, entryAt, entrySize, bodyLength}
+use Rattle.layout.specs.Layout.{byteAt, le2At, le4At, entryAt, bodyLength}
 use Rattle.layout.proofs.Places.{part-in}
-use Rattle.session_memory.specs.State.{sessionSize, held, fiveAt, loadOf, loadSizes}
+use Rattle.session_memory.specs.State.{held, fiveAt, loadOf, loadSizes}
 use Rattle.session_memory.proofs.Laws.{array-length}
 use Rattle.session_memory.specs.declared.Five.{Five}
 use Rattle.session_memory.specs.Session.{Session}
-use Rattle.places.specs.Places.{markAt, signsAt, entryLen, entryBodyLength}
+use Rattle.places.specs.Places.{markAt, signsAt, entryLen, entryBodyLength, sessionLen}
 use Rattle.waiting.specs.Waiting.{waitingOf}
 use Rattle.waiting.specs.Pieces.{joined, piecesOf}
 use Rattle.waiting.proofs.Pieces.{item-read, pieces-joined}
@@ -40,26 +40,26 @@ used-append inbox i (suc m) n =
     rw (e, used-append inbox (suc i) m n, f) (omega arith)
 
 -- message i + k, and the n after it
-used-next : (inbox : Bytes) (i k n : ℕ) → usedFrom inbox (i + k) (suc n) ≡ bodyLength (entryAt entrySize inbox (i + k)) + usedFrom inbox (i + (k + 1)) n
+used-next : (inbox : Bytes) (i k n : ℕ) → usedFrom inbox (i + k) (suc n) ≡ bodyLength (entryAt entryLen inbox (i + k)) + usedFrom inbox (i + (k + 1)) n
 used-next inbox i k n = let e : suc (i + k) ≡ i + (k + 1) = omega arith in rw e
 
 pairs : (a b c d e f g h : ℕ) → a + b + (c + d) + (e + f + (g + h)) ≡ a + (b + (c + (d + (e + (f + (g + (h + 0)))))))
 pairs a b c d e f g h = omega arith
 
 -- a round, added in pairs
-pub round-used : (inbox : Bytes) (i a b c d e f g h : ℕ) → a ≡ bodyLength (entryAt entrySize inbox i)
-    → b ≡ bodyLength (entryAt entrySize inbox (i + 1)) → c ≡ bodyLength (entryAt entrySize inbox (i + 2)) → d ≡ bodyLength (entryAt entrySize inbox (i + 3))
-    → e ≡ bodyLength (entryAt entrySize inbox (i + 4)) → f ≡ bodyLength (entryAt entrySize inbox (i + 5)) → g ≡ bodyLength (entryAt entrySize inbox (i + 6))
-    → h ≡ bodyLength (entryAt entrySize inbox (i + 7)) → a + b + (c + d) + (e + f + (g + h)) ≡ usedFrom inbox i roundLength
+pub round-used : (inbox : Bytes) (i a b c d e f g h : ℕ) → a ≡ bodyLength (entryAt entryLen inbox i)
+    → b ≡ bodyLength (entryAt entryLen inbox (i + 1)) → c ≡ bodyLength (entryAt entryLen inbox (i + 2)) → d ≡ bodyLength (entryAt entryLen inbox (i + 3))
+    → e ≡ bodyLength (entryAt entryLen inbox (i + 4)) → f ≡ bodyLength (entryAt entryLen inbox (i + 5)) → g ≡ bodyLength (entryAt entryLen inbox (i + 6))
+    → h ≡ bodyLength (entryAt entryLen inbox (i + 7)) → a + b + (c + d) + (e + f + (g + h)) ≡ usedFrom inbox i roundLength
 round-used inbox i a b c d e f g h A B C D E F G H =
-    let z : usedFrom inbox i roundLength ≡ bodyLength (entryAt entrySize inbox i) + usedFrom inbox (i + 1) 7 = rw (add-one i) in
-    let y : usedFrom inbox (i + 1) 7 ≡ bodyLength (entryAt entrySize inbox (i + 1)) + usedFrom inbox (i + 2) 6 = used-next inbox i 1 6 in
-    let x : usedFrom inbox (i + 2) 6 ≡ bodyLength (entryAt entrySize inbox (i + 2)) + usedFrom inbox (i + 3) 5 = used-next inbox i 2 5 in
-    let w : usedFrom inbox (i + 3) 5 ≡ bodyLength (entryAt entrySize inbox (i + 3)) + usedFrom inbox (i + 4) 4 = used-next inbox i 3 4 in
-    let v : usedFrom inbox (i + 4) 4 ≡ bodyLength (entryAt entrySize inbox (i + 4)) + usedFrom inbox (i + 5) 3 = used-next inbox i 4 3 in
-    let u : usedFrom inbox (i + 5) 3 ≡ bodyLength (entryAt entrySize inbox (i + 5)) + usedFrom inbox (i + 6) 2 = used-next inbox i 5 2 in
-    let t : usedFrom inbox (i + 6) 2 ≡ bodyLength (entryAt entrySize inbox (i + 6)) + usedFrom inbox (i + 7) 1 = used-next inbox i 6 1 in
-    let s : usedFrom inbox (i + 7) 1 ≡ bodyLength (entryAt entrySize inbox (i + 7)) + 0 = used-next inbox i 7 0 in
+    let z : usedFrom inbox i roundLength ≡ bodyLength (entryAt entryLen inbox i) + usedFrom inbox (i + 1) 7 = rw (add-one i) in
+    let y : usedFrom inbox (i + 1) 7 ≡ bodyLength (entryAt entryLen inbox (i + 1)) + usedFrom inbox (i + 2) 6 = used-next inbox i 1 6 in
+    let x : usedFrom inbox (i + 2) 6 ≡ bodyLength (entryAt entryLen inbox (i + 2)) + usedFrom inbox (i + 3) 5 = used-next inbox i 2 5 in
+    let w : usedFrom inbox (i + 3) 5 ≡ bodyLength (entryAt entryLen inbox (i + 3)) + usedFrom inbox (i + 4) 4 = used-next inbox i 3 4 in
+    let v : usedFrom inbox (i + 4) 4 ≡ bodyLength (entryAt entryLen inbox (i + 4)) + usedFrom inbox (i + 5) 3 = used-next inbox i 4 3 in
+    let u : usedFrom inbox (i + 5) 3 ≡ bodyLength (entryAt entryLen inbox (i + 5)) + usedFrom inbox (i + 6) 2 = used-next inbox i 5 2 in
+    let t : usedFrom inbox (i + 6) 2 ≡ bodyLength (entryAt entryLen inbox (i + 6)) + usedFrom inbox (i + 7) 1 = used-next inbox i 6 1 in
+    let s : usedFrom inbox (i + 7) 1 ≡ bodyLength (entryAt entryLen inbox (i + 7)) + 0 = used-next inbox i 7 0 in
     rw (z, y, x, w, v, u, t, s, ← A, ← B, ← C, ← D, ← E, ← F, ← G, ← H) (pairs a b c d e f g h)
 
 -- a turn of the loop of rounds: k rounds use total, the next one r
@@ -69,10 +69,10 @@ rounds-used inbox k total r e f =
     rw (n, used-append inbox 0 (roundLength * k) roundLength, zero-add (roundLength * k), e, f)
 
 -- a turn of the loop of messages: k of them and those before use total, the next one b
-pub added-used : (inbox : Bytes) (before i k total b : ℕ) → total ≡ before + usedFrom inbox i k → b ≡ bodyLength (entryAt entrySize inbox (i + k))
+pub added-used : (inbox : Bytes) (before i k total b : ℕ) → total ≡ before + usedFrom inbox i k → b ≡ bodyLength (entryAt entryLen inbox (i + k))
     → total + b ≡ before + usedFrom inbox i (k + 1)
 added-used inbox before i k total b e f =
-    let s : usedFrom inbox (i + k) 1 ≡ bodyLength (entryAt entrySize inbox (i + k)) + 0 = refl in
+    let s : usedFrom inbox (i + k) 1 ≡ bodyLength (entryAt entryLen inbox (i + k)) + 0 = refl in
     rw (used-append inbox i k 1, e, f) (omega arith)
 
 -- the rounds and the last messages
@@ -150,13 +150,13 @@ pub kept-not : {k : ℕ} (kept n : ℕ) → k ≡ kept → n < entryLen * k → 
 kept-not {k} kept n r h = lt-leb kept (n / entryLen) (omega arith)
 
 -- a sign where it stands in session memory
-pub sign-read : (sm : Bytes) (i : ℕ) → length sm ≡ sessionSize → i < blockLimit → byteAt sm (signsAt + 1 + i) ≡ getD (fiveAt sm signsAt .items) i 0
+pub sign-read : (sm : Bytes) (i : ℕ) → length sm ≡ sessionLen → i < blockLimit → byteAt sm (signsAt + 1 + i) ≡ getD (fiveAt sm signsAt .items) i 0
 sign-read sm i n h =
     let e : signsAt + (i + 1) ≡ signsAt + 1 + i = omega arith in
     let f : i + 1 - 1 ≡ i = omega arith in
     ap (byteAt sm) (sym e) ∙ item-read sm signsAt (omega arith) (i + 1) (omega arith) (omega arith) ∙ ap (λ (j : ℕ). getD (fiveAt sm signsAt .items) j 0) f
 
-module _ (sm : Bytes) (n : length sm ≡ sessionSize) (i : ℕ) where
+module _ (sm : Bytes) (n : length sm ≡ sessionLen) (i : ℕ) where
   pub sign-is : i < blockLimit → {at : ℕ} → at ≡ i → byteAt sm (signsAt + 1 + at) ≡ plusSign → eqb (getD (fiveAt sm signsAt .items) i 0) plusSign ≡ true
   sign-is h q e = eq-eqb (getD (fiveAt sm signsAt .items) i 0) plusSign (sym (sign-read sm i n h) ∙ ap (λ (j : ℕ). byteAt sm (signsAt + 1 + j)) (sym q) ∙ e)
 
@@ -182,14 +182,14 @@ body-read n e f = rw (e, f)
 
 -- the length of a body where it stands in the inbox
 pub length-read : (inbox : Bytes) (i at : ℕ) → at ≡ entryLen * i + entryBodyLength → entryLen * (i + 1) ≤ length inbox → {x : ℕ} → x ≡ le2At inbox at
-    → x ≡ bodyLength (entryAt entrySize inbox i)
+    → x ≡ bodyLength (entryAt entryLen inbox i)
 length-read inbox i at e h q =
     let t : Bytes = take entryLen (drop (i * entryLen) inbox) in
     let b : (j : ℕ) → j < entryLen → byteAt t j ≡ byteAt inbox (i * entryLen + j) =
     λ j g. getD-take entryLen (drop (i * entryLen) inbox) j 0 g ∙ getD-drop (i * entryLen) inbox j 0 in
     let f : at ≡ i * entryLen + entryBodyLength = omega arith in
     let g : at + 1 ≡ i * entryLen + (entryBodyLength + 1) = omega arith in
-    let w : bodyLength (entryAt entrySize inbox i) ≡ byteAt inbox (i * entryLen + entryBodyLength) + byteValues * byteAt inbox (i * entryLen + (entryBodyLength + 1)) =
+    let w : bodyLength (entryAt entryLen inbox i) ≡ byteAt inbox (i * entryLen + entryBodyLength) + byteValues * byteAt inbox (i * entryLen + (entryBodyLength + 1)) =
     ap bodyLength (part-in inbox (i * entryLen) entryLen (omega arith)) ∙ ap (λ (x : ℕ). x + byteValues * byteAt t (entryBodyLength + 1)) (b entryBodyLength (omega arith))
     ∙ ap (λ (x : ℕ). byteAt inbox (i * entryLen + entryBodyLength) + byteValues * x) (b (entryBodyLength + 1) (omega arith)) in
     q ∙ ap (λ (j : ℕ). byteAt inbox j + byteValues * byteAt inbox (at + 1)) f ∙ ap (λ (j : ℕ). byteAt inbox (i * entryLen + entryBodyLength) + byteValues * byteAt inbox j) g ∙ sym w
@@ -263,7 +263,7 @@ first-told true b q e = refl
 
 -- the form test: x is the size, mark and sizes, y the state but for what waits
 module _ (sm table titles names bodies known inbox store : Bytes) {x : Bool}
-    (q : x ≡ eqb (length sm) sessionSize && (markOk sm && sameSizes (loadSizes sm) (lentSizes table titles names bodies known inbox store))) where
+    (q : x ≡ eqb (length sm) sessionLen && (markOk sm && sameSizes (loadSizes sm) (lentSizes table titles names bodies known inbox store))) where
   rest : Bool
   rest =
       (countsOk (loadOf sm) && (inboxOk (loadOf sm) inbox store && phaseOk (loadOf sm) inbox store))
@@ -272,14 +272,14 @@ module _ (sm table titles names bodies known inbox store : Bytes) {x : Bool}
   form-last : formOf sm table titles names bodies known inbox store ≡ x && rest
   unfolding formOf stateOk rest
   form-last =
-      and-last (eqb (length sm) sessionSize) (markOk sm) (sameSizes (loadSizes sm) (lentSizes table titles names bodies known inbox store)) (countsOk (loadOf sm)) (inboxOk (loadOf sm) inbox store) (phaseOk (loadOf sm) inbox store) (waitingOk (loadOf sm) table titles names bodies)
+      and-last (eqb (length sm) sessionLen) (markOk sm) (sameSizes (loadSizes sm) (lentSizes table titles names bodies known inbox store)) (countsOk (loadOf sm)) (inboxOk (loadOf sm) inbox store) (phaseOk (loadOf sm) inbox store) (waitingOk (loadOf sm) table titles names bodies)
       ∙ ap (λ (b : Bool). b && rest) (sym q)
 
   pub lent-fails : not x ≡ true → false ≡ formOf sm table titles names bodies known inbox store
   lent-fails e = sym (form-last ∙ ap (λ (b : Bool). b && rest) (not-true x e))
 
-  pub size-told : not x ≡ false → length sm ≡ sessionSize
-  size-told e = eqb-true (length sm) sessionSize (first-told (eqb (length sm) sessionSize) (markOk sm && sameSizes (loadSizes sm) (lentSizes table titles names bodies known inbox store)) q e)
+  pub size-told : not x ≡ false → length sm ≡ sessionLen
+  size-told e = eqb-true (length sm) sessionLen (first-told (eqb (length sm) sessionLen) (markOk sm && sameSizes (loadSizes sm) (lentSizes table titles names bodies known inbox store)) q e)
 
   module _ (e : not x ≡ false) {y : Bool} (p : y ≡ countsOk (loadOf sm) && (inboxOk (loadOf sm) inbox store && phaseOk (loadOf sm) inbox store)) where
     state-last : formOf sm table titles names bodies known inbox store ≡ y && waitingOk (loadOf sm) table titles names bodies

@@ -7,8 +7,8 @@ use Prim.Native.Nat.{ℕ, zero, suc, _+_}
 use lib.Dec.{eqb, ltb, leb}
 use lib.ListN.{length, getD, drop}
 use Rattle.grammar.specs.Bytes.{Bytes}
-use Rattle.layout.specs.Layout.{byteAt, entryAt, entrySize, bodyLength}
-use Rattle.session_memory.specs.State.{sessionSize, held, loadOf, loadSizes}
+use Rattle.layout.specs.Layout.{byteAt, entryAt, bodyLength}
+use Rattle.session_memory.specs.State.{held, loadOf, loadSizes}
 use Rattle.session_memory.specs.Session.{Session}
 use Rattle.session_memory.specs.declared.Sizes.{Sizes}
 use Rattle.entries.specs.Decoded.{placeCount}
@@ -18,7 +18,7 @@ use Rattle.give_place.specs.Located.{At}
 use Rattle.give_place.specs.declared.Place.{Place}
 use Rattle.pending.specs.Pending.{waits}
 use Rattle.phase.specs.Phase.{phaseTurn, phaseTransfer, isClosed, pieceNone, pieceProtocolError, pieceChecksumError}
-use Rattle.places.specs.Places.{lineLen, headingLen, partners}
+use Rattle.places.specs.Places.{lineLen, headingLen, partners, entryLen, sessionLen}
 use Rattle.grammar.specs.Turns.{blockLimit}
 use Rattle.grammar.specs.Answers.{plusSign}
 use Rattle.grammar.specs.Fields.{bodyLimit}
@@ -53,7 +53,7 @@ roundLength = 8
 -- How many store bytes the first n messages of the inbox use, from message i on.
 abbrev pub usedFrom : Bytes → ℕ → ℕ → ℕ
 usedFrom inbox i zero = 0
-usedFrom inbox i (suc n) = bodyLength (entryAt entrySize inbox i) + usedFrom inbox (suc i) n
+usedFrom inbox i (suc n) = bodyLength (entryAt entryLen inbox i) + usedFrom inbox (suc i) n
 
 unfoldable pub usedBy : Bytes → ℕ → ℕ
 usedBy inbox n = usedFrom inbox 0 n
@@ -108,7 +108,7 @@ lentSizes table titles names bodies known inbox store =
 -- THE FORM TEST
 unfoldable pub formOf : Bytes → Bytes → Bytes → Bytes → Bytes → Bytes → Bytes → Bytes → Bool
 formOf sm table titles names bodies known inbox store =
-    eqb (length sm) sessionSize && (markOk sm && (sameSizes (loadSizes sm) (lentSizes table titles names bodies known inbox store)
+    eqb (length sm) sessionLen && (markOk sm && (sameSizes (loadSizes sm) (lentSizes table titles names bodies known inbox store)
     && stateOk (loadOf sm) table titles names bodies inbox store))
 
 -- What give needs of a memory that passes: whether something waits, and where the next byte to give is.

@@ -9,9 +9,9 @@ ghost use mathlib.Core.Bool.{true, false, cond, _&&_};
 ghost use Prim.Native.Nat.{_+_, _*_, _<_, _≤_, _-_};
 ghost use lib.Dec.{eqb, leb};
 ghost use lib.ListN.{length, drop};
-ghost use Rattle.layout.specs.Layout.{entryAt, entrySize, bodyLength};
-ghost use Rattle.places.specs.Places.{entryLen};
-ghost use Rattle.session_memory.specs.State.{sessionSize, held, loadOf, loadSizes};
+ghost use Rattle.layout.specs.Layout.{entryAt, bodyLength};
+ghost use Rattle.places.specs.Places.{entryLen, sessionLen};
+ghost use Rattle.session_memory.specs.State.{held, loadOf, loadSizes};
 ghost use Rattle.pending.specs.Pending.{waits};
 ghost use Rattle.form_test.specs.Form.{markOk, sameSizes, countsOk, usedFrom, usedBy, inboxOk, waitingOk, pluses, transferOk, isLast, closedOk, phaseOk, lentSizes, formOf, Next, roundLength};
 ghost use Rattle.grammar.specs.Bytes.{byteValues};
@@ -45,7 +45,7 @@ pub struct Tested {
 
 // The counts are within their arrays, and the partner has a column.
 fn counts_ok(sm: &[u8]) -> bool
-    requires { ⌜ length (now sm) ≡ sessionSize ⌝ }
+    requires { ⌜ length (now sm) ≡ sessionLen ⌝ }
     ensures { λ r. ⌜ r ≡ countsOk (loadOf (now (sm .entry))) ⌝ }
 {
     if LINE_MAX < two(sm, places::LINE_LENGTH) {
@@ -75,7 +75,7 @@ fn counts_ok(sm: &[u8]) -> bool
 // How many store bytes message i of the inbox uses.
 fn body_length(inbox: &[u8], i: u8) -> usize
     requires { ⌜ entryLen * (i + 1) ≤ length (now inbox) ⌝ }
-    ensures { λ r. ⌜ (r ≡ bodyLength (entryAt entrySize (now (inbox .entry)) i)) × (r ≤ bodyLimit) ⌝ }
+    ensures { λ r. ⌜ (r ≡ bodyLength (entryAt entryLen (now (inbox .entry)) i)) × (r ≤ bodyLimit) ⌝ }
 {
     two(inbox, ENTRY * wide(i) + BODY_LENGTH) as usize
 }
@@ -123,7 +123,7 @@ fn used_by(inbox: &[u8], n: u8) -> usize
 
 // The inbox has at most 64 places, and the messages kept have theirs there and in the store.
 fn inbox_ok(sm: &[u8], inbox: &[u8], store: &[u8]) -> bool
-    requires { ⌜ length (now sm) ≡ sessionSize ⌝ }
+    requires { ⌜ length (now sm) ≡ sessionLen ⌝ }
     ensures { λ r. ⌜ r ≡ inboxOk (loadOf (now (sm .entry))) (now (inbox .entry)) (now (store .entry)) ⌝ }
 {
     if MESSAGES < inbox.len() / ENTRY {
@@ -152,7 +152,7 @@ fn plus(sign: u8) -> u8
 
 // How many `+` are among the signs from a place on.
 fn pluses_from(sm: &[u8], from: u8) -> u8
-    requires { ⌜ length (now sm) ≡ sessionSize ⌝ }
+    requires { ⌜ length (now sm) ≡ sessionLen ⌝ }
     ensures { λ r. ⌜ r ≡ pluses (drop from (held ((loadOf (now (sm .entry))) .say .signs))) ⌝ }
 {
     let count = sm[places::SIGNS];
@@ -183,7 +183,7 @@ fn body_ok(used: usize, body: u32, store: usize) -> bool
 
 // A transfer under way is that of an accepted proposal, and it and those after it have their places and room.
 fn transfer_ok(sm: &[u8], inbox: &[u8], store: &[u8]) -> bool
-    requires { ⌜ length (now sm) ≡ sessionSize ⌝ }
+    requires { ⌜ length (now sm) ≡ sessionLen ⌝ }
     ensures { λ r. ⌜ r ≡ transferOk (loadOf (now (sm .entry))) (now (inbox .entry)) (now (store .entry)) ⌝ }
 {
     let current = sm[places::CURRENT];
@@ -223,7 +223,7 @@ fn is_last(first: u8) -> bool
 
 // A session that is closed has nothing to give but that line.
 fn closed_ok(sm: &[u8]) -> bool
-    requires { ⌜ length (now sm) ≡ sessionSize ⌝ }
+    requires { ⌜ length (now sm) ≡ sessionLen ⌝ }
     ensures { λ r. ⌜ r ≡ closedOk (loadOf (now (sm .entry))) ⌝ }
 {
     if !phase::is_closed(sm[places::PHASE]) {
@@ -237,7 +237,7 @@ fn closed_ok(sm: &[u8]) -> bool
 
 // Records are being sent only in phase 3 and from phase 6 on; a transfer is under way in phase 5.
 fn phase_ok(sm: &[u8], inbox: &[u8], store: &[u8]) -> bool
-    requires { ⌜ length (now sm) ≡ sessionSize ⌝ }
+    requires { ⌜ length (now sm) ≡ sessionLen ⌝ }
     ensures { λ r. ⌜ r ≡ phaseOk (loadOf (now (sm .entry))) (now (inbox .entry)) (now (store .entry)) ⌝ }
 {
     let awaited = sm[places::PHASE];
@@ -258,7 +258,7 @@ fn phase_ok(sm: &[u8], inbox: &[u8], store: &[u8]) -> bool
 
 // Session memory begins with the mark that open leaves, FM01.
 fn mark_ok(sm: &[u8]) -> bool
-    requires { ⌜ length (now sm) ≡ sessionSize ⌝ }
+    requires { ⌜ length (now sm) ≡ sessionLen ⌝ }
     ensures { λ r. ⌜ r ≡ markOk (now (sm .entry)) ⌝ }
 {
     four(sm, places::MARK) == FM01
@@ -275,7 +275,7 @@ fn sizes_ok(
     inbox: &[u8],
     store: &[u8],
 ) -> bool
-    requires { ⌜ length (now sm) ≡ sessionSize ⌝ }
+    requires { ⌜ length (now sm) ≡ sessionLen ⌝ }
     ensures { λ r. ⌜ r ≡ sameSizes (loadSizes (now (sm .entry))) (lentSizes (now (table .entry)) (now (titles .entry)) (now (names .entry)) (now (bodies .entry)) (now (known .entry)) (now (inbox .entry)) (now (store .entry))) ⌝ }
 {
     if eight(sm, places::SIZE_TABLE) != table.len() {
@@ -310,7 +310,7 @@ fn lent_ok(
     inbox: &[u8],
     store: &[u8],
 ) -> bool
-    ensures { λ r. ⌜ r ≡ eqb (length (now (sm .entry))) sessionSize && (markOk (now (sm .entry)) && sameSizes (loadSizes (now (sm .entry))) (lentSizes (now (table .entry)) (now (titles .entry)) (now (names .entry)) (now (bodies .entry)) (now (known .entry)) (now (inbox .entry)) (now (store .entry)))) ⌝ }
+    ensures { λ r. ⌜ r ≡ eqb (length (now (sm .entry))) sessionLen && (markOk (now (sm .entry)) && sameSizes (loadSizes (now (sm .entry))) (lentSizes (now (table .entry)) (now (titles .entry)) (now (names .entry)) (now (bodies .entry)) (now (known .entry)) (now (inbox .entry)) (now (store .entry)))) ⌝ }
 {
     if sm.len() != places::SESSION {
         return false;
@@ -324,7 +324,7 @@ fn lent_ok(
 // The state, but for what waits. Receive and give both call this, so it isn't inlined; slices are lent on as `&sm[..]`, which lets it have
 // them in registers (docs/PERFORMANCE.md, "Slices in registers").
 fn state_ok(sm: &[u8], inbox: &[u8], store: &[u8]) -> bool
-    requires { ⌜ length (now sm) ≡ sessionSize ⌝ }
+    requires { ⌜ length (now sm) ≡ sessionLen ⌝ }
     ensures { λ r. ⌜ r ≡ countsOk (loadOf (now (sm .entry))) && (inboxOk (loadOf (now (sm .entry))) (now (inbox .entry)) (now (store .entry)) && phaseOk (loadOf (now (sm .entry))) (now (inbox .entry)) (now (store .entry))) ⌝ }
 {
     if !counts_ok(&sm[..]) {
@@ -338,7 +338,7 @@ fn state_ok(sm: &[u8], inbox: &[u8], store: &[u8]) -> bool
 
 // Something waits.
 fn is_waiting(sm: &[u8]) -> bool
-    requires { ⌜ length (now sm) ≡ sessionSize ⌝ }
+    requires { ⌜ length (now sm) ≡ sessionLen ⌝ }
     ensures { λ r. ⌜ r ≡ waits ((loadOf (now (sm .entry))) .say) ⌝ }
 {
     if sm[places::FIRST] != phase::PIECE_NONE {
@@ -367,7 +367,7 @@ fn waiting_ok<'a>(
     names: &'a [u8],
     bodies: &[u8],
 ) -> Tested
-    requires { ⌜ length (now sm) ≡ sessionSize ⌝ }
+    requires { ⌜ length (now sm) ≡ sessionLen ⌝ }
     ensures { λ r. ⌜ (r .ok ≡ waitingOk (loadOf (now (sm .entry))) (now (table .entry)) (now (titles .entry)) (now (names .entry)) (now (bodies .entry))) × (r .ok ≡ true → Next (loadOf (now (sm .entry))) (now (table .entry)) (now (titles .entry)) (now (names .entry)) (now (bodies .entry)) (r .place)) ⌝ }
 {
     if !is_waiting(sm) {
@@ -385,7 +385,7 @@ fn waiting_ok<'a>(
 
 // The same, where it doesn't matter where the next byte is.
 fn left_ok<'a>(sm: &[u8], table: &[u8], titles: &'a [u8], names: &'a [u8], bodies: &[u8]) -> bool
-    requires { ⌜ length (now sm) ≡ sessionSize ⌝ }
+    requires { ⌜ length (now sm) ≡ sessionLen ⌝ }
     ensures { λ r. ⌜ r ≡ waitingOk (loadOf (now (sm .entry))) (now (table .entry)) (now (titles .entry)) (now (names .entry)) (now (bodies .entry)) ⌝ }
 {
     if !is_waiting(sm) {

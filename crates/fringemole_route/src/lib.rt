@@ -117,6 +117,13 @@ pub extern "C" fn fringemole_route_origin(body: &[u8]) -> RouteOrigin
     }
 }
 
+// The writer's answers: written, a field or time outside the rules, no room.
+const WRITTEN: u8 = 0;
+
+const BAD_FIELD: u8 = 1;
+
+const NO_ROOM: u8 = 2;
+
 // The writer's numbers.
 fn told_added(added: Added) -> RouteAdded
     ensures { λ r. ⌜ (r .answer ≡ addedNumber added) × (r .count ≡ addedCount added) ⌝ }
@@ -124,15 +131,15 @@ fn told_added(added: Added) -> RouteAdded
     match added {
         Added::Written(n) => RouteAdded {
             count: n,
-            answer: 0,
+            answer: WRITTEN,
         },
         Added::BadField => RouteAdded {
             count: 0,
-            answer: 1,
+            answer: BAD_FIELD,
         },
         Added::NoRoom => RouteAdded {
             count: 0,
-            answer: 2,
+            answer: NO_ROOM,
         },
     }
 }

@@ -36,7 +36,7 @@ fn given(count: usize) -> Reply
     ensures { λ r. ⌜ r ≡ reply 0 0 count ⌝ }
 {
     Reply {
-        answer: 0,
+        answer: refusal::NONE,
         place: 0,
         count: count,
     }

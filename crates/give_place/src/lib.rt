@@ -5,10 +5,11 @@ ghost use mathlib.Core.List.{[]};
 ghost use Prim.Native.Nat.{_-_, _<_, _≤_};
 ghost use lib.Dec.{ltb};
 ghost use lib.ListN.{length, getD, drop};
-ghost use Rattle.session_memory.specs.State.{sessionSize, held, loadOf};
+ghost use Rattle.session_memory.specs.State.{held, loadOf};
 ghost use Rattle.waiting.specs.Waiting.{firstText};
 ghost use Rattle.waiting.specs.Pieces.{joined, blockPieces, piecesOf};
 ghost use Rattle.give_place.specs.Located.{Located};
+ghost use Rattle.places.specs.Places.{sessionLen};
 
 // In which piece, at which of its bytes, and how many bytes that piece has. left: there is one.
 pub struct Place {
@@ -20,7 +21,7 @@ pub struct Place {
 
 // The first piece.
 fn first_length(sm: &[u8]) -> usize
-    requires { ⌜ length (now sm) ≡ sessionSize ⌝ }
+    requires { ⌜ length (now sm) ≡ sessionLen ⌝ }
     ensures { λ r. ⌜ r ≡ length (firstText (loadOf (now (sm .entry)))) ⌝ }
 {
     let first = sm[places::FIRST];
@@ -44,7 +45,7 @@ fn first_length(sm: &[u8]) -> usize
 
 // Piece k where our block waits: a proposal, or `F>`.
 fn block_length(k: u8, sm: &[u8], table: &[u8]) -> usize
-    requires { ⌜ (length (now sm) ≡ sessionSize) × ((1 ≤ k) × (k - 1 < length (blockPieces (now table) (held (loadOf (now sm) .now .ours))))) ⌝ }
+    requires { ⌜ (length (now sm) ≡ sessionLen) × ((1 ≤ k) × (k - 1 < length (blockPieces (now table) (held (loadOf (now sm) .now .ours))))) ⌝ }
     ensures { λ r. ⌜ r ≡ length (getD (blockPieces (now (table .entry)) (held (loadOf (now (sm .entry)) .now .ours))) (k - 1) []) ⌝ }
 {
     if in_use(sm[places::OURS]) < k {
@@ -62,7 +63,7 @@ fn piece_length<'a>(
     names: &'a [u8],
     bodies: &[u8],
 ) -> usize
-    requires { ⌜ (length (now sm) ≡ sessionSize) × (k < length (piecesOf (loadOf (now sm)) (now table) (now titles) (now names) (now bodies))) ⌝ }
+    requires { ⌜ (length (now sm) ≡ sessionLen) × (k < length (piecesOf (loadOf (now sm)) (now table) (now titles) (now names) (now bodies))) ⌝ }
     ensures { λ r. ⌜ r ≡ length (getD (piecesOf (loadOf (now (sm .entry))) (now (table .entry)) (now (titles .entry)) (now (names .entry)) (now (bodies .entry))) k []) ⌝ }
 {
     if k == 0 {
@@ -93,7 +94,7 @@ pub fn locate<'a>(
     names: &'a [u8],
     bodies: &[u8],
 ) -> Place
-    requires { ⌜ length (now sm) ≡ sessionSize ⌝ }
+    requires { ⌜ length (now sm) ≡ sessionLen ⌝ }
     ensures { λ r. ⌜ Located (piecesOf (loadOf (now (sm .entry))) (now (table .entry)) (now (titles .entry)) (now (names .entry)) (now (bodies .entry))) pos r ⌝ }
 {
     let first = first_length(sm);
@@ -139,7 +140,7 @@ pub fn is_left<'a>(
     names: &'a [u8],
     bodies: &[u8],
 ) -> bool
-    requires { ⌜ length (now sm) ≡ sessionSize ⌝ }
+    requires { ⌜ length (now sm) ≡ sessionLen ⌝ }
     ensures { λ r. ⌜ r ≡ ltb offset (length (joined (drop from (piecesOf (loadOf (now (sm .entry))) (now (table .entry)) (now (titles .entry)) (now (names .entry)) (now (bodies .entry)))))) ⌝ }
 {
     let n = waiting::piece_count(sm);

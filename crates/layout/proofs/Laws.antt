@@ -18,7 +18,7 @@ use Rattle.mail.specs.Mail as mail
 use Rattle.buffer.specs.Put.{putBytes}
 use Rattle.buffer.proofs.Laws.{cursor}
 use Rattle.places.specs.Places.{callMax, atMax, bidMax, headingMax, formAt, typeAt, fromAt, atAt, toAt, bidAt, fieldsSize, proposalSizeAt, proposalLen, entryLen, blockLen}
-use Rattle.layout.specs.Layout.{Fields, byteAt, le2At, le4At, le8At, le2, le4, le8, fieldIn, fieldOut, entryAt, fieldsAt, fieldsOut, proposalWith, proposalAt, proposalOut, proposalOf, messageWith, messageOf, bodyStart, bodyLength, entryOut, proposalSize, entrySize}
+use Rattle.layout.specs.Layout.{Fields, byteAt, le2At, le4At, le8At, le2, le4, le8, fieldIn, fieldOut, entryAt, fieldsAt, fieldsOut, proposalWith, proposalAt, proposalOut, proposalOf, messageWith, messageOf, bodyStart, bodyLength, entryOut}
 use Rattle.layout.proofs.Writing.{field-padded}
 use Rattle.layout.proofs.Places.{byte-later, le2-skip, le4-skip, le4-later, part-skip, field-skip, field-later, part-in, byte-kept, field-kept, part-here, entry-written, entry-kept}
 
@@ -166,13 +166,13 @@ proposal-back p h = ap proposalOf (sym (append-nil (written p))) ∙ proposal-fi
 
 -- the same where it stands as entry i of a block of five; the others are as before
 module _ (block : Bytes) (i : ℕ) (n : length block ≡ blockLen) (k : i < blockLimit) where
-  pub block-back : (p : Proposal) → Fits p → proposalOf (entryAt proposalSize (putBytes block (cursor (i * proposalLen) 0) (written p)) i) ≡ p
+  pub block-back : (p : Proposal) → Fits p → proposalOf (entryAt proposalLen (putBytes block (cursor (i * proposalLen) 0) (written p)) i) ≡ p
   block-back p h =
       ap proposalOf (entry-written proposalLen block i (written p) (proposal-length (formNumber (p .form)) (p .type) (p .from) (p .at) (p .to) (p .bid) (p .size)) (omega arith))
       ∙ proposal-back p h
 
   pub block-kept : (c : Bytes) → length c ≡ proposalLen → (j : ℕ) → (j ≡ i → ⊥)
-      → entryAt proposalSize (putBytes block (cursor (i * proposalLen) 0) c) j ≡ entryAt proposalSize block j
+      → entryAt proposalLen (putBytes block (cursor (i * proposalLen) 0) c) j ≡ entryAt proposalLen block j
   block-kept c h j ne = entry-kept proposalLen block i c h (omega arith) j ne
 
 -- ---------------------------------------------------------------- messages of the inbox
@@ -219,8 +219,8 @@ module _ (c heading : Bytes) (start n : ℕ) (h : fieldsSize ≤ length c) where
 
 -- written as entry k of an inbox of m entries, it is read there, and the others are as before
 module _ (inbox : Bytes) (m k : ℕ) (c : Bytes) (n : length inbox ≡ m * entryLen) (h : k < m) (l : length c ≡ entryLen) where
-  pub inbox-back : entryAt entrySize (putBytes inbox (cursor (k * entryLen) 0) c) k ≡ c
+  pub inbox-back : entryAt entryLen (putBytes inbox (cursor (k * entryLen) 0) c) k ≡ c
   inbox-back = entry-written entryLen inbox k c l (omega arith)
 
-  pub inbox-kept : (j : ℕ) → (j ≡ k → ⊥) → entryAt entrySize (putBytes inbox (cursor (k * entryLen) 0) c) j ≡ entryAt entrySize inbox j
+  pub inbox-kept : (j : ℕ) → (j ≡ k → ⊥) → entryAt entryLen (putBytes inbox (cursor (k * entryLen) 0) c) j ≡ entryAt entryLen inbox j
   inbox-kept j ne = entry-kept entryLen inbox k c l (omega arith) j ne

@@ -10,20 +10,6 @@ use Rattle.grammar.specs.Transfers.{partOf}
 use Rattle.mail.specs.Mail.{Record, Message}
 use Rattle.places.specs.Places.{callMax, atMax, bidMax, headingMax, formAt, typeAt, fromAt, atAt, toAt, bidAt, fieldsSize, proposalSizeAt, proposalLen, recordStates, recordFields, recordTitle, recordTitleLength, recordName, recordNameLength, recordBody, recordBodyLength, recordLen, knownLen, entryHeading, entryBody, entryBodyLength, entryLen}
 
--- ---------------------------------------------------------------- sizes of entries
-
-abbrev pub recordSize : ℕ
-recordSize = recordLen
-
-abbrev pub knownSize : ℕ
-knownSize = knownLen
-
-abbrev pub entrySize : ℕ
-entrySize = entryLen
-
-abbrev pub proposalSize : ℕ
-proposalSize = proposalLen
-
 -- ---------------------------------------------------------------- numbers and fields
 
 -- A byte; 0 past the end.
@@ -124,7 +110,7 @@ stateFor partner c = byteAt c (statePlace partner)
 
 -- That of record i of the table.
 abbrev pub stateOf : ℕ → Bytes → ℕ → ℕ
-stateOf partner table i = stateFor partner (drop (i * recordSize) table)
+stateOf partner table i = stateFor partner (drop (i * recordLen) table)
 
 -- ---------------------------------------------------------------- a known BID
 

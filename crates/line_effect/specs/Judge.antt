@@ -16,7 +16,7 @@ use Rattle.grammar.specs.Transfers.{byteSum}
 use Rattle.grammar.specs.Answers.{accept, decline, defer, writeSign}
 use Rattle.fs_line.specs.Answers.{answerNumber, answerSigns}
 use Rattle.buffer.specs.Put.{putBytes}
-use Rattle.layout.specs.Layout.{byteAt, entryAt, proposalSize, proposalOut}
+use Rattle.layout.specs.Layout.{byteAt, entryAt, proposalOut}
 use Rattle.transfer_step.specs.declared.Reader.{Reader}
 use Rattle.transfer_step.specs.Step.{startOf}
 use Rattle.session_memory.specs.State.{at, held, fiveOf, noFive}
@@ -27,7 +27,7 @@ use Rattle.session_memory.specs.declared.Say.{Say}
 use Rattle.session_memory.specs.Session.{Keep}
 use Rattle.session_memory.specs.Session.{Session}
 use Rattle.phase.specs.Phase.{phaseCalledSid, phaseCallerSid, phasePrompt, phaseTurn, phaseFs, phaseTransfer, phaseOver, pieceSid, pieceSigns, pieceTransfers, notOurTurn, ourTurn, ourTurnAfterFF, stateWaiting, stateForwarded, stateDeclined, blockLimit, noProposal}
-use Rattle.places.specs.Places.{formAt}
+use Rattle.places.specs.Places.{formAt, proposalLen}
 use Rattle.our_answer.specs.Answers.{answersOf}
 use Rattle.line_effect.specs.declared.Marks.{Marks}
 use Rattle.line_effect.specs.Judged.{Judged}
@@ -111,7 +111,7 @@ unfoldable pub nextAccepted : Five → ℕ → ℕ
 nextAccepted signs i = plusFrom i (drop i (held signs))
 
 unfoldable pub readerFor : Await → ℕ → Reader
-readerFor w i = startOf (byteAt (entryAt proposalSize (w .block) i) formAt)
+readerFor w i = startOf (byteAt (entryAt proposalLen (w .block) i) formAt)
 
 -- The partner's turn is whole, and we speak next or not.
 abbrev pub wholeTurn : ℕ → Session → Judged
@@ -143,7 +143,7 @@ abbrev pub withProposal : Proposal → ℕ → Await → Await
 withProposal q n w =
     withSum ((w .sum + n) % byteValues)
     (withProposals (w .proposals + 1)
-    (putBytes (w .block) (at (w .proposals * proposalSize)) (proposalOut (formNumber (q .form)) (q .type) (q .from) (q .at) (q .to) (q .bid) (q .size))) w)
+    (putBytes (w .block) (at (w .proposals * proposalLen)) (proposalOut (formNumber (q .form)) (q .type) (q .from) (q .at) (q .to) (q .bid) (q .size))) w)
 
 unfoldable pub proposalLine : Proposal → ℕ → Session → Judged
 proposalLine q n s = cond (ltb (s .now .proposals) blockLimit) (wentOn (withNow (withProposal q n (s .now)) s)) (refusal proposalCount s)

@@ -19,9 +19,9 @@ use Rattle.demand2.specs.ReadBack.{ReadsBack}
 use Rattle.demand2.proofs.ReadBack as read-back
 use Rattle.demand2.proofs.ReadBack.{reads-back}
 use Rattle.demand3.specs.Demand.{GoodTable, allProposable, noneWith, distinctBids}
-use Rattle.places.specs.Places.{atMax, bidMax, callMax, recordBid, recordBody, recordBodyLength, recordForm, recordFrom, recordName, recordNameLength, recordSizeAt, recordTitle, recordTitleLength, recordTo, recordType}
+use Rattle.places.specs.Places.{atMax, bidMax, callMax, recordBid, recordBody, recordBodyLength, recordForm, recordFrom, recordName, recordNameLength, recordSizeAt, recordTitle, recordTitleLength, recordTo, recordType, recordLen}
 use Rattle.places.specs.Places as places
-use Rattle.layout.specs.Layout.{byteAt, le2At, le4At, fieldIn, entryAt, recordSize, recordOf}
+use Rattle.layout.specs.Layout.{byteAt, le2At, le4At, fieldIn, entryAt, recordOf}
 use Rattle.entries.specs.Decoded.{entriesFrom, entries, recordCount, recordsOf}
 use Rattle.entries.proofs.Laws.{entries-length, entries-at}
 use Rattle.open.specs.Opening.{lengthOk, statesOk, numbersOk, fieldsOk, within, headingOk, textsOk, recordOk, placeOk, faultFrom, tableFault}
@@ -121,48 +121,48 @@ module _ (table titles names bodies : Bytes) where
   all-ok e k h = fault-none (recordCount table) 0 e (omega arith) k (omega arith) (omega arith)
 
   module _ (ok : (k : ℕ) → k < recordCount table → placeOk table titles names bodies k ≡ true) where
-    record-ok : (k : ℕ) → k < recordCount table → recordOk (entryAt recordSize table k) titles names bodies ≡ true
+    record-ok : (k : ℕ) → k < recordCount table → recordOk (entryAt recordLen table k) titles names bodies ≡ true
     unfolding placeOk
-    record-ok k h = and2 (recordOk (entryAt recordSize table k) titles names bodies) _ (ok k h) .0
+    record-ok k h = and2 (recordOk (entryAt recordLen table k) titles names bodies) _ (ok k h) .0
 
-    all-proposable : (n i : ℕ) → i + n ≤ recordCount table → allProposable (entriesFrom (recordOf titles names bodies) recordSize table i n) ≡ true
+    all-proposable : (n i : ℕ) → i + n ≤ recordCount table → allProposable (entriesFrom (recordOf titles names bodies) recordLen table i n) ≡ true
     all-proposable zero i h = refl
     all-proposable (suc n) i h =
-        both (proposable (proposalOf (recordOf titles names bodies (entryAt recordSize table i)))) (allProposable (entriesFrom (recordOf titles names bodies) recordSize table (suc i) n))
-        (record-proposable (entryAt recordSize table i) titles names bodies (record-ok i (omega arith))) (all-proposable n (suc i) (omega arith))
+        both (proposable (proposalOf (recordOf titles names bodies (entryAt recordLen table i)))) (allProposable (entriesFrom (recordOf titles names bodies) recordLen table (suc i) n))
+        (record-proposable (entryAt recordLen table i) titles names bodies (record-ok i (omega arith))) (all-proposable n (suc i) (omega arith))
 
     -- a BID is none of the BIDs before it
-    among-at : (b : Bytes) (n i : ℕ) → among b (entriesFrom (fieldIn bidMax recordBid) recordSize table i n) ≡ false → (j : ℕ) → i ≤ j → j < i + n
-        → sameBid (fieldIn bidMax recordBid (entryAt recordSize table j)) b ≡ false
+    among-at : (b : Bytes) (n i : ℕ) → among b (entriesFrom (fieldIn bidMax recordBid) recordLen table i n) ≡ false → (j : ℕ) → i ≤ j → j < i + n
+        → sameBid (fieldIn bidMax recordBid (entryAt recordLen table j)) b ≡ false
     among-at b zero i e j h g = absurd (omega arith)
     among-at b (suc n) i e j h g =
-        let p = or2 (sameBid (fieldIn bidMax recordBid (entryAt recordSize table i)) b) (among b (entriesFrom (fieldIn bidMax recordBid) recordSize table (suc i) n)) e in
+        let p = or2 (sameBid (fieldIn bidMax recordBid (entryAt recordLen table i)) b) (among b (entriesFrom (fieldIn bidMax recordBid) recordLen table (suc i) n)) e in
         go (p .0) (eqb j i) refl (among-at b n (suc i) (p .1) j)
       where
-        go : sameBid (fieldIn bidMax recordBid (entryAt recordSize table i)) b ≡ false → (d : Bool) → eqb j i ≡ d
-            → (suc i ≤ j → j < suc i + n → sameBid (fieldIn bidMax recordBid (entryAt recordSize table j)) b ≡ false) → sameBid (fieldIn bidMax recordBid (entryAt recordSize table j)) b ≡ false
-        go p true q ih = ap (λ (x : ℕ). sameBid (fieldIn bidMax recordBid (entryAt recordSize table x)) b) (eqb-true j i q) ∙ p
+        go : sameBid (fieldIn bidMax recordBid (entryAt recordLen table i)) b ≡ false → (d : Bool) → eqb j i ≡ d
+            → (suc i ≤ j → j < suc i + n → sameBid (fieldIn bidMax recordBid (entryAt recordLen table j)) b ≡ false) → sameBid (fieldIn bidMax recordBid (entryAt recordLen table j)) b ≡ false
+        go p true q ih = ap (λ (x : ℕ). sameBid (fieldIn bidMax recordBid (entryAt recordLen table x)) b) (eqb-true j i q) ∙ p
         go p false q ih = let z = eqb-false j i q in ih (omega arith) (omega arith)
 
-    apart : (i k : ℕ) → i < k → k < recordCount table → sameBid (fieldIn bidMax recordBid (entryAt recordSize table i)) (fieldIn bidMax recordBid (entryAt recordSize table k)) ≡ false
+    apart : (i k : ℕ) → i < k → k < recordCount table → sameBid (fieldIn bidMax recordBid (entryAt recordLen table i)) (fieldIn bidMax recordBid (entryAt recordLen table k)) ≡ false
     unfolding placeOk
     apart i k h g =
-        let b = fieldIn bidMax recordBid (entryAt recordSize table k) in
+        let b = fieldIn bidMax recordBid (entryAt recordLen table k) in
         among-at b k 0
-        (not-true (among b (entries (fieldIn bidMax recordBid) recordSize table k)) (and2 (recordOk (entryAt recordSize table k) titles names bodies) _ (ok k g) .1)) i
+        (not-true (among b (entries (fieldIn bidMax recordBid) recordLen table k)) (and2 (recordOk (entryAt recordLen table k) titles names bodies) _ (ok k g) .1)) i
         (omega arith) (omega arith)
 
     none-with : (i n j : ℕ) → i < j → j + n ≤ recordCount table
-        → noneWith (fieldIn bidMax recordBid (entryAt recordSize table i)) (entriesFrom (recordOf titles names bodies) recordSize table j n) ≡ true
+        → noneWith (fieldIn bidMax recordBid (entryAt recordLen table i)) (entriesFrom (recordOf titles names bodies) recordLen table j n) ≡ true
     none-with i zero j h g = refl
     none-with i (suc n) j h g =
-        both (not (sameBid (fieldIn bidMax recordBid (entryAt recordSize table i)) (fieldIn bidMax recordBid (entryAt recordSize table j)))) _
+        both (not (sameBid (fieldIn bidMax recordBid (entryAt recordLen table i)) (fieldIn bidMax recordBid (entryAt recordLen table j)))) _
         (ap not (apart i j h (omega arith))) (none-with i n (suc j) (omega arith) (omega arith))
 
-    distinct : (n i : ℕ) → i + n ≤ recordCount table → distinctBids (entriesFrom (recordOf titles names bodies) recordSize table i n) ≡ true
+    distinct : (n i : ℕ) → i + n ≤ recordCount table → distinctBids (entriesFrom (recordOf titles names bodies) recordLen table i n) ≡ true
     distinct zero i h = refl
     distinct (suc n) i h =
-        both (noneWith (fieldIn bidMax recordBid (entryAt recordSize table i)) (entriesFrom (recordOf titles names bodies) recordSize table (suc i) n)) _
+        both (noneWith (fieldIn bidMax recordBid (entryAt recordLen table i)) (entriesFrom (recordOf titles names bodies) recordLen table (suc i) n)) _
         (none-with i n (suc i) (omega arith) (omega arith)) (distinct n (suc i) (omega arith))
 
   -- THE LAWS of a table without a fault
@@ -170,9 +170,9 @@ module _ (table titles names bodies : Bytes) where
   unfolding recordsOf
   table-good e =
       let ok = all-ok e in
-      let n = entries-length (recordOf titles names bodies) recordSize table 0 (recordCount table) in
+      let n = entries-length (recordOf titles names bodies) recordLen table 0 (recordCount table) in
       record {
-        few = le-leb (length (entries (recordOf titles names bodies) recordSize table (recordCount table))) recordLimit (omega arith);
+        few = le-leb (length (entries (recordOf titles names bodies) recordLen table (recordCount table))) recordLimit (omega arith);
         fields = all-proposable ok (recordCount table) 0 (omega arith);
         bids = distinct ok (recordCount table) 0 (omega arith);
       }
@@ -181,9 +181,9 @@ module _ (table titles names bodies : Bytes) where
   pub table-reads-back : tableFault table titles names bodies ≡ noPlace → (i : ℕ) → i < recordCount table → ReadsBack (recordAt (recordsOf titles names bodies table) i)
   unfolding recordsOf
   table-reads-back e i h =
-      let c = entryAt recordSize table i in
+      let c = entryAt recordLen table i in
       let ok = record-ok (all-ok e) i h in
-      rw (entries-at (recordOf titles names bodies) recordSize table (recordCount table) i noRecord h)
+      rw (entries-at (recordOf titles names bodies) recordLen table (recordCount table) i noRecord h)
       (reads-back (recordOf titles names bodies c) (record-proposable c titles names bodies ok)
       (ap (λ (w : Bytes). sendable (recordOf titles names bodies c .form) w (recordOf titles names bodies c .body)) (sym (read-back.heading-is (recordOf titles names bodies c .form) (recordOf titles names bodies c)))
       ∙ record-sendable c titles names bodies ok))
@@ -193,5 +193,5 @@ module _ (table titles names bodies : Bytes) where
       → sendable (recordAt (recordsOf titles names bodies table) i .form) (headingFor (recordAt (recordsOf titles names bodies table) i .form) (recordAt (recordsOf titles names bodies table) i)) (recordAt (recordsOf titles names bodies table) i .body) ≡ true
   unfolding recordsOf
   table-sendable e i h =
-      rw (entries-at (recordOf titles names bodies) recordSize table (recordCount table) i noRecord h)
-      (record-sendable (entryAt recordSize table i) titles names bodies (record-ok (all-ok e) i h))
+      rw (entries-at (recordOf titles names bodies) recordLen table (recordCount table) i noRecord h)
+      (record-sendable (entryAt recordLen table i) titles names bodies (record-ok (all-ok e) i h))

@@ -13,7 +13,7 @@ use Rattle.mail.specs.Mail.{recordLimit, placeLimit}
 use Rattle.session.specs.Session as on-lists
 use Rattle.demand3.specs.Demand.{GoodTable}
 use Rattle.places.specs.Places.{entryLen, knownLen, partners, recordLen, sessionLen}
-use Rattle.session_memory.specs.State.{sessionSize, loadOf, saveSizes, freshOf}
+use Rattle.session_memory.specs.State.{loadOf, saveSizes, freshOf}
 use Rattle.session_memory.specs.Session.{Session}
 use Rattle.session_memory.proofs.Laws.{Sized, load-save, load-sizes, sizes-length, save-sizes-kept}
 use Rattle.entries.specs.Decoded.{placeCount, recordCount, knownLimit}
@@ -76,7 +76,7 @@ module _ (M : OpenCall) where
   unfolding sizesOk
   accepted e =
       let p = open-passed (lendingOf M) e in
-      let q₁ = and2 (eqb (length (m .sm)) sessionSize) _ (p .before .sizes) in
+      let q₁ = and2 (eqb (length (m .sm)) sessionLen) _ (p .before .sizes) in
       let q₂ = and2 (entriesOk (length (m .table)) recordLen recordLimit) _ (q₁ .1) in
       let q₃ = and2 (entriesOk (length (F .known)) knownLen knownLimit) (entriesOk (length (m .inbox)) entryLen placeLimit) (q₂ .1) in
       let t = entries-are (length (m .table)) recordLen recordLimit (q₂ .0) in
@@ -84,7 +84,7 @@ module _ (M : OpenCall) where
       let i = entries-are (length (m .inbox)) entryLen placeLimit (q₃ .1) in
       record {
         partner = p .before .partner;
-        session = eqb-true (length (m .sm)) sessionSize (q₁ .0);
+        session = eqb-true (length (m .sm)) sessionLen (q₁ .0);
         table = (omega arith, omega arith);
         known = omega arith;
         inbox = (omega arith, i .1);

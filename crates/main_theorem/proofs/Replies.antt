@@ -13,7 +13,7 @@ use Rattle.grammar.proofs.Basics.{and2, no-both, by-cond}
 use Rattle.buffer.specs.Put.{wrote, cut, putBytes}
 use Rattle.buffer.proofs.Laws.{wrote-nil}
 use Rattle.phase.specs.Phase.{pieceNone, pieceProtocolError, pieceChecksumError, phaseTurn, phaseTransfer, phaseLeaving}
-use Rattle.session_memory.specs.State.{sessionSize, loadOf, loadSizes}
+use Rattle.session_memory.specs.State.{loadOf, loadSizes}
 use Rattle.session_memory.specs.Session.{Session}
 use Rattle.waiting.specs.Waiting.{firstText, thenBy, thenText, waitingOf}
 use Rattle.waiting.proofs.Said.{first-none, first-protocol, first-checksum}
@@ -22,7 +22,7 @@ use Rattle.form_test.specs.Form.{markOk, sameSizes, countsOk, inboxOk, isLast, 
 use Rattle.give.specs.Giving.{Given, reply, handing, giveOf}
 use Rattle.receive_defined.specs.Receiving.{Cs, cs, byteOf, Run, stops, receiveFrom, Received, saved, receiveOf}
 use Rattle.grammar.specs.Turns.{blockLimit}
-use Rattle.places.specs.Places.{partners, lineLen, headingLen}
+use Rattle.places.specs.Places.{partners, lineLen, headingLen, sessionLen}
 use Rattle.marking.specs.States.{StatesOnly}
 use Rattle.marking.proofs.States.{only-same}
 use Rattle.form_test.specs.Form.{markOk, sameSizes, countsOk, stateOk, formOf}
@@ -57,7 +57,7 @@ closed-line : (F : Fixed) (m : Lent) → passes F m ≡ true → ltb phaseLeavin
 unfolding formOf stateOk waitingOf thenText
 closed-line F m e f =
     let s : Session = loadOf (m .sm) in
-    let e₁ = and2 (eqb (length (m .sm)) sessionSize) _ e in
+    let e₁ = and2 (eqb (length (m .sm)) sessionLen) _ e in
     let e₂ = and2 (markOk (m .sm)) _ (e₁ .1) in
     let e₃ = and2 (sameSizes (loadSizes (m .sm)) (lentSizes (m .table) (F .titles) (F .names) (F .bodies) (F .known) (m .inbox) (m .store))) _ (e₂ .1) in
     let e₄ = and2 (countsOk s) _ (e₃ .1) in
@@ -121,7 +121,7 @@ module _ (F : Fixed) (m : Lent) where
     unfolding formOf stateOk countsOk
     column-named e =
         let s = loadOf (m .sm) in
-        let e₁ = and2 (eqb (length (m .sm)) sessionSize) _ e in
+        let e₁ = and2 (eqb (length (m .sm)) sessionLen) _ e in
         let e₂ = and2 (markOk (m .sm)) _ (e₁ .1) in
         let e₃ = and2 (sameSizes (loadSizes (m .sm)) (sizesOf F m)) _ (e₂ .1) in
         let e₄ = and2 (countsOk s) _ (e₃ .1) in

@@ -19,7 +19,7 @@ use Rattle.demand3.specs.Demand as on-lists-run
 use Rattle.demand3.specs.Demand.{allProposable}
 use Rattle.demand3.specs.Tally as on-lists-tally
 use Rattle.demand3.proofs.Tally.{tally-on-lists}
-use Rattle.layout.specs.Layout.{recordOf, recordSize}
+use Rattle.layout.specs.Layout.{recordOf}
 use Rattle.entries.specs.Decoded.{recordCount, recordsOf}
 use Rattle.entries.proofs.Laws.{entries-length}
 use Rattle.marking.specs.States.{statesOf}
@@ -34,6 +34,7 @@ use Rattle.main_theorem.specs.Calls.{OpenCall, openedBy}
 use Rattle.main_theorem.specs.Demand3.{CallsOn, finally}
 use Rattle.main_theorem.specs.Tally.{Tallied, TallyClaim}
 use Rattle.main_theorem.proofs.Demand3.{F, E, caller, states, open-as, ran, states-held, in-order}
+use Rattle.places.specs.Places.{recordLen}
 
 -- ---------------------------------------------------------------- sums of sizes
 
@@ -56,7 +57,7 @@ sizes-small (r ∷ T) (x ∷ st) e = go (eqb x 0) (sizes-small T st (p .1))
 -- a state for each record
 states-each : (ti na bo t : Bytes) (p : ℕ) → length (statesOf p t) ≡ length (recordsOf ti na bo t)
 unfolding recordsOf
-states-each ti na bo t p = states-length p t ∙ sym (entries-length (recordOf ti na bo) recordSize t 0 (recordCount t))
+states-each ti na bo t p = states-length p t ∙ sym (entries-length (recordOf ti na bo) recordLen t 0 (recordCount t))
 
 -- ---------------------------------------------------------------- bytes and counts
 

@@ -6,7 +6,7 @@ use Prim.Native.Nat.{ℕ, _<_}
 use lib.ListN.{length, take, drop}
 use Rattle.grammar.specs.Bytes.{Bytes, every, isByte, wordValues}
 use Rattle.log.specs.Log.{Event, took, gave}
-use Rattle.session_memory.specs.State.{sessionSize, loadOf}
+use Rattle.session_memory.specs.State.{loadOf}
 use Rattle.session_memory.specs.declared.Sizes.{Sizes}
 use Rattle.form_test.specs.Form.{sameSizes, lentSizes, formOf}
 use Rattle.give.specs.Giving.{Given, giveOf}
@@ -18,6 +18,7 @@ use Rattle.receive_defined.specs.Receiving.{Received, unchanged, receiveOf}
 use Rattle.form_closed.specs.Fixed.{Fixed, fixedOf}
 use Rattle.form_closed.specs.Columns.{partnerOf}
 use Rattle.represents.specs.Frame.{reachOf}
+use Rattle.places.specs.Places.{sessionLen}
 use lib.Dec.{eqb}
 
 -- ---------------------------------------------------------------- lent memory
@@ -96,7 +97,7 @@ ownAfter (otherBytes x) sm y = sm
 -- "a lent size isn't the one open kept in session memory", or session memory isn't "bytes of one fixed size". z: the sizes that open kept; y: those lent
 abbrev pub anotherSize : Sizes → SessionLent → Sizes → Bool
 anotherSize z itsOwn y = not (sameSizes z y)
-anotherSize z (otherBytes x) y = not (eqb (length x) sessionSize)
+anotherSize z (otherBytes x) y = not (eqb (length x) sessionLen)
 
 -- Other memory than that of the sizes z: at least one size is another, that of session memory included.
 pub record Other (z : Sizes) : Type 0 where

@@ -4,13 +4,13 @@ use mathlib.Core.List.{List}
 use Prim.Native.Nat.{ℕ, _*_}
 use lib.ListN.{length, take, drop}
 use Rattle.log.specs.Log.{Event, Log, log}
-use Rattle.layout.specs.Layout.{entrySize}
 use Rattle.entries.specs.Decoded.{recordsOf}
 use Rattle.grammar.specs.Refusals.{badMemory, noPlace}
 use Rattle.give.specs.Giving.{reply}
 use Rattle.represents.specs.Laid.{entriesBytes, bodiesBytes}
 use Rattle.marking.specs.States.{withStates}
 use Rattle.main_theorem.specs.Calls.{Lent, Buffer, OpenCall, fixedIn, lentIn, Other, Call, openedBy, received, given, sizesOf, lentSession, messageCount, storeReach, withSession, unchangedBy, instead, run, isCaller, statesIn}
+use Rattle.places.specs.Places.{entryLen}
 
 -- "and after it every list of receive and give calls, refused ones included, with whatever bytes and buffers"
 abbrev pub CallsOn : OpenCall → Type 0
@@ -35,12 +35,12 @@ pub record Demand3 (M : OpenCall) (cs : CallsOn M) : Type 0 where
   -- "and the inbox up to its count is the log's messages kept, in order: form, type as a capital, from, at, to, BID, title or name, and
   -- body", byte for byte as docs/MEMORY.md lays them out
   pub count : messageCount (finally M cs) ≡ length (logged M cs .book .kept)
-  pub inbox : take (length (logged M cs .book .kept) * entrySize) (finally M cs .inbox) ≡ entriesBytes 0 (logged M cs .book .kept)
+  pub inbox : take (length (logged M cs .book .kept) * entryLen) (finally M cs .inbox) ≡ entriesBytes 0 (logged M cs .book .kept)
   pub bodies : take (length (bodiesBytes (logged M cs .book .kept))) (finally M cs .store) ≡ bodiesBytes (logged M cs .book .kept)
   -- Beyond demand 3's words. Of the inbox store: past the bytes written so far, "the rest is untouched"; each byte of it stands in Store
   pub rest : drop (storeReach (finally M cs)) (finally M cs .store) ≡ drop (storeReach (finally M cs)) (M .store .bytes)
   -- and of the inbox, "so are inbox places past the count"
-  pub places : drop (messageCount (finally M cs) * entrySize) (finally M cs .inbox) ≡ drop (messageCount (finally M cs) * entrySize) (M .inbox .bytes)
+  pub places : drop (messageCount (finally M cs) * entryLen) (finally M cs .inbox) ≡ drop (messageCount (finally M cs) * entryLen) (M .inbox .bytes)
   -- and a call that is lent memory of another size, session memory or whichever buffer, answers 1 with place 255 and count 0 and changes none of it
   pub others : (o : Other (sizesOf (fixedIn M) (lentIn M))) (b : Buffer) (place : ℕ)
       → (received (o .fixed) (instead o (finally M cs .sm)) (b .bytes) ≡ unchangedBy (reply badMemory noPlace 0) (instead o (finally M cs .sm)))

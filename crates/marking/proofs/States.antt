@@ -20,7 +20,7 @@ use Rattle.grammar.proofs.Basics.{and2}
 use Rattle.mail.specs.Mail.{Record, marked, recordLimit}
 use Rattle.places.specs.Places.{recordLen, partners, callMax, atMax, bidMax, recordForm, recordType, recordFrom, recordAt, recordTo, recordBid, recordSizeAt, recordTitle, recordTitleLength, recordName, recordNameLength, recordBody, recordBodyLength}
 use Rattle.phase.specs.Phase.{stateForwarded}
-use Rattle.layout.specs.Layout.{byteAt, le2At, le4At, fieldIn, entryAt, recordSize, recordOf, statePlace, stateFor, stateOf}
+use Rattle.layout.specs.Layout.{byteAt, le2At, le4At, fieldIn, entryAt, recordOf, statePlace, stateFor, stateOf}
 use Rattle.layout.proofs.Places.{part-in}
 use Rattle.entries.specs.Decoded.{entries, recordCount, recordsOf}
 use Rattle.entries.proofs.Laws.{entries-length, entries-at, entries-same}
@@ -106,7 +106,7 @@ module _ (p : ℕ) (t : Bytes) (i v : ℕ) where
   byte-other j h = getD-set-other t (i * recordLen + statePlace p) j v 0 h
 
   module _ (column : p < partners) where
-    entry-other : (j : ℕ) → (j ≡ i → ⊥) → entryAt recordSize (setState p t i v) j ≡ entryAt recordSize t j
+    entry-other : (j : ℕ) → (j ≡ i → ⊥) → entryAt recordLen (setState p t i v) j ≡ entryAt recordLen t j
     unfolding setState
     entry-other j ne = rw (length-set t (i * recordLen + statePlace p) v) (ap (λ (l : Bytes). cond (leb (j * recordLen) (length t)) (cond (leb recordLen (length t - j * recordLen)) l []) []) (go (ltb j i) refl))
       where
@@ -117,7 +117,7 @@ module _ (p : ℕ) (t : Bytes) (i v : ℕ) where
             rw (k, drop-set-add (j * recordLen) t ((i - j) * recordLen + statePlace p) v) (take-set-le recordLen (drop (j * recordLen) t) ((i - j) * recordLen + statePlace p) v (omega arith))
         go false e = let h = ltb-false j i e in ap (take recordLen) (drop-set-lt (j * recordLen) t (i * recordLen + statePlace p) v (omega arith))
 
-    entry-same : entryAt recordSize (setState p t i v) i ≡ set (entryAt recordSize t i) (statePlace p) v
+    entry-same : entryAt recordLen (setState p t i v) i ≡ set (entryAt recordLen t i) (statePlace p) v
     unfolding setState
     entry-same =
         rw (length-set t (i * recordLen + statePlace p) v)
@@ -137,15 +137,15 @@ pub records-set : (ti na bo : Bytes) (p : ℕ) (t : Bytes) (i v : ℕ) → p < p
 unfolding recordsOf
 records-set ti na bo p t i v l =
     rw (state-length p t i v)
-    (entries-same (recordOf ti na bo) (recordOf ti na bo) recordSize (setState p t i v) t 0 (recordCount t) (λ j h. go j (eqb j i) refl))
+    (entries-same (recordOf ti na bo) (recordOf ti na bo) recordLen (setState p t i v) t 0 (recordCount t) (λ j h. go j (eqb j i) refl))
   where
-    go : (j : ℕ) (c : Bool) → eqb j i ≡ c → recordOf ti na bo (entryAt recordSize (setState p t i v) j) ≡ recordOf ti na bo (entryAt recordSize t j)
+    go : (j : ℕ) (c : Bool) → eqb j i ≡ c → recordOf ti na bo (entryAt recordLen (setState p t i v) j) ≡ recordOf ti na bo (entryAt recordLen t j)
     go j true e =
-        subst (λ (k : ℕ). recordOf ti na bo (entryAt recordSize (setState p t i v) k) ≡ recordOf ti na bo (entryAt recordSize t k)) (sym (eqb-true j i e))
-        (ap (recordOf ti na bo) (entry-same p t i v l) ∙ record-beside ti na bo (entryAt recordSize t i) p v l)
+        subst (λ (k : ℕ). recordOf ti na bo (entryAt recordLen (setState p t i v) k) ≡ recordOf ti na bo (entryAt recordLen t k)) (sym (eqb-true j i e))
+        (ap (recordOf ti na bo) (entry-same p t i v l) ∙ record-beside ti na bo (entryAt recordLen t i) p v l)
     go j false e = ap (recordOf ti na bo) (entry-other p t i v l j (eqb-false j i e))
 
-pub entry-whole : (t : Bytes) (j : ℕ) → Whole t → j < recordCount t → entryAt recordSize t j ≡ take recordLen (drop (j * recordLen) t)
+pub entry-whole : (t : Bytes) (j : ℕ) → Whole t → j < recordCount t → entryAt recordLen t j ≡ take recordLen (drop (j * recordLen) t)
 entry-whole t j w h = part-in t (j * recordLen) recordLen (omega (arith, w))
 
 -- ---------------------------------------------------------------- the states are read
@@ -154,15 +154,15 @@ module _ (p : ℕ) (t : Bytes) where
   -- a state for each record
   pub states-length : length (statesOf p t) ≡ recordCount t
   unfolding statesOf
-  states-length = entries-length (stateFor p) recordSize t 0 (recordCount t)
+  states-length = entries-length (stateFor p) recordLen t 0 (recordCount t)
 
   -- that of record i is what its bytes hold
-  pub state-read : (i : ℕ) → i < recordCount t → getD (statesOf p t) i 0 ≡ stateFor p (entryAt recordSize t i)
+  pub state-read : (i : ℕ) → i < recordCount t → getD (statesOf p t) i 0 ≡ stateFor p (entryAt recordLen t i)
   unfolding statesOf
-  state-read i h = entries-at (stateFor p) recordSize t (recordCount t) i 0 h
+  state-read i h = entries-at (stateFor p) recordLen t (recordCount t) i 0 h
 
   -- record by record, up to the last one
-  pub states-next : (i : ℕ) → i < recordCount t → drop i (statesOf p t) ≡ stateFor p (entryAt recordSize t i) ∷ drop (i + 1) (statesOf p t)
+  pub states-next : (i : ℕ) → i < recordCount t → drop i (statesOf p t) ≡ stateFor p (entryAt recordLen t i) ∷ drop (i + 1) (statesOf p t)
   states-next i h =
       rw (add-one i)
       (drop-cons (statesOf p t) i 0 (rw states-length h) ∙ ap (λ (x : ℕ). x ∷ drop (suc i) (statesOf p t)) (state-read i h))
@@ -187,9 +187,9 @@ pub states-set : (p : ℕ) (t : Bytes) (i v : ℕ) → p < partners → Whole t 
 unfolding statesOf stateFor
 states-set p t i v b w =
     rw (state-length p t i v)
-    (ext-getD 0 (entries state recordSize u n) (set (entries state recordSize t n) i v)
-    (entries-length state recordSize u 0 n ∙ sym (length-set (entries state recordSize t n) i v ∙ entries-length state recordSize t 0 n))
-    (λ j h. go j (subst (λ (k : ℕ). j < k) (entries-length state recordSize u 0 n) h) (eqb j i) refl))
+    (ext-getD 0 (entries state recordLen u n) (set (entries state recordLen t n) i v)
+    (entries-length state recordLen u 0 n ∙ sym (length-set (entries state recordLen t n) i v ∙ entries-length state recordLen t 0 n))
+    (λ j h. go j (subst (λ (k : ℕ). j < k) (entries-length state recordLen u 0 n) h) (eqb j i) refl))
   where
     n : ℕ
     n = recordCount t
@@ -201,19 +201,19 @@ states-set p t i v b w =
     state = stateFor p
 
     go : (j : ℕ) → j < recordCount t → (c : Bool) → eqb j i ≡ c
-        → getD (entries state recordSize u (recordCount t)) j 0 ≡ getD (set (entries state recordSize t (recordCount t)) i v) j 0
+        → getD (entries state recordLen u (recordCount t)) j 0 ≡ getD (set (entries state recordLen t (recordCount t)) i v) j 0
     go j h true e =
-        subst (λ (k : ℕ). getD (entries state recordSize u (recordCount t)) k 0 ≡ getD (set (entries state recordSize t (recordCount t)) i v) k 0) (sym (eqb-true j i e))
+        subst (λ (k : ℕ). getD (entries state recordLen u (recordCount t)) k 0 ≡ getD (set (entries state recordLen t (recordCount t)) i v) k 0) (sym (eqb-true j i e))
         (here (subst (λ (k : ℕ). k < recordCount t) (eqb-true j i e) h))
       where
-        here : i < recordCount t → getD (entries state recordSize u (recordCount t)) i 0 ≡ getD (set (entries state recordSize t (recordCount t)) i v) i 0
+        here : i < recordCount t → getD (entries state recordLen u (recordCount t)) i 0 ≡ getD (set (entries state recordLen t (recordCount t)) i v) i 0
         here k =
-            let l : length (entryAt recordSize t i) ≡ recordLen = rw (entry-whole t i w k) (simp (length-take, length-drop) (omega (arith, w))) in
-            entries-at state recordSize u n i 0 k ∙ ap state (entry-same p t i v b) ∙ getD-set-same (entryAt recordSize t i) (statePlace p) v 0 (omega (arith, l))
-            ∙ sym (getD-set-same (entries state recordSize t n) i v 0 (omega (arith, entries-length state recordSize t 0 n)))
+            let l : length (entryAt recordLen t i) ≡ recordLen = rw (entry-whole t i w k) (simp (length-take, length-drop) (omega (arith, w))) in
+            entries-at state recordLen u n i 0 k ∙ ap state (entry-same p t i v b) ∙ getD-set-same (entryAt recordLen t i) (statePlace p) v 0 (omega (arith, l))
+            ∙ sym (getD-set-same (entries state recordLen t n) i v 0 (omega (arith, entries-length state recordLen t 0 n)))
     go j h false e =
-        entries-at state recordSize u n j 0 h ∙ ap state (entry-other p t i v b j (eqb-false j i e)) ∙ sym (entries-at state recordSize t n j 0 h)
-        ∙ sym (getD-set-other (entries state recordSize t n) i j v 0 (eqb-false j i e))
+        entries-at state recordLen u n j 0 h ∙ ap state (entry-other p t i v b j (eqb-false j i e)) ∙ sym (entries-at state recordLen t n j 0 h)
+        ∙ sym (getD-set-other (entries state recordLen t n) i j v 0 (eqb-false j i e))
 
 -- ---------------------------------------------------------------- states at several places
 

@@ -5,20 +5,21 @@ use mathlib.Core.List.{List, [], _∷_}
 use Prim.Native.Nat.{ℕ, suc, _+_, _*_, _%_}
 use lib.ListN.{length, set}
 use Rattle.grammar.specs.Bytes.{Bytes}
-use Rattle.layout.specs.Layout.{byteAt, recordSize, statePlace, stateFor}
+use Rattle.layout.specs.Layout.{byteAt, statePlace, stateFor}
 use Rattle.entries.specs.Decoded.{entries, recordCount}
+use Rattle.places.specs.Places.{recordLen}
 
 -- The table's states for partner p, a state a record.
 unfoldable pub statesOf : ℕ → Bytes → List ℕ
-statesOf p table = entries (stateFor p) recordSize table (recordCount table)
+statesOf p table = entries (stateFor p) recordLen table (recordCount table)
 
 -- Byte i of the table is a state for partner p.
 abbrev pub InColumn : ℕ → ℕ → Type 0
-InColumn p i = i % recordSize ≡ statePlace p
+InColumn p i = i % recordLen ≡ statePlace p
 
 -- Record i gets this state for partner p.
 unfoldable pub setState : ℕ → Bytes → ℕ → ℕ → Bytes
-setState p table i v = set table (i * recordSize + statePlace p) v
+setState p table i v = set table (i * recordLen + statePlace p) v
 
 -- The records at these places get this state for partner p; "Nothing else in the table changes."
 abbrev pub markAll : ℕ → List ℕ → ℕ → Bytes → Bytes
@@ -36,7 +37,7 @@ withStates p states table = withStatesFrom p 0 states table
 
 -- A table of whole records.
 abbrev pub Whole : Bytes → Type 0
-Whole t = length t ≡ recordCount t * recordSize
+Whole t = length t ≡ recordCount t * recordLen
 
 -- Of two tables: only states for partner p may differ.
 pub record StatesOnly (p : ℕ) (was is : Bytes) : Type 0 where

@@ -14,8 +14,8 @@ use Rattle.grammar.specs.Refusals.{badMemory, noPlace}
 use Rattle.grammar.proofs.Basics.{and2, told, told-not}
 use Rattle.session.specs.Choices.{among}
 use Rattle.phase.specs.Phase.{stateDeclined}
-use Rattle.layout.specs.Layout.{fieldIn, entryAt, recordSize, knownSize, stateFor}
-use Rattle.session_memory.specs.State.{sessionSize, saveOf, saveSizes, freshOf}
+use Rattle.layout.specs.Layout.{fieldIn, entryAt, stateFor}
+use Rattle.session_memory.specs.State.{saveOf, saveSizes, freshOf}
 use Rattle.session_memory.specs.declared.Sizes.{Sizes}
 use Rattle.session_memory.specs.declared.Tally.{Tally}
 use Rattle.sheet.specs.Sheet.{noSheet}
@@ -24,7 +24,7 @@ use Rattle.session_memory.proofs.Laws.{sizes-length}
 use Rattle.entries.specs.Decoded.{entries}
 use Rattle.give.specs.Giving.{reply}
 use Rattle.give.specs.declared.Reply.{Reply}
-use Rattle.places.specs.Places.{bidMax, recordBid}
+use Rattle.places.specs.Places.{bidMax, recordBid, knownLen, recordLen, sessionLen}
 use Rattle.open.specs.Lending.{Lending, roleCaller}
 use Rattle.open.specs.Opening.{lengthOk, statesFrom, within, recordOk, placeOk, faultFrom, bidsOk, sizesOk, Opened, opened, sizesLent, faultIn, beforeOk, openBy, openOf}
 use Rattle.open.proofs.Accepted.{before-told}
@@ -46,22 +46,22 @@ module _ (bodies : Bytes) (form : Form) (start len S L : ℕ) (a : start ≡ S) 
 
 -- ---------------------------------------------------------------- a record at its place
 
-module _ (table titles names bodies : Bytes) (i : ℕ) (c : Bytes) (e : c ≡ entryAt recordSize table i) {t : Bool} (f : t ≡ recordOk c titles names bodies) where
+module _ (table titles names bodies : Bytes) (i : ℕ) (c : Bytes) (e : c ≡ entryAt recordLen table i) {t : Bool} (f : t ≡ recordOk c titles names bodies) where
   abbrev others : Bool
-  others = not (among (fieldIn bidMax recordBid (entryAt recordSize table i)) (entries (fieldIn bidMax recordBid) recordSize table i))
+  others = not (among (fieldIn bidMax recordBid (entryAt recordLen table i)) (entries (fieldIn bidMax recordBid) recordLen table i))
 
-  there : t ≡ recordOk (entryAt recordSize table i) titles names bodies
+  there : t ≡ recordOk (entryAt recordLen table i) titles names bodies
   there = f ∙ ap (λ (x : Bytes). recordOk x titles names bodies) e
 
   pub place-bad : not t ≡ true → false ≡ placeOk table titles names bodies i
   unfolding placeOk
   place-bad h = sym (ap (λ (x : Bool). x && others) (told-not there h))
 
-  pub place-new : not t ≡ false → (b : Bytes) → b ≡ fieldIn bidMax recordBid c → {u : Bool} → u ≡ among b (entries (fieldIn bidMax recordBid) recordSize table i)
+  pub place-new : not t ≡ false → (b : Bytes) → b ≡ fieldIn bidMax recordBid c → {u : Bool} → u ≡ among b (entries (fieldIn bidMax recordBid) recordLen table i)
       → not u ≡ placeOk table titles names bodies i
   unfolding placeOk
   place-new h b g k =
-      ap not (k ∙ ap (λ (x : Bytes). among x (entries (fieldIn bidMax recordBid) recordSize table i)) (g ∙ ap (fieldIn bidMax recordBid) e))
+      ap not (k ∙ ap (λ (x : Bytes). among x (entries (fieldIn bidMax recordBid) recordLen table i)) (g ∙ ap (fieldIn bidMax recordBid) e))
       ∙ sym (ap (λ (x : Bool). x && others) (told there h))
 
 -- ---------------------------------------------------------------- the known BIDs from place i on
@@ -70,17 +70,17 @@ abbrev bidOk : Bytes → Bool
 bidOk c = lengthOk c 0 bidMax && isBid (fieldIn bidMax 0 c)
 
 module _ (known : Bytes) (i n : ℕ) where
-  bids-next : i < n → bidsOk known i (n - i) ≡ (bidOk (entryAt knownSize known i) && bidsOk known (i + 1) (n - (i + 1)))
+  bids-next : i < n → bidsOk known i (n - i) ≡ (bidOk (entryAt knownLen known i) && bidsOk known (i + 1) (n - (i + 1)))
   bids-next h =
       let e : n - i ≡ suc (n - (i + 1)) = omega arith in
       rw (e, add-one i)
 
-  pub bids-more : i < n → (c : Bytes) → c ≡ entryAt knownSize known i → {t : Bool} → t ≡ bidOk c → not t ≡ false
+  pub bids-more : i < n → (c : Bytes) → c ≡ entryAt knownLen known i → {t : Bool} → t ≡ bidOk c → not t ≡ false
       → bidsOk known i (n - i) ≡ bidsOk known (i + 1) (n - (i + 1))
   bids-more h c e f g =
       bids-next h ∙ ap (λ (x : Bool). x && bidsOk known (i + 1) (n - (i + 1))) (told (f ∙ ap bidOk e) g)
 
-  pub bids-stop : i < n → (c : Bytes) → c ≡ entryAt knownSize known i → {t : Bool} → t ≡ bidOk c → not t ≡ true → false ≡ bidsOk known i (n - i)
+  pub bids-stop : i < n → (c : Bytes) → c ≡ entryAt knownLen known i → {t : Bool} → t ≡ bidOk c → not t ≡ true → false ≡ bidsOk known i (n - i)
   bids-stop h c e f g =
       sym (bids-next h ∙ ap (λ (x : Bool). x && bidsOk known (i + 1) (n - (i + 1))) (told-not (f ∙ ap bidOk e) g))
 
@@ -164,7 +164,7 @@ module _ (L : Lending) where
           ∙ by-records (eq-eqb (faultIn L) noPlace (sym q ∙ d))
 
 -- the size that was tested, after the sizes are saved
-pub size-told : (L : Lending) {b : Bool} → b ≡ beforeOk L → not b ≡ false → (z : Sizes) {m : Bytes} → m ≡ saveSizes (L .session) z → length m ≡ sessionSize
+pub size-told : (L : Lending) {b : Bool} → b ≡ beforeOk L → not b ≡ false → (z : Sizes) {m : Bytes} → m ≡ saveSizes (L .session) z → length m ≡ sessionLen
 unfolding sizesOk
 size-told L e h z f =
-    ap length f ∙ sizes-length (L .session) z ∙ eqb-true (length (L .session)) sessionSize (and2 (eqb (length (L .session)) sessionSize) _ (before-told L (told e h) .sizes) .0)
+    ap length f ∙ sizes-length (L .session) z ∙ eqb-true (length (L .session)) sessionLen (and2 (eqb (length (L .session)) sessionLen) _ (before-told L (told e h) .sizes) .0)

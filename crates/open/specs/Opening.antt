@@ -12,10 +12,10 @@ use Rattle.grammar.specs.Transfers.{partOf}
 use Rattle.mail.specs.Mail.{recordLimit, placeLimit}
 use Rattle.session.specs.Choices.{among}
 use Rattle.phase.specs.Phase.{stateDeclined}
-use Rattle.places.specs.Places.{atMax, bidMax, callMax, partners, recordAt, recordBid, recordBody, recordBodyLength, recordForm, recordFrom, recordName, recordNameLength, recordSizeAt, recordTitle, recordTitleLength, recordTo, recordType}
-use Rattle.layout.specs.Layout.{byteAt, le2At, le4At, fieldIn, entryAt, recordSize, knownSize, entrySize, stateFor}
+use Rattle.places.specs.Places.{atMax, bidMax, callMax, partners, recordAt, recordBid, recordBody, recordBodyLength, recordForm, recordFrom, recordName, recordNameLength, recordSizeAt, recordTitle, recordTitleLength, recordTo, recordType, entryLen, knownLen, recordLen, sessionLen}
+use Rattle.layout.specs.Layout.{byteAt, le2At, le4At, fieldIn, entryAt, stateFor}
 use Rattle.record_text.specs.Texts.{fileForm}
-use Rattle.session_memory.specs.State.{sessionSize, saveOf, saveSizes, freshOf}
+use Rattle.session_memory.specs.State.{saveOf, saveSizes, freshOf}
 use Rattle.session_memory.specs.Session.{Session}
 use Rattle.session_memory.specs.declared.Sizes.{Sizes}
 use Rattle.entries.specs.Decoded.{entries, recordCount, knownCount, knownLimit}
@@ -73,8 +73,8 @@ recordOk c titles names bodies = numbersOk c && (fieldsOk c && textsOk c titles 
 -- The record at this place is good, and no earlier one has its BID.
 unfoldable pub placeOk : Bytes → Bytes → Bytes → Bytes → ℕ → Bool
 placeOk table titles names bodies i =
-    recordOk (entryAt recordSize table i) titles names bodies
-    && not (among (fieldIn bidMax recordBid (entryAt recordSize table i)) (entries (fieldIn bidMax recordBid) recordSize table i))
+    recordOk (entryAt recordLen table i) titles names bodies
+    && not (among (fieldIn bidMax recordBid (entryAt recordLen table i)) (entries (fieldIn bidMax recordBid) recordLen table i))
 
 -- The first bad one of n records from place i on; `noPlace` where there is none.
 abbrev pub faultFrom : Bytes → Bytes → Bytes → Bytes → ℕ → ℕ → ℕ
@@ -91,7 +91,7 @@ tableFault table titles names bodies = faultFrom table titles names bodies 0 (re
 abbrev pub bidsOk : Bytes → ℕ → ℕ → Bool
 bidsOk known i zero = true
 bidsOk known i (suc n) =
-    (lengthOk (entryAt knownSize known i) 0 bidMax && isBid (fieldIn bidMax 0 (entryAt knownSize known i))) && bidsOk known (suc i) n
+    (lengthOk (entryAt knownLen known i) 0 bidMax && isBid (fieldIn bidMax 0 (entryAt knownLen known i))) && bidsOk known (suc i) n
 
 unfoldable pub knownOk : Bytes → Bool
 knownOk known = bidsOk known 0 (knownCount known)
@@ -103,7 +103,7 @@ entriesOk len size most = eqb (len % size) 0 && leb (len / size) most
 
 unfoldable pub sizesOk : Bytes → Bytes → Bytes → Bytes → Bool
 sizesOk sm table known inbox =
-    eqb (length sm) sessionSize && (entriesOk (length table) recordSize recordLimit && (entriesOk (length known) knownSize knownLimit && entriesOk (length inbox) entrySize placeLimit))
+    eqb (length sm) sessionLen && (entriesOk (length table) recordLen recordLimit && (entriesOk (length known) knownLen knownLimit && entriesOk (length inbox) entryLen placeLimit))
 
 -- ---------------------------------------------------------------- the call
 

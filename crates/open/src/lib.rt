@@ -18,11 +18,10 @@ ghost use Rattle.grammar.specs.Fields.{formIs, isCall, isAt, isBid, isBody};
 ghost use Rattle.grammar.specs.Turns.{isType};
 ghost use Rattle.grammar.specs.Transfers.{partOf};
 ghost use Rattle.grammar.specs.Refusals.{badMemory};
-ghost use Rattle.layout.specs.Layout.{byteAt, le2At, le4At, fieldIn, recordSize, knownSize, entrySize};
-ghost use Rattle.session_memory.specs.State.{sessionSize};
+ghost use Rattle.layout.specs.Layout.{byteAt, le2At, le4At, fieldIn};
 ghost use Rattle.entries.specs.Decoded.{recordCount, knownLimit};
 ghost use Rattle.give.specs.Giving.{reply};
-ghost use Rattle.places.specs.Places.{atMax, bidMax, callMax, recordForm, recordTitle, recordTitleLength, recordName, recordNameLength, recordBody, recordBodyLength};
+ghost use Rattle.places.specs.Places.{atMax, bidMax, callMax, recordForm, recordTitle, recordTitleLength, recordName, recordNameLength, recordBody, recordBodyLength, entryLen, knownLen, recordLen, sessionLen};
 ghost use Rattle.mail.specs.Mail.{recordLimit, placeLimit};
 ghost use Rattle.record_text.specs.Texts.{fileForm};
 ghost use Rattle.sheet.specs.Sheet.{noSheet};
@@ -316,7 +315,7 @@ fn entries_ok(len: usize, size: usize, most: usize) -> bool
 
 // The lengths of session memory, table, known list and inbox are good.
 fn sizes_ok(sm: usize, table: usize, known: usize, inbox: usize) -> bool
-    ensures { λ r. ⌜ r ≡ eqb sm sessionSize && (entriesOk table recordSize recordLimit && (entriesOk known knownSize knownLimit && entriesOk inbox entrySize placeLimit)) ⌝ }
+    ensures { λ r. ⌜ r ≡ eqb sm sessionLen && (entriesOk table recordLen recordLimit && (entriesOk known knownLen knownLimit && entriesOk inbox entryLen placeLimit)) ⌝ }
 {
     if sm != places::SESSION {
         return false;
@@ -405,7 +404,7 @@ pub fn open(
     open_memory::save_sizes(sm, z);
     open_memory::save_fresh(sm, role == CALLER, partner, waiting);
     Reply {
-        answer: 0,
+        answer: refusal::NONE,
         place: 0,
         count: 0,
     }

@@ -13,7 +13,7 @@ use Rattle.grammar.specs.Bytes.{Bytes}
 use Rattle.grammar.specs.Fields.{isBid}
 use Rattle.grammar.proofs.Basics.{and2, both}
 use Rattle.places.specs.Places.{bidMax, partners, recordLen, knownLen, entryLen, sessionLen}
-use Rattle.layout.specs.Layout.{byteAt, fieldIn, entryAt, knownSize, knownOf}
+use Rattle.layout.specs.Layout.{byteAt, fieldIn, entryAt, knownOf}
 use Rattle.entries.specs.Decoded.{knownCount, knownBids, knownLimit}
 use Rattle.entries.proofs.Laws.{entries-at, entries-length}
 use Rattle.open.specs.Opening.{lengthOk, bidsOk, knownOk, entriesOk, sizesOk, beforeOk}
@@ -68,7 +68,7 @@ sizes-decide sm table known inbox =
 
 module _ (known : Bytes) where
   abbrev entry : ℕ → Bytes
-  entry j = entryAt knownSize known j
+  entry j = entryAt knownLen known j
 
   abbrev ok : ℕ → Bool
   ok j = lengthOk (entry j) 0 bidMax && isBid (fieldIn bidMax 0 (entry j))
@@ -91,11 +91,11 @@ module _ (L : Lending) where
 
   known-count : length (knownIn L) ≡ count
   unfolding knownBids
-  known-count = entries-length knownOf knownSize (L .known) 0 count
+  known-count = entries-length knownOf knownLen (L .known) 0 count
 
   bid-there : (j : ℕ) → j < count → bidIn L j ≡ fieldIn bidMax 0 (knownBytesIn L j)
   unfolding knownBids
-  bid-there j h = entries-at knownOf knownSize (L .known) count j [] h
+  bid-there j h = entries-at knownOf knownLen (L .known) count j [] h
 
   abbrev Known : Type 0
   Known = (j : ℕ) → j < length (knownIn L) → Field Bid (byteAt (knownBytesIn L j) 0) (bidIn L j)

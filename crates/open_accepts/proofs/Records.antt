@@ -21,8 +21,8 @@ use Rattle.grammar.proofs.Basics.{and2, both, no-both, not-so, or2, or-left, or
 use Rattle.session.specs.Choices.{among}
 use Rattle.mail.specs.Mail.{Record, noRecord}
 use Rattle.phase.specs.Phase.{stateWaiting, stateForwarded, stateDeclined}
-use Rattle.places.specs.Places.{atMax, bidMax, callMax, partners, recordAt, recordBid, recordBody, recordBodyLength, recordForm, recordFrom, recordName, recordNameLength, recordSizeAt, recordTitle, recordTitleLength, recordTo, recordType}
-use Rattle.layout.specs.Layout.{byteAt, le2At, le4At, fieldIn, recordSize, recordOf, stateFor}
+use Rattle.places.specs.Places.{atMax, bidMax, callMax, partners, recordAt, recordBid, recordBody, recordBodyLength, recordForm, recordFrom, recordName, recordNameLength, recordSizeAt, recordTitle, recordTitleLength, recordTo, recordType, recordLen}
+use Rattle.layout.specs.Layout.{byteAt, le2At, le4At, fieldIn, recordOf, stateFor}
 use Rattle.entries.specs.Decoded.{entriesFrom, entries, recordCount, recordsOf}
 use Rattle.entries.proofs.Laws.{entries-at, entries-length}
 use Rattle.marking.proofs.States.{state-read}
@@ -304,11 +304,11 @@ module _ (L : Lending) where
 
   pub records-count : length (recordsIn L) ≡ count
   unfolding recordsOf
-  records-count = entries-length (recordOf (L .titles) (L .names) (L .bodies)) recordSize (L .table) 0 count
+  records-count = entries-length (recordOf (L .titles) (L .names) (L .bodies)) recordLen (L .table) 0 count
 
   record-there : (i : ℕ) → i < count → recordIn L i ≡ recordOf (L .titles) (L .names) (L .bodies) (bytesIn L i)
   unfolding recordsOf
-  record-there i h = entries-at (recordOf (L .titles) (L .names) (L .bodies)) recordSize (L .table) count i noRecord h
+  record-there i h = entries-at (recordOf (L .titles) (L .names) (L .bodies)) recordLen (L .table) count i noRecord h
 
   state-there : (i : ℕ) → i < count → (p : ℕ) → stateIn L p i ≡ stateFor p (bytesIn L i)
   state-there i h p = state-read p (L .table) i h
@@ -317,22 +317,22 @@ module _ (L : Lending) where
   bid-there i h = ap (λ (x : Record). x .bid) (record-there i h)
 
   -- a BID that is none of those before
-  none-before : (b : Bytes) (n i : ℕ) → among b (entriesFrom (fieldIn bidMax recordBid) recordSize (L .table) i n) ≡ false → (j : ℕ) → i ≤ j → j < i + n → sameBid (bidAt j) b ≡ false
+  none-before : (b : Bytes) (n i : ℕ) → among b (entriesFrom (fieldIn bidMax recordBid) recordLen (L .table) i n) ≡ false → (j : ℕ) → i ≤ j → j < i + n → sameBid (bidAt j) b ≡ false
   none-before b zero i e j h k = absurd (omega arith)
   none-before b (suc n) i e j h k =
-      let p = or2 (sameBid (bidAt i) b) (among b (entriesFrom (fieldIn bidMax recordBid) recordSize (L .table) (suc i) n)) e in
+      let p = or2 (sameBid (bidAt i) b) (among b (entriesFrom (fieldIn bidMax recordBid) recordLen (L .table) (suc i) n)) e in
       go (p .0) (eqb j i) refl (none-before b n (suc i) (p .1) j)
     where
       go : sameBid (bidAt i) b ≡ false → (t : Bool) → eqb j i ≡ t → (suc i ≤ j → j < suc i + n → sameBid (bidAt j) b ≡ false) → sameBid (bidAt j) b ≡ false
       go p true q ih = ap (λ (x : ℕ). sameBid (bidAt x) b) (eqb-true j i q) ∙ p
       go p false q ih = let z = eqb-false j i q in ih (omega arith) (omega arith)
 
-  before-none : (b : Bytes) (n i : ℕ) → ((j : ℕ) → i ≤ j → j < i + n → sameBid (bidAt j) b ≡ false) → among b (entriesFrom (fieldIn bidMax recordBid) recordSize (L .table) i n) ≡ false
+  before-none : (b : Bytes) (n i : ℕ) → ((j : ℕ) → i ≤ j → j < i + n → sameBid (bidAt j) b ≡ false) → among b (entriesFrom (fieldIn bidMax recordBid) recordLen (L .table) i n) ≡ false
   before-none b zero i h = refl
   before-none b (suc n) i h = rw (h i (omega arith) (omega arith)) (before-none b n (suc i) (λ j k l. h j (omega arith) (omega arith)))
 
   abbrev earlier : ℕ → Bool
-  earlier i = among (bidAt i) (entries (fieldIn bidMax recordBid) recordSize (L .table) i)
+  earlier i = among (bidAt i) (entries (fieldIn bidMax recordBid) recordLen (L .table) i)
 
   abbrev New : ℕ → Type 0
   New i = (j : ℕ) → j < i → OneBid (recordIn L j .bid) (recordIn L i .bid) → ⊥

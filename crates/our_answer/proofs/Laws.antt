@@ -10,8 +10,8 @@ use lib.Seq.{drop-cons, getD-take, length-take-le}
 use Rattle.grammar.specs.Bytes.{Bytes}
 use Rattle.grammar.specs.Fields.{sameBid}
 use Rattle.session.specs.Choices.{among, proposalBids}
-use Rattle.places.specs.Places.{bidAt, bidMax}
-use Rattle.layout.specs.Layout.{fieldIn, entryAt, proposalSize}
+use Rattle.places.specs.Places.{bidAt, bidMax, proposalLen}
+use Rattle.layout.specs.Layout.{fieldIn, entryAt}
 use Rattle.session_memory.specs.State.{held}
 use Rattle.session_memory.specs.declared.Five.{Five}
 use Rattle.five.specs.Filled.{Filled}
@@ -23,7 +23,7 @@ module _ (bid block : Bytes) (f : Five) (j : ℕ) where
   left k = among bid (proposalBids (proposalsAt block (drop k (held f))))
 
   abbrev bidThere : Bytes
-  bidThere = fieldIn bidMax bidAt (entryAt proposalSize block (getD (f .items) j 0))
+  bidThere = fieldIn bidMax bidAt (entryAt proposalLen block (getD (f .items) j 0))
 
   promised-cons : Filled f → j < f .count → drop j (held f) ≡ getD (f .items) j 0 ∷ drop (j + 1) (held f)
   promised-cons e h =

@@ -16,9 +16,9 @@ use Rattle.grammar.proofs.Basics.{or2}
 use Rattle.grammar.specs.Fields.{bodyLimit}
 use Rattle.mail.specs.Mail.{Message}
 use Rattle.session.specs.Choices.{Shelf, among, recordBids, messageBids, proposalBids, bodyBytes, announced, haveBid, noRoomFor, signFor, withAccepted, answersAfter, answersTo}
-use Rattle.places.specs.Places.{bidAt, bidMax, proposalSizeAt, recordBid}
+use Rattle.places.specs.Places.{bidAt, bidMax, proposalSizeAt, recordBid, entryLen, knownLen, proposalLen, recordLen}
 use Rattle.phase.specs.Phase.{blockLimit}
-use Rattle.layout.specs.Layout.{le4At, fieldIn, entryAt, recordOf, proposalOf, messageOf, recordSize, knownSize, entrySize, proposalSize}
+use Rattle.layout.specs.Layout.{le4At, fieldIn, entryAt, recordOf, proposalOf, messageOf}
 use Rattle.session_memory.specs.State.{held, fiveOf}
 use Rattle.session_memory.specs.declared.Five.{Five}
 use Rattle.our_answer.specs.declared.Promised.{Promised}
@@ -37,13 +37,13 @@ module _ (table known inbox bid : Bytes) (kept : ℕ) (acc : List Proposal) wher
   has = haveBid (shelfOf table known inbox 0) (headsOf inbox kept) acc bid
 
   abbrev inTable : ℕ → Bool
-  inTable n = among bid (entries (fieldIn bidMax recordBid) recordSize table n)
+  inTable n = among bid (entries (fieldIn bidMax recordBid) recordLen table n)
 
   abbrev inKnown : ℕ → Bool
-  inKnown n = among bid (entries (fieldIn bidMax 0) knownSize known n)
+  inKnown n = among bid (entries (fieldIn bidMax 0) knownLen known n)
 
   abbrev inInbox : Bool
-  inInbox = among bid (entries (fieldIn bidMax bidAt) entrySize inbox kept)
+  inInbox = among bid (entries (fieldIn bidMax bidAt) entryLen inbox kept)
 
   has-is : has ≡ (inTable (recordCount table) || (inKnown (knownCount known) || (inInbox || among bid (proposalBids acc))))
   unfolding recordsOf knownBids headsOf
@@ -76,15 +76,15 @@ room-is : (table known inbox block : Bytes) (kept free size : ℕ) (p : Promised
 unfolding headsOf
 room-is table known inbox block kept free size p a =
     let h : Bytes → Message = λ c. messageOf c [] in
-    rw (no-bodies inbox 0 kept, sub-zero free, a .sum, entries-length h entrySize inbox 0 kept, promises-length block p (a .filled))
+    rw (no-bodies inbox 0 kept, sub-zero free, a .sum, entries-length h entryLen inbox 0 kept, promises-length block p (a .filled))
 
 -- the sign by what is known of the BID and of the room
 module _ (table known inbox block : Bytes) (kept free i : ℕ) (p : Promised) {c bid : Bytes} {size places : ℕ} {h f : Bool} (a : Promises block free p)
-    (ec : c ≡ entryAt proposalSize block i) (eb : bid ≡ fieldIn bidMax bidAt c) (es : size ≡ le4At c proposalSizeAt)
+    (ec : c ≡ entryAt proposalLen block i) (eb : bid ≡ fieldIn bidMax bidAt c) (es : size ≡ le4At c proposalSizeAt)
     (eh : h ≡ haveBid (shelfOf table known inbox 0) (headsOf inbox kept) (promisedIn block p) bid)
     (ep : places ≡ placeCount inbox) (ef : f ≡ noRoomBy size free places kept p) where
   abbrev signed : ℕ
-  signed = writeSign (signFor (shelfOf table known inbox free) (headsOf inbox kept) (promisedIn block p) (proposalOf (entryAt proposalSize block i)))
+  signed = writeSign (signFor (shelfOf table known inbox free) (headsOf inbox kept) (promisedIn block p) (proposalOf (entryAt proposalLen block i)))
 
   signed-is : signed ≡ writeSign (cond h decline (cond f defer accept))
   signed-is = rw (← ec, ← eb, ← es, room-is table known inbox block kept free size p a, ← eh, ← ep, ← ef)
@@ -117,9 +117,9 @@ accept-room true full h = let z : ⊥ = omega arith in absurd z
 accept-room false true h = let z : ⊥ = omega arith in absurd z
 accept-room false false h = refl
 
-at-append : (block : Bytes) (xs : List ℕ) (x : ℕ) → proposalsAt block (xs ++ (x ∷ [])) ≡ proposalsAt block xs ++ (proposalOf (entryAt proposalSize block x) ∷ [])
+at-append : (block : Bytes) (xs : List ℕ) (x : ℕ) → proposalsAt block (xs ++ (x ∷ [])) ≡ proposalsAt block xs ++ (proposalOf (entryAt proposalLen block x) ∷ [])
 at-append block [] x = refl
-at-append block (y ∷ xs) x = ap (λ (l : List Proposal). proposalOf (entryAt proposalSize block y) ∷ l) (at-append block xs x)
+at-append block (y ∷ xs) x = ap (λ (l : List Proposal). proposalOf (entryAt proposalLen block y) ∷ l) (at-append block xs x)
 
 announced-more : (ps : List Proposal) (q : Proposal) → announced (ps ++ (q ∷ [])) ≡ announced ps + q .size
 announced-more [] q = omega arith
@@ -127,18 +127,18 @@ announced-more (p ∷ ps) q = omega (arith, announced-more ps q)
 
 module _ (table known inbox block : Bytes) (kept free n : ℕ) where
   abbrev at : ℕ → Proposal
-  at i = proposalOf (entryAt proposalSize block i)
+  at i = proposalOf (entryAt proposalLen block i)
 
   -- the sign for proposal i after those of p, and the sign bytes from it on
   abbrev pub signAt : Promised → ℕ → Sign
   signAt p i = signFor (shelfOf table known inbox free) (headsOf inbox kept) (promisedIn block p) (at i)
 
   abbrev pub signsFrom : List Proposal → ℕ → List ℕ
-  signsFrom acc i = map writeSign (answersAfter (shelfOf table known inbox free) (headsOf inbox kept) acc (entriesFrom proposalOf proposalSize block i (n - i)))
+  signsFrom acc i = map writeSign (answersAfter (shelfOf table known inbox free) (headsOf inbox kept) acc (entriesFrom proposalOf proposalLen block i (n - i)))
 
   signs-next : (p : Promised) (i : ℕ) → i < n
       → signsFrom (promisedIn block p) i ≡ writeSign (signAt p i) ∷ signsFrom (withAccepted (signAt p i) (at i) (promisedIn block p)) (i + 1)
-  signs-next p i h = rw (entries-more proposalOf proposalSize block i n h)
+  signs-next p i h = rw (entries-more proposalOf proposalLen block i n h)
 
   -- answers are being given: the signs held, then those from proposal i on, are the whole
   pub record Answering (signs : Five) (p : Promised) (i : ℕ) : Type 0 where
@@ -182,9 +182,9 @@ module _ (table known inbox block : Bytes) (kept free n : ℕ) where
         }
 
     -- what is accepted fits into the store beside what is promised
-    pub accepted-fits : sign ≡ plusSign → p .bytes + le4At (entryAt proposalSize block i) proposalSizeAt ≤ free
+    pub accepted-fits : sign ≡ plusSign → p .bytes + le4At (entryAt proposalLen block i) proposalSizeAt ≤ free
     accepted-fits a =
-        let size = le4At (entryAt proposalSize block i) proposalSizeAt in
+        let size = le4At (entryAt proposalLen block i) proposalSizeAt in
         let r = accept-room (haveBid (shelfOf table known inbox free) (headsOf inbox kept) (promisedIn block p) (at i .bid))
         (noRoomFor (shelfOf table known inbox free) (headsOf inbox kept) (promisedIn block p) size) (sym s ∙ a) in
         let b = sym (room-is table known inbox block kept free size p (c .promises)) ∙ r in
@@ -193,7 +193,7 @@ module _ (table known inbox block : Bytes) (kept free n : ℕ) where
         omega (arith, ltb-false (free - p .bytes) size (d .0), c .promises .room)
 
     pub answering-accepted : {f : Five} {q : Promised} → sign ≡ plusSign → f ≡ fiveOf (held signs ++ (sign ∷ [])) → q .places ≡ fiveOf (held (p .places) ++ (i ∷ []))
-        → q .bytes ≡ p .bytes + le4At (entryAt proposalSize block i) proposalSizeAt → i < blockLimit → Answering f q (i + 1)
+        → q .bytes ≡ p .bytes + le4At (entryAt proposalLen block i) proposalSizeAt → i < blockLimit → Answering f q (i + 1)
     answering-accepted {f} {q} a e d b l =
         let xs = held (p .places) ++ (i ∷ []) in
         let m : q .places .count ≡ p .places .count + 1 = five-next (q .places) (p .places) i (c .promises .filled) d in
@@ -218,10 +218,10 @@ module _ (table known inbox block : Bytes) (kept free n : ℕ) where
       let w : signsFrom [] 0 ≡ held signs =
       c .whole
       ∙ ap (λ (l : List Proposal). held signs ++ map writeSign (answersAfter (shelfOf table known inbox free) (headsOf inbox kept) (promisedIn block p) l))
-      (entries-end proposalOf proposalSize block i n h)
+      (entries-end proposalOf proposalLen block i n h)
       ∙ append-nil (held signs) in
       c .filled ∙ ap fiveOf (sym w ∙ ap (λ (l : List Proposal). map writeSign (answersAfter (shelfOf table known inbox free) (headsOf inbox kept) [] l))
-      (sym (entries-all proposalOf proposalSize block n)))
+      (sym (entries-all proposalOf proposalLen block n)))
 
 -- ---------------------------------------------------------------- for callers
 
@@ -243,7 +243,7 @@ module _ (E F : Shelf) (ms hs : List Message) (bt : recordBids (E .table) ≡ re
 
 -- titles, names and bodies are no part of a BID
 pub bids-same : (titles names bodies table : Bytes) (i n : ℕ)
-    → recordBids (entriesFrom (recordOf titles names bodies) recordSize table i n) ≡ recordBids (entriesFrom (recordOf [] [] []) recordSize table i n)
+    → recordBids (entriesFrom (recordOf titles names bodies) recordLen table i n) ≡ recordBids (entriesFrom (recordOf [] [] []) recordLen table i n)
 bids-same titles names bodies table i zero = refl
 bids-same titles names bodies table i (suc n) =
-    ap (λ (l : List Bytes). fieldIn bidMax recordBid (entryAt recordSize table i) ∷ l) (bids-same titles names bodies table (suc i) n)
+    ap (λ (l : List Bytes). fieldIn bidMax recordBid (entryAt recordLen table i) ∷ l) (bids-same titles names bodies table (suc i) n)

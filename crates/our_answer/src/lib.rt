@@ -16,9 +16,9 @@ ghost use Prim.Native.Nat.{_+_, _-_, _≤_, _<_};
 ghost use Rattle.grammar.specs.Bytes.{Bytes, byteValues, wordValues};
 ghost use Rattle.grammar.specs.Answers.{writeSign};
 ghost use Rattle.session.specs.Choices.{among, proposalBids, haveBid, signFor};
-ghost use Rattle.places.specs.Places.{proposalSizeAt};
+ghost use Rattle.places.specs.Places.{proposalSizeAt, proposalLen};
 ghost use Rattle.phase.specs.Phase.{blockLimit};
-ghost use Rattle.layout.specs.Layout.{le4At, entryAt, proposalOf, proposalSize};
+ghost use Rattle.layout.specs.Layout.{le4At, entryAt, proposalOf};
 ghost use Rattle.session_memory.specs.State.{held, fiveOf};
 ghost use Rattle.numbers.specs.Whole.{Arrays, withBlock, awaitOf, keepOf};
 ghost use Rattle.entries.specs.Decoded.{headsOf};
@@ -119,7 +119,7 @@ fn sign_for(
     free: usize,
 ) -> u8
     requires { ⌜ Promises (now block) free p ⌝ }
-    ensures { λ r. ⌜ r ≡ writeSign (signFor (shelfOf (now (table .entry)) (now (known .entry)) (now (inbox .entry)) free) (headsOf (now (inbox .entry)) kept) (promisedIn (now (block .entry)) p) (proposalOf (entryAt proposalSize (now (block .entry)) i))) ⌝ }
+    ensures { λ r. ⌜ r ≡ writeSign (signFor (shelfOf (now (table .entry)) (now (known .entry)) (now (inbox .entry)) free) (headsOf (now (inbox .entry)) kept) (promisedIn (now (block .entry)) p) (proposalOf (entryAt proposalLen (now (block .entry)) i))) ⌝ }
 {
     let proposal = entry(places::PROPOSAL, block, i);
     let bid = layout::field(proposal, places::BID, places::BID_MAX);
@@ -142,8 +142,8 @@ fn sign_for(
 
 // What is promised with the proposal at a place of the block.
 fn promise(p: Promised, block: &[u8], i: u16) -> Promised
-    requires { ⌜ (Filled (p .places)) × (p .places .count < blockLimit) × (i < byteValues) × (p .bytes + le4At (entryAt proposalSize (now block) i) proposalSizeAt < wordValues) ⌝ }
-    ensures { λ r. ⌜ (r .places ≡ fiveOf (held (p .places) ++ (i ∷ []))) × (r .bytes ≡ p .bytes + le4At (entryAt proposalSize (now (block .entry)) i) proposalSizeAt) ⌝ }
+    requires { ⌜ (Filled (p .places)) × (p .places .count < blockLimit) × (i < byteValues) × (p .bytes + le4At (entryAt proposalLen (now block) i) proposalSizeAt < wordValues) ⌝ }
+    ensures { λ r. ⌜ (r .places ≡ fiveOf (held (p .places) ++ (i ∷ []))) × (r .bytes ≡ p .bytes + le4At (entryAt proposalLen (now (block .entry)) i) proposalSizeAt) ⌝ }
 {
     let size = number4(
         entry(places::PROPOSAL, block, i),

@@ -14,8 +14,8 @@ use Rattle.grammar.specs.Fields.{plain, message, file}
 use Rattle.grammar.specs.Turns.{inMode, ourBlock, blockLimit, announcedLimit}
 use Rattle.mail.specs.Mail.{Record, noRecord}
 use Rattle.session.specs.Choices.{wanted, candidates, sizeAt, chosen}
-use Rattle.places.specs.Places.{recordSizeAt}
-use Rattle.layout.specs.Layout.{le4At, entryAt, recordOf, recordSize, stateFor}
+use Rattle.places.specs.Places.{recordSizeAt, recordLen}
+use Rattle.layout.specs.Layout.{le4At, entryAt, recordOf, stateFor}
 use Rattle.layout.proofs.Laws.{le4-small}
 use Rattle.session_memory.specs.State.{held, fiveOf}
 use Rattle.session_memory.specs.declared.Five.{Five}
@@ -46,37 +46,37 @@ mode-plain false = refl
 
 module _ (p : ℕ) (table : Bytes) (framed : Bool) (flags : List ℕ) (n : ℕ) where
   abbrev T : List Record
-  T = entries (recordOf [] [] []) recordSize table n
+  T = entries (recordOf [] [] []) recordLen table n
 
   -- what is chosen from record i on, where k records of b bytes in all are in
   abbrev pub blockFrom : ℕ → ℕ → ℕ → List ℕ
-  blockFrom i k b = ourBlock (sizeAt T) k b (candidates framed (statesOf p table) flags i (entriesFrom (recordOf [] [] []) recordSize table i (n - i)))
+  blockFrom i k b = ourBlock (sizeAt T) k b (candidates framed (statesOf p table) flags i (entriesFrom (recordOf [] [] []) recordLen table i (n - i)))
 
   abbrev pub isWanted : ℕ → Bool
-  isWanted i = wanted framed (recordOf [] [] [] (entryAt recordSize table i)) (stateFor p (entryAt recordSize table i)) (getD flags i 0)
+  isWanted i = wanted framed (recordOf [] [] [] (entryAt recordLen table i)) (stateFor p (entryAt recordLen table i)) (getD flags i 0)
 
   -- record i, which is wanted: it is added while the block has room
   abbrev addedOr : ℕ → ℕ → ℕ → ℕ → List ℕ
   addedOr i k b size = cond (ltb k blockLimit && ltb b announcedLimit) (i ∷ blockFrom (i + 1) (k + 1) (b + size)) []
 
   pub block-end : (i k b : ℕ) → n ≤ i → blockFrom i k b ≡ []
-  block-end i k b h = rw (entries-end (recordOf [] [] []) recordSize table i n h)
+  block-end i k b h = rw (entries-end (recordOf [] [] []) recordLen table i n h)
 
   module _ (count : n ≡ recordCount table) where
     pub block-pass : (i k b : ℕ) → i < n → isWanted i ≡ false → blockFrom i k b ≡ blockFrom (i + 1) k b
     block-pass i k b h e =
-        rw (entries-more (recordOf [] [] []) recordSize table i n h, state-read p table i (subst (λ (m : ℕ). i < m) count h), e, add-one i)
+        rw (entries-more (recordOf [] [] []) recordLen table i n h, state-read p table i (subst (λ (m : ℕ). i < m) count h), e, add-one i)
 
     block-step : (i k b : ℕ) → i < n → isWanted i ≡ true → blockFrom i k b ≡ addedOr i k b (sizeAt T i)
     block-step i k b h e =
-        rw (entries-more (recordOf [] [] []) recordSize table i n h, state-read p table i (subst (λ (m : ℕ). i < m) count h), e, add-one i)
+        rw (entries-more (recordOf [] [] []) recordLen table i n h, state-read p table i (subst (λ (m : ℕ). i < m) count h), e, add-one i)
 
-    block-next : (i k b : ℕ) → i < n → isWanted i ≡ true → blockFrom i k b ≡ addedOr i k b (le4At (entryAt recordSize table i) recordSizeAt)
+    block-next : (i k b : ℕ) → i < n → isWanted i ≡ true → blockFrom i k b ≡ addedOr i k b (le4At (entryAt recordLen table i) recordSizeAt)
     block-next i k b h e =
-        block-step i k b h e ∙ ap (λ (r : Record). addedOr i k b (r .size)) (entries-at (recordOf [] [] []) recordSize table n i noRecord h)
+        block-step i k b h e ∙ ap (λ (r : Record). addedOr i k b (r .size)) (entries-at (recordOf [] [] []) recordLen table n i noRecord h)
 
     pub block-more : (i k b : ℕ) → i < n → isWanted i ≡ true → k < blockLimit → b < announcedLimit
-        → blockFrom i k b ≡ i ∷ blockFrom (i + 1) (k + 1) (b + le4At (entryAt recordSize table i) recordSizeAt)
+        → blockFrom i k b ≡ i ∷ blockFrom (i + 1) (k + 1) (b + le4At (entryAt recordLen table i) recordSizeAt)
     block-more i k b h e l m = block-next i k b h e ∙ rw (lt-ltb k blockLimit l, lt-ltb b announcedLimit m)
 
     pub block-five : (i k b : ℕ) → i < n → isWanted i ≡ true → blockLimit ≤ k → blockFrom i k b ≡ []
@@ -109,7 +109,7 @@ module _ (p : ℕ) (table : Bytes) (framed : Bool) (flags : List ℕ) (n : ℕ) 
         }
 
     pub choosing-add : isWanted p table framed flags n i ≡ true → places .count < blockLimit → total < announcedLimit → {f : Five} {size : ℕ} → f ≡ fiveOf (held places ++ (i ∷ []))
-        → size ≡ le4At (entryAt recordSize table i) recordSizeAt → size < fourByteValues → Choosing p table framed flags n f (total + size) (i + 1)
+        → size ≡ le4At (entryAt recordLen table i) recordSizeAt → size < fourByteValues → Choosing p table framed flags n f (total + size) (i + 1)
     choosing-add w k b {f} {size} e s m =
         let xs = held places ++ (i ∷ []) in
         let d : f .count ≡ places .count + 1 = five-next f places i (c .filled) e in
@@ -128,7 +128,7 @@ module _ (p : ℕ) (table : Bytes) (framed : Bool) (flags : List ℕ) (n : ℕ) 
   chosen-all e =
       rw (← e)
       (ap (λ (l : List Record). ourBlock (sizeAt (T p table framed flags n)) 0 0 (candidates framed (statesOf p table) flags 0 l))
-      (entries-all (recordOf [] [] []) recordSize table n))
+      (entries-all (recordOf [] [] []) recordLen table n))
 
   pub chosen-now : {places : Five} {total i : ℕ} → Choosing p table framed flags n places total i
       → blockFrom p table framed flags n i (places .count) total ≡ [] → places ≡ chooseOf p table framed flags
@@ -146,16 +146,16 @@ block-same f g h k b (x ∷ xs) =
     ap (λ (l : List ℕ). cond (ltb k blockLimit && ltb b announcedLimit) (x ∷ l) []) (block-same f g h (k + 1) (b + f x) xs ∙ ap (λ (n : ℕ). ourBlock g (k + 1) (b + n) xs) (h x))
 
 module _ (titles names bodies table : Bytes) where
-  size-same : (a n i : ℕ) → sizeAt (entriesFrom (recordOf titles names bodies) recordSize table a n) i ≡ sizeAt (entriesFrom (recordOf [] [] []) recordSize table a n) i
+  size-same : (a n i : ℕ) → sizeAt (entriesFrom (recordOf titles names bodies) recordLen table a n) i ≡ sizeAt (entriesFrom (recordOf [] [] []) recordLen table a n) i
   size-same a zero i = refl
   size-same a (suc n) zero = refl
   size-same a (suc n) (suc i) = size-same (suc a) n i
 
   candidates-same : (framed : Bool) (states flags : List ℕ) (i a n : ℕ)
-      → candidates framed states flags i (entriesFrom (recordOf titles names bodies) recordSize table a n) ≡ candidates framed states flags i (entriesFrom (recordOf [] [] []) recordSize table a n)
+      → candidates framed states flags i (entriesFrom (recordOf titles names bodies) recordLen table a n) ≡ candidates framed states flags i (entriesFrom (recordOf [] [] []) recordLen table a n)
   candidates-same framed states flags i a zero = refl
   candidates-same framed states flags i a (suc n) =
-      let r = recordOf [] [] [] (entryAt recordSize table a) in
+      let r = recordOf [] [] [] (entryAt recordLen table a) in
       ap (λ (l : List ℕ). cond (wanted framed r (getD states i 0) (getD flags i 0)) (i ∷ l) l) (candidates-same framed states flags (suc i) (suc a) n)
 
   pub chosen-stores : (framed : Bool) (states flags : List ℕ)
@@ -163,6 +163,6 @@ module _ (titles names bodies table : Bytes) where
   unfolding chosen recordsOf
   chosen-stores framed states flags =
       let n = recordCount table in
-      let T = entries (recordOf titles names bodies) recordSize table n in
-      block-same (sizeAt T) (sizeAt (entries (recordOf [] [] []) recordSize table n)) (size-same 0 n) 0 0 (candidates framed states flags 0 T)
-      ∙ ap (ourBlock (sizeAt (entries (recordOf [] [] []) recordSize table n)) 0 0) (candidates-same framed states flags 0 0 n)
+      let T = entries (recordOf titles names bodies) recordLen table n in
+      block-same (sizeAt T) (sizeAt (entries (recordOf [] [] []) recordLen table n)) (size-same 0 n) 0 0 (candidates framed states flags 0 T)
+      ∙ ap (ourBlock (sizeAt (entries (recordOf [] [] []) recordLen table n)) 0 0) (candidates-same framed states flags 0 0 n)

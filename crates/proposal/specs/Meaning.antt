@@ -7,7 +7,7 @@ use Prim.Native.Nat.{ℕ, _+_, _≤_}
 use lib.Dec.{eqb}
 use lib.ListN.{length}
 use Rattle.grammar.specs.Bytes.{Bytes, same}
-use Rattle.grammar.specs.Fields.{Form, formIs, upper, words, isCall, isAt, isBid}
+use Rattle.grammar.specs.Fields.{Form, file, formNumber, formIs, upper, words, isCall, isAt, isBid}
 use Rattle.grammar.specs.Turns as turns
 use Rattle.byte.specs.declared.Hex.{Hex}
 use Rattle.span.specs.declared.Span.{Span}
@@ -43,7 +43,7 @@ Within l s = (s .start ≤ s .end) × (s .end ≤ length l)
 
 -- The form is one of 01's three numbers, and the fields lie in the line.
 pub record ProposalLies (l : Bytes) (p : Proposal) : Type 0 where
-  pub form : p .form ≤ 2
+  pub form : p .form ≤ formNumber file
   pub from : Within l (p .from)
   pub at : Within l (p .at)
   pub to : Within l (p .to)

@@ -10,9 +10,9 @@ use Rattle.grammar.specs.Refusals.{badMemory, bytesWait, sessionEnded, noPlace}
 use Rattle.grammar.specs.Lines.{LineByte, dropped, ends, grows, overruns, lineByte, lineByteNumber}
 use Rattle.grammar.specs.Fields.{plain, formNumber}
 use Rattle.buffer.specs.Put.{putBytes}
-use Rattle.layout.specs.Layout.{byteAt, entryAt, entrySize, proposalSize, entryOut}
+use Rattle.layout.specs.Layout.{byteAt, entryAt, entryOut}
 use Rattle.phase.specs.Phase.{phaseTransfer, phaseOver, pieceNone, notOurTurn, ourTurn, ourTurnAfterFF, noProposal}
-use Rattle.places.specs.Places.{formAt}
+use Rattle.places.specs.Places.{formAt, entryLen, proposalLen}
 use Rattle.transfer_step.specs.declared.Reader.{Reader}
 use Rattle.transfer_step.specs.declared.Stepped.{Stepped}
 use Rattle.transfer_step.specs.declared.Outcome.{Outcome}
@@ -124,11 +124,11 @@ nextJudged s i =
 -- "A message is kept at its last byte.": its entry in the inbox
 unfoldable pub keptInbox : Session → Bytes → Bytes
 keptInbox s inbox =
-    putBytes inbox (at (s .keep .kept * entrySize))
-    (entryOut (entryAt proposalSize (s .now .block) (s .now .current)) (take (s .reading .reader .head) (s .reading .heading)) (s .keep .used) (s .reading .reader .body))
+    putBytes inbox (at (s .keep .kept * entryLen))
+    (entryOut (entryAt proposalLen (s .now .block) (s .now .current)) (take (s .reading .reader .head) (s .reading .heading)) (s .keep .used) (s .reading .reader .body))
 
 abbrev pub isPlainAt : Session → Bool
-isPlainAt s = eqb (byteAt (entryAt proposalSize (s .now .block) (s .now .current)) formAt) (formNumber plain)
+isPlainAt s = eqb (byteAt (entryAt proposalLen (s .now .block) (s .now .current)) formAt) (formNumber plain)
 
 unfoldable pub keepOf : Session → Bytes → Settled
 keepOf s table = settleOf (nextJudged s (nextAccepted (s .say .signs) (s .now .current + 1))) (isPlainAt s) table

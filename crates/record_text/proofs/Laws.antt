@@ -9,14 +9,14 @@ use lib.ListN.{length, take, drop, length-take, List·getD-eq-default}
 use lib.Seq.{getD-take, getD-drop}
 use borrow.Author.Tests.{eq-eqb, ne-eqb, ltb-true, ltb-false}
 use Rattle.grammar.specs.Bytes.{Bytes, byteValues}
-use Rattle.grammar.specs.Fields.{Form, plain, message, file, formIs}
+use Rattle.grammar.specs.Fields.{Form, plain, message, file, formNumber, formIs}
 use Rattle.grammar.specs.Transfers.{partOf, writePlain, writeFramed, writeTransfer}
 use Rattle.grammar.proofs.Basics.{by-cond}
 use Rattle.mail.specs.Mail.{transferOf, headingFor}
 use Rattle.layout.specs.Layout.{byteAt, le4At, recordOf}
 use Rattle.layout.proofs.Places.{part-in}
 use Rattle.places.specs.Places.{recordForm, recordTitle, recordTitleLength, recordName, recordNameLength}
-use Rattle.record_text.specs.Texts.{headingIn, bodyIn}
+use Rattle.record_text.specs.Texts.{headingIn, bodyIn, fileForm}
 
 -- ---------------------------------------------------------------- numbers that were read
 
@@ -67,30 +67,30 @@ module _ (titles names bodies r : Bytes) where
   unfolding bodyIn
   by-form k e = ap (λ (o : Form). writeTransfer o (headingFor o (recordOf titles names bodies r)) (bodyIn bodies r)) (sym e)
 
-  title-is : (byteAt r recordForm ≡ 2 → ⊥) → headingIn titles names r ≡ partOf titles (le4At r recordTitle) (byteAt r recordTitleLength)
+  title-is : (byteAt r recordForm ≡ fileForm → ⊥) → headingIn titles names r ≡ partOf titles (le4At r recordTitle) (byteAt r recordTitleLength)
   unfolding headingIn
-  title-is n = rw (ne-eqb (byteAt r recordForm) 2 n)
+  title-is n = rw (ne-eqb (byteAt r recordForm) fileForm n)
 
-  name-is : byteAt r recordForm ≡ 2 → headingIn titles names r ≡ partOf names (le4At r recordName) (byteAt r recordNameLength)
+  name-is : byteAt r recordForm ≡ fileForm → headingIn titles names r ≡ partOf names (le4At r recordName) (byteAt r recordNameLength)
   unfolding headingIn
-  name-is e = rw (eq-eqb (byteAt r recordForm) 2 e)
+  name-is e = rw (eq-eqb (byteAt r recordForm) fileForm e)
 
   module _ {h x : Bytes} (t : h ≡ headingIn titles names r) (q : x ≡ bodyIn bodies r) where
-    pub of-message : byteAt r recordForm ≡ 1 → writeFramed h x ≡ transferOf (recordOf titles names bodies r)
+    pub of-message : byteAt r recordForm ≡ formNumber message → writeFramed h x ≡ transferOf (recordOf titles names bodies r)
     unfolding writeTransfer
     of-message e = framed-as (t ∙ title-is (λ o. one-two (sym e ∙ o))) q ∙ by-form message (ap formIs e)
       where
-        one-two : _≡_ {A = ℕ} 1 2 → ⊥
+        one-two : formNumber message ≡ fileForm → ⊥
         one-two o = omega arith
 
-    pub of-file : byteAt r recordForm ≡ 2 → writeFramed h x ≡ transferOf (recordOf titles names bodies r)
+    pub of-file : byteAt r recordForm ≡ fileForm → writeFramed h x ≡ transferOf (recordOf titles names bodies r)
     unfolding writeTransfer
     of-file e = framed-as (t ∙ name-is e) q ∙ by-form file (ap formIs e)
 
-    pub of-plain : (byteAt r recordForm ≡ 1 → ⊥) → (byteAt r recordForm ≡ 2 → ⊥) → writePlain h x ≡ transferOf (recordOf titles names bodies r)
+    pub of-plain : (byteAt r recordForm ≡ formNumber message → ⊥) → (byteAt r recordForm ≡ fileForm → ⊥) → writePlain h x ≡ transferOf (recordOf titles names bodies r)
     unfolding writeTransfer
     of-plain m n =
-        let e : formIs (byteAt r recordForm) ≡ plain = rw (ne-eqb (byteAt r recordForm) 1 m, ne-eqb (byteAt r recordForm) 2 n) in
+        let e : formIs (byteAt r recordForm) ≡ plain = rw (ne-eqb (byteAt r recordForm) (formNumber message) m, ne-eqb (byteAt r recordForm) fileForm n) in
         plain-as (t ∙ title-is n) q ∙ by-form plain e
 
 nothing : (s : Bytes) → partOf s 0 0 ≡ []

@@ -3,13 +3,14 @@ use mathlib.Core.Bool.{cond}
 use Prim.Native.Nat.{ℕ}
 use lib.Dec.{eqb}
 use Rattle.grammar.specs.Bytes.{Bytes}
+use Rattle.grammar.specs.Fields.{file, formNumber}
 use Rattle.grammar.specs.Transfers.{partOf}
 use Rattle.layout.specs.Layout.{byteAt, le2At, le4At}
 use Rattle.places.specs.Places.{recordForm, recordTitle, recordTitleLength, recordName, recordNameLength, recordBody, recordBodyLength}
 
 -- "Each has a form (0 plain text, 1 packed message, 2 packed file)"
 abbrev pub fileForm : ℕ
-fileForm = 2
+fileForm = formNumber file
 
 -- "the title for a message or the file name for a file"
 unfoldable pub headingIn : Bytes → Bytes → Bytes → Bytes

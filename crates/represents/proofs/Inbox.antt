@@ -15,7 +15,7 @@ use Rattle.mail.specs.Mail.{Message, placeLimit}
 use Rattle.session.specs.Choices.{bodyBytes}
 use Rattle.buffer.specs.Put.{putBytes}
 use Rattle.places.specs.Places.{entryLen, fieldsSize, headingMax}
-use Rattle.layout.specs.Layout.{le2, le4, fieldOut, fieldsOut, entryAt, entrySize, messageOf, proposalOf, bodyStart, bodyLength, entryOut}
+use Rattle.layout.specs.Layout.{le2, le4, fieldOut, fieldsOut, entryAt, messageOf, proposalOf, bodyStart, bodyLength, entryOut}
 use Rattle.layout.proofs.Places.{part-in, part-kept, part-here}
 use Rattle.layout.proofs.Laws.{withContent, entry-length, message-back, start-back, length-back, inbox-back, inbox-kept}
 use Rattle.form_test.specs.Form.{usedFrom, usedBy}
@@ -25,19 +25,19 @@ use Rattle.represents.specs.Represents.{messagesFrom, messagesOf, InRow,
 
 -- ---------------------------------------------------------------- the same entries
 
-module _ (e f : Bytes) (k : ℕ) (same : (j : ℕ) → j < k → entryAt entrySize f j ≡ entryAt entrySize e j) where
+module _ (e f : Bytes) (k : ℕ) (same : (j : ℕ) → j < k → entryAt entryLen f j ≡ entryAt entryLen e j) where
   messages-same : (st : Bytes) (i n : ℕ) → i + n ≤ k → messagesFrom f st i n ≡ messagesFrom e st i n
   messages-same st i zero h = refl
   messages-same st i (suc n) h =
       ap (λ (c : Bytes). messageOf c (partOf st (bodyStart c) (bodyLength c)) ∷ messagesFrom f st (suc i) n) (same i (omega arith))
-      ∙ ap (λ (l : List Message). messageOf (entryAt entrySize e i) (partOf st (bodyStart (entryAt entrySize e i)) (bodyLength (entryAt entrySize e i))) ∷ l) (messages-same st (suc i) n (omega arith))
+      ∙ ap (λ (l : List Message). messageOf (entryAt entryLen e i) (partOf st (bodyStart (entryAt entryLen e i)) (bodyLength (entryAt entryLen e i))) ∷ l) (messages-same st (suc i) n (omega arith))
 
   row-same : (i n place : ℕ) → i + n ≤ k → InRow e i n place → InRow f i n place
   row-same i zero place h r = tt
   row-same i (suc n) place h r = (
     ap bodyStart (same i (omega arith)) ∙ r .0,
     subst (λ (c : Bytes). InRow f (suc i) n (place + bodyLength c)) (sym (same i (omega arith)))
-        (row-same (suc i) n (place + bodyLength (entryAt entrySize e i)) (omega arith) (r .1)),
+        (row-same (suc i) n (place + bodyLength (entryAt entryLen e i)) (omega arith) (r .1)),
   )
 
   laid-same : (i start : ℕ) (ms : List Message) → i + length ms ≤ k → LaidFrom e i start ms → LaidFrom f i start ms
@@ -48,13 +48,13 @@ module _ (e f : Bytes) (k : ℕ) (same : (j : ℕ) → j < k → entryAt entrySi
   used-same i zero h = refl
   used-same i (suc n) h =
       ap (λ (c : Bytes). bodyLength c + usedFrom f (suc i) n) (same i (omega arith))
-      ∙ ap (λ (m : ℕ). bodyLength (entryAt entrySize e i) + m) (used-same (suc i) n (omega arith))
+      ∙ ap (λ (m : ℕ). bodyLength (entryAt entryLen e i) + m) (used-same (suc i) n (omega arith))
 
 -- ---------------------------------------------------------------- one entry more
 
 module _ (e : Bytes) where
   abbrev messageAt : Bytes → ℕ → Message
-  messageAt st i = messageOf (entryAt entrySize e i) (partOf st (bodyStart (entryAt entrySize e i)) (bodyLength (entryAt entrySize e i)))
+  messageAt st i = messageOf (entryAt entryLen e i) (partOf st (bodyStart (entryAt entryLen e i)) (bodyLength (entryAt entryLen e i)))
 
   messages-snoc : (st : Bytes) (i n : ℕ) → messagesFrom e st i (suc n) ≡ messagesFrom e st i n ++ (messageAt st (i + n) ∷ [])
   messages-snoc st i zero = ap (λ (j : ℕ). messageAt st j ∷ []) (sym (add-zero i))
@@ -62,12 +62,12 @@ module _ (e : Bytes) where
       ap (λ (l : List Message). messageAt st i ∷ l) (messages-snoc st (suc i) n)
       ∙ ap (λ (j : ℕ). messageAt st i ∷ (messagesFrom e st (suc i) n ++ (messageAt st j ∷ []))) (omega arith)
 
-  row-snoc : (i n place : ℕ) → InRow e i n place → bodyStart (entryAt entrySize e (i + n)) ≡ place + usedFrom e i n → InRow e i (suc n) place
-  row-snoc i zero place r h = (ap (λ (j : ℕ). bodyStart (entryAt entrySize e j)) (sym (add-zero i)) ∙ h ∙ add-zero place, tt)
+  row-snoc : (i n place : ℕ) → InRow e i n place → bodyStart (entryAt entryLen e (i + n)) ≡ place + usedFrom e i n → InRow e i (suc n) place
+  row-snoc i zero place r h = (ap (λ (j : ℕ). bodyStart (entryAt entryLen e j)) (sym (add-zero i)) ∙ h ∙ add-zero place, tt)
   row-snoc i (suc n) place r h = (
     r .0,
-    row-snoc (suc i) n (place + bodyLength (entryAt entrySize e i)) (r .1)
-        (ap (λ (j : ℕ). bodyStart (entryAt entrySize e j)) (omega arith) ∙ h ∙ sym (add-assoc place (bodyLength (entryAt entrySize e i)) (usedFrom e (suc i) n))),
+    row-snoc (suc i) n (place + bodyLength (entryAt entryLen e i)) (r .1)
+        (ap (λ (j : ℕ). bodyStart (entryAt entryLen e j)) (omega arith) ∙ h ∙ sym (add-assoc place (bodyLength (entryAt entryLen e i)) (usedFrom e (suc i) n))),
   )
 
   -- bytes stored from place u on
@@ -75,7 +75,7 @@ module _ (e : Bytes) where
       → messagesFrom e (take u st ++ r) i n ≡ messagesFrom e st i n
   messages-store st r u h i zero place w k = refl
   messages-store st r u h i (suc n) place w k =
-      let c = entryAt entrySize e i in
+      let c = entryAt entryLen e i in
       ap (λ (x : Bytes). messageOf c x ∷ messagesFrom e (take u st ++ r) (suc i) n) (part-kept u st r h (bodyStart c) (bodyLength c) (omega (arith, w .0)))
       ∙ ap (λ (l : List Message). messageAt st i ∷ l) (messages-store st r u h (suc i) n (place + bodyLength c) (w .1) (omega arith))
 
@@ -105,12 +105,12 @@ bodies-snoc (x ∷ ms) m = ap (λ (l : Bytes). x .body ++ l) (bodies-snoc ms m) 
 
 -- an entry behind those of ms
 laid-snoc : (e : Bytes) (i start : ℕ) (ms : List Message) (m : Message) → LaidFrom e i start ms
-    → entryAt entrySize e (i + length ms) ≡ messageBytes m (start + bodyBytes ms) → LaidFrom e i start (ms ++ (m ∷ []))
-laid-snoc e i start [] m l h = (ap (entryAt entrySize e) (sym (add-zero i)) ∙ h ∙ ap (messageBytes m) (add-zero start), tt)
+    → entryAt entryLen e (i + length ms) ≡ messageBytes m (start + bodyBytes ms) → LaidFrom e i start (ms ++ (m ∷ []))
+laid-snoc e i start [] m l h = (ap (entryAt entryLen e) (sym (add-zero i)) ∙ h ∙ ap (messageBytes m) (add-zero start), tt)
 laid-snoc e i start (x ∷ ms) m l h = (
   l .0,
   laid-snoc e (suc i) (start + length (x .body)) ms m (l .1)
-      (ap (entryAt entrySize e) (omega arith) ∙ h ∙ ap (messageBytes m) (sym (add-assoc start (length (x .body)) (bodyBytes ms)))),
+      (ap (entryAt entryLen e) (omega arith) ∙ h ∙ ap (messageBytes m) (sym (add-assoc start (length (x .body)) (bodyBytes ms)))),
 )
 
 -- what is kept of a message of n bytes has a place behind the last one
@@ -128,10 +128,10 @@ module _ (kept used : ℕ) (inbox store : Bytes) (ms : List Message) (places n :
   abbrev grown : Bytes
   grown = putBytes inbox (at (kept * entryLen)) x
 
-  here : entryAt entrySize grown (0 + kept) ≡ x
-  here = ap (entryAt entrySize grown) (zero-add kept) ∙ inbox-back inbox places kept x (g .size) (g .free) l
+  here : entryAt entryLen grown (0 + kept) ≡ x
+  here = ap (entryAt entryLen grown) (zero-add kept) ∙ inbox-back inbox places kept x (g .size) (g .free) l
 
-  before : (j : ℕ) → j < kept → entryAt entrySize grown j ≡ entryAt entrySize inbox j
+  before : (j : ℕ) → j < kept → entryAt entryLen grown j ≡ entryAt entryLen inbox j
   before j k = inbox-kept inbox places kept x (g .size) (g .free) l j (λ e. omega arith)
 
   read : partOf store (bodyStart x) (bodyLength x) ≡ take n (drop used store)
@@ -147,7 +147,7 @@ module _ (kept used : ℕ) (inbox store : Bytes) (ms : List Message) (places n :
             ∙ ap (λ (e : Bytes). ms ++ (messageOf e (partOf store (bodyStart e) (bodyLength e)) ∷ [])) here
             ∙ ap (λ (o : Bytes). ms ++ (messageOf x o ∷ [])) read;
         laid = laid-snoc grown 0 0 ms kept-message (laid-same inbox grown kept before 0 0 ms (omega (arith, h .count)) (h .laid))
-            (ap (λ (j : ℕ). entryAt entrySize grown (0 + j)) (sym (h .count)) ∙ here ∙ w ∙ ap (messageBytes kept-message) (h .bytes ∙ sym (zero-add (bodyBytes ms))));
+            (ap (λ (j : ℕ). entryAt entryLen grown (0 + j)) (sym (h .count)) ∙ here ∙ w ∙ ap (messageBytes kept-message) (h .bytes ∙ sym (zero-add (bodyBytes ms))));
         bodies = take-add used n store ∙ ap (λ (o : Bytes). o ++ take n (drop used store)) (h .bodies) ∙ sym (bodies-snoc ms kept-message);
         row = subst (λ (k : ℕ). InRow grown 0 k 0) (sym (add-one kept))
             (row-snoc grown 0 kept 0 (row-same inbox grown kept before 0 kept 0 (omega arith) (h .row))

@@ -17,7 +17,7 @@ use Rattle.session.specs.Session as on-lists
 use Rattle.session.specs.Session.{Memory, Outcome}
 use Rattle.buffer.specs.Put.{putBytes}
 use Rattle.places.specs.Places.{entryLen, proposalLen, headingMax, formAt}
-use Rattle.layout.specs.Layout.{byteAt, entryAt, entrySize, proposalSize, proposalOf, entryOut}
+use Rattle.layout.specs.Layout.{byteAt, entryAt, proposalOf, entryOut}
 use Rattle.layout.proofs.Places.{part-in}
 use Rattle.layout.proofs.Laws.{withContent, entry-length}
 use Rattle.transfer_read.specs.Feed.{roomOf}
@@ -56,13 +56,13 @@ module _ (F : Fixed) (E : Shelf) {nt ni ns : ℕ} (c : Cs) (g : Good F nt ni ns 
   n = u .reading .reader .body
 
   abbrev entry : Bytes
-  entry = entryAt proposalSize (u .now .block) (u .now .current)
+  entry = entryAt proposalLen (u .now .block) (u .now .current)
 
   abbrev title : Bytes
   title = take (u .reading .reader .head) (u .reading .heading)
 
   abbrev inbox′ : Bytes
-  inbox′ = putBytes (c .inbox) (at (u .keep .kept * entrySize)) (entryOut entry title (u .keep .used) n)
+  inbox′ = putBytes (c .inbox) (at (u .keep .kept * entryLen)) (entryOut entry title (u .keep .used) n)
 
   -- the message that is kept
   abbrev pub kept : Message

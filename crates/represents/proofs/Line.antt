@@ -25,7 +25,7 @@ use Rattle.session.specs.Session as on-lists
 use Rattle.session.specs.Session.{Memory, Phase, Outcome, refuses, goesOn}
 use Rattle.our_line.specs.Lines.{fsText}
 use Rattle.our_line.proofs.Laws.{fs-text}
-use Rattle.layout.specs.Layout.{byteAt, entryAt, proposalSize, proposalOf}
+use Rattle.layout.specs.Layout.{byteAt, entryAt, proposalOf}
 use Rattle.layout.proofs.Laws.{Fits}
 use Rattle.transfer_step.specs.declared.Reader.{Reader}
 use Rattle.transfer_step.specs.Step.{startOf}
@@ -60,7 +60,7 @@ use Rattle.form_closed.proofs.Laws.{five-of, signs-octets, held-length}
 use Rattle.mail.specs.Tally.{moreForwarded}
 use Rattle.sheet.specs.Sheet.{byteRange}
 use Rattle.phase.specs.Phase.{phaseCallerSid, phasePrompt, phaseTurn, phaseOver, pieceSid, ourTurn, ourTurnAfterFF, noProposal}
-use Rattle.places.specs.Places.{headingLen}
+use Rattle.places.specs.Places.{headingLen, proposalLen}
 use Rattle.represents.specs.Tallies.{countsMarked}
 
 -- THE SUM OF THE PROPOSAL LINES so far, and with one line more
@@ -82,9 +82,9 @@ pub await-transfer : (s : Session) (t i st : Bytes) (j : ℕ) (p : Proposal) (qs
     → Awaits (cs (toTransferAt j s) t i st) (on-lists.awaitsTransfer p qs (scanFrom (p .form)))
 unfolding readerFor
 await-transfer s t i st j p qs b g heading o =
-    let byte = byteAt (entryAt proposalSize (s .now .block) j) 0 in
+    let byte = byteAt (entryAt proposalLen (s .now .block) j) 0 in
     let free = drop (s .keep .used) st in
-    let this : p ≡ proposalOf (entryAt proposalSize (s .now .block) j) = (cc (o .owed, owed-now (s .say .signs) (s .now .block) (s .now .proposals) g (o .count) j (o .within) (o .plus))) in (
+    let this : p ≡ proposalOf (entryAt proposalLen (s .now .block) j) = (cc (o .owed, owed-now (s .say .signs) (s .now .block) (s .now .proposals) g (o .count) j (o .within) (o .plus))) in (
       refl,
       o .owed,
       subst (λ (q : Proposal). Stands (roomOf free) (startOf byte) (s .reading .heading) free (scanFrom (q .form))) (sym this)

@@ -21,7 +21,7 @@ use Rattle.mail.specs.Mail.{accepted}
 use Rattle.session.specs.Session.{isPlain}
 use Rattle.buffer.specs.Put.{putBytes}
 use Rattle.places.specs.Places.{proposalLen, headingLen, blockLen, formAt}
-use Rattle.layout.specs.Layout.{byteAt, entryAt, proposalSize, proposalOf}
+use Rattle.layout.specs.Layout.{byteAt, entryAt, proposalOf}
 use Rattle.layout.proofs.Places.{entry-written}
 use Rattle.layout.proofs.Laws.{Fits, written, proposal-length, proposal-back, block-kept}
 use Rattle.transfer_step.specs.Step.{startOf}
@@ -55,7 +55,7 @@ proper-fits md p h =
 
 pub proposals-length : (block : Bytes) (n : ℕ) → length (proposalsOf block n) ≡ n
 unfolding proposalsOf
-proposals-length block n = entries-length proposalOf proposalSize block 0 n
+proposals-length block n = entries-length proposalOf proposalLen block 0 n
 
 pub no-proposals : (block : Bytes) → proposalsOf block 0 ≡ []
 unfolding proposalsOf
@@ -73,25 +73,25 @@ module _ (block : Bytes) (n : ℕ) (size : length block ≡ blockLen) (few : n <
   long : length (written q) ≡ proposalLen
   long = proposal-length (formNumber (q .form)) (q .type) (q .from) (q .at) (q .to) (q .bid) (q .size)
 
-  here : entryAt proposalSize more n ≡ written q
+  here : entryAt proposalLen more n ≡ written q
   here = entry-written proposalLen block n (written q) long (omega (arith, size))
 
-  other : (j : ℕ) → j < n → entryAt proposalSize more j ≡ entryAt proposalSize block j
+  other : (j : ℕ) → j < n → entryAt proposalLen more j ≡ entryAt proposalLen block j
   other j h = block-kept block n size few (written q) long j (λ e. omega arith)
 
   pub proposals-more : Fits q → proposalsOf more (n + 1) ≡ proposalsOf block n ++ (q ∷ [])
   unfolding proposalsOf
   proposals-more fits =
-      ap (entries proposalOf proposalSize more) (add-one n) ∙ entries-snoc proposalOf proposalSize more n
-      ∙ ap (λ (ps : List Proposal). ps ++ (proposalOf (entryAt proposalSize more n) ∷ []))
-      (entries-same proposalOf proposalOf proposalSize more block 0 n (λ j h. ap proposalOf (other j (omega arith))))
-      ∙ ap (λ (p : Proposal). entries proposalOf proposalSize block n ++ (p ∷ [])) (ap proposalOf here ∙ proposal-back q fits)
+      ap (entries proposalOf proposalLen more) (add-one n) ∙ entries-snoc proposalOf proposalLen more n
+      ∙ ap (λ (ps : List Proposal). ps ++ (proposalOf (entryAt proposalLen more n) ∷ []))
+      (entries-same proposalOf proposalOf proposalLen more block 0 n (λ j h. ap proposalOf (other j (omega arith))))
+      ∙ ap (λ (p : Proposal). entries proposalOf proposalLen block n ++ (p ∷ [])) (ap proposalOf here ∙ proposal-back q fits)
 
   pub entries-more : Fits q → Entries block n → Entries more (n + 1)
   entries-more fits h j k = go (eqb j n) refl
     where
-      go : (c : Bool) → eqb j n ≡ c → Written (entryAt proposalSize more j)
-      go true e = subst (λ (i : ℕ). Written (entryAt proposalSize more i)) (sym (eqb-true j n e)) (subst Written (sym here) (ap written (proposal-back q fits)))
+      go : (c : Bool) → eqb j n ≡ c → Written (entryAt proposalLen more j)
+      go true e = subst (λ (i : ℕ). Written (entryAt proposalLen more i)) (sym (eqb-true j n e)) (subst Written (sym here) (ap written (proposal-back q fits)))
       go false e =
           let ne = eqb-false j n e in
           let l : j < n = omega arith in
@@ -189,7 +189,7 @@ module _ (signs : Five) (block : Bytes) (n : ℕ) (g : FiveOk signs) (same : sig
   -- the one under way, and those after it
   pub owed-now : (i : ℕ) → i < n → getD (signs .items) i 0 ≡ plusSign
       → accepted (signsIn (drop i (held signs))) (drop i (proposalsOf block n))
-      ≡ proposalOf (entryAt proposalSize block i) ∷ accepted (signsIn (drop (suc i) (held signs))) (drop (suc i) (proposalsOf block n))
+      ≡ proposalOf (entryAt proposalLen block i) ∷ accepted (signsIn (drop (suc i) (held signs))) (drop (suc i) (proposalsOf block n))
   unfolding proposalsOf
   owed-now i h e =
       let none : Proposal = proposalOf [] in
@@ -197,8 +197,8 @@ module _ (signs : Five) (block : Bytes) (n : ℕ) (g : FiveOk signs) (same : sig
         drop-cons (held signs) i 0 (omega (arith, length-held)),
         held-at i h,
         e,
-        drop-cons (entries proposalOf proposalSize block n) i none (omega (arith, entries-length proposalOf proposalSize block 0 n)),
-        entries-at proposalOf proposalSize block n i none h,
+        drop-cons (entries proposalOf proposalLen block n) i none (omega (arith, entries-length proposalOf proposalLen block 0 n)),
+        entries-at proposalOf proposalLen block n i none h,
       )
 
   pub next-found : (i : ℕ) → Found (drop i (held signs)) (drop i (proposalsOf block n)) i (plusFrom i (drop i (held signs)))

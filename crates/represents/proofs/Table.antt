@@ -13,7 +13,7 @@ use Rattle.grammar.specs.Transfers.{partOf}
 use Rattle.mail.specs.Mail.{recordAt, noRecord, declined, accepted}
 use Rattle.mail.specs.Tally.{declinedOnes, deferredOnes}
 use Rattle.places.specs.Places.{recordLen, partners}
-use Rattle.layout.specs.Layout.{entryAt, recordSize, recordOf}
+use Rattle.layout.specs.Layout.{entryAt, recordOf}
 use Rattle.layout.proofs.Places.{part-in}
 use Rattle.entries.specs.Decoded.{entries, recordCount, recordsOf}
 use Rattle.marking.specs.States.{statesOf, setState, markAll, Whole}
@@ -93,17 +93,17 @@ record-none : (ti na bo : Bytes) → recordOf ti na bo [] ≡ noRecord
 record-none ti na bo = rw (part-none ti, part-none na, part-none bo)
 
 -- at every place: past the end there is none
-pub record-at : (ti na bo t : Bytes) (i : ℕ) → Whole t → recordAt (recordsOf ti na bo t) i ≡ recordOf ti na bo (entryAt recordSize t i)
+pub record-at : (ti na bo t : Bytes) (i : ℕ) → Whole t → recordAt (recordsOf ti na bo t) i ≡ recordOf ti na bo (entryAt recordLen t i)
 unfolding recordsOf
 record-at ti na bo t i w = go (ltb i (recordCount t)) refl
   where
     go : (c : Bool) → ltb i (recordCount t) ≡ c
-        → recordAt (entries (recordOf ti na bo) recordSize t (recordCount t)) i ≡ recordOf ti na bo (entryAt recordSize t i)
-    go true e = entries-at (recordOf ti na bo) recordSize t (recordCount t) i noRecord (ltb-true i (recordCount t) e)
+        → recordAt (entries (recordOf ti na bo) recordLen t (recordCount t)) i ≡ recordOf ti na bo (entryAt recordLen t i)
+    go true e = entries-at (recordOf ti na bo) recordLen t (recordCount t) i noRecord (ltb-true i (recordCount t) e)
     go false e =
         let h : recordCount t ≤ i = ltb-false i (recordCount t) e in
-        let past : entryAt recordSize t i ≡ [] = outside (leb (i * recordLen) (length t)) (leb recordLen (length t - i * recordLen)) (take recordLen (drop (i * recordLen) t)) (lt-leb recordLen (length t - i * recordLen) (omega (arith, w))) in
-        List·getD-eq-default (entries (recordOf ti na bo) recordSize t (recordCount t)) noRecord (omega (arith, entries-length (recordOf ti na bo) recordSize t 0 (recordCount t)))
+        let past : entryAt recordLen t i ≡ [] = outside (leb (i * recordLen) (length t)) (leb recordLen (length t - i * recordLen)) (take recordLen (drop (i * recordLen) t)) (lt-leb recordLen (length t - i * recordLen) (omega (arith, w))) in
+        List·getD-eq-default (entries (recordOf ti na bo) recordLen t (recordCount t)) noRecord (omega (arith, entries-length (recordOf ti na bo) recordLen t 0 (recordCount t)))
         ∙ sym (ap (recordOf ti na bo) past ∙ record-none ti na bo)
       where
         outside : (a b : Bool) (l : Bytes) → b ≡ false → cond a (cond b l []) [] ≡ []

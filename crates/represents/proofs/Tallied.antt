@@ -13,7 +13,7 @@ use Rattle.mail.specs.Mail.{Record}
 use Rattle.mail.specs.Tally.{Counts, moreProposed, moreForwarded, moreDeclined, moreDeferred, waits, waitingBytes}
 use Rattle.session.specs.Choices.{Shelf}
 use Rattle.session.specs.Session.{Memory}
-use Rattle.layout.specs.Layout.{entryAt, recordOf, recordSize}
+use Rattle.layout.specs.Layout.{entryAt, recordOf}
 use Rattle.entries.specs.Decoded.{entriesFrom, recordCount, recordsOf}
 use Rattle.sheet.specs.declared.Sheet.{Sheet}
 use Rattle.sheet.specs.Sheet.{byteRange, proposedBy, forwardedBy, declinedBy, deferredBy}
@@ -31,6 +31,7 @@ use Rattle.form_closed.specs.Fixed.{Fixed}
 use Rattle.phase.specs.Phase.{stateForwarded, stateDeclined}
 use Rattle.represents.specs.Represents.{Holds}
 use Rattle.represents.specs.Tallies.{SheetIs, Tallies, countsMarked}
+use Rattle.places.specs.Places.{recordLen}
 
 -- none more is as many
 pub none-more : (c : Counts) → c ≡ moreProposed 0 c
@@ -70,11 +71,11 @@ sheet-marked h c m few less k = go (eqb (m .state) stateForwarded) (eqb (m .stat
 
 -- no size depends on titles, names and bodies
 sizes-from : (ti na bo t : Bytes) (st : List ℕ) (i n : ℕ)
-    → waitingBytes (entriesFrom (recordOf [] [] []) recordSize t i n) st ≡ waitingBytes (entriesFrom (recordOf ti na bo) recordSize t i n) st
+    → waitingBytes (entriesFrom (recordOf [] [] []) recordLen t i n) st ≡ waitingBytes (entriesFrom (recordOf ti na bo) recordLen t i n) st
 sizes-from ti na bo t st i zero = refl
 sizes-from ti na bo t [] i (suc n) = refl
 sizes-from ti na bo t (x ∷ st) i (suc n) =
-    ap (λ (y : ℕ). cond (eqb x 0) (recordOf ti na bo (entryAt recordSize t i) .size + y) y) (sizes-from ti na bo t st (suc i) n)
+    ap (λ (y : ℕ). cond (eqb x 0) (recordOf ti na bo (entryAt recordLen t i) .size + y) y) (sizes-from ti na bo t st (suc i) n)
 
 pub sizes-law : (ti na bo t : Bytes) (st : List ℕ) → waitingBytes (recordsOf [] [] [] t) st ≡ waitingBytes (recordsOf ti na bo t) st
 unfolding recordsOf

@@ -14,7 +14,7 @@ use Rattle.grammar.specs.Transfers.{partOf, byteSum}
 use Rattle.mail.specs.Mail.{Message, accepted}
 use Rattle.session.specs.Choices.{Shelf, bodyBytes}
 use Rattle.session.specs.Session as on-lists
-use Rattle.layout.specs.Layout.{entryAt, entrySize, proposalSize, proposalOf, messageOf, bodyStart, bodyLength}
+use Rattle.layout.specs.Layout.{entryAt, proposalOf, messageOf, bodyStart, bodyLength}
 use Rattle.transfer_read.specs.Feed.{roomOf}
 use Rattle.transfer_read.specs.Meaning.{Stands}
 use Rattle.session_memory.specs.State.{held}
@@ -31,6 +31,7 @@ use Rattle.form_closed.specs.Fixed.{Fixed}
 use Rattle.grammar.specs.Fields.{bodyLimit}
 use Rattle.phase.specs.Phase.{phaseCalledSid, phaseCallerSid, phasePrompt, phaseTurn, phaseFs, phaseTransfer, phaseLeaving, phaseOver}
 use Rattle.session_memory.specs.Session.{Keep}
+use Rattle.places.specs.Places.{entryLen, proposalLen}
 
 -- ---------------------------------------------------------------- lists in lent memory
 
@@ -38,7 +39,7 @@ use Rattle.session_memory.specs.Session.{Keep}
 abbrev pub messagesFrom : Bytes → Bytes → ℕ → ℕ → List Message
 messagesFrom inbox store i zero = []
 messagesFrom inbox store i (suc n) =
-    messageOf (entryAt entrySize inbox i) (partOf store (bodyStart (entryAt entrySize inbox i)) (bodyLength (entryAt entrySize inbox i))) ∷ messagesFrom inbox store (suc i) n
+    messageOf (entryAt entryLen inbox i) (partOf store (bodyStart (entryAt entryLen inbox i)) (bodyLength (entryAt entryLen inbox i))) ∷ messagesFrom inbox store (suc i) n
 
 -- The inbox up to its count.
 unfoldable pub messagesOf : Bytes → Bytes → ℕ → List Message
@@ -48,12 +49,12 @@ messagesOf inbox store n = messagesFrom inbox store 0 n
 abbrev pub InRow : Bytes → ℕ → ℕ → ℕ → Type 0
 InRow inbox i zero place = Unit {0}
 InRow inbox i (suc n) place =
-    (bodyStart (entryAt entrySize inbox i) ≡ place) × InRow inbox (suc i) n (place + bodyLength (entryAt entrySize inbox i))
+    (bodyStart (entryAt entryLen inbox i) ≡ place) × InRow inbox (suc i) n (place + bodyLength (entryAt entryLen inbox i))
 
 -- Entries of the inbox from place i on are those of these messages, whose bodies lie in the store from start on.
 abbrev pub LaidFrom : Bytes → ℕ → ℕ → List Message → Type 0
 LaidFrom inbox i start [] = Unit {0}
-LaidFrom inbox i start (m ∷ ms) = (entryAt entrySize inbox i ≡ messageBytes m start) × LaidFrom inbox (suc i) (start + length (m .body)) ms
+LaidFrom inbox i start (m ∷ ms) = (entryAt entryLen inbox i ≡ messageBytes m start) × LaidFrom inbox (suc i) (start + length (m .body)) ms
 
 -- The entry of a proposal is what is written for the proposal that it is read as.
 abbrev pub Written : Bytes → Type 0
@@ -75,7 +76,7 @@ owed s = accepted (signsIn (drop (s .now .current) (held (s .say .signs)))) (dro
 
 -- Every proposal of the block lies there as it is written.
 abbrev pub Entries : Bytes → ℕ → Type 0
-Entries block n = (i : ℕ) → i < n → Written (entryAt proposalSize block i)
+Entries block n = (i : ℕ) → i < n → Written (entryAt proposalLen block i)
 
 -- Table t, inbox i and store st, with the known BIDs, are those of the shelf; buffers of entries hold a whole number of them.
 pub record Shelved (F : Fixed) (E : Shelf) (t i st : Bytes) : Type 0 where
@@ -84,7 +85,7 @@ pub record Shelved (F : Fixed) (E : Shelf) (t i st : Bytes) : Type 0 where
   pub places : placeCount i ≡ E .places
   pub bytes : length st ≡ E .bytes
   pub table : Whole t
-  pub inbox : length i ≡ E .places * entrySize
+  pub inbox : length i ≡ E .places * entryLen
 
 -- So many messages are kept, and these they are; their bodies lie in a row at the beginning of the store, use so many bytes of it, and each has 65,535
 -- bytes at most.

@@ -29,9 +29,6 @@ use Rattle.session_memory.specs.Session.{Line}
 use Rattle.session_memory.specs.Session.{Session}
 use Rattle.session_memory.specs.declared.Sizes.{Sizes}
 
-abbrev pub sessionSize : ℕ
-sessionSize = sessionLen
-
 abbrev pub at : ℕ → Cursor
 at n = record { at = n; skip = 0 }
 

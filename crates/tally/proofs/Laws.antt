@@ -11,9 +11,9 @@ use borrow.Author.Tests.{eq-eqb, ne-eqb}
 use Rattle.grammar.specs.Bytes.{Bytes}
 use Rattle.mail.specs.Mail.{Record, recordLimit}
 use Rattle.mail.specs.Tally.{waits, waitingBytes}
-use Rattle.places.specs.Places.{recordSizeAt}
+use Rattle.places.specs.Places.{recordSizeAt, recordLen}
 use Rattle.phase.specs.Phase.{stateWaiting}
-use Rattle.layout.specs.Layout.{le4At, entryAt, recordOf, recordSize, stateFor}
+use Rattle.layout.specs.Layout.{le4At, entryAt, recordOf, stateFor}
 use Rattle.entries.specs.Decoded.{entriesFrom, entries, recordCount, recordsOf}
 use Rattle.entries.proofs.Laws.{entries-more, entries-all, entries-end}
 use Rattle.marking.specs.States.{statesOf}
@@ -26,16 +26,16 @@ use Rattle.tally.specs.Tally.{sizesRange, waitingIn, sizesIn, counted}
 module _ (p : ℕ) (table : Bytes) (n : ℕ) where
   -- the records from i on, and their states
   abbrev recordsFrom : ℕ → List Record
-  recordsFrom i = entriesFrom (recordOf [] [] []) recordSize table i (n - i)
+  recordsFrom i = entriesFrom (recordOf [] [] []) recordLen table i (n - i)
 
   abbrev statesFrom : ℕ → List ℕ
   statesFrom i = drop i (statesOf p table)
 
   abbrev stateAt : ℕ → ℕ
-  stateAt i = stateFor p (entryAt recordSize table i)
+  stateAt i = stateFor p (entryAt recordLen table i)
 
   abbrev sizeAt : ℕ → ℕ
-  sizeAt i = le4At (entryAt recordSize table i) recordSizeAt
+  sizeAt i = le4At (entryAt recordLen table i) recordSizeAt
 
   -- w records wait before record i, with sizes of z in all; of what was added no number is too large for the code
   pub record Counting (w z i : ℕ) : Type 0 where
@@ -61,8 +61,8 @@ module _ (p : ℕ) (table : Bytes) (n : ℕ) where
       states : statesFrom i ≡ stateAt i ∷ statesFrom (i + 1)
       states = states-next p table i (subst (λ (m : ℕ). i < m) (c .count) h)
 
-      both : waitingBytes (recordsFrom i) (statesFrom i) ≡ waitingBytes (recordOf [] [] [] (entryAt recordSize table i) ∷ recordsFrom (i + 1)) (stateAt i ∷ statesFrom (i + 1))
-      both = ap (λ (l : List ℕ). waitingBytes (recordsFrom i) l) states ∙ ap (λ (T : List Record). waitingBytes T (stateAt i ∷ statesFrom (i + 1))) (entries-more (recordOf [] [] []) recordSize table i n h)
+      both : waitingBytes (recordsFrom i) (statesFrom i) ≡ waitingBytes (recordOf [] [] [] (entryAt recordLen table i) ∷ recordsFrom (i + 1)) (stateAt i ∷ statesFrom (i + 1))
+      both = ap (λ (l : List ℕ). waitingBytes (recordsFrom i) l) states ∙ ap (λ (T : List Record). waitingBytes T (stateAt i ∷ statesFrom (i + 1))) (entries-more (recordOf [] [] []) recordLen table i n h)
 
   pub counting-add : {w z i : ℕ} → Counting w z i → i < n → stateAt i ≡ stateWaiting → sizeAt i < sizesRange → Counting (w + 1) (z + sizeAt i) (i + 1)
   counting-add {w} {z} {i} c h e l =
@@ -79,8 +79,8 @@ module _ (p : ℕ) (table : Bytes) (n : ℕ) where
       states : statesFrom i ≡ stateAt i ∷ statesFrom (i + 1)
       states = states-next p table i (subst (λ (m : ℕ). i < m) (c .count) h)
 
-      both : waitingBytes (recordsFrom i) (statesFrom i) ≡ waitingBytes (recordOf [] [] [] (entryAt recordSize table i) ∷ recordsFrom (i + 1)) (stateAt i ∷ statesFrom (i + 1))
-      both = ap (λ (l : List ℕ). waitingBytes (recordsFrom i) l) states ∙ ap (λ (T : List Record). waitingBytes T (stateAt i ∷ statesFrom (i + 1))) (entries-more (recordOf [] [] []) recordSize table i n h)
+      both : waitingBytes (recordsFrom i) (statesFrom i) ≡ waitingBytes (recordOf [] [] [] (entryAt recordLen table i) ∷ recordsFrom (i + 1)) (stateAt i ∷ statesFrom (i + 1))
+      both = ap (λ (l : List ℕ). waitingBytes (recordsFrom i) l) states ∙ ap (λ (T : List Record). waitingBytes T (stateAt i ∷ statesFrom (i + 1))) (entries-more (recordOf [] [] []) recordLen table i n h)
 
   -- past the last record all is counted
   module _ {w z i : ℕ} (c : Counting w z i) (l : n ≤ i) where
@@ -89,11 +89,11 @@ module _ (p : ℕ) (table : Bytes) (n : ℕ) where
         let e : waits (statesFrom i) ≡ 0 = ap waits (states-end p table i (subst (λ (m : ℕ). m ≤ i) (c .count) l)) in
         omega (arith, c .records, e)
 
-    pub sizes-all : z ≡ waitingBytes (entries (recordOf [] [] []) recordSize table n) (statesOf p table)
+    pub sizes-all : z ≡ waitingBytes (entries (recordOf [] [] []) recordLen table n) (statesOf p table)
     sizes-all =
-        let e : waitingBytes (recordsFrom i) (statesFrom i) ≡ 0 = ap (λ (T : List Record). waitingBytes T (statesFrom i)) (entries-end (recordOf [] [] []) recordSize table i n l) in
+        let e : waitingBytes (recordsFrom i) (statesFrom i) ≡ 0 = ap (λ (T : List Record). waitingBytes T (statesFrom i)) (entries-end (recordOf [] [] []) recordLen table i n l) in
         let f : z ≡ waitingBytes (recordsFrom 0) (statesOf p table) = omega (arith, c .sizes, e) in
-        f ∙ ap (λ (T : List Record). waitingBytes T (statesOf p table)) (sym (entries-all (recordOf [] [] []) recordSize table n))
+        f ∙ ap (λ (T : List Record). waitingBytes T (statesOf p table)) (sym (entries-all (recordOf [] [] []) recordLen table n))
 
 pub counted-all : (p : ℕ) (table : Bytes) {n w z i : ℕ} → Counting p table n w z i → n ≤ i → (h : Sheet)
     → _≡_ {A = Tally} (record { waiting = w; sizes = z % sizesRange; sheet = h }) (counted p table h)
@@ -101,7 +101,7 @@ unfolding waitingIn sizesIn recordsOf
 counted-all p table {n} c l h = rw (← c .count) (same-tally (records-all p table n c l) (ap (λ (x : ℕ). x % sizesRange) (sizes-all p table n c l)) refl)
 
 pub few-records : (table : Bytes) {n : ℕ} → n ≡ recordCount table → n ≤ recordLimit
-few-records table e = rw e (min-le-left recordLimit (length table / recordSize))
+few-records table e = rw e (min-le-left recordLimit (length table / recordLen))
 
 -- no more wait than there are records
 waits-most : (st : List ℕ) → waits st ≤ length st

@@ -160,7 +160,7 @@ pub fn heading<'a>(
 ) -> &'a [u8]
     ensures { λ r. ⌜ now r ≡ headingOf (now (titles .entry)) (now (names .entry)) form start len ⌝ }
 {
-    if form == 2 {
+    if form == phase::FORM_FILE {
         part(names, start, len)
     } else {
         part(titles, start, len)

@@ -22,7 +22,7 @@ use Rattle.demand3.specs.Demand as on-lists-run
 use Rattle.entries.specs.Decoded.{recordsOf, knownBids, placeCount, recordCount}
 use Rattle.marking.specs.States.{statesOf}
 use Rattle.entries.proofs.Laws.{entries-length}
-use Rattle.layout.specs.Layout.{recordSize, recordOf}
+use Rattle.layout.specs.Layout.{recordOf}
 use Rattle.main_theorem.specs.Demand2.{callOf}
 use Rattle.main_theorem.specs.Calls.{Buffer, fixedIn, receives, received, isCaller}
 use Rattle.main_theorem.specs.Demand2.{shelfIn}
@@ -41,6 +41,7 @@ use Rattle.two_nodes.specs.Series.{Node, Meeting, shelfOf, afterward, series, A
 use Rattle.two_nodes.specs.Series as on-lists
 use Rattle.two_nodes.proofs.Series.{two-nodes}
 use Rattle.two_nodes_lent.specs.Boxes.{Box, records, states, statesAfter, kept, events, CarriesOver, Visit, Chain, last, keptHere, keptThere, FqComes, NoneLeft, Parted, AllParted, Settled, Claim}
+use Rattle.places.specs.Places.{recordLen}
 
 -- ---------------------------------------------------------------- one end
 
@@ -70,7 +71,7 @@ all-of (r ∷ T) h = both (sendable (r .form) (headingFor (r .form) r) (r .body)
 record-count : (x : Box) → length (records x) ≡ recordCount (x .opening .table .bytes)
 unfolding recordsOf
 record-count x =
-    entries-length (recordOf (x .opening .titles .bytes) (x .opening .names .bytes) (x .opening .bodies .bytes)) recordSize (x .opening .table .bytes) 0
+    entries-length (recordOf (x .opening .titles .bytes) (x .opening .names .bytes) (x .opening .bodies .bytes)) recordLen (x .opening .table .bytes) 0
     (recordCount (x .opening .table .bytes))
 
 pub sound-of : (x : Box) → Sound (shelfIn (x .opening))

@@ -12,7 +12,7 @@ use borrow.Author.Tests.{eq-eqb, ne-eqb, ltb-true, ltb-false}
 use Rattle.grammar.specs.Bytes.{Bytes}
 use Rattle.grammar.specs.Turns.{fixedText, withCr, proposalLine, ourFF, ourFQ, ourEnd}
 use Rattle.mail.specs.Mail.{transferOf, proposalLines, turnText}
-use Rattle.layout.specs.Layout.{byteAt, entryAt, recordSize, recordOf}
+use Rattle.layout.specs.Layout.{byteAt, entryAt, recordOf}
 use Rattle.session_memory.specs.State.{held, fiveAt}
 use Rattle.session_memory.specs.declared.Five.{Five}
 use Rattle.session_memory.specs.Session.{Session}
@@ -20,6 +20,7 @@ use Rattle.session_memory.proofs.Laws.{array-in, array-length}
 use Rattle.waiting.specs.Waiting.{proposalAt, firstText, blockText, sendingText, thenText, waitingOf}
 use Rattle.waiting.specs.Pieces.{joined, blockPieces, sendingPieces, thenPieces, piecesOf}
 use Rattle.phase.specs.Phase.{blockLimit, pieceNone, pieceFF, pieceFQ, pieceBlock}
+use Rattle.places.specs.Places.{recordLen}
 
 -- ---------------------------------------------------------------- put together
 
@@ -34,7 +35,7 @@ sending-joined : (table titles names bodies : Bytes) (is : List ℕ) → joined 
 unfolding joined sendingPieces sendingText
 sending-joined table titles names bodies [] = refl
 sending-joined table titles names bodies (i ∷ is) =
-    ap (λ (r : Bytes). transferOf (recordOf titles names bodies (entryAt recordSize table i)) ++ r) (sending-joined table titles names bodies is)
+    ap (λ (r : Bytes). transferOf (recordOf titles names bodies (entryAt recordLen table i)) ++ r) (sending-joined table titles names bodies is)
 
 then-joined : (s : Session) (table titles names bodies : Bytes) → joined (thenPieces (s .say .then) s table titles names bodies) ≡ thenText s table titles names bodies
 unfolding thenPieces thenText joined
@@ -178,7 +179,7 @@ module _ (table : Bytes) where
 -- the transfers
 module _ (table titles names bodies : Bytes) where
   sending-item : (is : List ℕ) (j : ℕ) → j < length is
-      → getD (sendingPieces table titles names bodies is) j [] ≡ transferOf (recordOf titles names bodies (entryAt recordSize table (getD is j 0)))
+      → getD (sendingPieces table titles names bodies is) j [] ≡ transferOf (recordOf titles names bodies (entryAt recordLen table (getD is j 0)))
   unfolding sendingPieces
   sending-item [] j h = absurd (omega arith)
   sending-item (i ∷ is) zero h = refl
@@ -239,11 +240,11 @@ module _ (s : Session) (table titles names bodies : Bytes) where
       pub bound-sent : (1 ≤ k) × (k ≤ blockLimit)
       bound-sent = (one, omega (arith, sent, length-take (s .keep .sending .count) (s .keep .sending .items)))
 
-      pub piece-sent : transferOf (recordOf titles names bodies (entryAt recordSize table (getD (s .keep .sending .items) (k - 1) 0)))
+      pub piece-sent : transferOf (recordOf titles names bodies (entryAt recordLen table (getD (s .keep .sending .items) (k - 1) 0)))
           ≡ getD (piecesOf s table titles names bodies) k []
       piece-sent =
           let c : k - 1 < s .keep .sending .count = omega (arith, sent, length-take (s .keep .sending .count) (s .keep .sending .items)) in
           sym
           (past ∙ ap (λ (ps : List Bytes). getD ps (k - 1) []) (after-sending s table titles names bodies (s .say .then) g m)
           ∙ sending-item table titles names bodies (held (s .keep .sending)) (k - 1) sent
-          ∙ ap (λ (i : ℕ). transferOf (recordOf titles names bodies (entryAt recordSize table i))) (getD-take (s .keep .sending .count) (s .keep .sending .items) (k - 1) 0 c))
+          ∙ ap (λ (i : ℕ). transferOf (recordOf titles names bodies (entryAt recordLen table i))) (getD-take (s .keep .sending .count) (s .keep .sending .items) (k - 1) 0 c))

@@ -16,7 +16,7 @@ use Rattle.grammar.specs.Transfers.{partOf, writeTransfer, blocksOut, dataMax}
 use Rattle.grammar.proofs.Basics.{by-cond}
 use Rattle.grammar.proofs.Fields.{num-field}
 use Rattle.mail.specs.Mail.{Record, headingFor, transferOf, proposalLines, turnText}
-use Rattle.layout.specs.Layout.{byteAt, le2At, le4At, fieldIn, entryAt, recordSize, recordOf}
+use Rattle.layout.specs.Layout.{byteAt, le2At, le4At, fieldIn, entryAt, recordOf}
 use Rattle.layout.proofs.Laws.{le2-small}
 use Rattle.record_text.proofs.Laws.{part-short, part-octets}
 use Rattle.our_line.specs.Lines.{fsText}
@@ -56,7 +56,7 @@ held-short f h = simp length-take (omega arith)
 line-short : (table : Bytes) (i : ℕ) → length (withCr (proposalLine (proposalAt table i))) ≤ lineBound
 unfolding proposalLine
 line-short table i =
-    let c = entryAt recordSize table i in
+    let c = entryAt recordLen table i in
     let d = num-field 9 (proposalAt table i .size) .most in
     simp length-append (omega (arith, field-short callMax recordFrom c, field-short atMax recordAt c, field-short callMax recordTo c, field-short bidMax recordBid c))
 
@@ -84,9 +84,9 @@ heading-short file r t n = n
 
 -- of any table of bytes
 pub record-short : (table titles names bodies : Bytes) → ((i : ℕ) → byteAt table i < byteValues) → (i : ℕ)
-    → length (transferOf (recordOf titles names bodies (entryAt recordSize table i))) ≤ transferBound
+    → length (transferOf (recordOf titles names bodies (entryAt recordLen table i))) ≤ transferBound
 record-short table titles names bodies o i =
-    let c : Bytes = entryAt recordSize table i in
+    let c : Bytes = entryAt recordLen table i in
     let r : Record = recordOf titles names bodies c in
     let b : (j : ℕ) → byteAt c j < byteValues = part-octets table o (i * recordLen) recordLen in
     let t : length (r .title) ≤ byteValues - 1 = omega (arith, part-short titles (le4At c recordTitle) (byteAt c recordTitleLength), b recordTitleLength) in
@@ -107,7 +107,7 @@ first-short s h =
     (by-cond P (eqb (s .say .first) pieceChecksumError) (omega arith)
     (simp length-append (omega (arith, held-short (s .say .signs) h)))))))
 
-module _ (table titles names bodies : Bytes) (short : (i : ℕ) → length (transferOf (recordOf titles names bodies (entryAt recordSize table i))) ≤ transferBound) where
+module _ (table titles names bodies : Bytes) (short : (i : ℕ) → length (transferOf (recordOf titles names bodies (entryAt recordLen table i))) ≤ transferBound) where
   sending-short : (is : List ℕ) → length (sendingText table titles names bodies is) ≤ transferBound * length is
   unfolding sendingText
   sending-short [] = omega arith

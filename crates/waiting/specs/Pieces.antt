@@ -7,11 +7,12 @@ use lib.Dec.{eqb}
 use Rattle.grammar.specs.Bytes.{Bytes}
 use Rattle.grammar.specs.Turns.{fixedText, withCr, proposalLine, ourFF, ourFQ, ourEnd}
 use Rattle.mail.specs.Mail.{transferOf}
-use Rattle.layout.specs.Layout.{entryAt, recordSize, recordOf}
+use Rattle.layout.specs.Layout.{entryAt, recordOf}
 use Rattle.session_memory.specs.State.{held}
 use Rattle.session_memory.specs.Session.{Session}
 use Rattle.phase.specs.Phase.{pieceNone, pieceFF, pieceFQ, pieceBlock}
 use Rattle.waiting.specs.Waiting.{proposalAt, firstText}
+use Rattle.places.specs.Places.{recordLen}
 
 unfoldable pub joined : List Bytes → Bytes
 joined [] = []
@@ -26,7 +27,7 @@ blockPieces table (i ∷ is) = withCr (proposalLine (proposalAt table i)) ∷ bl
 unfoldable pub sendingPieces : Bytes → Bytes → Bytes → Bytes → List ℕ → List Bytes
 sendingPieces table titles names bodies [] = []
 sendingPieces table titles names bodies (i ∷ is) =
-    transferOf (recordOf titles names bodies (entryAt recordSize table i)) ∷ sendingPieces table titles names bodies is
+    transferOf (recordOf titles names bodies (entryAt recordLen table i)) ∷ sendingPieces table titles names bodies is
 
 -- the pieces after the first, by this number
 unfoldable pub thenPieces : ℕ → Session → Bytes → Bytes → Bytes → Bytes → List Bytes

@@ -8,9 +8,9 @@ use Rattle.grammar.specs.Bytes.{Bytes}
 use Rattle.grammar.specs.Turns.{fixedText, withCr, ourSid, ourPrompt, ourFF, ourFQ, protocolError, checksumError, Proposal}
 use Rattle.mail.specs.Mail as mail
 use Rattle.mail.specs.Mail.{turnText}
-use Rattle.layout.specs.Layout.{entryAt, recordSize, recordOf}
+use Rattle.layout.specs.Layout.{entryAt, recordOf}
 use Rattle.phase.specs.Phase.{pieceNone, pieceSidAndPrompt, pieceSid, pieceProtocolError, pieceChecksumError, pieceFF, pieceFQ, pieceBlock}
-use Rattle.places.specs.Places.{recordTitle, recordName}
+use Rattle.places.specs.Places.{recordTitle, recordName, recordLen}
 use Rattle.record_text.specs.Texts.{fileForm}
 use Rattle.our_line.specs.Lines.{fsText}
 use Rattle.session_memory.specs.State.{held}
@@ -18,7 +18,7 @@ use Rattle.session_memory.specs.Session.{Session}
 
 -- The proposal of the record at a place of the table.
 abbrev pub proposalAt : Bytes → ℕ → Proposal
-proposalAt table i = mail.proposalOf (recordOf [] [] [] (entryAt recordSize table i))
+proposalAt table i = mail.proposalOf (recordOf [] [] [] (entryAt recordLen table i))
 
 -- Where a record of this form tells the start of its heading; its length stands four bytes further. The name's for a file, else the title's.
 abbrev pub headingPlace : ℕ → ℕ
@@ -45,7 +45,7 @@ blockText table is = turnText (map (proposalAt table) is)
 unfoldable pub sendingText : Bytes → Bytes → Bytes → Bytes → List ℕ → Bytes
 sendingText table titles names bodies [] = []
 sendingText table titles names bodies (i ∷ is) =
-    mail.transferOf (recordOf titles names bodies (entryAt recordSize table i)) ++ sendingText table titles names bodies is
+    mail.transferOf (recordOf titles names bodies (entryAt recordLen table i)) ++ sendingText table titles names bodies is
 
 -- What is said after it by this number; any without a name of its own: the transfers of the records being sent
 abbrev pub thenBy : ℕ → Session → Bytes → Bytes → Bytes → Bytes → Bytes

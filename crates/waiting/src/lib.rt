@@ -3,9 +3,10 @@ ghost use mathlib.Core.Path.{_≡_};
 ghost use Prim.Native.Nat.{min};
 ghost use lib.ListN.{length};
 ghost use Rattle.grammar.specs.Bytes.{Bytes};
-ghost use Rattle.session_memory.specs.State.{sessionSize, loadOf};
+ghost use Rattle.session_memory.specs.State.{loadOf};
 ghost use Rattle.waiting.specs.Pieces.{piecesOf};
 ghost use Rattle.phase.specs.Phase.{blockLimit};
+ghost use Rattle.places.specs.Places.{sessionLen};
 
 // How many of up to five numbers are in use.
 pub fn in_use(count: u8) -> u8
@@ -19,7 +20,7 @@ pub fn in_use(count: u8) -> u8
 
 // How many pieces wait.
 pub fn piece_count(sm: &[u8]) -> u8
-    requires { ⌜ length (now sm) ≡ sessionSize ⌝ }
+    requires { ⌜ length (now sm) ≡ sessionLen ⌝ }
     ensures { λ r. ⌜ ((table titles names bodies : Bytes) → r ≡ length (piecesOf (loadOf (now (sm .entry))) table titles names bodies)) ⌝ }
 {
     let then = sm[places::THEN];

@@ -13,9 +13,9 @@ ghost use lib.ListN.{length, getD, drop};
 ghost use Rattle.grammar.specs.Turns.{withCr, proposalLine};
 ghost use Rattle.mail.specs.Mail.{proposalOf, transferOf};
 ghost use Rattle.layout.specs.Layout.{entryAt, recordOf};
-ghost use Rattle.places.specs.Places.{recordLen};
+ghost use Rattle.places.specs.Places.{recordLen, sessionLen};
 ghost use Rattle.buffer.specs.Put.{Puts};
-ghost use Rattle.session_memory.specs.State.{sessionSize, held, loadOf};
+ghost use Rattle.session_memory.specs.State.{held, loadOf};
 ghost use Rattle.waiting.specs.Waiting.{firstText};
 ghost use Rattle.waiting.specs.Pieces.{joined, blockPieces, piecesOf};
 
@@ -76,7 +76,7 @@ fn write_transfer<'a>(
 
 // The first piece.
 fn write_first(buf: &mut [u8], c: Cursor, sm: &[u8]) -> Cursor
-    requires { ⌜ length (now sm) ≡ sessionSize ⌝ }
+    requires { ⌜ length (now sm) ≡ sessionLen ⌝ }
     ensures { λ d. ⌜ Puts (now (buf .entry)) c (firstText (loadOf (now (sm .entry)))) d (now (buf .exit)) ⌝ }
 {
     let first = sm[places::FIRST];
@@ -103,7 +103,7 @@ fn write_first(buf: &mut [u8], c: Cursor, sm: &[u8]) -> Cursor
 
 // Piece k where our block waits: a proposal, or `F>`.
 fn write_block(buf: &mut [u8], c: Cursor, k: u8, sm: &[u8], table: &[u8]) -> Cursor
-    requires { ⌜ (length (now sm) ≡ sessionSize) × ((1 ≤ k) × (k - 1 < length (blockPieces (now table) (held (loadOf (now sm) .now .ours))))) ⌝ }
+    requires { ⌜ (length (now sm) ≡ sessionLen) × ((1 ≤ k) × (k - 1 < length (blockPieces (now table) (held (loadOf (now sm) .now .ours))))) ⌝ }
     ensures { λ d. ⌜ Puts (now (buf .entry)) c (getD (blockPieces (now (table .entry)) (held (loadOf (now (sm .entry)) .now .ours))) (k - 1) []) d (now (buf .exit)) ⌝ }
 {
     if in_use(sm[places::OURS]) < k {
@@ -124,7 +124,7 @@ fn write_piece<'a>(
     names: &'a [u8],
     bodies: &[u8],
 ) -> Cursor
-    requires { ⌜ (length (now sm) ≡ sessionSize) × (k < length (piecesOf (loadOf (now sm)) (now table) (now titles) (now names) (now bodies))) ⌝ }
+    requires { ⌜ (length (now sm) ≡ sessionLen) × (k < length (piecesOf (loadOf (now sm)) (now table) (now titles) (now names) (now bodies))) ⌝ }
     ensures { λ d. ⌜ Puts (now (buf .entry)) c (getD (piecesOf (loadOf (now (sm .entry))) (now (table .entry)) (now (titles .entry)) (now (names .entry)) (now (bodies .entry))) k []) d (now (buf .exit)) ⌝ }
 {
     if k == 0 {
@@ -155,7 +155,7 @@ pub fn write_from<'a>(
     names: &'a [u8],
     bodies: &[u8],
 ) -> Cursor
-    requires { ⌜ length (now sm) ≡ sessionSize ⌝ }
+    requires { ⌜ length (now sm) ≡ sessionLen ⌝ }
     ensures { λ d. ⌜ Puts (now (buf .entry)) c (joined (drop from (piecesOf (loadOf (now (sm .entry))) (now (table .entry)) (now (titles .entry)) (now (names .entry)) (now (bodies .entry))))) d (now (buf .exit)) ⌝ }
 {
     let n = waiting::piece_count(sm);

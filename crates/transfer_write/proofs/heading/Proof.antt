@@ -1,5 +1,6 @@
 -- By the form: a part of the name store, or of the title store.
 use borrow.Author.Tests.{eq-eqb, ne-eqb}
+use Rattle.grammar.specs.Fields.{file, formNumber}
 use borrow.Author.Needs.{needs}
 use Rattle.transfer_write.proofs.heading.Statement.{statement}
 use Rattle.transfer_write.proofs.heading.Tie as tie
@@ -11,10 +12,10 @@ part-requires-2 : tie.Need-part-requires-2
 part-requires-2 c κs = search needs
 
 returns : tie.Need-returns
-returns c = simp (eq-eqb _ 2 (c .before .if1 .taken)) (c .part .ensures)
+returns c = simp (eq-eqb _ (formNumber file) (c .before .if1 .taken)) (c .part .ensures)
 
 returns-2 : tie.Need-returns-2
-returns-2 c = simp (ne-eqb _ 2 (c .before .if1 .left)) (c .part2 .ensures)
+returns-2 c = simp (ne-eqb _ (formNumber file) (c .before .if1 .left)) (c .part2 .ensures)
 
 pub heading-spec : {M : Type 1} → statement M
 heading-spec = tie.close (tie.spec part-requires part-requires-2 returns returns-2)
