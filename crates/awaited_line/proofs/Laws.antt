@@ -26,7 +26,7 @@ use Rattle.numbers_in_place.proofs.Arrays.{deferred-lent, block-lent}
 use Rattle.line_effect.specs.declared.Verdict.{Verdict}
 use Rattle.line_effect.specs.Judged.{Judged}
 use Rattle.line_effect.specs.Verdict.{judgedOf, judgedIn}
-use Rattle.line_effect.specs.Judge.{refusal, wentOn, inPhase, toTurn, inMode, afterSid, sidRead, sidLine, lineIn, judgeOf}
+use Rattle.line_effect.specs.Judge.{refusal, wentOn, inPhase, toTurn, withMode, afterSid, sidRead, sidLine, lineBy, judgeOf}
 
 module _ (s : Session) where
   -- a SID
@@ -35,41 +35,41 @@ module _ (s : Session) where
   sid-no none r e n = ap (λ (x : Sid). refusal (x .number) s) e
   sid-no (some fs) r e n = go (hasFeature letterF fs) refl
     where
-      go : (b : Bool) → hasFeature letterF fs ≡ b → refusal (r .number) s ≡ cond b (wentOn (withNow (afterSid (s .now)) (withKeep (inMode (framed fs) (levelInForce fs) (s .keep)) s))) (refusal noForwarding s)
+      go : (b : Bool) → hasFeature letterF fs ≡ b → refusal (r .number) s ≡ cond b (wentOn (withNow (afterSid (s .now)) (withKeep (withMode (framed fs) (levelInForce fs) (s .keep)) s))) (refusal noForwarding s)
       go true q = absurd (n (ap (λ (x : Sid). x .number) e ∙ rw q))
       go false q = ap (λ (x : Sid). refusal (x .number) s) e ∙ rw q
 
-  sid-yes : (o : Option (List ℕ)) (r : Sid) → r ≡ sidOf o → r .number ≡ 0 → wentOn (withNow (afterSid (s .now)) (withKeep (inMode (framed (r .features .levels)) (levelInForce (r .features .levels)) (s .keep)) s)) ≡ sidRead o s
+  sid-yes : (o : Option (List ℕ)) (r : Sid) → r ≡ sidOf o → r .number ≡ 0 → wentOn (withNow (afterSid (s .now)) (withKeep (withMode (framed (r .features .levels)) (levelInForce (r .features .levels)) (s .keep)) s)) ≡ sidRead o s
   unfolding sidOf
   sid-yes none r e n = let z : ⊥ = omega (arith, ap (λ (x : Sid). x .number) e) in absurd z
   sid-yes (some fs) r e n = go (hasFeature letterF fs) refl
     where
-      go : (b : Bool) → hasFeature letterF fs ≡ b → wentOn (withNow (afterSid (s .now)) (withKeep (inMode (framed (r .features .levels)) (levelInForce (r .features .levels)) (s .keep)) s)) ≡ cond b (wentOn (withNow (afterSid (s .now)) (withKeep (inMode (framed fs) (levelInForce fs) (s .keep)) s))) (refusal noForwarding s)
-      go true q = ap (λ (x : Sid). wentOn (withNow (afterSid (s .now)) (withKeep (inMode (framed (x .features .levels)) (levelInForce (x .features .levels)) (s .keep)) s))) e
+      go : (b : Bool) → hasFeature letterF fs ≡ b → wentOn (withNow (afterSid (s .now)) (withKeep (withMode (framed (r .features .levels)) (levelInForce (r .features .levels)) (s .keep)) s)) ≡ cond b (wentOn (withNow (afterSid (s .now)) (withKeep (withMode (framed fs) (levelInForce fs) (s .keep)) s))) (refusal noForwarding s)
+      go true q = ap (λ (x : Sid). wentOn (withNow (afterSid (s .now)) (withKeep (withMode (framed (x .features .levels)) (levelInForce (x .features .levels)) (s .keep)) s))) e
       go false q = let f : r .number ≡ noForwarding = ap (λ (x : Sid). x .number) e ∙ rw q in let z : ⊥ = omega (arith, f) in absurd z
 
   module _ (o : Option (List ℕ)) (r : Sid) (e : r ≡ sidOf o) (n : r .number ≡ 0) (b : Bool) (f : b ≡ framed (r .features .levels)) (v : ℕ) (g : v ≡ levelInForce (r .features .levels)) where
-    pub sid-prompt : s .now .phase ≡ phaseCallerSid → wentOn (withNow (inPhase phasePrompt (s .now)) (withKeep (inMode b v (s .keep)) s)) ≡ sidRead o s
+    pub sid-prompt : s .now .phase ≡ phaseCallerSid → wentOn (withNow (inPhase phasePrompt (s .now)) (withKeep (withMode b v (s .keep)) s)) ≡ sidRead o s
     sid-prompt h =
         let q : inPhase phasePrompt (s .now) ≡ afterSid (s .now) = rw (eq-eqb _ _ h) in
         rw (q, f, g) (sid-yes o r e n)
 
-    pub sid-turn : (s .now .phase ≡ phaseCallerSid → ⊥) → wentOn (withNow (toTurn false (s .now)) (withKeep (inMode b v (s .keep)) s)) ≡ sidRead o s
+    pub sid-turn : (s .now .phase ≡ phaseCallerSid → ⊥) → wentOn (withNow (toTurn false (s .now)) (withKeep (withMode b v (s .keep)) s)) ≡ sidRead o s
     sid-turn h =
         let q : toTurn false (s .now) ≡ afterSid (s .now) = rw (ne-eqb _ _ h) in
         rw (q, f, g) (sid-yes o r e n)
 
   -- any line by the phase
   module _ (ln : Bytes) (table known inbox : Bytes) (store : ℕ) (j : Judged) where
-    pub line-in : (p : ℕ) → s .now .phase ≡ p → isComment (trim ln) ≡ false → j ≡ lineIn p ln s table known inbox store → j ≡ judgeOf ln s table known inbox store
+    pub line-in : (p : ℕ) → s .now .phase ≡ p → isComment (trim ln) ≡ false → j ≡ lineBy p ln s table known inbox store → j ≡ judgeOf ln s table known inbox store
     unfolding judgeOf
-    line-in p e z f = rw z (f ∙ ap (λ (q : ℕ). lineIn q ln s table known inbox store) (sym e))
+    line-in p e z f = rw z (f ∙ ap (λ (q : ℕ). lineBy q ln s table known inbox store) (sym e))
 
     -- a SID is awaited in the first two phases
-    pub sid-in : (p : ℕ) → p < phasePrompt → j ≡ sidLine (trim ln) s → j ≡ lineIn p ln s table known inbox store
+    pub sid-in : (p : ℕ) → p < phasePrompt → j ≡ sidLine (trim ln) s → j ≡ lineBy p ln s table known inbox store
     sid-in p l f = go (eqb p phaseCalledSid) refl
       where
-        go : (b : Bool) → eqb p phaseCalledSid ≡ b → j ≡ lineIn p ln s table known inbox store
+        go : (b : Bool) → eqb p phaseCalledSid ≡ b → j ≡ lineBy p ln s table known inbox store
         go true q = rw q f
         go false q = let z = eqb-false p phaseCalledSid q in rw (q, eq-eqb p phaseCallerSid (omega arith)) f
 

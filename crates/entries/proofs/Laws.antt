@@ -12,7 +12,7 @@ use lib.Seq.{getD-drop}
 use Rattle.grammar.specs.Bytes.{Bytes, byteValues, fourByteValues}
 use Rattle.session.specs.Choices.{recordBids, messageBids, bodyBytes}
 use Rattle.places.specs.Places.{bidAt, bidMax, recordBid, entryLen, recordLen}
-use Rattle.layout.specs.Layout.{byteAt, le4At, fieldIn, entryAt, recordOf, messageOf}
+use Rattle.layout.specs.Layout.{byteAt, le4At, fieldIn, entryAt, recordOf, messageIn}
 use Rattle.layout.proofs.Laws.{le4-small}
 use Rattle.entries.specs.Decoded.{entriesFrom, entries}
 
@@ -57,12 +57,12 @@ pub record-bids : (s : Bytes) (i n : ℕ) → recordBids (entriesFrom (recordOf 
 record-bids s i zero = refl
 record-bids s i (suc n) = ap (λ (l : List Bytes). fieldIn bidMax recordBid (entryAt recordLen s i) ∷ l) (record-bids s (suc i) n)
 
-pub message-bids : (s : Bytes) (i n : ℕ) → messageBids (entriesFrom (λ (c : Bytes). messageOf c []) entryLen s i n) ≡ entriesFrom (fieldIn bidMax bidAt) entryLen s i n
+pub message-bids : (s : Bytes) (i n : ℕ) → messageBids (entriesFrom (λ (c : Bytes). messageIn c []) entryLen s i n) ≡ entriesFrom (fieldIn bidMax bidAt) entryLen s i n
 message-bids s i zero = refl
 message-bids s i (suc n) = ap (λ (l : List Bytes). fieldIn bidMax bidAt (entryAt entryLen s i) ∷ l) (message-bids s (suc i) n)
 
 -- bodies are left out
-pub no-bodies : (s : Bytes) (i n : ℕ) → bodyBytes (entriesFrom (λ (c : Bytes). messageOf c []) entryLen s i n) ≡ 0
+pub no-bodies : (s : Bytes) (i n : ℕ) → bodyBytes (entriesFrom (λ (c : Bytes). messageIn c []) entryLen s i n) ≡ 0
 no-bodies s i zero = refl
 no-bodies s i (suc n) = omega (arith, no-bodies s (suc i) n)
 

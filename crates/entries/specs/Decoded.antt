@@ -5,7 +5,7 @@ use lib.ListN.{length}
 use Rattle.grammar.specs.Bytes.{Bytes}
 use Rattle.grammar.specs.Turns.{Proposal}
 use Rattle.mail.specs.Mail.{Record, Message, recordLimit}
-use Rattle.layout.specs.Layout.{byteAt, entryAt, recordOf, knownOf, proposalOf, messageOf}
+use Rattle.layout.specs.Layout.{byteAt, entryAt, recordOf, knownOf, proposalIn, messageIn}
 use Rattle.places.specs.Places.{entryLen, knownLen, proposalLen, recordLen}
 
 -- What f makes of n entries of this size, from entry i on.
@@ -39,8 +39,8 @@ knownBids known = entries knownOf knownLen known (knownCount known)
 
 -- The first n messages of the inbox, without their bodies.
 unfoldable pub headsOf : Bytes → ℕ → List Message
-headsOf inbox n = entries (λ (c : Bytes). messageOf c []) entryLen inbox n
+headsOf inbox n = entries (λ (c : Bytes). messageIn c []) entryLen inbox n
 
 -- The first n proposals of a block.
 unfoldable pub proposalsOf : Bytes → ℕ → List Proposal
-proposalsOf block n = entries proposalOf proposalLen block n
+proposalsOf block n = entries proposalIn proposalLen block n

@@ -14,7 +14,7 @@ use Rattle.mail.specs.Mail.{Record, Message, accepted, recordLimit}
 use Rattle.session.specs.Choices.{chosen, answersTo, Shelf, bodyBytes, announced, haveBid, noRoomFor, withAccepted, answersAfter}
 use Rattle.session.proofs.Choices.{few, Places, chosen-places, one-sign-each}
 use Rattle.places.specs.Places.{entryLen, proposalLen, recordLen}
-use Rattle.layout.specs.Layout.{recordOf, messageOf, proposalOf}
+use Rattle.layout.specs.Layout.{recordOf, messageIn, proposalIn}
 use Rattle.session_memory.specs.State.{held}
 use Rattle.session_memory.specs.declared.Five.{Five}
 use Rattle.session_memory.specs.Session.{Await}
@@ -97,8 +97,8 @@ answers-ok w k table known inbox n h b =
     let ms : List Message = headsOf inbox (k .kept) in
     let ps : List Proposal = proposalsOf (w .block) (min blockLimit (w .proposals)) in
     let ss = answersTo E ms ps in
-    let l₁ : length ms ≡ k .kept = entries-length (λ (c : Bytes). messageOf c []) entryLen inbox 0 (k .kept) in
-    let l₂ : length ps ≡ min blockLimit (w .proposals) = entries-length proposalOf proposalLen (w .block) 0 (min blockLimit (w .proposals)) in
+    let l₁ : length ms ≡ k .kept = entries-length (λ (c : Bytes). messageIn c []) entryLen inbox 0 (k .kept) in
+    let l₂ : length ps ≡ min blockLimit (w .proposals) = entries-length proposalIn proposalLen (w .block) 0 (min blockLimit (w .proposals)) in
     let l₃ = one-sign-each E ms ps in
     let l₄ : length (map writeSign ss) ≡ length ss = length-map ss writeSign in
     let p = answers-places E ms ps (omega arith) in

@@ -33,7 +33,7 @@ use Rattle.session_memory.specs.Session.{Session}
 use Rattle.session_memory.specs.Setters.{withReader, withNow, withSay, withKeep, withReading}
 use Rattle.our_answer.specs.Answers.{answersOf}
 use Rattle.entries.specs.Decoded.{placeCount}
-use Rattle.line_effect.specs.Judge.{noMarks, judged, refusal, wentOn, inPhase, toTurn, toTransfer, saysFirst, saysThen, saysSigns, inMode, sends, sidRead, sidLine, textLine, turnMarks, settledKeep, wholeTurn, nextAccepted, readerFor, answered, endLine, summedLine, withProposal, proposalLine, ffLine, fqLine, lineSum, turnRead, turnLine, picked, flagged, transfersAfter, answerTaken, answerLine, judgeOf}
+use Rattle.line_effect.specs.Judge.{noMarks, judged, refusal, wentOn, inPhase, toTurn, toTransfer, saysFirst, saysThen, saysSigns, withMode, sends, sidRead, sidLine, textLine, turnMarks, settledKeep, wholeTurn, nextAccepted, readerFor, answered, endLine, summedLine, withProposal, proposalLine, ffLine, fqLine, lineSum, turnRead, turnLine, picked, flagged, transfersAfter, answerTaken, answerLine, judgeOf}
 use Rattle.line_effect.specs.Judged.{Judged}
 use Rattle.line_effect.specs.declared.Marks.{Marks}
 use Rattle.form_test.specs.Form.{pluses, isLast}
@@ -84,17 +84,17 @@ module _ (table known inbox store : Bytes) (s : Session) (G : SessionOk inbox st
   unfolding sidLine
   sid-ok ln z = go (readSid ln)
     where
-      kept : (md : Bool) (v : ℕ) → v < byteValues → SessionOk inbox store (withKeep (inMode md v k) s)
+      kept : (md : Bool) (v : ℕ) → v < byteValues → SessionOk inbox store (withKeep (withMode md v k) s)
       kept md v l =
           ok-keep G (record { terms = search (l, G .keep .terms); sending = G .keep .sending; flags = G .keep .flags; octets = G .keep .octets })
-          (box-as k (inMode md v k) inbox store refl refl (G .box))
+          (box-as k (withMode md v k) inbox store refl refl (G .box))
 
-      heard : (md : Bool) (v : ℕ) → v < byteValues → (c : Bool) → Ok (wentOn (withNow (cond c (inPhase phasePrompt w) (toTurn false w)) (withKeep (inMode md v k) s)))
+      heard : (md : Bool) (v : ℕ) → v < byteValues → (c : Bool) → Ok (wentOn (withNow (cond c (inPhase phasePrompt w) (toTurn false w)) (withKeep (withMode md v k) s)))
       heard md v l true =
-          let t : Session = withNow (inPhase phasePrompt w) (withKeep (inMode md v k) s) in
+          let t : Session = withNow (inPhase phasePrompt w) (withKeep (withMode md v k) s) in
           on t noMarks (ok-now (kept md v l) (in-phase phasePrompt w (omega arith) (G .now))) (omega arith) not-sent (calm t inbox store z (λ e. omega arith) (omega arith))
       heard md v l false =
-          let t : Session = withNow (toTurn false w) (withKeep (inMode md v k) s) in
+          let t : Session = withNow (toTurn false w) (withKeep (withMode md v k) s) in
           on t noMarks (ok-now (kept md v l) (to-turn false w (G .now))) (omega arith) not-sent (calm t inbox store z (λ e. omega arith) (omega arith))
 
       go : (o : Option (List ℕ)) → Ok (sidRead o s)

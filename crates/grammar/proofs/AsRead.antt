@@ -13,7 +13,7 @@ use Rattle.grammar.specs.Bytes.{Bytes, CR, CTRLZ, every, before, byteVal
 use Rattle.grammar.specs.Ascii.{text, char}
 use Rattle.grammar.specs.Fields.{Form, after, bodyFair, digit, file, hexDigit, hexPair, isAt, isBid, isCall, isHeading, isSize, message, plain, readFrom, sized, starts, twoHex, upper, words, digitsEnd, sizeDigits, hexEnd, hexAbove, hexBase}
 use Rattle.grammar.specs.Sid.{authorByte, authorRead, dataByte, dataRead, hasFeature, isLetter, letterPlace, noFeatures, readFeatures, readLevels, readSid, sidEnd, sidRead, splitLast, withFeature, dollarPlace, featurePlaces, levelValues}
-use Rattle.grammar.specs.Turns.{Proposal, fieldsRead, formOf, inMode, isType, readProposal, sevenRead, typeOf, TurnLine, saysFF, saysFQ, endsBlock, notAllowed, proposes, endsSummed, orNotAllowed, readSummedEnd, readTurnLine, summedOr, twoHexRead}
+use Rattle.grammar.specs.Turns.{Proposal, fieldsRead, formSaid, inMode, isType, readProposal, sevenRead, typeOf, TurnLine, saysFF, saysFQ, endsBlock, notAllowed, proposes, endsSummed, orNotAllowed, readSummedEnd, readTurnLine, summedOr, twoHexRead}
 use Rattle.grammar.specs.Answers.{offsetDigits}
 use Rattle.grammar.specs.Transfers.{Parsed, blocks, blocksRead, bodyRead, headRead, isHeader, lenRead, offRead, parse, readFramed, spacesCR, titleRead, zeroDigit}
 use Rattle.grammar.proofs.Basics.{and2, field-is}
@@ -68,7 +68,7 @@ abbrev TypeIf : Option ℕ → Type 0
 TypeIf none = Unit {0}
 TypeIf (some t) = isType t ≡ true
 
-form-if : (md : Bool) (w : Bytes) → FormIf md (formOf md w)
+form-if : (md : Bool) (w : Bytes) → FormIf md (formSaid md w)
 form-if false w = go (same w (text "FB"))
   where
     go : (c : Bool) → FormIf false (cond c (some plain) none)
@@ -112,7 +112,7 @@ seven-if md (a ∷ b ∷ c ∷ []) = tt
 seven-if md (a ∷ b ∷ c ∷ d ∷ []) = tt
 seven-if md (a ∷ b ∷ c ∷ d ∷ e ∷ []) = tt
 seven-if md (a ∷ b ∷ c ∷ d ∷ e ∷ f ∷ []) = tt
-seven-if md (a ∷ b ∷ c ∷ d ∷ e ∷ f ∷ g ∷ []) = fields-if md (formOf md (map upper a)) (typeOf (map upper b)) c d e f g (form-if md (map upper a)) (type-if (map upper b))
+seven-if md (a ∷ b ∷ c ∷ d ∷ e ∷ f ∷ g ∷ []) = fields-if md (formSaid md (map upper a)) (typeOf (map upper b)) c d e f g (form-if md (map upper a)) (type-if (map upper b))
 seven-if md (a ∷ b ∷ c ∷ d ∷ e ∷ f ∷ g ∷ h ∷ hs) = tt
 
 -- every proposal that is read is proper

@@ -11,7 +11,7 @@ use borrow.Author.Tests.{ltb-true, lt-ltb, le-ltb, leb-true, ne-eqb, eqb-true}
 use Rattle.grammar.specs.Bytes.{Bytes, SP, every}
 use Rattle.grammar.specs.Ascii.{char}
 use Rattle.grammar.specs.Fields.{Form, afterDot, allCalls, bidByte, callByte, decimal, digit, field, file, isAt, isBid, isCall, isSize, message, parts, plain, readFrom, toFirst, upper, words, writeNum, callMax, atMax, afterDotMax, bidMax, digitsEnd, sizeDigits, decimalDigits}
-use Rattle.grammar.specs.Turns.{Proposal, formLetter, formOf, inMode, isType, proposable, proposalLine, readProposal, sp, typeOf, sizeValues}
+use Rattle.grammar.specs.Turns.{Proposal, formLetter, formSaid, inMode, isType, proposable, proposalLine, readProposal, sp, typeOf, sizeValues}
 use Rattle.grammar.proofs.Basics.{and2, both, all-append, Field, field-is, field-of, Lacks, all-lacks, or-left, or-right, or-second}
 
 -- ---------------------------------------------------------------- words
@@ -191,7 +191,7 @@ type-back t e = go (eqb t (char "P")) refl
     go true p = let z = eqb-true t (char "P") p in subst (λ (s : ℕ). typeOf (map upper (s ∷ [])) ≡ some s) (sym z) refl
     go false p = let z = eqb-true t (char "B") (or-second (eqb t (char "P")) (eqb t (char "B")) p e) in subst (λ (s : ℕ). typeOf (map upper (s ∷ [])) ≡ some s) (sym z) refl
 
-form-back : (md : Bool) (f : Form) → inMode md f ≡ true → formOf md (map upper (char "F" ∷ formLetter f ∷ [])) ≡ some f
+form-back : (md : Bool) (f : Form) → inMode md f ≡ true → formSaid md (map upper (char "F" ∷ formLetter f ∷ [])) ≡ some f
 form-back false plain e = refl
 form-back false message e = cc
 form-back false file e = cc

@@ -9,7 +9,7 @@ use lib.Dec.{eqb}
 use borrow.Author.Tests.{eqb-true}
 use Rattle.grammar.specs.Bytes.{Bytes, CR, SP, CTRLZ, before, splitAt}
 use Rattle.grammar.specs.Fields.{Form, starts, attach, words, upper, isCall, isAt, isBid, isSize, readFrom, isHeading}
-use Rattle.grammar.specs.Turns.{Proposal, readProposal, sevenRead, fieldsRead, formOf, typeOf}
+use Rattle.grammar.specs.Turns.{Proposal, readProposal, sevenRead, fieldsRead, formSaid, typeOf}
 use Rattle.grammar.specs.Transfers.{Parsed, readPlain, titleRead, bodyRead, spacesCR}
 
 -- w stands in l, byte for byte
@@ -76,7 +76,7 @@ seven-spelled md (a ∷ b ∷ c ∷ d ∷ []) l h = tt
 seven-spelled md (a ∷ b ∷ c ∷ d ∷ e ∷ []) l h = tt
 seven-spelled md (a ∷ b ∷ c ∷ d ∷ e ∷ f ∷ []) l h = tt
 seven-spelled md (a ∷ b ∷ c ∷ d ∷ e ∷ f ∷ g ∷ []) l h =
-    fields-spelled (formOf md (map upper a)) (typeOf (map upper b)) c d e f g l (h .1 .1 .0) (h .1 .1 .1 .0) (h .1 .1 .1 .1 .0) (h .1 .1 .1 .1 .1 .0)
+    fields-spelled (formSaid md (map upper a)) (typeOf (map upper b)) c d e f g l (h .1 .1 .0) (h .1 .1 .1 .0) (h .1 .1 .1 .1 .0) (h .1 .1 .1 .1 .1 .0)
 seven-spelled md (a ∷ b ∷ c ∷ d ∷ e ∷ f ∷ g ∷ k ∷ ks) l h = tt
 
 -- THE SPELLING OF A PROPOSAL: from, at, to and BID stand in the received line as they were read

@@ -22,9 +22,9 @@ pub record Proposal : Type 0 where
   pub size : ℕ
 
 -- "In plain mode the letter is FB; in framed mode FA is a packed message and FB a packed file."
-abbrev pub formOf : Bool → Bytes → Option Form
-formOf false w = cond (same w (text "FB")) (some plain) none
-formOf true w = cond (same w (text "FA")) (some message) (cond (same w (text "FB")) (some file) none)
+abbrev pub formSaid : Bool → Bytes → Option Form
+formSaid false w = cond (same w (text "FB")) (some plain) none
+formSaid true w = cond (same w (text "FA")) (some message) (cond (same w (text "FB")) (some file) none)
 
 -- "a type (P or B)"
 abbrev pub typeOf : Bytes → Option ℕ
@@ -47,7 +47,7 @@ sevenRead md (a ∷ b ∷ c ∷ []) = none
 sevenRead md (a ∷ b ∷ c ∷ d ∷ []) = none
 sevenRead md (a ∷ b ∷ c ∷ d ∷ e ∷ []) = none
 sevenRead md (a ∷ b ∷ c ∷ d ∷ e ∷ f ∷ []) = none
-sevenRead md (a ∷ b ∷ c ∷ d ∷ e ∷ f ∷ g ∷ []) = fieldsRead (formOf md (map upper a)) (typeOf (map upper b)) c d e f g
+sevenRead md (a ∷ b ∷ c ∷ d ∷ e ∷ f ∷ g ∷ []) = fieldsRead (formSaid md (map upper a)) (typeOf (map upper b)) c d e f g
 sevenRead md (a ∷ b ∷ c ∷ d ∷ e ∷ f ∷ g ∷ h ∷ hs) = none
 
 -- A proposal line, in plain (false) or framed (true) mode. Spaces in front are not removed, so a line that begins with one is none.

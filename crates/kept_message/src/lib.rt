@@ -18,7 +18,7 @@ ghost use Rattle.kept_message.specs.Keeping.{Keepable};
 // One message more is kept, its body behind those kept before.
 fn kept_keep(s: Numbers) -> KeepNumbers
     requires { ⌜ Keepable s ⌝ }
-    ensures { λ r. ⌜ ((a : Arrays) → whole.keepOf r a ≡ keptKeep (sessionOf s a)) ⌝ }
+    ensures { λ r. ⌜ ((a : Arrays) → whole.keepWith r a ≡ keptKeep (sessionOf s a)) ⌝ }
 {
     let mut k = s.keep;
     k.kept = s.keep.kept + 1;

@@ -18,7 +18,7 @@ use Rattle.mail.specs.Mail as mail
 use Rattle.buffer.specs.Put.{putBytes}
 use Rattle.buffer.proofs.Laws.{cursor}
 use Rattle.places.specs.Places.{callMax, atMax, bidMax, headingMax, formAt, typeAt, fromAt, atAt, toAt, bidAt, fieldsSize, proposalSizeAt, proposalLen, entryLen, blockLen}
-use Rattle.layout.specs.Layout.{Fields, byteAt, le2At, le4At, le8At, le2, le4, le8, fieldIn, fieldOut, entryAt, fieldsAt, fieldsOut, proposalWith, proposalAt, proposalOut, proposalOf, messageWith, messageOf, bodyStart, bodyLength, entryOut}
+use Rattle.layout.specs.Layout.{Fields, byteAt, le2At, le4At, le8At, le2, le4, le8, fieldIn, fieldOut, entryAt, fieldsAt, fieldsOut, proposalWith, proposalAt, proposalOut, proposalIn, messageWith, messageIn, bodyStart, bodyLength, entryOut}
 use Rattle.layout.proofs.Writing.{field-padded}
 use Rattle.layout.proofs.Places.{byte-later, le2-skip, le4-skip, le4-later, part-skip, field-skip, field-later, part-in, byte-kept, field-kept, part-here, entry-written, entry-kept}
 
@@ -161,14 +161,14 @@ proposal-at l b n p r h =
     let t = written p ++ r in
     ap (λ (k : ℕ). proposalAt k (l ++ t)) (sym (add-zero b)) ∙ same-proposal (fields-skip l t b n 0) (le4-later l t b n 0 proposalSizeAt) ∙ proposal-first p r h
 
-pub proposal-back : (p : Proposal) → Fits p → proposalOf (written p) ≡ p
-proposal-back p h = ap proposalOf (sym (append-nil (written p))) ∙ proposal-first p [] h
+pub proposal-back : (p : Proposal) → Fits p → proposalIn (written p) ≡ p
+proposal-back p h = ap proposalIn (sym (append-nil (written p))) ∙ proposal-first p [] h
 
 -- the same where it stands as entry i of a block of five; the others are as before
 module _ (block : Bytes) (i : ℕ) (n : length block ≡ blockLen) (k : i < blockLimit) where
-  pub block-back : (p : Proposal) → Fits p → proposalOf (entryAt proposalLen (putBytes block (cursor (i * proposalLen) 0) (written p)) i) ≡ p
+  pub block-back : (p : Proposal) → Fits p → proposalIn (entryAt proposalLen (putBytes block (cursor (i * proposalLen) 0) (written p)) i) ≡ p
   block-back p h =
-      ap proposalOf (entry-written proposalLen block i (written p) (proposal-length (formNumber (p .form)) (p .type) (p .from) (p .at) (p .to) (p .bid) (p .size)) (omega arith))
+      ap proposalIn (entry-written proposalLen block i (written p) (proposal-length (formNumber (p .form)) (p .type) (p .from) (p .at) (p .to) (p .bid) (p .size)) (omega arith))
       ∙ proposal-back p h
 
   pub block-kept : (c : Bytes) → length c ≡ proposalLen → (j : ℕ) → (j ≡ i → ⊥)
@@ -197,10 +197,10 @@ module _ (c heading : Bytes) (start n : ℕ) (h : fieldsSize ≤ length c) where
   pub entry-length : length (entryOut c heading start n) ≡ entryLen
   entry-length = rw fields (simp (length-append, length-take, length-replicate) (omega arith))
 
-  pub message-back : (body : Bytes) → length heading ≤ headingMax → messageOf (entryOut c heading start n) body ≡ withContent (proposalOf c) heading body
+  pub message-back : (body : Bytes) → length heading ≤ headingMax → messageIn (entryOut c heading start n) body ≡ withContent (proposalIn c) heading body
   unfolding rest
   message-back body k =
-      ap (λ (l : Bytes). messageOf (l ++ rest) body) fields
+      ap (λ (l : Bytes). messageIn (l ++ rest) body) fields
       ∙ same-message body (fields-kept fieldsSize c rest h 0 (omega arith))
       (field-skip (take fieldsSize c) rest fieldsSize fields-long 0 headingMax ∙ field-here headingMax heading (le4 start ++ le2 n) k (omega arith))
 

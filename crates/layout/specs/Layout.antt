@@ -86,8 +86,8 @@ abbrev pub proposalOut : ℕ → ℕ → Bytes → Bytes → Bytes → Bytes →
 proposalOut form type from at to bid size = fieldsOut form type from at to bid ++ le4 size
 
 -- In session memory.
-abbrev pub proposalOf : Bytes → Proposal
-proposalOf c = proposalAt 0 c
+abbrev pub proposalIn : Bytes → Proposal
+proposalIn c = proposalAt 0 c
 
 -- ---------------------------------------------------------------- a record: its states, a proposal's parts, title, name and body
 
@@ -123,8 +123,8 @@ abbrev pub messageWith : Fields → Bytes → Bytes → Message
 messageWith f heading body =
     record { form = f .form; type = f .type; from = f .from; at = f .at; to = f .to; bid = f .bid; heading = heading; body = body }
 
-abbrev pub messageOf : Bytes → Bytes → Message
-messageOf c body = messageWith (fieldsAt 0 c) (fieldIn headingMax entryHeading c) body
+abbrev pub messageIn : Bytes → Bytes → Message
+messageIn c body = messageWith (fieldsAt 0 c) (fieldIn headingMax entryHeading c) body
 
 abbrev pub bodyStart : Bytes → ℕ
 bodyStart c = le4At c entryBody

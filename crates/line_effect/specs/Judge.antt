@@ -71,8 +71,8 @@ abbrev pub saysSigns : Five → Say → Say
 saysSigns f y = withFirst pieceSigns (withSigns f y)
 
 -- The mode and the level in force, which the partner's SID settles.
-abbrev pub inMode : Bool → ℕ → Keep → Keep
-inMode md v k = withLevel v (withFramed md k)
+abbrev pub withMode : Bool → ℕ → Keep → Keep
+withMode md v k = withLevel v (withFramed md k)
 
 abbrev pub sends : Five → Bytes → Keep → Keep
 sends f flags k = withSending f flags k
@@ -85,7 +85,7 @@ afterSid w = cond (eqb (w .phase) phaseCallerSid) (inPhase phasePrompt w) (toTur
 abbrev pub sidRead : Option (List ℕ) → Session → Judged
 sidRead none s = refusal notSid s
 sidRead (some fs) s =
-    cond (hasFeature letterF fs) (wentOn (withNow (afterSid (s .now)) (withKeep (inMode (framed fs) (levelInForce fs) (s .keep)) s))) (refusal noForwarding s)
+    cond (hasFeature letterF fs) (wentOn (withNow (afterSid (s .now)) (withKeep (withMode (framed fs) (levelInForce fs) (s .keep)) s))) (refusal noForwarding s)
 
 unfoldable pub sidLine : Bytes → Session → Judged
 sidLine ln s = sidRead (readSid ln) s
@@ -201,8 +201,8 @@ answerLine ln s =
 -- ---------------------------------------------------------------- any line
 
 -- "Spaces at the end are removed before a line is judged."
-abbrev pub lineIn : ℕ → Bytes → Session → Bytes → Bytes → Bytes → ℕ → Judged
-lineIn p ln s table known inbox store =
+abbrev pub lineBy : ℕ → Bytes → Session → Bytes → Bytes → Bytes → ℕ → Judged
+lineBy p ln s table known inbox store =
     cond (eqb p phaseCalledSid) (sidLine (trim ln) s)
     (cond (eqb p phaseCallerSid) (sidLine (trim ln) s)
     (cond (eqb p phasePrompt) (textLine (trim ln) s)
@@ -213,4 +213,4 @@ lineIn p ln s table known inbox store =
 -- A line as it came, without its CR; the slices are the table, the known BIDs and the inbox, store is the inbox store's size.
 unfoldable pub judgeOf : Bytes → Session → Bytes → Bytes → Bytes → ℕ → Judged
 judgeOf ln s table known inbox store =
-    cond (isComment (trim ln)) (wentOn s) (lineIn (s .now .phase) ln s table known inbox store)
+    cond (isComment (trim ln)) (wentOn s) (lineBy (s .now .phase) ln s table known inbox store)

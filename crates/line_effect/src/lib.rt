@@ -4,7 +4,7 @@ use numbers::KeepNumbers;
 use numbers::Numbers;
 use session_memory::Five;
 ghost use mathlib.Core.Path.{_≡_};
-ghost use Rattle.numbers.specs.Whole.{Arrays, keepOf, sessionOf};
+ghost use Rattle.numbers.specs.Whole.{Arrays, keepWith, sessionOf};
 ghost use Rattle.line_effect.specs.Judge.{noMarks, refusal, wentOn, turnMarks, settledKeep};
 ghost use Rattle.line_effect.specs.Verdict.{judgedOf};
 
@@ -61,7 +61,7 @@ pub fn went(s: Numbers) -> Verdict
 
 // The turn is whole: what was being sent is forwarded.
 pub fn marks_of(keep: KeepNumbers) -> Marks
-    ensures { λ r. ⌜ ((a : Arrays) → r ≡ turnMarks (keepOf keep a)) ⌝ }
+    ensures { λ r. ⌜ ((a : Arrays) → r ≡ turnMarks (keepWith keep a)) ⌝ }
 {
     let s = keep.sending;
     Marks {
@@ -73,7 +73,7 @@ pub fn marks_of(keep: KeepNumbers) -> Marks
 
 // Nothing is being sent any more.
 pub fn marked(keep: KeepNumbers) -> KeepNumbers
-    ensures { λ r. ⌜ ((a : Arrays) → keepOf r a ≡ settledKeep (keepOf keep a)) ⌝ }
+    ensures { λ r. ⌜ ((a : Arrays) → keepWith r a ≡ settledKeep (keepWith keep a)) ⌝ }
 {
     let mut k = keep;
     k.sending = none();

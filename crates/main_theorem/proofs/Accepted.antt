@@ -46,12 +46,12 @@ module _ (c titles names bodies : Bytes) (h : recordOk c titles names bodies ≡
       let n₃ = and2 (isType (byteAt c recordType)) (leb (le4At c recordSizeAt) sizeLimit) n₂ in
       let f = and2 (fieldsOk c) (textsOk c titles names bodies) rest-ok .0 in
       let f₁ = and2 (lengthOk c recordFrom callMax && isCall (fieldIn callMax recordFrom c)) _ f in
-      let f₂ = and2 (lengthOk c places.recordAt atMax && isAt (fieldIn atMax places.recordAt c)) _ (f₁ .1) in
+      let f₂ = and2 (lengthOk c places.recordAtField atMax && isAt (fieldIn atMax places.recordAtField c)) _ (f₁ .1) in
       let f₃ = and2 (lengthOk c recordTo callMax && isCall (fieldIn callMax recordTo c)) (lengthOk c recordBid bidMax && isBid (fieldIn bidMax recordBid c)) (f₂ .1) in
       both (isType (byteAt c recordType) && ltb (le4At c recordSizeAt) sizeValues) _
       (both (isType (byteAt c recordType)) (ltb (le4At c recordSizeAt) sizeValues) (n₃ .0) (lt-ltb (le4At c recordSizeAt) sizeValues (let z = leb-true (le4At c recordSizeAt) sizeLimit (n₃ .1) in omega arith)))
-      (both (isCall (fieldIn callMax recordFrom c) && isAt (fieldIn atMax places.recordAt c)) _
-      (both (isCall (fieldIn callMax recordFrom c)) (isAt (fieldIn atMax places.recordAt c)) (and2 (lengthOk c recordFrom callMax) (isCall (fieldIn callMax recordFrom c)) (f₁ .0) .1) (and2 (lengthOk c places.recordAt atMax) (isAt (fieldIn atMax places.recordAt c)) (f₂ .0) .1))
+      (both (isCall (fieldIn callMax recordFrom c) && isAt (fieldIn atMax places.recordAtField c)) _
+      (both (isCall (fieldIn callMax recordFrom c)) (isAt (fieldIn atMax places.recordAtField c)) (and2 (lengthOk c recordFrom callMax) (isCall (fieldIn callMax recordFrom c)) (f₁ .0) .1) (and2 (lengthOk c places.recordAtField atMax) (isAt (fieldIn atMax places.recordAtField c)) (f₂ .0) .1))
       (both (isCall (fieldIn callMax recordTo c)) (isBid (fieldIn bidMax recordBid c)) (and2 (lengthOk c recordTo callMax) (isCall (fieldIn callMax recordTo c)) (f₃ .0) .1) (and2 (lengthOk c recordBid bidMax) (isBid (fieldIn bidMax recordBid c)) (f₃ .1) .1)))
 
   abbrev r : Record

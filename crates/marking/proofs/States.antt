@@ -18,7 +18,7 @@ use Rattle.grammar.specs.Fields.{Form, formIs}
 use Rattle.grammar.specs.Transfers.{partOf}
 use Rattle.grammar.proofs.Basics.{and2}
 use Rattle.mail.specs.Mail.{Record, marked, recordLimit}
-use Rattle.places.specs.Places.{recordLen, partners, callMax, atMax, bidMax, recordForm, recordType, recordFrom, recordAt, recordTo, recordBid, recordSizeAt, recordTitle, recordTitleLength, recordName, recordNameLength, recordBody, recordBodyLength}
+use Rattle.places.specs.Places.{recordLen, partners, callMax, atMax, bidMax, recordForm, recordType, recordFrom, recordAtField, recordTo, recordBid, recordSizeAt, recordTitle, recordTitleLength, recordName, recordNameLength, recordBody, recordBodyLength}
 use Rattle.phase.specs.Phase.{stateForwarded}
 use Rattle.layout.specs.Layout.{byteAt, le2At, le4At, fieldIn, entryAt, recordOf, statePlace, stateFor, stateOf}
 use Rattle.layout.proofs.Places.{part-in}
@@ -73,7 +73,7 @@ record-beside : (ti na bo c : Bytes) (p v : ℕ) → p < partners → recordOf t
 record-beside ti na bo c p v h =
     let s = statePlace p in
     same-record (ap formIs (byte-beside c s v recordForm (λ k. omega arith))) (byte-beside c s v recordType (λ k. omega arith)) (field-beside c s v callMax recordFrom (λ k. omega arith))
-    (field-beside c s v atMax recordAt (λ k. omega arith)) (field-beside c s v callMax recordTo (λ k. omega arith)) (field-beside c s v bidMax recordBid (λ k. omega arith))
+    (field-beside c s v atMax recordAtField (λ k. omega arith)) (field-beside c s v callMax recordTo (λ k. omega arith)) (field-beside c s v bidMax recordBid (λ k. omega arith))
     (four-beside c s v recordSizeAt (λ k. omega arith))
     (same-part ti (four-beside c s v recordTitle (λ k. omega arith)) (byte-beside c s v recordTitleLength (λ k. omega arith)))
     (same-part na (four-beside c s v recordName (λ k. omega arith)) (byte-beside c s v recordNameLength (λ k. omega arith)))

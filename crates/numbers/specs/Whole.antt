@@ -59,15 +59,15 @@ noArrays = arraysIn []
 abbrev pub awaitOf : AwaitNumbers → Arrays → Await
 awaitOf w a = record { phase = w .phase; ff = w .ff; current = w .current; proposals = w .proposals; ours = w .ours; sum = w .sum; block = a .block }
 
-abbrev pub keepOf : KeepNumbers → Arrays → Keep
-keepOf k a = record { framed = k .framed; terms = k .terms; kept = k .kept; used = k .used; sending = k .sending; deferred = a .deferred }
+abbrev pub keepWith : KeepNumbers → Arrays → Keep
+keepWith k a = record { framed = k .framed; terms = k .terms; kept = k .kept; used = k .used; sending = k .sending; deferred = a .deferred }
 
 abbrev pub sessionOf : Numbers → Arrays → Session
 sessionOf h a =
     record {
       now = awaitOf (h .now) a;
       say = h .say;
-      keep = keepOf (h .keep) a;
+      keep = keepWith (h .keep) a;
       reading = record { reader = h .reader; heading = a .heading };
       line = record { «after_cr» = h .line .«after_cr»; len = h .line .len; bytes = a .line };
       tally = h .tally;

@@ -12,7 +12,7 @@ use Rattle.grammar.specs.Transfers.{partOf}
 use Rattle.mail.specs.Mail.{recordLimit, placeLimit}
 use Rattle.session.specs.Choices.{among}
 use Rattle.phase.specs.Phase.{stateDeclined}
-use Rattle.places.specs.Places.{atMax, bidMax, callMax, partners, recordAt, recordBid, recordBody, recordBodyLength, recordForm, recordFrom, recordName, recordNameLength, recordSizeAt, recordTitle, recordTitleLength, recordTo, recordType, entryLen, knownLen, recordLen, sessionLen}
+use Rattle.places.specs.Places.{atMax, bidMax, callMax, partners, recordAtField, recordBid, recordBody, recordBodyLength, recordForm, recordFrom, recordName, recordNameLength, recordSizeAt, recordTitle, recordTitleLength, recordTo, recordType, entryLen, knownLen, recordLen, sessionLen}
 use Rattle.layout.specs.Layout.{byteAt, le2At, le4At, fieldIn, entryAt, stateFor}
 use Rattle.record_text.specs.Texts.{fileForm}
 use Rattle.session_memory.specs.State.{saveOf, saveSizes, freshOf}
@@ -51,7 +51,7 @@ numbersOk c = statesOk c && (leb (byteAt c recordForm) fileForm && (isType (byte
 -- "from, at, to, BID"
 unfoldable pub fieldsOk : Bytes → Bool
 fieldsOk c =
-    (lengthOk c recordFrom callMax && isCall (fieldIn callMax recordFrom c)) && ((lengthOk c recordAt atMax && isAt (fieldIn atMax recordAt c))
+    (lengthOk c recordFrom callMax && isCall (fieldIn callMax recordFrom c)) && ((lengthOk c recordAtField atMax && isAt (fieldIn atMax recordAtField c))
     && ((lengthOk c recordTo callMax && isCall (fieldIn callMax recordTo c)) && (lengthOk c recordBid bidMax && isBid (fieldIn bidMax recordBid c))))
 
 -- "Title, name and body are a start and a length in three lent stores."

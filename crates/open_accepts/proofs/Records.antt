@@ -21,7 +21,7 @@ use Rattle.grammar.proofs.Basics.{and2, both, no-both, not-so, or2, or-left, or
 use Rattle.session.specs.Choices.{among}
 use Rattle.mail.specs.Mail.{Record, noRecord}
 use Rattle.phase.specs.Phase.{stateWaiting, stateForwarded, stateDeclined}
-use Rattle.places.specs.Places.{atMax, bidMax, callMax, partners, recordAt, recordBid, recordBody, recordBodyLength, recordForm, recordFrom, recordName, recordNameLength, recordSizeAt, recordTitle, recordTitleLength, recordTo, recordType, recordLen}
+use Rattle.places.specs.Places.{atMax, bidMax, callMax, partners, recordAtField, recordBid, recordBody, recordBodyLength, recordForm, recordFrom, recordName, recordNameLength, recordSizeAt, recordTitle, recordTitleLength, recordTo, recordType, recordLen}
 use Rattle.layout.specs.Layout.{byteAt, le2At, le4At, fieldIn, recordOf, stateFor}
 use Rattle.entries.specs.Decoded.{entriesFrom, entries, recordCount, recordsOf}
 use Rattle.entries.proofs.Laws.{entries-at, entries-length}
@@ -230,11 +230,11 @@ module _ (L : Lending) (c : Bytes) where
       (both-decide (isType (byteAt c recordType)) (leb (le4At c recordSizeAt) sizeMost) (type-decides (byteAt c recordType)) (leb-decides (le4At c recordSizeAt) sizeMost)))
 
   fields-decide : Decides (fieldsOk c)
-      (Field Callsign (byteAt c recordFrom) (r .from) × (Field At (byteAt c recordAt) (r .at) × (Field Callsign (byteAt c recordTo) (r .to) × Field Bid (byteAt c recordBid) (r .bid))))
+      (Field Callsign (byteAt c recordFrom) (r .from) × (Field At (byteAt c recordAtField) (r .at) × (Field Callsign (byteAt c recordTo) (r .to) × Field Bid (byteAt c recordBid) (r .bid))))
   unfolding fieldsOk
   fields-decide =
       both-decide (lengthOk c recordFrom callMax && isCall (fieldIn callMax recordFrom c)) _ (call-in recordFrom c)
-      (both-decide (lengthOk c recordAt atMax && isAt (fieldIn atMax recordAt c)) _ (at-in recordAt c)
+      (both-decide (lengthOk c recordAtField atMax && isAt (fieldIn atMax recordAtField c)) _ (at-in recordAtField c)
       (both-decide (lengthOk c recordTo callMax && isCall (fieldIn callMax recordTo c)) (lengthOk c recordBid bidMax && isBid (fieldIn bidMax recordBid c)) (call-in recordTo c) (bid-in recordBid c)))
 
   abbrev Title : Type 0

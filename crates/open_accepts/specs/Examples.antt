@@ -10,7 +10,7 @@ use Rattle.grammar.specs.Ascii.{text, char}
 use Rattle.grammar.specs.Fields.{formNumber, plain, file}
 use Rattle.grammar.specs.Refusals.{badMemory, noPlace}
 use Rattle.phase.specs.Phase.{stateWaiting, stateForwarded, stateDeclined}
-use Rattle.places.specs.Places.{recordForm, recordType, recordFrom, recordAt, recordTo, recordBid, recordSizeAt, recordTitle, recordTitleLength, recordName, recordBodyLength, recordLen, entryLen, sessionLen, bidMax, partners}
+use Rattle.places.specs.Places.{recordForm, recordType, recordFrom, recordAtField, recordTo, recordBid, recordSizeAt, recordTitle, recordTitleLength, recordName, recordBodyLength, recordLen, entryLen, sessionLen, bidMax, partners}
 use Rattle.layout.specs.Layout.{le2, le4, proposalOut, fieldOut, statePlace}
 use Rattle.marking.specs.States.{statesOf}
 use Rattle.give.specs.Giving.{reply}
@@ -105,8 +105,8 @@ badBeforeRecords =
 -- One byte of a good record changed: the state for partner 0, for the session's, for the last one; form, type, from, at, to, BID, size, title, name and body, each out of its rule or out of its store.
 abbrev pub slips : List Bytes
 slips =
-    set first (statePlace 0) 3 ∷ set first (statePlace aPartner) 3 ∷ set first (statePlace lastPartner) 3 ∷ set first recordForm 3 ∷ set first recordType SP ∷ set first recordFrom 0 ∷ set first recordFrom 7 ∷ set first (recordAt + 1) point
-    ∷ set first recordAt 39 ∷ set first (recordTo + 1) atSign ∷ set first (recordBid + 1) SP ∷ set first recordBid 13 ∷ set first (recordSizeAt + 2) 16
+    set first (statePlace 0) 3 ∷ set first (statePlace aPartner) 3 ∷ set first (statePlace lastPartner) 3 ∷ set first recordForm 3 ∷ set first recordType SP ∷ set first recordFrom 0 ∷ set first recordFrom 7 ∷ set first (recordAtField + 1) point
+    ∷ set first recordAtField 39 ∷ set first (recordTo + 1) atSign ∷ set first (recordBid + 1) SP ∷ set first recordBid 13 ∷ set first (recordSizeAt + 2) 16
     ∷ set first recordTitle 1 ∷ set first recordTitleLength 0 ∷ set first recordName 6 ∷ set first recordForm (formNumber file)
     ∷ set first recordBodyLength 9 ∷ set first recordBodyLength 10 ∷ []
 

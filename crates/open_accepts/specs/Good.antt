@@ -10,7 +10,7 @@ use Rattle.grammar.specs.Bytes.{Bytes}
 use Rattle.grammar.specs.Fields.{formNumber}
 use Rattle.mail.specs.Mail.{Record, recordLimit, placeLimit}
 use Rattle.phase.specs.Phase.{stateWaiting, stateForwarded, stateDeclined}
-use Rattle.places.specs.Places.{recordForm, recordFrom, recordAt, recordTo, recordBid, recordTitle, recordTitleLength, recordName, recordNameLength, recordBody, recordBodyLength, recordLen, partners, knownLen, entryLen, sessionLen}
+use Rattle.places.specs.Places.{recordForm, recordFrom, recordAtField, recordTo, recordBid, recordTitle, recordTitleLength, recordName, recordNameLength, recordBody, recordBodyLength, recordLen, partners, knownLen, entryLen, sessionLen}
 use Rattle.layout.specs.Layout.{byteAt, le2At, le4At}
 use Rattle.open_accepts.specs.Words.{Callsign, At, Bid, Field, Headed, Bodied, NeedsTitle, NeedsName}
 use Rattle.open.specs.Lending.{Lending, roleCalled, roleCaller}
@@ -66,7 +66,7 @@ pub record GoodRecord (L : Lending) (s : ℕ → ℕ) (c : Bytes) (r : Record) :
   -- "one state a partner, 0 to 7": every one of them, whoever the partner is
   pub states : (p : ℕ) → p < partners → IsState (s p)
   pub from : Field Callsign (byteAt c recordFrom) (r .from)
-  pub at : Field At (byteAt c recordAt) (r .at)
+  pub at : Field At (byteAt c recordAtField) (r .at)
   pub to : Field Callsign (byteAt c recordTo) (r .to)
   pub bid : Field Bid (byteAt c recordBid) (r .bid)
   pub size : r .size ≤ sizeMost

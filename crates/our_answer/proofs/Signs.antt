@@ -18,7 +18,7 @@ use Rattle.mail.specs.Mail.{Message}
 use Rattle.session.specs.Choices.{Shelf, among, recordBids, messageBids, proposalBids, bodyBytes, announced, haveBid, noRoomFor, signFor, withAccepted, answersAfter, answersTo}
 use Rattle.places.specs.Places.{bidAt, bidMax, proposalSizeAt, recordBid, entryLen, knownLen, proposalLen, recordLen}
 use Rattle.phase.specs.Phase.{blockLimit}
-use Rattle.layout.specs.Layout.{le4At, fieldIn, entryAt, recordOf, proposalOf, messageOf}
+use Rattle.layout.specs.Layout.{le4At, fieldIn, entryAt, recordOf, proposalIn, messageIn}
 use Rattle.session_memory.specs.State.{held, fiveOf}
 use Rattle.session_memory.specs.declared.Five.{Five}
 use Rattle.our_answer.specs.declared.Promised.{Promised}
@@ -75,7 +75,7 @@ room-is : (table known inbox block : Bytes) (kept free size : ℕ) (p : Promised
     → noRoomFor (shelfOf table known inbox free) (headsOf inbox kept) (promisedIn block p) size ≡ noRoomBy size free (placeCount inbox) kept p
 unfolding headsOf
 room-is table known inbox block kept free size p a =
-    let h : Bytes → Message = λ c. messageOf c [] in
+    let h : Bytes → Message = λ c. messageIn c [] in
     rw (no-bodies inbox 0 kept, sub-zero free, a .sum, entries-length h entryLen inbox 0 kept, promises-length block p (a .filled))
 
 -- the sign by what is known of the BID and of the room
@@ -84,7 +84,7 @@ module _ (table known inbox block : Bytes) (kept free i : ℕ) (p : Promised) {c
     (eh : h ≡ haveBid (shelfOf table known inbox 0) (headsOf inbox kept) (promisedIn block p) bid)
     (ep : places ≡ placeCount inbox) (ef : f ≡ noRoomBy size free places kept p) where
   abbrev signed : ℕ
-  signed = writeSign (signFor (shelfOf table known inbox free) (headsOf inbox kept) (promisedIn block p) (proposalOf (entryAt proposalLen block i)))
+  signed = writeSign (signFor (shelfOf table known inbox free) (headsOf inbox kept) (promisedIn block p) (proposalIn (entryAt proposalLen block i)))
 
   signed-is : signed ≡ writeSign (cond h decline (cond f defer accept))
   signed-is = rw (← ec, ← eb, ← es, room-is table known inbox block kept free size p a, ← eh, ← ep, ← ef)
@@ -117,9 +117,9 @@ accept-room true full h = let z : ⊥ = omega arith in absurd z
 accept-room false true h = let z : ⊥ = omega arith in absurd z
 accept-room false false h = refl
 
-at-append : (block : Bytes) (xs : List ℕ) (x : ℕ) → proposalsAt block (xs ++ (x ∷ [])) ≡ proposalsAt block xs ++ (proposalOf (entryAt proposalLen block x) ∷ [])
+at-append : (block : Bytes) (xs : List ℕ) (x : ℕ) → proposalsAt block (xs ++ (x ∷ [])) ≡ proposalsAt block xs ++ (proposalIn (entryAt proposalLen block x) ∷ [])
 at-append block [] x = refl
-at-append block (y ∷ xs) x = ap (λ (l : List Proposal). proposalOf (entryAt proposalLen block y) ∷ l) (at-append block xs x)
+at-append block (y ∷ xs) x = ap (λ (l : List Proposal). proposalIn (entryAt proposalLen block y) ∷ l) (at-append block xs x)
 
 announced-more : (ps : List Proposal) (q : Proposal) → announced (ps ++ (q ∷ [])) ≡ announced ps + q .size
 announced-more [] q = omega arith
@@ -127,18 +127,18 @@ announced-more (p ∷ ps) q = omega (arith, announced-more ps q)
 
 module _ (table known inbox block : Bytes) (kept free n : ℕ) where
   abbrev at : ℕ → Proposal
-  at i = proposalOf (entryAt proposalLen block i)
+  at i = proposalIn (entryAt proposalLen block i)
 
   -- the sign for proposal i after those of p, and the sign bytes from it on
   abbrev pub signAt : Promised → ℕ → Sign
   signAt p i = signFor (shelfOf table known inbox free) (headsOf inbox kept) (promisedIn block p) (at i)
 
   abbrev pub signsFrom : List Proposal → ℕ → List ℕ
-  signsFrom acc i = map writeSign (answersAfter (shelfOf table known inbox free) (headsOf inbox kept) acc (entriesFrom proposalOf proposalLen block i (n - i)))
+  signsFrom acc i = map writeSign (answersAfter (shelfOf table known inbox free) (headsOf inbox kept) acc (entriesFrom proposalIn proposalLen block i (n - i)))
 
   signs-next : (p : Promised) (i : ℕ) → i < n
       → signsFrom (promisedIn block p) i ≡ writeSign (signAt p i) ∷ signsFrom (withAccepted (signAt p i) (at i) (promisedIn block p)) (i + 1)
-  signs-next p i h = rw (entries-more proposalOf proposalLen block i n h)
+  signs-next p i h = rw (entries-more proposalIn proposalLen block i n h)
 
   -- answers are being given: the signs held, then those from proposal i on, are the whole
   pub record Answering (signs : Five) (p : Promised) (i : ℕ) : Type 0 where
@@ -218,10 +218,10 @@ module _ (table known inbox block : Bytes) (kept free n : ℕ) where
       let w : signsFrom [] 0 ≡ held signs =
       c .whole
       ∙ ap (λ (l : List Proposal). held signs ++ map writeSign (answersAfter (shelfOf table known inbox free) (headsOf inbox kept) (promisedIn block p) l))
-      (entries-end proposalOf proposalLen block i n h)
+      (entries-end proposalIn proposalLen block i n h)
       ∙ append-nil (held signs) in
       c .filled ∙ ap fiveOf (sym w ∙ ap (λ (l : List Proposal). map writeSign (answersAfter (shelfOf table known inbox free) (headsOf inbox kept) [] l))
-      (sym (entries-all proposalOf proposalLen block n)))
+      (sym (entries-all proposalIn proposalLen block n)))
 
 -- ---------------------------------------------------------------- for callers
 

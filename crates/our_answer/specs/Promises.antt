@@ -9,7 +9,7 @@ use Rattle.grammar.specs.Turns.{Proposal}
 use Rattle.grammar.specs.Fields.{bodyLimit}
 use Rattle.phase.specs.Phase.{blockLimit}
 use Rattle.session.specs.Choices.{announced}
-use Rattle.layout.specs.Layout.{entryAt, proposalOf}
+use Rattle.layout.specs.Layout.{entryAt, proposalIn}
 use Rattle.session_memory.specs.State.{held}
 use Rattle.five.specs.Filled.{Filled}
 use Rattle.our_answer.specs.declared.Promised.{Promised}
@@ -18,7 +18,7 @@ use Rattle.places.specs.Places.{proposalLen}
 -- The proposals at these places of a block.
 abbrev pub proposalsAt : Bytes → List ℕ → List Proposal
 proposalsAt block [] = []
-proposalsAt block (i ∷ is) = proposalOf (entryAt proposalLen block i) ∷ proposalsAt block is
+proposalsAt block (i ∷ is) = proposalIn (entryAt proposalLen block i) ∷ proposalsAt block is
 
 -- "accepted earlier in this block"
 abbrev pub promisedIn : Bytes → Promised → List Proposal

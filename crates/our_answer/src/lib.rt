@@ -18,9 +18,9 @@ ghost use Rattle.grammar.specs.Answers.{writeSign};
 ghost use Rattle.session.specs.Choices.{among, proposalBids, haveBid, signFor};
 ghost use Rattle.places.specs.Places.{proposalSizeAt, proposalLen};
 ghost use Rattle.phase.specs.Phase.{blockLimit};
-ghost use Rattle.layout.specs.Layout.{le4At, entryAt, proposalOf};
+ghost use Rattle.layout.specs.Layout.{le4At, entryAt, proposalIn};
 ghost use Rattle.session_memory.specs.State.{held, fiveOf};
-ghost use Rattle.numbers.specs.Whole.{Arrays, withBlock, awaitOf, keepOf};
+ghost use Rattle.numbers.specs.Whole.{Arrays, withBlock, awaitOf, keepWith};
 ghost use Rattle.entries.specs.Decoded.{headsOf};
 ghost use Rattle.five.specs.Filled.{Filled};
 ghost use Rattle.our_answer.specs.Answers.{shelfOf, answersOf};
@@ -119,7 +119,7 @@ fn sign_for(
     free: usize,
 ) -> u8
     requires { ⌜ Promises (now block) free p ⌝ }
-    ensures { λ r. ⌜ r ≡ writeSign (signFor (shelfOf (now (table .entry)) (now (known .entry)) (now (inbox .entry)) free) (headsOf (now (inbox .entry)) kept) (promisedIn (now (block .entry)) p) (proposalOf (entryAt proposalLen (now (block .entry)) i))) ⌝ }
+    ensures { λ r. ⌜ r ≡ writeSign (signFor (shelfOf (now (table .entry)) (now (known .entry)) (now (inbox .entry)) free) (headsOf (now (inbox .entry)) kept) (promisedIn (now (block .entry)) p) (proposalIn (entryAt proposalLen (now (block .entry)) i))) ⌝ }
 {
     let proposal = entry(places::PROPOSAL, block, i);
     let bid = layout::field(proposal, places::BID, places::BID_MAX);
@@ -175,7 +175,7 @@ pub fn answers(
     inbox: &[u8],
     store: usize,
 ) -> Five
-    ensures { λ r. ⌜ ((a : Arrays) → r ≡ answersOf (awaitOf (s .now) (withBlock (now (block .entry)) a)) (keepOf (s .keep) a) (now (table .entry)) (now (known .entry)) (now (inbox .entry)) store) ⌝ }
+    ensures { λ r. ⌜ ((a : Arrays) → r ≡ answersOf (awaitOf (s .now) (withBlock (now (block .entry)) a)) (keepWith (s .keep) a) (now (table .entry)) (now (known .entry)) (now (inbox .entry)) store) ⌝ }
 {
     let n = part::at_most(phase::BLOCK_LIMIT as usize, s.now.proposals as usize);
     let kept = s.keep.kept;

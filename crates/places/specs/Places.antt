@@ -79,8 +79,8 @@ recordType = recordFields + typeAt
 abbrev pub recordFrom : ℕ
 recordFrom = recordFields + fromAt
 
-abbrev pub recordAt : ℕ
-recordAt = recordFields + atAt
+abbrev pub recordAtField : ℕ
+recordAtField = recordFields + atAt
 
 abbrev pub recordTo : ℕ
 recordTo = recordFields + toAt

@@ -123,7 +123,7 @@ size-last true true e x y = refl
 size-last true false e x y = refl
 size-last false q e x y = refl
 
-module _ (framed : Bool) (l : Bytes) (w : Seven) (form : ℕ) (f : formBy form ≡ turns.formOf framed (map upper (part l (w .letters)))) where
+module _ (framed : Bool) (l : Bytes) (w : Seven) (form : ℕ) (f : formBy form ≡ turns.formSaid framed (map upper (part l (w .letters)))) where
   pub no-form : form ≡ noForm → turns.notAllowed ≡ turns.orNotAllowed (sevenBy framed l w)
   unfolding sevenBy
   no-form e = rw (← f, eq-eqb _ _ e)

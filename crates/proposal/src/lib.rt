@@ -13,7 +13,7 @@ ghost use mathlib.Core.Path.{_≡_};
 ghost use mathlib.Core.List.{map};
 ghost use Prim.Native.Nat.{_≤_};
 ghost use Rattle.grammar.specs.Fields.{upper};
-ghost use Rattle.grammar.specs.Turns.{formOf, typeOf, orNotAllowed, readProposal, readSummedEnd, readTurnLine};
+ghost use Rattle.grammar.specs.Turns.{formSaid, typeOf, orNotAllowed, readProposal, readSummedEnd, readTurnLine};
 ghost use Rattle.byte.specs.Hex.{hexIs};
 ghost use Rattle.proposal.specs.Meaning.{isWord, turnLineIs, LiesIn, formBy, typeBy, SplitIs, SevenLie, fieldsHold, sevenBy, noForm};
 
@@ -96,7 +96,7 @@ fn is_word(s: &[u8], word: &[u8]) -> bool
 
 // The form that the letters of a proposal stand for in this mode.
 fn form_of(framed: bool, w: &[u8]) -> u8
-    ensures { λ r. ⌜ (formBy r ≡ formOf framed (map upper (now (w .entry)))) × (r ≤ noForm) ⌝ }
+    ensures { λ r. ⌜ (formBy r ≡ formSaid framed (map upper (now (w .entry)))) × (r ≤ noForm) ⌝ }
 {
     if framed {
         if is_word(w, b"FA") {

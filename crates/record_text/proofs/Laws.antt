@@ -16,7 +16,7 @@ use Rattle.mail.specs.Mail.{transferOf, headingFor}
 use Rattle.layout.specs.Layout.{byteAt, le4At, recordOf}
 use Rattle.layout.proofs.Places.{part-in}
 use Rattle.places.specs.Places.{recordForm, recordTitle, recordTitleLength, recordName, recordNameLength}
-use Rattle.record_text.specs.Texts.{headingIn, bodyIn, fileForm}
+use Rattle.record_text.specs.Texts.{headingPart, bodyIn, fileForm}
 
 -- ---------------------------------------------------------------- numbers that were read
 
@@ -67,15 +67,15 @@ module _ (titles names bodies r : Bytes) where
   unfolding bodyIn
   by-form k e = ap (λ (o : Form). writeTransfer o (headingFor o (recordOf titles names bodies r)) (bodyIn bodies r)) (sym e)
 
-  title-is : (byteAt r recordForm ≡ fileForm → ⊥) → headingIn titles names r ≡ partOf titles (le4At r recordTitle) (byteAt r recordTitleLength)
-  unfolding headingIn
+  title-is : (byteAt r recordForm ≡ fileForm → ⊥) → headingPart titles names r ≡ partOf titles (le4At r recordTitle) (byteAt r recordTitleLength)
+  unfolding headingPart
   title-is n = rw (ne-eqb (byteAt r recordForm) fileForm n)
 
-  name-is : byteAt r recordForm ≡ fileForm → headingIn titles names r ≡ partOf names (le4At r recordName) (byteAt r recordNameLength)
-  unfolding headingIn
+  name-is : byteAt r recordForm ≡ fileForm → headingPart titles names r ≡ partOf names (le4At r recordName) (byteAt r recordNameLength)
+  unfolding headingPart
   name-is e = rw (eq-eqb (byteAt r recordForm) fileForm e)
 
-  module _ {h x : Bytes} (t : h ≡ headingIn titles names r) (q : x ≡ bodyIn bodies r) where
+  module _ {h x : Bytes} (t : h ≡ headingPart titles names r) (q : x ≡ bodyIn bodies r) where
     pub of-message : byteAt r recordForm ≡ formNumber message → writeFramed h x ≡ transferOf (recordOf titles names bodies r)
     unfolding writeTransfer
     of-message e = framed-as (t ∙ title-is (λ o. one-two (sym e ∙ o))) q ∙ by-form message (ap formIs e)

@@ -13,8 +13,8 @@ abbrev pub fileForm : ℕ
 fileForm = formNumber file
 
 -- "the title for a message or the file name for a file"
-unfoldable pub headingIn : Bytes → Bytes → Bytes → Bytes
-headingIn titles names r =
+unfoldable pub headingPart : Bytes → Bytes → Bytes → Bytes
+headingPart titles names r =
     cond (eqb (byteAt r recordForm) fileForm) (partOf names (le4At r recordName) (byteAt r recordNameLength))
     (partOf titles (le4At r recordTitle) (byteAt r recordTitleLength))
 

@@ -8,7 +8,7 @@ ghost use mathlib.Core.Path.{_≡_};
 ghost use Prim.Native.Nat.{_≤_, _-_};
 ghost use lib.ListN.{length};
 ghost use Rattle.places.specs.Places.{recordLen};
-ghost use Rattle.record_text.specs.Texts.{headingIn, bodyIn};
+ghost use Rattle.record_text.specs.Texts.{headingPart, bodyIn};
 ghost use Rattle.grammar.specs.Bytes.{byteValues};
 ghost use Rattle.grammar.specs.Fields.{bodyLimit};
 
@@ -20,7 +20,7 @@ pub const FILE: u8 = phase::FORM_FILE;
 // The heading of its transfer: the file name for a file, else the title.
 pub fn heading<'a>(r: &[u8], titles: &'a [u8], names: &'a [u8]) -> &'a [u8]
     requires { ⌜ length (now r) ≡ recordLen ⌝ }
-    ensures { λ h. ⌜ (now h ≡ headingIn (now (titles .entry)) (now (names .entry)) (now (r .entry))) × (length (now h) ≤ byteValues - 1) ⌝ }
+    ensures { λ h. ⌜ (now h ≡ headingPart (now (titles .entry)) (now (names .entry)) (now (r .entry))) × (length (now h) ≤ byteValues - 1) ⌝ }
 {
     if byte(r, places::RECORD_FORM as usize) == FILE {
         let start = four(r, places::RECORD_NAME as usize) as usize;

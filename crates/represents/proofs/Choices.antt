@@ -11,7 +11,7 @@ use Rattle.grammar.specs.Answers.{Sign, writeSign}
 use Rattle.grammar.specs.Turns.{blockLimit}
 use Rattle.mail.specs.Mail.{Message}
 use Rattle.session.specs.Choices.{Shelf, chosen, recordBids, messageBids, bodyBytes, answersTo}
-use Rattle.layout.specs.Layout.{entryAt, messageOf}
+use Rattle.layout.specs.Layout.{entryAt, messageIn}
 use Rattle.entries.specs.Decoded.{entriesFrom, recordCount, recordsOf, knownBids, headsOf, proposalsOf, placeCount}
 use Rattle.marking.specs.States.{statesOf}
 use Rattle.our_turn.specs.Turn.{chooseOf}
@@ -31,9 +31,9 @@ unfolding chooseOf
 choose-law ti na bo p t md fl = ap fiveOf (sym (chosen-stores ti na bo t md (statesOf p t) fl))
 
 -- the BIDs of the messages, and how many there are: bodies are no part of them
-heads-bids : (inbox store : Bytes) (i n : ℕ) → messageBids (entriesFrom (λ (c : Bytes). messageOf c []) entryLen inbox i n) ≡ messageBids (messagesFrom inbox store i n)
+heads-bids : (inbox store : Bytes) (i n : ℕ) → messageBids (entriesFrom (λ (c : Bytes). messageIn c []) entryLen inbox i n) ≡ messageBids (messagesFrom inbox store i n)
 heads-bids inbox store i zero = refl
-heads-bids inbox store i (suc n) = ap (λ (l : List Bytes). messageOf (entryAt entryLen inbox i) [] .bid ∷ l) (heads-bids inbox store (suc i) n)
+heads-bids inbox store i (suc n) = ap (λ (l : List Bytes). messageIn (entryAt entryLen inbox i) [] .bid ∷ l) (heads-bids inbox store (suc i) n)
 
 messages-length : (inbox store : Bytes) (i n : ℕ) → length (messagesFrom inbox store i n) ≡ n
 messages-length inbox store i zero = refl
@@ -53,5 +53,5 @@ answers-law ti na bo t known inbox store E w k tables knowns places bytes used f
     (answers-same (shelfOf t known inbox (length store - k .used)) E heads (messagesOf inbox store (k .kept))
     (sym (bids-same ti na bo t 0 (recordCount t)) ∙ ap recordBids tables) knowns places
     (omega (arith, no-bodies inbox 0 (k .kept), used, bytes)) (heads-bids inbox store 0 (k .kept))
-    (entries-length (λ (c : Bytes). messageOf c []) entryLen inbox 0 (k .kept) ∙ sym (messages-length inbox store 0 (k .kept)))
+    (entries-length (λ (c : Bytes). messageIn c []) entryLen inbox 0 (k .kept) ∙ sym (messages-length inbox store 0 (k .kept)))
     (proposalsOf (w .block) (w .proposals))))

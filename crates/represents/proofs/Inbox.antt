@@ -15,7 +15,7 @@ use Rattle.mail.specs.Mail.{Message, placeLimit}
 use Rattle.session.specs.Choices.{bodyBytes}
 use Rattle.buffer.specs.Put.{putBytes}
 use Rattle.places.specs.Places.{entryLen, fieldsSize, headingMax}
-use Rattle.layout.specs.Layout.{le2, le4, fieldOut, fieldsOut, entryAt, messageOf, proposalOf, bodyStart, bodyLength, entryOut}
+use Rattle.layout.specs.Layout.{le2, le4, fieldOut, fieldsOut, entryAt, messageIn, proposalIn, bodyStart, bodyLength, entryOut}
 use Rattle.layout.proofs.Places.{part-in, part-kept, part-here}
 use Rattle.layout.proofs.Laws.{withContent, entry-length, message-back, start-back, length-back, inbox-back, inbox-kept}
 use Rattle.form_test.specs.Form.{usedFrom, usedBy}
@@ -29,8 +29,8 @@ module _ (e f : Bytes) (k : ℕ) (same : (j : ℕ) → j < k → entryAt entryLe
   messages-same : (st : Bytes) (i n : ℕ) → i + n ≤ k → messagesFrom f st i n ≡ messagesFrom e st i n
   messages-same st i zero h = refl
   messages-same st i (suc n) h =
-      ap (λ (c : Bytes). messageOf c (partOf st (bodyStart c) (bodyLength c)) ∷ messagesFrom f st (suc i) n) (same i (omega arith))
-      ∙ ap (λ (l : List Message). messageOf (entryAt entryLen e i) (partOf st (bodyStart (entryAt entryLen e i)) (bodyLength (entryAt entryLen e i))) ∷ l) (messages-same st (suc i) n (omega arith))
+      ap (λ (c : Bytes). messageIn c (partOf st (bodyStart c) (bodyLength c)) ∷ messagesFrom f st (suc i) n) (same i (omega arith))
+      ∙ ap (λ (l : List Message). messageIn (entryAt entryLen e i) (partOf st (bodyStart (entryAt entryLen e i)) (bodyLength (entryAt entryLen e i))) ∷ l) (messages-same st (suc i) n (omega arith))
 
   row-same : (i n place : ℕ) → i + n ≤ k → InRow e i n place → InRow f i n place
   row-same i zero place h r = tt
@@ -54,7 +54,7 @@ module _ (e f : Bytes) (k : ℕ) (same : (j : ℕ) → j < k → entryAt entryLe
 
 module _ (e : Bytes) where
   abbrev messageAt : Bytes → ℕ → Message
-  messageAt st i = messageOf (entryAt entryLen e i) (partOf st (bodyStart (entryAt entryLen e i)) (bodyLength (entryAt entryLen e i)))
+  messageAt st i = messageIn (entryAt entryLen e i) (partOf st (bodyStart (entryAt entryLen e i)) (bodyLength (entryAt entryLen e i)))
 
   messages-snoc : (st : Bytes) (i n : ℕ) → messagesFrom e st i (suc n) ≡ messagesFrom e st i n ++ (messageAt st (i + n) ∷ [])
   messages-snoc st i zero = ap (λ (j : ℕ). messageAt st j ∷ []) (sym (add-zero i))
@@ -76,7 +76,7 @@ module _ (e : Bytes) where
   messages-store st r u h i zero place w k = refl
   messages-store st r u h i (suc n) place w k =
       let c = entryAt entryLen e i in
-      ap (λ (x : Bytes). messageOf c x ∷ messagesFrom e (take u st ++ r) (suc i) n) (part-kept u st r h (bodyStart c) (bodyLength c) (omega (arith, w .0)))
+      ap (λ (x : Bytes). messageIn c x ∷ messagesFrom e (take u st ++ r) (suc i) n) (part-kept u st r h (bodyStart c) (bodyLength c) (omega (arith, w .0)))
       ∙ ap (λ (l : List Message). messageAt st i ∷ l) (messages-store st r u h (suc i) n (place + bodyLength c) (w .1) (omega arith))
 
 -- ---------------------------------------------------------------- the inbox
@@ -124,7 +124,7 @@ pub record Fitting (kept used : ℕ) (inbox store : Bytes) (places n : ℕ) : Ty
 
 -- any entry x that says where its body begins and how long it is
 module _ (kept used : ℕ) (inbox store : Bytes) (ms : List Message) (places n : ℕ) (g : Fitting kept used inbox store places n)
-    (x : Bytes) (l : length x ≡ entryLen) (s : bodyStart x ≡ used) (b : bodyLength x ≡ n) (w : x ≡ messageBytes (messageOf x (take n (drop used store))) used) where
+    (x : Bytes) (l : length x ≡ entryLen) (s : bodyStart x ≡ used) (b : bodyLength x ≡ n) (w : x ≡ messageBytes (messageIn x (take n (drop used store))) used) where
   abbrev grown : Bytes
   grown = putBytes inbox (at (kept * entryLen)) x
 
@@ -137,15 +137,15 @@ module _ (kept used : ℕ) (inbox store : Bytes) (ms : List Message) (places n :
   read : partOf store (bodyStart x) (bodyLength x) ≡ take n (drop used store)
   read = rw (s, b) (part-in store used n (g .room))
 
-  box-entry : Boxed kept used inbox store ms → Boxed (kept + 1) (used + n) grown store (ms ++ (messageOf x (take n (drop used store)) ∷ []))
+  box-entry : Boxed kept used inbox store ms → Boxed (kept + 1) (used + n) grown store (ms ++ (messageIn x (take n (drop used store)) ∷ []))
   unfolding messagesOf usedBy
   box-entry h =
       record {
-        count = omega (arith, h .count, length-append ms (messageOf x (take n (drop used store)) ∷ []));
+        count = omega (arith, h .count, length-append ms (messageIn x (take n (drop used store)) ∷ []));
         messages = ap (messagesFrom grown store 0) (add-one kept) ∙ messages-snoc grown store 0 kept
             ∙ ap (λ (ls : List Message). ls ++ (messageAt grown store (0 + kept) ∷ [])) (messages-same inbox grown kept before store 0 kept (omega arith) ∙ h .messages)
-            ∙ ap (λ (e : Bytes). ms ++ (messageOf e (partOf store (bodyStart e) (bodyLength e)) ∷ [])) here
-            ∙ ap (λ (o : Bytes). ms ++ (messageOf x o ∷ [])) read;
+            ∙ ap (λ (e : Bytes). ms ++ (messageIn e (partOf store (bodyStart e) (bodyLength e)) ∷ [])) here
+            ∙ ap (λ (o : Bytes). ms ++ (messageIn x o ∷ [])) read;
         laid = laid-snoc grown 0 0 ms kept-message (laid-same inbox grown kept before 0 0 ms (omega (arith, h .count)) (h .laid))
             (ap (λ (j : ℕ). entryAt entryLen grown (0 + j)) (sym (h .count)) ∙ here ∙ w ∙ ap (messageBytes kept-message) (h .bytes ∙ sym (zero-add (bodyBytes ms))));
         bodies = take-add used n store ∙ ap (λ (o : Bytes). o ++ take n (drop used store)) (h .bodies) ∙ sym (bodies-snoc ms kept-message);
@@ -153,20 +153,20 @@ module _ (kept used : ℕ) (inbox store : Bytes) (ms : List Message) (places n :
             (row-snoc grown 0 kept 0 (row-same inbox grown kept before 0 kept 0 (omega arith) (h .row))
             (ap bodyStart here ∙ s ∙ omega (arith, g .sum, used-same inbox grown kept before 0 kept (omega arith))));
         small = omega (arith, h .small, g .limit);
-        bytes = omega (arith, h .bytes, body-bytes-snoc ms (messageOf x (take n (drop used store))), size);
+        bytes = omega (arith, h .bytes, body-bytes-snoc ms (messageIn x (take n (drop used store))), size);
       }
     where
       kept-message : Message
-      kept-message = messageOf x (take n (drop used store))
+      kept-message = messageIn x (take n (drop used store))
 
       size : length (take n (drop used store)) ≡ n
       size = length-take-le n (drop used store) (rw (length-drop used store) (omega (arith, g .room)))
 
 -- the fields that an entry begins with are those of the proposal that it is read as
 fields-written : (c : Bytes) → Written c
-    → partOf c 0 fieldsSize ≡ fieldsOut (formNumber (proposalOf c .form)) (proposalOf c .type) (proposalOf c .from) (proposalOf c .at) (proposalOf c .to) (proposalOf c .bid)
+    → partOf c 0 fieldsSize ≡ fieldsOut (formNumber (proposalIn c .form)) (proposalIn c .type) (proposalIn c .from) (proposalIn c .at) (proposalIn c .to) (proposalIn c .bid)
 fields-written c e =
-    let p = proposalOf c in
+    let p = proposalIn c in
     let f = fieldsOut (formNumber (p .form)) (p .type) (p .from) (p .at) (p .to) (p .bid) in
     ap (λ (x : Bytes). partOf x 0 fieldsSize) (sym e) ∙ part-here f (le4 (p .size)) fieldsSize (simp (length-append, length-take, length-replicate) (omega arith))
 
@@ -174,7 +174,7 @@ fields-written c e =
 pub box-more : (kept used : ℕ) (inbox store : Bytes) (ms : List Message) (places n : ℕ) (c heading : Bytes) → Fitting kept used inbox store places n
     → fieldsSize ≤ length c → length heading ≤ headingMax → Written c → Boxed kept used inbox store ms
     → Boxed (kept + 1) (used + n) (putBytes inbox (at (kept * entryLen)) (entryOut c heading used n)) store
-    (ms ++ (withContent (proposalOf c) heading (take n (drop used store)) ∷ []))
+    (ms ++ (withContent (proposalIn c) heading (take n (drop used store)) ∷ []))
 box-more kept used inbox store ms places n c heading g fields short e h =
     subst
     (λ (m : Message). Boxed (kept + 1) (used + n) (putBytes inbox (at (kept * entryLen)) (entryOut c heading used n)) store (ms ++ (m ∷ [])))
@@ -187,13 +187,13 @@ box-more kept used inbox store ms places n c heading g fields short e h =
     body : Bytes
     body = take n (drop used store)
 
-    read-back : messageOf (entryOut c heading used n) body ≡ withContent (proposalOf c) heading body
+    read-back : messageIn (entryOut c heading used n) body ≡ withContent (proposalIn c) heading body
     read-back = message-back c heading used n fields body short
 
-    as-written : entryOut c heading used n ≡ messageBytes (withContent (proposalOf c) heading body) used
+    as-written : entryOut c heading used n ≡ messageBytes (withContent (proposalIn c) heading body) used
     as-written =
         ap (λ (f : Bytes). f ++ (fieldOut headingMax heading ++ (le4 used ++ le2 n))) (fields-written c e)
         ∙ ap (λ (k : ℕ). messageHead ++ (fieldOut headingMax heading ++ (le4 used ++ le2 k))) (sym (length-take-le n (drop used store) (rw (length-drop used store) (omega (arith, g .room)))))
       where
         messageHead : Bytes
-        messageHead = fieldsOut (formNumber (proposalOf c .form)) (proposalOf c .type) (proposalOf c .from) (proposalOf c .at) (proposalOf c .to) (proposalOf c .bid)
+        messageHead = fieldsOut (formNumber (proposalIn c .form)) (proposalIn c .type) (proposalIn c .from) (proposalIn c .at) (proposalIn c .to) (proposalIn c .bid)

@@ -17,7 +17,7 @@ use Rattle.session.specs.Session as on-lists
 use Rattle.session.specs.Session.{Memory, Outcome}
 use Rattle.buffer.specs.Put.{putBytes}
 use Rattle.places.specs.Places.{entryLen, proposalLen, headingMax, formAt}
-use Rattle.layout.specs.Layout.{byteAt, entryAt, proposalOf, entryOut}
+use Rattle.layout.specs.Layout.{byteAt, entryAt, proposalIn, entryOut}
 use Rattle.layout.proofs.Places.{part-in}
 use Rattle.layout.proofs.Laws.{withContent, entry-length}
 use Rattle.transfer_read.specs.Feed.{roomOf}
@@ -76,10 +76,10 @@ module _ (F : Fixed) (E : Shelf) {nt ni ns : ℕ} (c : Cs) (g : Good F nt ni ns 
   under : Under (u .now) (u .say) (u .keep) (c .session .reading .reader) (c .inbox) (c .store)
   under = g .awaited .under (a .0)
 
-  now-owed : p ∷ ps ≡ proposalOf entry ∷ accepted (signsIn (drop (suc (u .now .current)) (held (u .say .signs)))) (drop (suc (u .now .current)) (proposalsOf (u .now .block) (u .now .proposals)))
+  now-owed : p ∷ ps ≡ proposalIn entry ∷ accepted (signsIn (drop (suc (u .now .current)) (held (u .say .signs)))) (drop (suc (u .now .current)) (proposalsOf (u .now .block) (u .now .proposals)))
   now-owed = sym (a .1) ∙ owed-now (u .say .signs) (u .now .block) (u .now .proposals) (g .say .signs) (under .signs) (u .now .current) (under .current) (under .plus)
 
-  this : p ≡ proposalOf entry
+  this : p ≡ proposalIn entry
   this = cc now-owed
 
   rest-owed : ps ≡ accepted (signsIn (drop (suc (u .now .current)) (held (u .say .signs)))) (drop (suc (u .now .current)) (proposalsOf (u .now .block) (u .now .proposals)))

@@ -25,7 +25,7 @@ use Rattle.session.specs.Session as on-lists
 use Rattle.session.specs.Session.{Memory, Phase, Outcome, refuses, goesOn}
 use Rattle.our_line.specs.Lines.{fsText}
 use Rattle.our_line.proofs.Laws.{fs-text}
-use Rattle.layout.specs.Layout.{byteAt, entryAt, proposalOf}
+use Rattle.layout.specs.Layout.{byteAt, entryAt, proposalIn}
 use Rattle.layout.proofs.Laws.{Fits}
 use Rattle.transfer_step.specs.declared.Reader.{Reader}
 use Rattle.transfer_step.specs.Step.{startOf}
@@ -84,7 +84,7 @@ unfolding readerFor
 await-transfer s t i st j p qs b g heading o =
     let byte = byteAt (entryAt proposalLen (s .now .block) j) 0 in
     let free = drop (s .keep .used) st in
-    let this : p ≡ proposalOf (entryAt proposalLen (s .now .block) j) = (cc (o .owed, owed-now (s .say .signs) (s .now .block) (s .now .proposals) g (o .count) j (o .within) (o .plus))) in (
+    let this : p ≡ proposalIn (entryAt proposalLen (s .now .block) j) = (cc (o .owed, owed-now (s .say .signs) (s .now .block) (s .now .proposals) g (o .count) j (o .within) (o .plus))) in (
       refl,
       o .owed,
       subst (λ (q : Proposal). Stands (roomOf free) (startOf byte) (s .reading .heading) free (scanFrom (q .form))) (sym this)
@@ -151,7 +151,7 @@ module _ (F : Fixed) (E : Shelf) (c : Cs) (m : Memory) (ready : Ready F E c m) w
   sid-law caller e (some fs) = go (hasFeature letterF fs)
     where
       k′ : Keep
-      k′ = judge.inMode (framed fs) (levelInForce fs) k
+      k′ = judge.withMode (framed fs) (levelInForce fs) k
 
       h′ : Holds F E k′ t i st (on-lists.withSid fs m)
       h′ = holds-sid F E k t i st m h fs

@@ -23,7 +23,7 @@ use Rattle.session_memory.specs.State.{held}
 use Rattle.session_memory.specs.Session.{Line}
 use Rattle.session_memory.specs.Session.{Session}
 use Rattle.session_memory.specs.Setters.{withLine}
-use Rattle.line_effect.specs.Judge.{wentOn, judgeOf, lineIn, sidLine, textLine, turnLine}
+use Rattle.line_effect.specs.Judge.{wentOn, judgeOf, lineBy, sidLine, textLine, turnLine}
 use Rattle.line_effect.specs.Judged.{Judged}
 use Rattle.waiting.specs.Waiting.{waitingOf, firstText, thenText}
 use Rattle.pending.specs.Pending.{waits}
@@ -96,7 +96,7 @@ module _ (F : Fixed) (E : Shelf) {nt ni ns : ℕ} (c : Cs) (g : Good F nt ni ns 
     ln = trim raw
 
     abbrev judgedIn : ℕ → Judged
-    judgedIn p = lineIn p raw s (c .table) (F .known) (c .inbox) (length (c .store))
+    judgedIn p = lineBy p raw s (c .table) (F .known) (c .inbox) (length (c .store))
 
     read-law : (a : on-lists.Awaited) → Awaits c (on-lists.aLine a) → Lead (judgedIn (lineNumber a)) (on-lists.awaitedJudged E a m raw)
     unfolding sidLine textLine turnLine

@@ -21,7 +21,7 @@ use Rattle.mail.specs.Mail.{accepted}
 use Rattle.session.specs.Session.{isPlain}
 use Rattle.buffer.specs.Put.{putBytes}
 use Rattle.places.specs.Places.{proposalLen, headingLen, blockLen, formAt}
-use Rattle.layout.specs.Layout.{byteAt, entryAt, proposalOf}
+use Rattle.layout.specs.Layout.{byteAt, entryAt, proposalIn}
 use Rattle.layout.proofs.Places.{entry-written}
 use Rattle.layout.proofs.Laws.{Fits, written, proposal-length, proposal-back, block-kept}
 use Rattle.transfer_step.specs.Step.{startOf}
@@ -55,7 +55,7 @@ proper-fits md p h =
 
 pub proposals-length : (block : Bytes) (n : ℕ) → length (proposalsOf block n) ≡ n
 unfolding proposalsOf
-proposals-length block n = entries-length proposalOf proposalLen block 0 n
+proposals-length block n = entries-length proposalIn proposalLen block 0 n
 
 pub no-proposals : (block : Bytes) → proposalsOf block 0 ≡ []
 unfolding proposalsOf
@@ -82,10 +82,10 @@ module _ (block : Bytes) (n : ℕ) (size : length block ≡ blockLen) (few : n <
   pub proposals-more : Fits q → proposalsOf more (n + 1) ≡ proposalsOf block n ++ (q ∷ [])
   unfolding proposalsOf
   proposals-more fits =
-      ap (entries proposalOf proposalLen more) (add-one n) ∙ entries-snoc proposalOf proposalLen more n
-      ∙ ap (λ (ps : List Proposal). ps ++ (proposalOf (entryAt proposalLen more n) ∷ []))
-      (entries-same proposalOf proposalOf proposalLen more block 0 n (λ j h. ap proposalOf (other j (omega arith))))
-      ∙ ap (λ (p : Proposal). entries proposalOf proposalLen block n ++ (p ∷ [])) (ap proposalOf here ∙ proposal-back q fits)
+      ap (entries proposalIn proposalLen more) (add-one n) ∙ entries-snoc proposalIn proposalLen more n
+      ∙ ap (λ (ps : List Proposal). ps ++ (proposalIn (entryAt proposalLen more n) ∷ []))
+      (entries-same proposalIn proposalIn proposalLen more block 0 n (λ j h. ap proposalIn (other j (omega arith))))
+      ∙ ap (λ (p : Proposal). entries proposalIn proposalLen block n ++ (p ∷ [])) (ap proposalIn here ∙ proposal-back q fits)
 
   pub entries-more : Fits q → Entries block n → Entries more (n + 1)
   entries-more fits h j k = go (eqb j n) refl
@@ -99,7 +99,7 @@ module _ (block : Bytes) (n : ℕ) (size : length block ≡ blockLen) (few : n <
 
 -- so it has one of the three forms
 pub written-form : {c : Bytes} → Written c → byteAt c formAt ≤ formNumber file
-written-form {c} e = subst (λ (x : Bytes). byteAt x formAt ≤ formNumber file) e (form-small (proposalOf c .form))
+written-form {c} e = subst (λ (x : Bytes). byteAt x formAt ≤ formNumber file) e (form-small (proposalIn c .form))
 
 -- ---------------------------------------------------------------- the next proposal that we accept
 
@@ -189,16 +189,16 @@ module _ (signs : Five) (block : Bytes) (n : ℕ) (g : FiveOk signs) (same : sig
   -- the one under way, and those after it
   pub owed-now : (i : ℕ) → i < n → getD (signs .items) i 0 ≡ plusSign
       → accepted (signsIn (drop i (held signs))) (drop i (proposalsOf block n))
-      ≡ proposalOf (entryAt proposalLen block i) ∷ accepted (signsIn (drop (suc i) (held signs))) (drop (suc i) (proposalsOf block n))
+      ≡ proposalIn (entryAt proposalLen block i) ∷ accepted (signsIn (drop (suc i) (held signs))) (drop (suc i) (proposalsOf block n))
   unfolding proposalsOf
   owed-now i h e =
-      let none : Proposal = proposalOf [] in
+      let none : Proposal = proposalIn [] in
       rw (
         drop-cons (held signs) i 0 (omega (arith, length-held)),
         held-at i h,
         e,
-        drop-cons (entries proposalOf proposalLen block n) i none (omega (arith, entries-length proposalOf proposalLen block 0 n)),
-        entries-at proposalOf proposalLen block n i none h,
+        drop-cons (entries proposalIn proposalLen block n) i none (omega (arith, entries-length proposalIn proposalLen block 0 n)),
+        entries-at proposalIn proposalLen block n i none h,
       )
 
   pub next-found : (i : ℕ) → Found (drop i (held signs)) (drop i (proposalsOf block n)) i (plusFrom i (drop i (held signs)))

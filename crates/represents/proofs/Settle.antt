@@ -74,7 +74,7 @@ module _ (F : Fixed) (E : Shelf) (k : Keep) (t i st : Bytes) (m : Memory) (h : H
       record { shelved = h .shelved; boxed = h .boxed; framed = h .framed; terms = h .terms; states = h .states; sending = h .sending; flags = h .flags }
 
   -- what the partner's SID settles
-  pub holds-sid : (fs : List ℕ) → Holds F E (judge.inMode (framed fs) (levelInForce fs) k) t i st (on-lists.withSid fs m)
+  pub holds-sid : (fs : List ℕ) → Holds F E (judge.withMode (framed fs) (levelInForce fs) k) t i st (on-lists.withSid fs m)
   holds-sid fs = record { shelved = h .shelved; boxed = h .boxed; framed = refl; terms = record { level = refl }; states = h .states; sending = h .sending; flags = h .flags }
 
   -- the partner's signs on our records at these places

@@ -14,7 +14,7 @@ use Rattle.grammar.specs.Transfers.{partOf, byteSum}
 use Rattle.mail.specs.Mail.{Message, accepted}
 use Rattle.session.specs.Choices.{Shelf, bodyBytes}
 use Rattle.session.specs.Session as on-lists
-use Rattle.layout.specs.Layout.{entryAt, proposalOf, messageOf, bodyStart, bodyLength}
+use Rattle.layout.specs.Layout.{entryAt, proposalIn, messageIn, bodyStart, bodyLength}
 use Rattle.transfer_read.specs.Feed.{roomOf}
 use Rattle.transfer_read.specs.Meaning.{Stands}
 use Rattle.session_memory.specs.State.{held}
@@ -39,7 +39,7 @@ use Rattle.places.specs.Places.{entryLen, proposalLen}
 abbrev pub messagesFrom : Bytes → Bytes → ℕ → ℕ → List Message
 messagesFrom inbox store i zero = []
 messagesFrom inbox store i (suc n) =
-    messageOf (entryAt entryLen inbox i) (partOf store (bodyStart (entryAt entryLen inbox i)) (bodyLength (entryAt entryLen inbox i))) ∷ messagesFrom inbox store (suc i) n
+    messageIn (entryAt entryLen inbox i) (partOf store (bodyStart (entryAt entryLen inbox i)) (bodyLength (entryAt entryLen inbox i))) ∷ messagesFrom inbox store (suc i) n
 
 -- The inbox up to its count.
 unfoldable pub messagesOf : Bytes → Bytes → ℕ → List Message
@@ -58,7 +58,7 @@ LaidFrom inbox i start (m ∷ ms) = (entryAt entryLen inbox i ≡ messageBytes m
 
 -- The entry of a proposal is what is written for the proposal that it is read as.
 abbrev pub Written : Bytes → Type 0
-Written c = proposalBytes (proposalOf c) ≡ c
+Written c = proposalBytes (proposalIn c) ≡ c
 
 -- The sign that a byte of our FS line is; our lines hold no other.
 abbrev pub signIs : ℕ → Sign

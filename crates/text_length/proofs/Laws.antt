@@ -18,8 +18,8 @@ use Rattle.mail.specs.Mail.{proposalOf, transferOf}
 use Rattle.layout.specs.Layout.{byteAt, le4At, fieldIn, entryAt, recordOf}
 use Rattle.layout.proofs.Laws.{le4-small}
 use Rattle.layout.proofs.Places.{part-in}
-use Rattle.places.specs.Places.{recordLen, recordForm, recordFrom, recordAt, recordTo, recordBid, recordSizeAt, callMax, atMax, bidMax}
-use Rattle.record_text.specs.Texts.{headingIn, bodyIn, fileForm}
+use Rattle.places.specs.Places.{recordLen, recordForm, recordFrom, recordAtField, recordTo, recordBid, recordSizeAt, callMax, atMax, bidMax}
+use Rattle.record_text.specs.Texts.{headingPart, bodyIn, fileForm}
 use Rattle.record_text.proofs.Laws.{part-short, part-octets, of-message, of-file, of-plain, of-none}
 use Rattle.text_length.specs.Lengths.{besideProposal, besidePlain, besideFramed, blockHeads}
 
@@ -76,7 +76,7 @@ module _ (table titles names bodies : Bytes) (i : ℕ) {r : Bytes} (e : r ≡ en
   none-length h =
       of-entry (ap length (of-none titles names bodies) ∙ ap (λ (c : Bytes). length (transferOf (recordOf titles names bodies c))) (sym (entry-none table i e h)))
 
-  module _ {h x : Bytes} (t : h ≡ headingIn titles names r) (q : x ≡ bodyIn bodies r) where
+  module _ {h x : Bytes} (t : h ≡ headingPart titles names r) (q : x ≡ bodyIn bodies r) where
     pub message-length : {n : ℕ} → byteAt r recordForm ≡ formNumber message → n ≡ besideFramed + length h + length x + blockHeads (length x)
         → n ≡ length (transferOf (recordOf titles names bodies (entryAt recordLen table i)))
     message-length f k = of-entry (k ∙ sym (framed-length h x) ∙ ap length (of-message titles names bodies r t q f))
@@ -117,7 +117,7 @@ field-most n at r e = (ap length e, omega (arith, ap length e, part-short r (at 
 
 module _ (table : Bytes) (i : ℕ) {r : Bytes} (e : r ≡ entryAt recordLen table i) where
   line-length : length (withCr (proposalLine (proposalOf (recordOf [] [] [] r))))
-      ≡ besideProposal + length (fieldIn callMax recordFrom r) + length (fieldIn atMax recordAt r) + length (fieldIn callMax recordTo r) + length (fieldIn bidMax recordBid r) + length (decimal (le4At r recordSizeAt))
+      ≡ besideProposal + length (fieldIn callMax recordFrom r) + length (fieldIn atMax recordAtField r) + length (fieldIn callMax recordTo r) + length (fieldIn bidMax recordBid r) + length (decimal (le4At r recordSizeAt))
   unfolding proposalLine
   line-length = simp length-append (omega arith)
 
@@ -125,7 +125,7 @@ module _ (table : Bytes) (i : ℕ) {r : Bytes} (e : r ≡ entryAt recordLen tabl
   size-small o q =
       omega (arith, q, ap (λ (c : Bytes). le4At c recordSizeAt) e, le4-small (entryAt recordLen table i) (λ j. part-octets table o (i * recordLen) recordLen j) recordSizeAt)
 
-  pub proposal-length : {a b c d s n : ℕ} → a ≡ length (fieldIn callMax recordFrom r) → b ≡ length (fieldIn atMax recordAt r) → c ≡ length (fieldIn callMax recordTo r)
+  pub proposal-length : {a b c d s n : ℕ} → a ≡ length (fieldIn callMax recordFrom r) → b ≡ length (fieldIn atMax recordAtField r) → c ≡ length (fieldIn callMax recordTo r)
       → d ≡ length (fieldIn bidMax recordBid r) → s ≡ le4At r recordSizeAt → n ≡ length (decimal s)
       → besideProposal + a + b + c + d + n ≡ length (withCr (proposalLine (proposalOf (recordOf [] [] [] (entryAt recordLen table i)))))
   proposal-length e₁ e₂ e₃ e₄ e₅ q =

@@ -23,7 +23,7 @@ use Rattle.our_line.specs.Lines.{fsText}
 use Rattle.session_memory.specs.State.{held}
 use Rattle.session_memory.specs.declared.Five.{Five}
 use Rattle.session_memory.specs.Session.{Session}
-use Rattle.places.specs.Places.{callMax, atMax, bidMax, recordLen, recordFrom, recordAt, recordTo, recordBid, recordTitle, recordTitleLength, recordName, recordNameLength, recordBody, recordBodyLength}
+use Rattle.places.specs.Places.{callMax, atMax, bidMax, recordLen, recordFrom, recordAtField, recordTo, recordBid, recordTitle, recordTitleLength, recordName, recordNameLength, recordBody, recordBodyLength}
 use Rattle.phase.specs.Phase.{pieceNone, pieceSidAndPrompt, pieceSid, pieceProtocolError, pieceChecksumError, pieceFF, pieceFQ, pieceBlock, blockLimit}
 use Rattle.waiting.specs.Waiting.{proposalAt, firstText, blockText, sendingText, thenText, waitingOf}
 
@@ -58,7 +58,7 @@ unfolding proposalLine
 line-short table i =
     let c = entryAt recordLen table i in
     let d = num-field 9 (proposalAt table i .size) .most in
-    simp length-append (omega (arith, field-short callMax recordFrom c, field-short atMax recordAt c, field-short callMax recordTo c, field-short bidMax recordBid c))
+    simp length-append (omega (arith, field-short callMax recordFrom c, field-short atMax recordAtField c, field-short callMax recordTo c, field-short bidMax recordBid c))
 
 lines-short : (table : Bytes) (is : List ℕ) → length (proposalLines (map (proposalAt table) is)) ≤ lineBound * length is
 lines-short table [] = omega arith

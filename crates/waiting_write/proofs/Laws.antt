@@ -14,7 +14,7 @@ use Rattle.phase.specs.Phase.{blockLimit}
 use Rattle.buffer.specs.Put.{Puts, putBytes, putCursor}
 use Rattle.buffer.specs.declared.Cursor.{Cursor}
 use Rattle.buffer.proofs.Laws.{cursor, after-cursor, after-bytes, puts-as, puts-full}
-use Rattle.record_text.specs.Texts.{headingIn, bodyIn}
+use Rattle.record_text.specs.Texts.{headingPart, bodyIn}
 use Rattle.record_text.proofs.Laws.{of-message, of-file, of-plain, of-none}
 use Rattle.text_length.proofs.Laws.{entry-none}
 use Rattle.session_memory.specs.State.{held, fiveAt}
@@ -37,7 +37,7 @@ module _ (table titles names bodies : Bytes) (i : ℕ) {r : Bytes} (e : r ≡ en
   pub none-text : length r < recordLen → writePlain [] [] ≡ transferOf (recordOf titles names bodies (entryAt recordLen table i))
   none-text h = of-entry (of-none titles names bodies ∙ ap (λ (c : Bytes). transferOf (recordOf titles names bodies c)) (sym (entry-none table i e h)))
 
-  module _ {h x : Bytes} (t : h ≡ headingIn titles names r) (q : x ≡ bodyIn bodies r) where
+  module _ {h x : Bytes} (t : h ≡ headingPart titles names r) (q : x ≡ bodyIn bodies r) where
     pub message-text : byteAt r recordForm ≡ formNumber message → writeFramed h x ≡ transferOf (recordOf titles names bodies (entryAt recordLen table i))
     message-text f = of-entry (of-message titles names bodies r t q f)
 

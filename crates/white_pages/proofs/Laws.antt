@@ -19,7 +19,7 @@ use Rattle.pages.proofs.Mails.{tally-mail}
 use Rattle.page_line.specs.Meaning.{pageSaid, PageLies, PageIs}
 use Rattle.page_line.specs.declared.Page.{Page}
 use Rattle.page_member.specs.declared.Member.{Member}
-use Rattle.white_pages.specs.Meaning.{bytesIn, lineIn, pagesBy, LineLies, NextLies, NextIs, tallyIs, countedOf, toldOf, surveyIs}
+use Rattle.white_pages.specs.Meaning.{bytesIn, pageLineIn, pagesBy, LineLies, NextLies, NextIs, tallyIs, countedOf, toldOf, surveyIs}
 use Rattle.white_pages.specs.declared.Line.{Line}
 use Rattle.white_pages.specs.declared.NextPage.{NextPage}
 use Rattle.white_pages.specs.declared.Tally.{Tally}

@@ -21,13 +21,13 @@ use Rattle.white_pages.specs.declared.Surveyed.{Surveyed}
 abbrev pub bytesIn : Bytes → Line → Bytes
 bytesIn x t = between x (t .start) (t .end)
 
-abbrev pub lineIn : Bytes → Line → pages.Line
-lineIn x t = record { bytes = bytesIn x t; page = pageSaid (bytesIn x t) (t .page) }
+abbrev pub pageLineIn : Bytes → Line → pages.Line
+pageLineIn x t = record { bytes = bytesIn x t; page = pageSaid (bytesIn x t) (t .page) }
 
 -- The lines from a place on by the first of them: it, and those from its next place on.
 abbrev pub pagesBy : Bytes → NextPage → List pages.Line
 pagesBy x NextPage.End = []
-pagesBy x (NextPage.Is t) = lineIn x t ∷ pagesOf (drop (t .next) x)
+pagesBy x (NextPage.Is t) = pageLineIn x t ∷ pagesOf (drop (t .next) x)
 
 -- The line lies in the mail, its fields in the line, and the next place is a later one.
 abbrev pub LineLies : Bytes → ℕ → Line → Type 0

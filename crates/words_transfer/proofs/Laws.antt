@@ -9,11 +9,11 @@ use Rattle.buffer.specs.Put.{Puts, putBytes, putCursor}
 use Rattle.transfer_step.specs.declared.Reader.{Reader}
 use Rattle.transfer_read.specs.declared.Fed.{Fed}
 use Rattle.transfer_read.specs.Feed.{Run, run, feedOf, roomOf}
-use Rattle.words_transfer.specs.State.{stateOf, readerBy, outcomeCode, portion, Leaves, Copied}
+use Rattle.words_transfer.specs.State.{readingState, readerBy, outcomeCode, portion, Leaves, Copied}
 
 -- what `feed` gave from the reader that a state stands for, as numbers
 pub leaves : (s : List ℕ) (bs hd st : Bytes) (x : Reader) {f : Fed} {r : ℕ} {s′ : List ℕ} {hd′ st′ : Bytes} → x ≡ readerBy s
-    → run f hd′ st′ ≡ feedOf (roomOf st) x bs hd st → r ≡ outcomeCode (f .outcome) → s′ ≡ stateOf (f .reader) (f .count)
+    → run f hd′ st′ ≡ feedOf (roomOf st) x bs hd st → r ≡ outcomeCode (f .outcome) → s′ ≡ readingState (f .reader) (f .count)
     → Leaves (portion s bs hd st) r s′ hd′ st′
 leaves s bs hd st x {f} {r} {s′} {hd′} {st′} e u q t =
     subst (λ (z : Run). Leaves z r s′ hd′ st′) (u ∙ ap (λ (y : Reader). feedOf (roomOf st) y bs hd st) e) (q, t, refl, refl)

@@ -12,8 +12,8 @@ use Rattle.transfer_step.specs.Step.{reader}
 use Rattle.transfer_read.specs.Feed.{Run, feedOf, roomOf}
 
 -- A reader's numbers in the order: place, L, bytes of heading, of offset, of the body, of the block to come, sum; and how many bytes were consumed.
-abbrev pub stateOf : Reader → ℕ → List ℕ
-stateOf r n = r .place ∷ r .len ∷ r .head ∷ r .off ∷ r .body ∷ r .left ∷ r .sum ∷ n ∷ []
+abbrev pub readingState : Reader → ℕ → List ℕ
+readingState r n = r .place ∷ r .len ∷ r .head ∷ r .off ∷ r .body ∷ r .left ∷ r .sum ∷ n ∷ []
 
 -- The places of these numbers.
 abbrev pub placeNumber : ℕ
@@ -58,7 +58,7 @@ portion s bs heading store = feedOf (roomOf store) (readerBy s) bs heading store
 -- What is answered and left of a portion: its outcome, the state after it, the heading's array and the store.
 abbrev pub Leaves : Run → ℕ → List ℕ → Bytes → Bytes → Type 0
 Leaves u r s heading store =
-    (r ≡ outcomeCode (u .fed .outcome)) × (s ≡ stateOf (u .fed .reader) (u .fed .count)) × (heading ≡ u .heading) × (store ≡ u .store)
+    (r ≡ outcomeCode (u .fed .outcome)) × (s ≡ readingState (u .fed .reader) (u .fed .count)) × (heading ≡ u .heading) × (store ≡ u .store)
 
 -- The buffer d with what fits of p over its start is e; n bytes fit.
 abbrev pub Copied : Bytes → Bytes → ℕ → Bytes → Type 0

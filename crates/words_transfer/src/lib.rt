@@ -7,7 +7,7 @@ ghost use mathlib.Core.Path.{_≡_};
 ghost use Prim.Native.Nat.{_%_};
 ghost use Rattle.grammar.specs.Transfers.{checksum, headingOf};
 ghost use Rattle.transfer_step.specs.Step.{startOf};
-ghost use Rattle.words_transfer.specs.State.{stateOf, readerBy, outcomeCode, portion, Leaves, Copied};
+ghost use Rattle.words_transfer.specs.State.{readingState, readerBy, outcomeCode, portion, Leaves, Copied};
 ghost use Rattle.grammar.specs.Bytes.{byteValues};
 
 // A transfer under way as so many numbers, by their places; the last: how many bytes were consumed.
@@ -44,7 +44,7 @@ const WHOLE: u8 = 1;
 
 // The numbers of a reader, and how many bytes were consumed.
 fn state_of(r: Reader, count: usize) -> [u64; STATE]
-    ensures { λ s. ⌜ s ≡ stateOf r count ⌝ }
+    ensures { λ s. ⌜ s ≡ readingState r count ⌝ }
 {
     [
         r.place as u64,
@@ -96,7 +96,7 @@ fn outcome_code(o: Outcome) -> u8
 // The state before a transfer's first byte. form: 0 plain, any other number framed.
 #[no_mangle]
 pub extern "C" fn words_transfer_start(form: u8, state: &mut [u64; STATE])
-    ensures { λ _. ⌜ now (state .exit) ≡ stateOf (startOf form) 0 ⌝ }
+    ensures { λ _. ⌜ now (state .exit) ≡ readingState (startOf form) 0 ⌝ }
 {
     *state = state_of(transfer_step::start(form), 0);
 }

@@ -2,8 +2,8 @@
 use mathlib.Core.Path.{ap, _∙_}
 use Rattle.session_memory.specs.Session.{Await}
 use Rattle.session_memory.specs.Setters.{withNow, withKeep}
-use Rattle.numbers.specs.Whole.{keepOf, sessionOf}
-use Rattle.line_effect.specs.Judge.{wentOn, inMode, sidLine}
+use Rattle.numbers.specs.Whole.{keepWith, sessionOf}
+use Rattle.line_effect.specs.Judge.{wentOn, withMode, sidLine}
 use Rattle.awaited_line.proofs.Laws.{sid-no, sid-prompt, sid-turn}
 use borrow.Author.Needs.{needs}
 use Rattle.awaited_line.proofs.sid_line.Statement.{statement}
@@ -46,7 +46,7 @@ unfolding sidLine
 returns-3 c = λ x.
     let a = c .before .before .before .before .before .before .before .before .before .before .before .before .before .args in
     c .went2 .ensures x
-    ∙ ap (λ (v : Await). wentOn (withNow v (withKeep (inMode (c .before .before .before .before .before .before .before .is-framed .result) (c .before .before .before .before .before .before .in-force .result) (keepOf (a .s .keep) x)) (sessionOf (a .s) x)))) (c .before .to-turn .ensures x)
+    ∙ ap (λ (v : Await). wentOn (withNow v (withKeep (withMode (c .before .before .before .before .before .before .before .is-framed .result) (c .before .before .before .before .before .before .in-force .result) (keepWith (a .s .keep) x)) (sessionOf (a .s) x)))) (c .before .to-turn .ensures x)
     ∙ sid-turn (sessionOf (a .s) x) _ _ (c .before .before .before .before .before .before .before .before .before .before .before .read-sid .ensures) (c .before .before .before .before .before .before .before .before .before .if1 .left) _ (c .before .before .before .before .before .before .before .is-framed .ensures) _ (c .before .before .before .before .before .before .in-force .ensures) (c .before .before .before .if2 .left)
 
 pub sid-line-spec : {M : Type 1} → statement M

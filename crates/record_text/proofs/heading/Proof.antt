@@ -1,6 +1,6 @@
 -- By the form, the part that the start and the length in the record tell.
 use mathlib.Core.Path.{_∙_}
-use Rattle.record_text.specs.Texts.{headingIn, fileForm}
+use Rattle.record_text.specs.Texts.{headingPart, fileForm}
 use Rattle.record_text.proofs.Laws.{part-read, part-most, read-is, read-not}
 use borrow.Author.Needs.{needs}
 use Rattle.record_text.proofs.heading.Statement.{statement}
@@ -57,11 +57,11 @@ part-requires-2 : tie.Need-part-requires-2
 part-requires-2 c κs = search needs
 
 returns : tie.Need-returns
-unfolding headingIn
+unfolding headingPart
 returns c = let a = c .before .before .before .before .before .before .before .before .before .args in (rw (read-is fileForm (c .before .before .before .before .before .byte .ensures) (c .before .before .before .before .if1 .taken)) (part-read (a .names .now) (c .before .before .before .four .ensures) (c .before .wide .ensures .0 ∙ c .before .before .byte2 .ensures) (c .part .ensures)), part-most (a .names .now) _ (byteValues - 1) (c .part .ensures) (search needs))
 
 returns-2 : tie.Need-returns-2
-unfolding headingIn
+unfolding headingPart
 returns-2 c = let a = c .before .before .before .before .before .before .before .before .before .args in (rw (read-not fileForm (c .before .before .before .before .before .byte .ensures) (c .before .before .before .before .if1 .left)) (part-read (a .titles .now) (c .before .before .before .four2 .ensures) (c .before .wide2 .ensures .0 ∙ c .before .before .byte3 .ensures) (c .part2 .ensures)), part-most (a .titles .now) _ (byteValues - 1) (c .part2 .ensures) (search needs))
 
 pub heading-spec : {M : Type 1} → statement M
