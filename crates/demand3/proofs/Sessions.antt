@@ -1,25 +1,16 @@
 -- Whole sessions, proved by computation.
 use mathlib.Core.Path.{_≡_, refl}
 use mathlib.Core.List.{map}
-use Rattle.grammar.specs.Fields.{isAt, isBid, isCall, isSize, readFrom, hexDigit, twoHex, words, writeNum, sameBid}
-use Rattle.grammar.specs.Lines.{trim, isComment, isPrompt}
-use Rattle.grammar.specs.Sid.{levelInForce, readSid}
-use Rattle.grammar.specs.Turns.{readProposal, readSummedEnd, readTurnLine, proposalLine}
-use Rattle.grammar.specs.Errors.{errorText}
-use Rattle.grammar.specs.Answers.{digitCount, readFs, signAt, fsLine}
-use Rattle.grammar.specs.Transfers.{parse, readTransfer, writeTransfer}
-use Rattle.mail.specs.Mail.{turnText, transfersText}
-use Rattle.session.specs.Choices.{chosen, answersTo}
-use Rattle.session.specs.Calls.{receive, give}
 use Rattle.log.specs.Log.{said, log}
 use Rattle.demand3.specs.Sessions.{Trial, Left, left, logged, sessions}
+use Rattle.session.specs.Computing.{sessionsComputed}
 
 -- by the session
 pub as-left : map (λ (e : Trial × Left). left (e .0)) sessions ≡ map (λ (e : Trial × Left). e .1) sessions
-unfolding isAt isBid isCall isSize readFrom hexDigit twoHex words writeNum sameBid trim isComment isPrompt readSid levelInForce readProposal readSummedEnd readTurnLine proposalLine errorText readFs signAt digitCount fsLine parse readTransfer writeTransfer turnText transfersText chosen answersTo receive give
+unfolding sessionsComputed
 as-left = refl
 
 -- and by the log
 pub as-logged : map (λ (e : Trial × Left). logged (e .0)) sessions ≡ map (λ (e : Trial × Left). e .1) sessions
-unfolding isAt isBid isCall isSize readFrom hexDigit twoHex words writeNum sameBid trim isComment isPrompt readSid levelInForce readProposal readSummedEnd readTurnLine proposalLine errorText readFs signAt digitCount fsLine parse readTransfer writeTransfer turnText transfersText chosen answersTo receive give said log
+unfolding sessionsComputed said log
 as-logged = refl

@@ -16,3 +16,4 @@ pub mod Edges
 pub mod Levels
 pub mod Signs
 pub mod AsWritten
+pub mod Computing

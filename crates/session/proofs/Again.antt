@@ -1,23 +1,14 @@
 -- BIDs offered again, by computation.
 use mathlib.Core.Path.{_≡_, refl}
-use Rattle.grammar.specs.Fields.{isAt, isBid, isCall, isSize, readFrom, hexDigit, twoHex, words, writeNum, sameBid}
-use Rattle.grammar.specs.Lines.{trim, isComment, isPrompt}
-use Rattle.grammar.specs.Sid.{levelInForce, readSid}
-use Rattle.grammar.specs.Turns.{readProposal, readSummedEnd, readTurnLine, proposalLine}
-use Rattle.grammar.specs.Errors.{errorText}
-use Rattle.grammar.specs.Answers.{digitCount, readFs, signAt, fsLine}
-use Rattle.grammar.specs.Transfers.{parse, readTransfer, writeTransfer}
-use Rattle.mail.specs.Mail.{turnText, transfersText}
-use Rattle.session.specs.Choices.{chosen, answersTo}
 use Rattle.session.specs.Session.{opened}
-use Rattle.session.specs.Calls.{receive, give}
 use Rattle.session.specs.Sessions.{leftOf, played, shelf, waiting}
 use Rattle.session.specs.Again.{offeredAgain, inOtherCase}
+use Rattle.session.specs.Computing.{sessionsComputed}
 
 pub declined-again : leftOf (played shelf (opened (offeredAgain .caller) waiting) (offeredAgain .moves)) ≡ offeredAgain .left
-unfolding isAt isBid isCall isSize readFrom hexDigit twoHex words writeNum sameBid trim isComment isPrompt readSid levelInForce readProposal readSummedEnd readTurnLine proposalLine errorText readFs signAt digitCount fsLine parse readTransfer writeTransfer turnText transfersText chosen answersTo receive give
+unfolding sessionsComputed
 declined-again = refl
 
 pub declined-in-other-case : leftOf (played shelf (opened (inOtherCase .caller) waiting) (inOtherCase .moves)) ≡ inOtherCase .left
-unfolding isAt isBid isCall isSize readFrom hexDigit twoHex words writeNum sameBid trim isComment isPrompt readSid levelInForce readProposal readSummedEnd readTurnLine proposalLine errorText readFs signAt digitCount fsLine parse readTransfer writeTransfer turnText transfersText chosen answersTo receive give
+unfolding sessionsComputed
 declined-in-other-case = refl

@@ -8,3 +8,4 @@ pub mod BlockSums
 pub mod Levels
 pub mod Reasons
 pub mod Tallies
+pub mod Computing
