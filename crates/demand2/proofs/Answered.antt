@@ -11,7 +11,7 @@ use Rattle.grammar.specs.Bytes.{Bytes}
 use Rattle.grammar.specs.Turns.{Proposal, withCr}
 use Rattle.grammar.specs.Answers.{Sign, accept, decline, defer, writeSign, readFs, fsLine}
 use Rattle.session.specs.Choices.{Shelf, answersTo}
-use Rattle.session.specs.Session.{awaitsAnswer, aLine, Memory, Session, Stepped, step, ended, levelInForce}
+use Rattle.session.specs.Session.{kindDue, awaitsAnswer, aLine, Memory, Session, Stepped, step, ended, levelInForce}
 use Rattle.session.specs.Calls.{Received, receive, give}
 use Rattle.demand2.specs.Limits.{recordLimit}
 use Rattle.demand2.specs.Refusals.{WholeLine, SoFar, Live}
@@ -51,7 +51,7 @@ event-flags E q s b t (blockEnd ln ff p ps w r m l) =
 event-flags E q s b t (fsLineComes ln is w p ss r m l) = l .flags
 event-flags E q s b t (transferGrows p sc sc′ u e) = refl
 event-flags E q s b t (transferWhole p sc u h x e l) =
-    ap flags (memory-kept E (endsWithCr (p .form)) [] (u .others) (withMessage (s .memory) (messageFrom p h x)))
+    ap flags (memory-kept E (endsWithCr (kindDue (s .memory) p)) [] (u .others) (withMessage (s .memory) (messageFrom p h x)))
     ∙ counted-flags E (u .others) (withMessage (s .memory) (messageFrom p h x))
 
 step-flags : (E : Shelf) (q : Bytes) (s : Session) (b : ℕ) → Live s → SoFar E (s .phase) (s .memory) q → flags (step E s b .session .memory) ≡ flags (s .memory)

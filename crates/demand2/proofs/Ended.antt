@@ -12,7 +12,7 @@ use Rattle.grammar.specs.Refusals as number
 use Rattle.grammar.proofs.Basics.{not-so, or2, no-both}
 use Rattle.mail.specs.Mail.{messageOf}
 use Rattle.session.specs.Choices.{Shelf}
-use Rattle.session.specs.Session.{Phase, aLine, awaitsTransfer, leaving, over, Session, Stepped, isPlain, keptIn, step, ended, endedIn}
+use Rattle.session.specs.Session.{kindDue, Phase, aLine, awaitsTransfer, leaving, over, Session, Stepped, isPlain, keptIn, step, ended, endedIn}
 use Rattle.session.proofs.Ways.{Why, waits, hasLeft, isOver, tooLong, unread, unsummed, unkept, Way, isRefused, dropsLf, growsLine, ignoresLine, hearsLine, readsOn, readsLast, way}
 use Rattle.session.specs.Calls.{oneMore, stoppedAt, stops, receiveOn, receive}
 use Rattle.demand2.specs.Refusals.{awaitsLine, SoFar, numberOf, Over, closed, fqGiven, Live, LiveExact, Exact12}
@@ -54,7 +54,7 @@ module _ (E : Shelf) (s : Session) (b : ℕ) (L : Live s) where
       (judged-found E [] s b a (w .awaited) (record { heeded = heeded E [] s b w; end = eqb-true b CR x; bytes = refl; judged = y }) z j)
   way-other o (readsOn p ps sc on w x) e = λ z. omega arith
   way-other o (readsLast p ps sc h x w y) e =
-      λ z. omega (arith, e ∙ ap (λ (r : Stepped). r .answer) (next E s (isPlain (p .form)) ps (keptIn (s .memory) (messageOf p (record { heading = h; body = x })))))
+      λ z. omega (arith, e ∙ ap (λ (r : Stepped). r .answer) (next E s (isPlain (kindDue (s .memory) p)) ps (keptIn (s .memory) (messageOf p (record { heading = h; body = x })))))
 
   pub byte-other : step E s b .answer ≡ number.sessionEnded → ⊥
   byte-other = way-other (step E s b) (way E s b) refl

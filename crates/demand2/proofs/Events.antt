@@ -10,7 +10,7 @@ use lib.Dec.{eqb, ltb}
 use lib.ListN.{length}
 use borrow.Author.Tests.{eq-eqb, lt-ltb}
 use Rattle.grammar.specs.Bytes.{Bytes, CR}
-use Rattle.grammar.specs.Fields.{Form, plain, message, file}
+use Rattle.grammar.specs.Transfers.{TransferKind, plainKind, framedKind}
 use Rattle.grammar.specs.Lines.{ends, grows, overruns, trim, isComment}
 use Rattle.grammar.specs.Sid.{framed}
 use Rattle.grammar.specs.Turns.{Proposal, TurnLine, saysFF, readTurnLine, proposalLine, fixedText, ourSid, ourEnd, withCr}
@@ -19,7 +19,7 @@ use Rattle.grammar.specs.Scan.{Scan, Scanned, goes, got, scanByte}
 use Rattle.grammar.proofs.Refusal.{whole-got}
 use Rattle.mail.specs.Mail.{Record, messageOf, proposalOf, transferOf, recordAt, proposalLines, turnText, transfersText, accepted}
 use Rattle.session.specs.Choices.{Shelf, answersTo}
-use Rattle.session.specs.Session.{awaitsSid, awaitsPrompt, awaitsAnswer, Phase, aLine, newTurn, leaving, Memory, Session, withLevel, withFramed, withTerms, withCounts, withSid, withPart, withAfterCr, between, goesOn, speaking, turnMarks, answering, answered, turnJudged, answerMarks, awaitedJudged, Stepped, moved, settled, lineMoved, isPlain, keptIn, nextTransfer, transferMoved, freeStep, step, levelInForce}
+use Rattle.session.specs.Session.{kindDue, awaitsSid, awaitsPrompt, awaitsAnswer, Phase, aLine, newTurn, leaving, Memory, Session, withLevel, withFramed, withTerms, withCounts, withSid, withPart, withAfterCr, between, goesOn, speaking, turnMarks, answering, answered, turnJudged, answerMarks, awaitedJudged, Stepped, moved, settled, lineMoved, isPlain, keptIn, nextTransfer, transferMoved, freeStep, step, levelInForce}
 use Rattle.demand2.specs.Limits.{lineLimit, blockLimit}
 use Rattle.demand2.specs.Room.{room}
 use Rattle.demand2.specs.Marks.{withSign, AnswerLeaves, TurnLeaves}
@@ -65,10 +65,9 @@ answers : (E : Shelf) (s : Session) (cr : Bool) (ss : List Sign) (ps : List Prop
 answers E s cr ss [] m = speaks E s cr (withCr (fsLine ss)) false (proposed E m) m
 answers E s cr ss (p ∷ ps) m = refl
 
-pub plain-is : (f : Form) → isPlain f ≡ endsWithCr f
-plain-is plain = refl
-plain-is message = refl
-plain-is file = refl
+pub plain-is : (kind : TransferKind) → isPlain kind ≡ endsWithCr kind
+plain-is plainKind = refl
+plain-is framedKind = refl
 
 pub next : (E : Shelf) (s : Session) (cr : Bool) (ps : List Proposal) (m : Memory) → settled s cr (nextTransfer E ps m) ≡ moved (transfersOr E cr [] ps m)
 next E s cr [] m = speaks E s cr [] false (proposed E m) m
@@ -156,10 +155,10 @@ module _ (E : Shelf) (q : Bytes) (s : Session) (b : ℕ) where
     happens t (transferGrows p sc sc′ u e) = goes-transfer p sc u (goes sc′) (sym (scan-more E s b q p sc u S) ∙ e)
     happens t (transferWhole p sc u h x e l) =
         goes-transfer p sc u (got h x)
-        (sym (scan-more E s b q p sc u S) ∙ whole-got (room E (s .memory .inbox)) (p .form) (q ++ (b ∷ [])) h x e (fits-within E (s .memory .inbox) x l))
-        ∙ next E s (isPlain (p .form)) (u .others) (keptIn (s .memory) (messageOf p (record { heading = h; body = x })))
+        (sym (scan-more E s b q p sc u S) ∙ whole-got (room E (s .memory .inbox)) (kindDue (s .memory) p) (q ++ (b ∷ [])) h x e (fits-within E (s .memory .inbox) x l))
+        ∙ next E s (isPlain (kindDue (s .memory) p)) (u .others) (keptIn (s .memory) (messageOf p (record { heading = h; body = x })))
         ∙ ap (λ (c : Bool). moved (transfersOr E c [] (u .others) (withMessage (s .memory) (messageFrom p h x))))
-        (plain-is (p .form))
+        (plain-is (kindDue (s .memory) p))
 
 -- ---------------------------------------------------------------- what the partner's lines leave of the memory
 

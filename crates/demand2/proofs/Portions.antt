@@ -13,7 +13,7 @@ use Rattle.grammar.specs.Refusals.{sessionEnded}
 use Rattle.grammar.proofs.Basics.{no-both, and2, or2}
 use Rattle.mail.specs.Mail.{messageOf}
 use Rattle.session.specs.Choices.{Shelf}
-use Rattle.session.specs.Session.{withOut, Phase, leaving, over, Session, Outcome, refuses, goesOn, Stepped, settled, isPlain, keptIn, nextTransfer, step, ended, endedIn}
+use Rattle.session.specs.Session.{kindDue, withOut, Phase, leaving, over, Session, Outcome, refuses, goesOn, Stepped, settled, isPlain, keptIn, nextTransfer, step, ended, endedIn}
 use Rattle.session.proofs.Ways.{Way, isRefused, dropsLf, growsLine, ignoresLine, hearsLine, readsOn, readsLast, way}
 use Rattle.session.specs.Calls.{Received, oneMore, stoppedAt, stops, receiveOn, receive, give, handedOut}
 use Rattle.demand2.specs.Refusals.{Over, closed, Live}
@@ -154,7 +154,7 @@ way-over E s b o (ignoresLine a w x y t n) e = absurd (no-both true refl e)
 way-over E s b o (hearsLine a w x y z j) e = settled-over s true z e
 way-over E s b o (readsOn p ps sc on w x) e = absurd (no-both true refl e)
 way-over E s b o (readsLast p ps sc h x w y) e =
-    settled-over s (isPlain (p .form)) (nextTransfer E ps (keptIn (s .memory) (messageOf p (record { heading = h; body = x })))) e
+    settled-over s (isPlain (kindDue (s .memory) p)) (nextTransfer E ps (keptIn (s .memory) (messageOf p (record { heading = h; body = x })))) e
 
 stop-over : (E : Shelf) (s : Session) (b : ℕ) → stops (step E s b) ≡ true → Over (step E s b .session)
 stop-over E s b h = go (eqb (step E s b .answer) 0) (ended (step E s b .session)) refl refl h

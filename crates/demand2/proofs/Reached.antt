@@ -14,12 +14,13 @@ use Rattle.grammar.specs.Bytes.{Bytes, null}
 use Rattle.grammar.specs.Refusals.{badChecksum}
 use Rattle.grammar.specs.Turns.{Proposal, fixedText, withCr, protocolError, checksumError}
 use Rattle.grammar.specs.Errors.{isSilent, errorText}
+use Rattle.grammar.specs.Transfers.{TransferKind}
 use Rattle.grammar.specs.Scan.{Scan, Scanned, goes, scan, scanByte, scanFrom, onward}
 use Rattle.grammar.proofs.Basics.{no-both, and-false, both}
 use Rattle.grammar.proofs.Portions.{scan-append}
 use Rattle.mail.specs.Mail.{messageOf}
 use Rattle.session.specs.Choices.{Shelf}
-use Rattle.session.specs.Session.{Awaited, awaitsPrompt, awaitsTurn, awaitsAnswer, Phase, aLine, newTurn, awaitsTransfer, leaving, over, Memory, Session, withSid, withAfterCr, Outcome, refuses, goesOn}
+use Rattle.session.specs.Session.{kindDue, Awaited, awaitsPrompt, awaitsTurn, awaitsAnswer, Phase, aLine, newTurn, awaitsTransfer, leaving, over, Memory, Session, withSid, withAfterCr, Outcome, refuses, goesOn}
 use Rattle.session.specs.Session.{speaking, turnMarks, answerMarks, Stepped, refused, settled, isPlain, keptIn, nextTransfer, step, ended, endedIn, opened}
 use Rattle.session.proofs.Ways.{Passes, toEnd, toTurn, toAnswer, toTransfer, our-turn, our-answer, next-transfer, Judged, isWrong, hearsSid, hearsText, hearsPrompt, hearsProposal, hearsFF, hearsFQ, hearsEnd, hearsFs, At, Way, isRefused, dropsLf, growsLine, ignoresLine, hearsLine, readsOn, readsLast, way}
 use Rattle.session.specs.Calls.{Received, receive, give}
@@ -83,7 +84,7 @@ module _ (E : Shelf) where
     where
       asks : (js : List ℕ) → aLine (awaitsAnswer (i ∷ is)) ≡ aLine (awaitsAnswer js) → Block E m js
       asks js e = let z : i ∷ is ≡ js = cc in subst (Block E m) (f ∙ z) (block-exact (E .table) (m .framed) (m .states) (m .deferred))
-  passes-fair m o (toTransfer x p ps) = alive (awaitsTransfer p ps (scanFrom (p .form))) m x refl (λ is e. clash cc) refl
+  passes-fair m o (toTransfer x p ps) = alive (awaitsTransfer p ps (scanFrom (kindDue m p))) m x refl (λ is e. clash cc) refl
 
   judged-fair : (a : Awaited) (m : Memory) (ln : Bytes) (o : Outcome) → Judged E m ln a o → Fair E o
   judged-fair a m ln o (isWrong n w) = tt
@@ -135,9 +136,9 @@ module _ (E : Shelf) where
   one-less (p ∷ ps) m s c = refl
 
   -- one byte more
-  more-so-far : (room : ℕ) (p : Proposal) (sc sc′ : Scan) (q : Bytes) (b : ℕ) → scan room (p .form) q ≡ goes sc → scanByte room sc b ≡ goes sc′
-      → scan room (p .form) (q ++ (b ∷ [])) ≡ goes sc′
-  more-so-far room p sc sc′ q b e f = scan-append room (goes (scanFrom (p .form))) q (b ∷ []) ∙ ap (λ (o : Scanned). onward room o b) e ∙ f
+  more-so-far : (room : ℕ) (kind : TransferKind) (sc sc′ : Scan) (q : Bytes) (b : ℕ) → scan room kind q ≡ goes sc → scanByte room sc b ≡ goes sc′
+      → scan room kind (q ++ (b ∷ [])) ≡ goes sc′
+  more-so-far room kind sc sc′ q b e f = scan-append room (goes (scanFrom kind)) q (b ∷ []) ∙ ap (λ (o : Scanned). onward room o b) e ∙ f
 
   module _ (s : Session) (b : ℕ) (q : Bytes) where
     -- the bytes so far after a byte that is not dropped
@@ -176,19 +177,19 @@ module _ (E : Shelf) where
         (subst (λ (c : Bool). Sound E (o .session) (cond c (q ++ (b ∷ [])) []))
         (sym (ap (λ (r : Phase). sameTransfer (owed r) (suc (length ps))) (w .awaited) ∙ to-same (length ps)))
         (record {
-          soFar = more-so-far (room E (s .memory .inbox)) p sc on q b (subst (λ (r : Phase). SoFar E r (s .memory) q) (w .awaited) (h .soFar)) f;
+          soFar = more-so-far (room E (s .memory .inbox)) (kindDue (s .memory) p) sc on q b (subst (λ (r : Phase). SoFar E r (s .memory) q) (w .awaited) (h .soFar)) f;
           between = λ x. absurd (omega arith);
           asked = λ is e. clash cc;
           parting = λ x. absurd (no-both false x refl);
         }))
     way-sound h o (readsLast p ps sc g x w e) =
         let m = keptIn (s .memory) (messageOf p (record { heading = g; body = x })) in
-        let t : Session = settled s (isPlain (p .form)) (nextTransfer E ps m) .session in
+        let t : Session = settled s (isPlain (kindDue (s .memory) p)) (nextTransfer E ps m) .session in
         heeds t (w .kept)
         (begins t
         (ap (λ (r : Phase). sameTransfer (owed r) (owed (t .phase))) (w .awaited)
-        ∙ ap (sameTransfer (suc (length ps))) (one-less ps m s (isPlain (p .form))) ∙ to-next (length ps))
-        (settled-sound s (isPlain (p .form)) (nextTransfer E ps m) (passes-fair m _ (next-transfer E ps m))))
+        ∙ ap (sameTransfer (suc (length ps))) (one-less ps m s (isPlain (kindDue (s .memory) p))) ∙ to-next (length ps))
+        (settled-sound s (isPlain (kindDue (s .memory) p)) (nextTransfer E ps m) (passes-fair m _ (next-transfer E ps m))))
 
     step-sound : Sound E s q → Sound E (step E s b .session) (soFarWith s q b (step E s b .session))
     step-sound h = way-sound h (step E s b) (way E s b)

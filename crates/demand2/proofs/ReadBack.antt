@@ -9,7 +9,7 @@ use Rattle.grammar.specs.Bytes.{Bytes, CR}
 use Rattle.grammar.specs.Fields.{Form, plain, message, file}
 use Rattle.grammar.specs.Turns.{inMode, proposable, blockLimit}
 use Rattle.grammar.specs.Answers.{Sign, ourProposal, ourAnswer}
-use Rattle.grammar.specs.Transfers.{sendable, writeTransfer, readTransfer}
+use Rattle.grammar.specs.Transfers.{kindOf, sendable, writeTransfer, readTransfer}
 use Rattle.grammar.proofs.Basics.{split-mid}
 use Rattle.grammar.proofs.OurLines.{proposal-read, fs-back, GoodLine, good-line}
 use Rattle.grammar.proofs.TransferBack.{transfer-back}
@@ -37,7 +37,7 @@ reads-back r p t =
       line = heard-whole _ (good-line (ourProposal (proposalOf r)) p);
       proposal = proposal-read (modeOf (r .form)) (proposalOf r) p (in-its-mode (r .form));
       transfer =
-          ap (λ (h : Bytes). readTransfer (r .form) (writeTransfer (r .form) h (r .body))) (heading-is (r .form) r)
+          ap (λ (h : Bytes). readTransfer (kindOf (r .form)) (writeTransfer (kindOf (r .form)) h (r .body))) (heading-is (r .form) r)
           ∙ transfer-back (r .form) (headingBy (r .form) (r .title) (r .name)) (r .body) t;
     }
 

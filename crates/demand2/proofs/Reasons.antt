@@ -11,7 +11,7 @@ use Rattle.grammar.specs.Turns.{Proposal, fixedText, ourSid, withCr}
 use Rattle.grammar.specs.Answers.{accept, fsLine}
 use Rattle.grammar.proofs.Basics.{no-both}
 use Rattle.session.specs.Choices.{Shelf, answersTo}
-use Rattle.session.specs.Session.{over, Memory, Session, step, ended, endedIn}
+use Rattle.session.specs.Session.{kindDue, over, Memory, Session, step, ended, endedIn}
 use Rattle.session.specs.Calls.{give}
 use Rattle.demand2.specs.Refusals.{SoFar, Refusal, Situation, Live, Over, closed}
 use Rattle.demand2.specs.Marks.{withSign}
@@ -86,7 +86,7 @@ event-hush E q s b L t (blockEnd ln ff p ps w r m k) =
 event-hush E q s b L t (fsLineComes ln is w p ss r m k) = λ e. absurd (no-both false e refl)
 event-hush E q s b L t (transferGrows p sc on w r) = λ e. absurd (no-both false e refl)
 event-hush E q s b L t (transferWhole p sc w h x r k) =
-    transfers-hush E (endsWithCr (p .form)) [] (w .others) (withMessage (s .memory) (messageFrom p h x))
+    transfers-hush E (endsWithCr (kindDue (s .memory) p)) [] (w .others) (withMessage (s .memory) (messageFrom p h x))
 
 -- ---------------------------------------------------------------- the theorems
 

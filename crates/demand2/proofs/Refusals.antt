@@ -20,7 +20,7 @@ use Rattle.grammar.proofs.Basics.{and2, no-both, and-false}
 use Rattle.grammar.proofs.Rest.{Wrong as Unsummed}
 use Rattle.grammar.proofs.Refusal.{exact as exact-byte, Verdict, exact-8, exact-10, isTen}
 use Rattle.session.specs.Choices.{Shelf}
-use Rattle.session.specs.Session.{Awaited, awaitsTurn, Phase, aLine, awaitsTransfer, leaving, over, Session, between, Outcome, turnMarks, answerMarks, Stepped, roomFor, step, ended, endedIn}
+use Rattle.session.specs.Session.{kindDue, Awaited, awaitsTurn, Phase, aLine, awaitsTransfer, leaving, over, Session, between, Outcome, turnMarks, answerMarks, Stepped, roomFor, step, ended, endedIn}
 use Rattle.session.proofs.Ways.{Wrong, noSid, noF, noTurnLine, ffAfterFf, ffInBlock, fqFirst, fqInBlock, emptyBlock, emptySummed, tooMany, wrongHex, noAnswer, EndsBlock as Ends, bare as justEnds, summed as endsWith, Judged, isWrong, hearsSid, hearsText, hearsPrompt, hearsProposal, hearsFF, hearsFQ, hearsEnd, hearsFs, At, Why, waits, hasLeft, isOver, tooLong, unread, unsummed, unkept, Way, isRefused, dropsLf, growsLine, ignoresLine, hearsLine, readsOn, readsLast, way}
 use Rattle.demand2.specs.Limits.{lineLimit, blockLimit}
 use Rattle.demand2.specs.Room.{room}
@@ -123,15 +123,15 @@ module _ (E : Shelf) (q : Bytes) (s : Session) (b : ℕ) (L : Live s) (S : SoFar
     within : TransferByte s b p sc
     within = record { heeded = heeded E q s b w; others = ps; awaited = w .awaited }
 
-    so : scan (room E (s .memory .inbox)) (p .form) q ≡ goes sc
+    so : scan (room E (s .memory .inbox)) (kindDue (s .memory) p) q ≡ goes sc
     so = so-far E s b q p sc within S
 
     reads : scanByte (room E (s .memory .inbox)) sc b ≡ o
     reads = ap (λ (n : ℕ). scanByte n sc b) (sym (room-is E (s .memory))) ∙ e
 
-    verdict : Verdict (room E (s .memory .inbox)) (p .form) o (q ++ (b ∷ []))
+    verdict : Verdict (room E (s .memory .inbox)) (kindDue (s .memory) p) o (q ++ (b ∷ []))
     verdict =
-        subst (λ (r : Scanned). Verdict (room E (s .memory .inbox)) (p .form) r (q ++ (b ∷ []))) reads (exact-byte (room E (s .memory .inbox)) (p .form) q sc so b)
+        subst (λ (r : Scanned). Verdict (room E (s .memory .inbox)) (kindDue (s .memory) p) r (q ++ (b ∷ []))) reads (exact-byte (room E (s .memory .inbox)) (kindDue (s .memory) p) q sc so b)
 
   why-found : (n : ℕ) → Why E s b n → Found E q s b
   why-found n (waits e f) = found no11 (record { kept = e; waiting = f })
@@ -145,11 +145,11 @@ module _ (E : Shelf) (q : Bytes) (s : Session) (b : ℕ) (L : Live s) (S : SoFar
         proposal = p;
         reading = sc;
         within = within p ps sc w malformed e;
-        hopeless = exact-8 (room E (s .memory .inbox)) (p .form) q sc (so p ps sc w malformed e) b .0 (reads p ps sc w malformed e);
+        hopeless = exact-8 (room E (s .memory .inbox)) (kindDue (s .memory) p) q sc (so p ps sc w malformed e) b .0 (reads p ps sc w malformed e);
       })
-  why-found n (unsummed p ps sc w e) = go (parse (p .form) (q ++ (b ∷ []))) refl (verdict p ps sc w wrongSum e .0)
+  why-found n (unsummed p ps sc w e) = go (parse (kindDue (s .memory) p) (q ++ (b ∷ []))) refl (verdict p ps sc w wrongSum e .0)
     where
-      go : (o : Option Parsed) → parse (p .form) (q ++ (b ∷ [])) ≡ o → Unsummed o → Found E q s b
+      go : (o : Option Parsed) → parse (kindDue (s .memory) p) (q ++ (b ∷ [])) ≡ o → Unsummed o → Found E q s b
       go none x y = absurd y
       go (some t) x y = found no9 (record { proposal = p; reading = sc; within = within p ps sc w wrongSum e; transfer = t; whole = x; wrong = y })
   why-found n (unkept p ps sc w e) =

@@ -17,7 +17,7 @@ use Rattle.grammar.proofs.Basics.{both}
 use Rattle.grammar.proofs.Rest.{Wrong}
 use Rattle.grammar.proofs.Refusal.{exact-8, exact-9, exact-10, isTen}
 use Rattle.session.specs.Choices.{Shelf}
-use Rattle.session.specs.Session.{awaitsSid, awaitsAnswer, Session, withAfterCr, turnJudged, Stepped, refused, moved, settled, lineMoved, transferMoved, freeStep, step, levelInForce}
+use Rattle.session.specs.Session.{kindDue, awaitsSid, awaitsAnswer, Session, withAfterCr, turnJudged, Stepped, refused, moved, settled, lineMoved, transferMoved, freeStep, step, levelInForce}
 use Rattle.demand2.specs.Limits.{lineLimit, blockLimit}
 use Rattle.demand2.specs.Room.{room}
 use Rattle.demand2.specs.Refusals.{LineTooLong, NotSid, NoForwarding, isAllowed, isMiscounted, NoAnswer, beginsFs, LineNotAllowed, inTurn, forAnswer, WrongCount, WrongAnswer, WrongBlockSum, SoFar, WrongTransfer, WrongChecksum, NoRoom, BytesWait, Refusal, no2, no3, no4, no5, no6, no7, no8, no9, no10, no11, no13, numberOf, Situation}
@@ -100,13 +100,13 @@ module _ (E : Shelf) (s : Session) (b : ℕ) where
   module _ (q : Bytes) (S : SoFar E (s .phase) (s .memory) q) where
     wrong-transfer : WrongTransfer q s b → Refuses E s b number.badTransfer
     wrong-transfer h =
-        let e = exact-8 (room E (s .memory .inbox)) (h .proposal .form) q (h .reading) (so-far E s b q (h .proposal) (h .reading) (h .within) S) b .1 (h .hopeless) in
+        let e = exact-8 (room E (s .memory .inbox)) (kindDue (s .memory) (h .proposal)) q (h .reading) (so-far E s b q (h .proposal) (h .reading) (h .within) S) b .1 (h .hopeless) in
         transfer-step E s b (h .proposal) (h .reading) (h .within) ∙ ap (transferMoved E (h .proposal) (h .within .others) s) e
 
     wrong-sum : WrongChecksum q s b → Refuses E s b number.badChecksum
     wrong-sum h =
-        let w : Wrong (parse (h .proposal .form) (q ++ (b ∷ []))) = subst Wrong (sym (h .whole)) (h .wrong) in
-        let e = exact-9 (room E (s .memory .inbox)) (h .proposal .form) q (h .reading) (so-far E s b q (h .proposal) (h .reading) (h .within) S) b .1 w in
+        let w : Wrong (parse (kindDue (s .memory) (h .proposal)) (q ++ (b ∷ []))) = subst Wrong (sym (h .whole)) (h .wrong) in
+        let e = exact-9 (room E (s .memory .inbox)) (kindDue (s .memory) (h .proposal)) q (h .reading) (so-far E s b q (h .proposal) (h .reading) (h .within) S) b .1 w in
         transfer-step E s b (h .proposal) (h .reading) (h .within) ∙ ap (transferMoved E (h .proposal) (h .within .others) s) e
 
   no-room : NoRoom E s b → Refuses E s b number.storeFull

@@ -13,7 +13,7 @@ use Rattle.grammar.specs.Scan.{Scan, Scanned, goes, scan, scanByte, scanFrom, o
 use Rattle.grammar.proofs.Basics.{no-both}
 use Rattle.grammar.proofs.Portions.{scan-append}
 use Rattle.session.specs.Choices.{Shelf}
-use Rattle.session.specs.Session.{Awaited, awaitsTurn, Phase, aLine, awaitsTransfer, leaving, over, Session, withAfterCr, goesOn, turnJudged, awaitedJudged, moved, settled, lineMoved, transferMoved, lineStep, phaseStep, freeStep, step}
+use Rattle.session.specs.Session.{kindDue, Awaited, awaitsTurn, Phase, aLine, awaitsTransfer, leaving, over, Session, withAfterCr, goesOn, turnJudged, awaitedJudged, moved, settled, lineMoved, transferMoved, lineStep, phaseStep, freeStep, step}
 use Rattle.demand2.specs.Limits.{lineLimit}
 use Rattle.demand2.specs.Room.{room}
 use Rattle.demand2.specs.Refusals.{Heeded, awaitsLine, WholeLine, TurnSaid, SoFar, TransferByte}
@@ -58,11 +58,11 @@ module _ (E : Shelf) (s : Session) (b : ℕ) where
       ∙ ap (λ (l : Bytes). settled s true (turnJudged E (readTurnLine (s .memory .framed) l) ff ps raw (s .part) (s .memory))) (h .whole .bytes)
 
   -- the bytes so far of a transfer, with its phase known
-  pub so-far : (q : Bytes) (p : Proposal) (sc : Scan) (t : TransferByte s b p sc) → SoFar E (s .phase) (s .memory) q → scan (room E (s .memory .inbox)) (p .form) q ≡ goes sc
+  pub so-far : (q : Bytes) (p : Proposal) (sc : Scan) (t : TransferByte s b p sc) → SoFar E (s .phase) (s .memory) q → scan (room E (s .memory .inbox)) (kindDue (s .memory) p) q ≡ goes sc
   so-far q p sc t h = subst (λ (r : Phase). SoFar E r (s .memory) q) (t .awaited) h
 
   -- the reading with one byte more
   pub scan-more : (q : Bytes) (p : Proposal) (sc : Scan) → TransferByte s b p sc → SoFar E (s .phase) (s .memory) q
-      → scan (room E (s .memory .inbox)) (p .form) (q ++ (b ∷ [])) ≡ scanByte (room E (s .memory .inbox)) sc b
+      → scan (room E (s .memory .inbox)) (kindDue (s .memory) p) (q ++ (b ∷ [])) ≡ scanByte (room E (s .memory .inbox)) sc b
   scan-more q p sc t h =
-      scan-append (room E (s .memory .inbox)) (goes (scanFrom (p .form))) q (b ∷ []) ∙ ap (λ (o : Scanned). onward (room E (s .memory .inbox)) o b) (so-far q p sc t h)
+      scan-append (room E (s .memory .inbox)) (goes (scanFrom (kindDue (s .memory) p))) q (b ∷ []) ∙ ap (λ (o : Scanned). onward (room E (s .memory .inbox)) o b) (so-far q p sc t h)

@@ -11,17 +11,16 @@ use lib.Dec.{eqb, ltb}
 use lib.ListN.{length, length-append}
 use borrow.Author.Tests.{eqb-true, lt-ltb}
 use Rattle.grammar.specs.Bytes.{Bytes, CR, LF, null}
-use Rattle.grammar.specs.Fields.{Form, plain, message, file}
 use Rattle.grammar.specs.Lines.{ends, grows, overruns, dropLf}
 use Rattle.grammar.specs.Turns.{Proposal}
-use Rattle.grammar.specs.Transfers.{Parsed, parse}
+use Rattle.grammar.specs.Transfers.{TransferKind, plainKind, framedKind, Parsed, parse}
 use Rattle.grammar.specs.Scan.{Scan, Scanned, goes, got, malformed, wrongSum, noRoom, scanByte, scanFrom, scanOn}
 use Rattle.grammar.proofs.Basics.{snoc-cons, Lacks, all-lacks}
 use Rattle.grammar.proofs.Rest.{Wrong, Longer, rest-nil}
 use Rattle.grammar.proofs.Refusal.{Reach, reach-step, from, exact-at, exact-8, Verdict}
 use Rattle.mail.specs.Mail.{messageOf}
 use Rattle.session.specs.Choices.{Shelf}
-use Rattle.session.specs.Session.{Phase, aLine, awaitsTransfer, leaving, over, Memory, Session, between}
+use Rattle.session.specs.Session.{kindDue, Phase, aLine, awaitsTransfer, leaving, over, Memory, Session, between}
 use Rattle.session.specs.Session.{Outcome, refuses, goesOn, Stepped, moved, settled, lineMoved, isPlain, keptIn, nextTransfer, transferMoved, freeStep, step, ended, endedIn}
 use Rattle.session.specs.Calls.{Received, oneMore, stoppedAt, stops, receiveOn, receive}
 use Rattle.demand2.specs.Limits.{lineLimit}
@@ -176,58 +175,57 @@ module _ (E : Shelf) (p : Proposal) (ps : List Proposal) (m : Memory) where
 
   -- the message is kept, and the next transfer or our turn follows
   abbrev keptThen : Bytes → Bytes → Session
-  keptThen h x = transfersOr E (endsWithCr (p .form)) [] ps (withMessage m (messageFrom p h x))
+  keptThen h x = transfersOr E (endsWithCr (kindDue m p)) [] ps (withMessage m (messageFrom p h x))
 
   gone : {A : Type 0} (h x : Bytes) (o : Option Parsed) → o ≡ none → o ≡ right h x → A
   gone h x o e f = let z : none ≡ right h x = sym e ∙ f in let y : _≡_ {A = ℕ} 0 1 = cc in absurd (omega arith)
 
   -- the last byte
-  last : (h x q : Bytes) (sc : Scan) (b : ℕ) → parse (p .form) (q ++ (b ∷ [])) ≡ right h x → (o : Scanned) → scanByte (room E (m .inbox)) sc b ≡ o
-      → Verdict (room E (m .inbox)) (p .form) o (q ++ (b ∷ [])) → receiveOn E (reading sc) (b ∷ []) ≡ record { answer = 0; count = 1; session = keptThen h x }
-  last h x q sc b e (goes sc′) g k = gone h x (parse (p .form) (q ++ (b ∷ []))) (k .0) e
+  last : (h x q : Bytes) (sc : Scan) (b : ℕ) → parse (kindDue m p) (q ++ (b ∷ [])) ≡ right h x → (o : Scanned) → scanByte (room E (m .inbox)) sc b ≡ o
+      → Verdict (room E (m .inbox)) (kindDue m p) o (q ++ (b ∷ [])) → receiveOn E (reading sc) (b ∷ []) ≡ record { answer = 0; count = 1; session = keptThen h x }
+  last h x q sc b e (goes sc′) g k = gone h x (parse (kindDue m p) (q ++ (b ∷ []))) (k .0) e
   last h x q sc b e (got t y) g k =
       let z : right t y ≡ right h x = sym (k .0) ∙ e in
       one E (reading sc) b
       ∙ ap stoppedAt
-      (ap (transferMoved E p ps (reading sc)) g ∙ next E (reading sc) (isPlain (p .form)) ps (keptIn m (messageOf p (record { heading = t; body = y }))))
-      ∙ ap (λ (c : Bool). stoppedAt (moved (transfersOr E c [] ps (withMessage m (messageFrom p t y))))) (plain-is (p .form))
+      (ap (transferMoved E p ps (reading sc)) g ∙ next E (reading sc) (isPlain (kindDue m p)) ps (keptIn m (messageOf p (record { heading = t; body = y }))))
+      ∙ ap (λ (c : Bool). stoppedAt (moved (transfersOr E c [] ps (withMessage m (messageFrom p t y))))) (plain-is (kindDue m p))
       ∙ ap (λ (o : Option Parsed). record { answer = 0; count = 1; session = keptThen (headingIn o) (bodyIn o) }) z
-  last h x q sc b e malformed g k = gone h x (parse (p .form) (q ++ (b ∷ []))) (ap (parse (p .form)) (sym (append-nil (q ++ (b ∷ [])))) ∙ k []) e
+  last h x q sc b e malformed g k = gone h x (parse (kindDue m p) (q ++ (b ∷ []))) (ap (parse (kindDue m p)) (sym (append-nil (q ++ (b ∷ [])))) ∙ k []) e
   last h x q sc b e wrongSum g k = let z : true ≡ false = subst Wrong e (k .0) in let y : _≡_ {A = ℕ} 0 1 = cc in absurd (omega arith)
-  last h x q sc b e noRoom g k = gone h x (parse (p .form) (q ++ (b ∷ []))) (k .2) e
+  last h x q sc b e noRoom g k = gone h x (parse (kindDue m p) (q ++ (b ∷ []))) (k .2) e
 
   -- after q, the bytes u make it whole
-  kept-after : (h x u q : Bytes) (sc : Scan) → Reach (room E (m .inbox)) (p .form) (goes sc) q → parse (p .form) (q ++ u) ≡ right h x
+  kept-after : (h x u q : Bytes) (sc : Scan) → Reach (room E (m .inbox)) (kindDue m p) (goes sc) q → parse (kindDue m p) (q ++ u) ≡ right h x
       → length x ≤ room E (m .inbox) → receiveOn E (reading sc) u ≡ record { answer = 0; count = length u; session = keptThen h x }
-  kept-after h x [] q sc r e l = gone h x (parse (p .form) (q ++ [])) (r .0 [] ∙ rest-nil sc) e
-  kept-after h x (b ∷ []) q sc r e l = last h x q sc b e (scanByte (room E (m .inbox)) sc b) refl (exact-at (room E (m .inbox)) (p .form) q sc r b)
+  kept-after h x [] q sc r e l = gone h x (parse (kindDue m p) (q ++ [])) (r .0 [] ∙ rest-nil sc) e
+  kept-after h x (b ∷ []) q sc r e l = last h x q sc b e (scanByte (room E (m .inbox)) sc b) refl (exact-at (room E (m .inbox)) (kindDue m p) q sc r b)
   kept-after h x (b ∷ c ∷ u) q sc r e l =
-      go (scanByte (room E (m .inbox)) sc b) refl (exact-at (room E (m .inbox)) (p .form) q sc r b) (reach-step (room E (m .inbox)) (p .form) (goes sc) q b r)
-      (λ sc′ k. kept-after h x (c ∷ u) (q ++ (b ∷ [])) sc′ k (ap (parse (p .form)) (snoc-cons q (c ∷ u) b) ∙ e) l)
+      go (scanByte (room E (m .inbox)) sc b) refl (exact-at (room E (m .inbox)) (kindDue m p) q sc r b) (reach-step (room E (m .inbox)) (kindDue m p) (goes sc) q b r)
+      (λ sc′ k. kept-after h x (c ∷ u) (q ++ (b ∷ [])) sc′ k (ap (parse (kindDue m p)) (snoc-cons q (c ∷ u) b) ∙ e) l)
     where
-      whole : parse (p .form) ((q ++ (b ∷ [])) ++ c ∷ u) ≡ right h x
-      whole = ap (parse (p .form)) (snoc-cons q (c ∷ u) b) ∙ e
+      whole : parse (kindDue m p) ((q ++ (b ∷ [])) ++ c ∷ u) ≡ right h x
+      whole = ap (parse (kindDue m p)) (snoc-cons q (c ∷ u) b) ∙ e
 
-      go : (o : Scanned) → scanByte (room E (m .inbox)) sc b ≡ o → Verdict (room E (m .inbox)) (p .form) o (q ++ (b ∷ []))
-          → Reach (room E (m .inbox)) (p .form) o (q ++ (b ∷ [])) → ((sc′ : Scan) → Reach (room E (m .inbox)) (p .form) (goes sc′) (q ++ (b ∷ []))
+      go : (o : Scanned) → scanByte (room E (m .inbox)) sc b ≡ o → Verdict (room E (m .inbox)) (kindDue m p) o (q ++ (b ∷ []))
+          → Reach (room E (m .inbox)) (kindDue m p) o (q ++ (b ∷ [])) → ((sc′ : Scan) → Reach (room E (m .inbox)) (kindDue m p) (goes sc′) (q ++ (b ∷ []))
           → receiveOn E (reading sc′) (c ∷ u) ≡ record { answer = 0; count = suc (length u); session = keptThen h x })
           → receiveOn E (reading sc) (b ∷ c ∷ u) ≡ record { answer = 0; count = suc (suc (length u)); session = keptThen h x }
       go (goes sc′) g k r′ ih = more E (reading sc) (reading sc′) b (c ∷ u) (ap (transferMoved E p ps (reading sc)) g) refl ∙ ap oneMore (ih sc′ r′)
-      go (got t y) g k r′ ih = gone h x (parse (p .form) ((q ++ (b ∷ [])) ++ c ∷ u)) (k .2 c u) whole
-      go malformed g k r′ ih = gone h x (parse (p .form) ((q ++ (b ∷ [])) ++ c ∷ u)) (k (c ∷ u)) whole
-      go wrongSum g k r′ ih = gone h x (parse (p .form) ((q ++ (b ∷ [])) ++ c ∷ u)) (k .1 c u) whole
+      go (got t y) g k r′ ih = gone h x (parse (kindDue m p) ((q ++ (b ∷ [])) ++ c ∷ u)) (k .2 c u) whole
+      go malformed g k r′ ih = gone h x (parse (kindDue m p) ((q ++ (b ∷ [])) ++ c ∷ u)) (k (c ∷ u)) whole
+      go wrongSum g k r′ ih = gone h x (parse (kindDue m p) ((q ++ (b ∷ [])) ++ c ∷ u)) (k .1 c u) whole
       go noRoom g k r′ ih = let z = subst (Longer (room E (m .inbox))) whole (k .0 (c ∷ u)) in absurd (omega arith)
 
   -- ---------------------------------------------------------------- its first byte
 
   -- a transfer that is right doesn't begin with an LF
-  first-lf : (u : Bytes) → parse (p .form) (LF ∷ u) ≡ none
-  first-lf u = exact-8 (room E (m .inbox)) (p .form) [] (scanFrom (p .form)) refl LF .0 (go (p .form)) u
+  first-lf : (u : Bytes) → parse (kindDue m p) (LF ∷ u) ≡ none
+  first-lf u = exact-8 (room E (m .inbox)) (kindDue m p) [] (scanFrom (kindDue m p)) refl LF .0 (go (kindDue m p)) u
     where
-      go : (f : Form) → scanByte (room E (m .inbox)) (scanFrom f) LF ≡ malformed
-      go plain = refl
-      go message = refl
-      go file = refl
+      go : (kind : TransferKind) → scanByte (room E (m .inbox)) (scanFrom kind) LF ≡ malformed
+      go plainKind = refl
+      go framedKind = refl
 
   -- a byte that is not dropped does the same after a CR as elsewhere
   same-outcome : (c : Bool) (o : Outcome) → settled (transferDue p ps m true) c o ≡ settled (transferDue p ps m false) c o
@@ -237,28 +235,28 @@ module _ (E : Shelf) (p : Proposal) (ps : List Proposal) (m : Memory) where
   same-step : (b : ℕ) → eqb b LF ≡ false → step E (transferDue p ps m true) b ≡ step E (transferDue p ps m false) b
   same-step b q =
       ap (λ (c : Bool). cond c (moved (transferDue p ps m false)) (freeStep E [] (transferDue p ps m true) b)) q
-      ∙ go (scanByte (room E (m .inbox)) (scanFrom (p .form)) b)
+      ∙ go (scanByte (room E (m .inbox)) (scanFrom (kindDue m p)) b)
     where
       go : (o : Scanned) → transferMoved E p ps (transferDue p ps m true) o ≡ transferMoved E p ps (transferDue p ps m false) o
       go (goes sc) = refl
-      go (got h x) = same-outcome (isPlain (p .form)) (nextTransfer E ps (keptIn m (messageOf p (record { heading = h; body = x }))))
+      go (got h x) = same-outcome (isPlain (kindDue m p)) (nextTransfer E ps (keptIn m (messageOf p (record { heading = h; body = x }))))
       go malformed = refl
       go wrongSum = refl
       go noRoom = refl
 
-  kept-first : (cr : Bool) (u h x : Bytes) → parse (p .form) u ≡ right h x → length x ≤ room E (m .inbox)
+  kept-first : (cr : Bool) (u h x : Bytes) → parse (kindDue m p) u ≡ right h x → length x ≤ room E (m .inbox)
       → receiveOn E (transferDue p ps m cr) u ≡ record { answer = 0; count = length u; session = keptThen h x }
-  kept-first false u h x e l = kept-after h x u [] (scanFrom (p .form)) (from (room E (m .inbox)) (p .form)) e l
+  kept-first false u h x e l = kept-after h x u [] (scanFrom (kindDue m p)) (from (room E (m .inbox)) (kindDue m p)) e l
   kept-first true [] h x e l =
-      gone h x (parse (p .form) []) (from (room E (m .inbox)) (p .form) .0 [] ∙ rest-nil (scanFrom (p .form))) e
+      gone h x (parse (kindDue m p) []) (from (room E (m .inbox)) (kindDue m p) .0 [] ∙ rest-nil (scanFrom (kindDue m p))) e
   kept-first true (b ∷ u) h x e l = go (eqb b LF) refl
     where
       go : (c : Bool) → eqb b LF ≡ c → receiveOn E (transferDue p ps m true) (b ∷ u) ≡ record { answer = 0; count = suc (length u); session = keptThen h x }
       go true q =
-          gone h x (parse (p .form) (b ∷ u)) (ap (λ (k : ℕ). parse (p .form) (k ∷ u)) (eqb-true b LF q) ∙ first-lf u) e
+          gone h x (parse (kindDue m p) (b ∷ u)) (ap (λ (k : ℕ). parse (kindDue m p) (k ∷ u)) (eqb-true b LF q) ∙ first-lf u) e
       go false q =
           ap (λ (o : Stepped). cond (stops o) (stoppedAt o) (oneMore (receiveOn E (o .session) u))) (same-step b q)
-          ∙ kept-after h x (b ∷ u) [] (scanFrom (p .form)) (from (room E (m .inbox)) (p .form)) e l
+          ∙ kept-after h x (b ∷ u) [] (scanFrom (kindDue m p)) (from (room E (m .inbox)) (kindDue m p)) e l
 
   -- A VALID TRANSFER that fits is kept at its last byte
   pub transfer-kept : TransferKept E p ps m

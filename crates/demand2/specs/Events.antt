@@ -10,16 +10,15 @@ use lib.Dec.{eqb}
 use lib.ListN.{length}
 use Rattle.grammar.specs.Bytes.{Bytes, byteValues, CR}
 use Rattle.grammar.specs.Ascii.{text}
-use Rattle.grammar.specs.Fields.{Form, plain, message, file}
 use Rattle.grammar.specs.Lines.{trim, isComment, isPrompt}
 use Rattle.grammar.specs.Sid.{readSid, hasFeature, framed}
 use Rattle.grammar.specs.Turns.{Proposal, TurnLine, saysFF, saysFQ, endsBlock, proposes, endsSummed, readTurnLine, proposalLine, fixedText, ourSid, ourFF, ourFQ, withCr}
 use Rattle.grammar.specs.Answers.{Sign, accept, readFs, fsLine}
-use Rattle.grammar.specs.Transfers.{parse, byteSum}
+use Rattle.grammar.specs.Transfers.{TransferKind, plainKind, framedKind, parse, byteSum}
 use Rattle.grammar.specs.Scan.{Scan, goes, scan, scanFrom}
 use Rattle.mail.specs.Mail.{Record, Message, proposalOf, transferOf, recordAt}
 use Rattle.session.specs.Choices.{Shelf, chosen, answersTo}
-use Rattle.session.specs.Session.{awaitsSid, awaitsPrompt, awaitsTurn, awaitsAnswer, Phase, aLine, newTurn, awaitsTransfer, leaving, over, Memory, Session, withLevel, withFramed, withTerms, withInbox, withCounts, withPhase, withPart, withAfterCr, between}
+use Rattle.session.specs.Session.{kindDue, awaitsSid, awaitsPrompt, awaitsTurn, awaitsAnswer, Phase, aLine, newTurn, awaitsTransfer, leaving, over, Memory, Session, withLevel, withFramed, withTerms, withInbox, withCounts, withPhase, withPart, withAfterCr, between}
 use Rattle.demand2.specs.Limits.{lineLimit, blockLimit, letterF, levelBetween, levelInForce}
 use Rattle.demand2.specs.Room.{Fits, room}
 use Rattle.demand2.specs.Marks.{withSign, AnswerLeaves, TurnLeaves}
@@ -39,10 +38,9 @@ abbrev pub metBy : List ℕ → Memory → Memory
 metBy fs m = withTerms (withLevel (levelBetween fs) (m .terms)) (withFramed (framed fs) m)
 
 -- "One LF directly after .. the CR that closes a plain transfer, is dropped"; a framed one is closed by its checksum
-abbrev pub endsWithCr : Form → Bool
-endsWithCr plain = true
-endsWithCr message = false
-endsWithCr file = false
+abbrev pub endsWithCr : TransferKind → Bool
+endsWithCr plainKind = true
+endsWithCr framedKind = false
 
 -- ---------------------------------------------------------------- our turn
 
@@ -91,7 +89,7 @@ weSpeak E afterCr ff o m = between (turnAwaits ff (proposed E m)) afterCr (o ++ 
 -- "The right to propose passes to whoever sent the FS.": o waits; the transfers of these proposals are awaited, or else it is our turn
 abbrev pub transfersOr : Shelf → Bool → Bytes → List Proposal → Memory → Session
 transfersOr E afterCr o [] m = weSpeak E afterCr false o m
-transfersOr E afterCr o (p ∷ ps) m = between (awaitsTransfer p ps (scanFrom (p .form))) afterCr o m
+transfersOr E afterCr o (p ∷ ps) m = between (awaitsTransfer p ps (scanFrom (kindDue m p))) afterCr o m
 
 -- The end of a block of which raw are the proposal lines as received: "A bare `F>` is still taken."; "The sum of all bytes of the block's proposal
 -- lines as received, their CR included, .. plus HH must be 0 modulo 256." (02, Q-5)
@@ -143,9 +141,9 @@ pub data Event (E : Shelf) (q : Bytes) (s : Session) (b : ℕ) : Session → Typ
       → Event E q s b (between (newTurn false) true (transfersSaid (E .table) (withSign accept is ss)) after)
   -- a byte of a transfer
   transferGrows : (p : Proposal) (reading onward : Scan) → (t : TransferByte s b p reading)
-      → scan (room E (s .memory .inbox)) (p .form) (q ++ (b ∷ [])) ≡ goes onward
+      → scan (room E (s .memory .inbox)) (kindDue (s .memory) p) (q ++ (b ∷ [])) ≡ goes onward
       → Event E q s b (withPhase (awaitsTransfer p (t .others) onward) (withAfterCr false s))
   -- its last byte: "A message is kept at its last byte."; an LF after it is dropped if it is plain
   transferWhole : (p : Proposal) (reading : Scan) → (t : TransferByte s b p reading) → (heading body : Bytes)
-      → parse (p .form) (q ++ (b ∷ [])) ≡ some (record { heading = heading; body = body; right = true }) → Fits E (s .memory .inbox) body
-      → Event E q s b (transfersOr E (endsWithCr (p .form)) [] (t .others) (withMessage (s .memory) (messageFrom p heading body)))
+      → parse (kindDue (s .memory) p) (q ++ (b ∷ [])) ≡ some (record { heading = heading; body = body; right = true }) → Fits E (s .memory .inbox) body
+      → Event E q s b (transfersOr E (endsWithCr (kindDue (s .memory) p)) [] (t .others) (withMessage (s .memory) (messageFrom p heading body)))

@@ -11,7 +11,7 @@ use Rattle.grammar.specs.Fields.{Form, plain, message, file}
 use Rattle.grammar.specs.Lines.{trim, isComment}
 use Rattle.grammar.specs.Turns.{proposes, readTurnLine, proposalLine, withCr}
 use Rattle.grammar.specs.Answers.{Sign, readFs, fsLine, Level}
-use Rattle.grammar.specs.Transfers.{readTransfer}
+use Rattle.grammar.specs.Transfers.{kindOf, readTransfer}
 use Rattle.mail.specs.Mail.{Record, proposalOf, transferOf}
 use Rattle.demand2.specs.Limits.{lineLimit}
 
@@ -40,7 +40,7 @@ pub record ReadsBack (r : Record) : Type 0 where
   pub line : HeardWhole (proposalLine (proposalOf r))
   pub proposal : readTurnLine (modeOf (r .form)) (proposalLine (proposalOf r))
       ≡ proposes (record { form = r .form; type = r .type; from = r .from; at = r .at; to = r .to; bid = r .bid; size = r .size })
-  pub transfer : readTransfer (r .form) (transferOf r)
+  pub transfer : readTransfer (kindOf (r .form)) (transferOf r)
       ≡ some (record { heading = headingBy (r .form) (r .title) (r .name); body = r .body })
 
 -- "FS, one space, one sign a proposal": our answer reads back as these signs, at every level

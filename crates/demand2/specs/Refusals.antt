@@ -27,7 +27,7 @@ use Rattle.grammar.specs.Answers.{readFs}
 use Rattle.grammar.specs.Transfers.{Parsed, parse, byteSum}
 use Rattle.grammar.specs.Scan.{Scan, goes, scan, bodyOf, isBodyByte}
 use Rattle.session.specs.Choices.{Shelf}
-use Rattle.session.specs.Session.{awaitsSid, awaitsTurn, awaitsAnswer, Phase, aLine, awaitsTransfer, leaving, over, Memory, Session, between, step, ended}
+use Rattle.session.specs.Session.{kindDue, awaitsSid, awaitsTurn, awaitsAnswer, Phase, aLine, awaitsTransfer, leaving, over, Memory, Session, between, step, ended}
 use Rattle.session.specs.Calls.{receive}
 use Rattle.demand2.specs.Limits.{lineLimit, blockLimit, letterF, levelInForce}
 use Rattle.demand2.specs.Room.{Full, room}
@@ -161,7 +161,7 @@ pub record WrongBlockSum (s : Session) (b : ℕ) : Type 0 where
 -- q: the bytes of the transfer under way that came so far; its reading has come from them.
 abbrev pub SoFar : Shelf → Phase → Memory → Bytes → Type 0
 SoFar E (aLine a) m q = Unit {0}
-SoFar E (awaitsTransfer p ps sc) m q = scan (room E (m .inbox)) (p .form) q ≡ goes sc
+SoFar E (awaitsTransfer p ps sc) m q = scan (room E (m .inbox)) (kindDue m p) q ≡ goes sc
 SoFar E leaving m q = Unit {0}
 SoFar E over m q = Unit {0}
 
@@ -176,7 +176,7 @@ pub record WrongTransfer (q : Bytes) (s : Session) (b : ℕ) : Type 0 where
   pub proposal : Proposal
   pub reading : Scan
   pub within : TransferByte s b proposal reading
-  pub hopeless : (r : Bytes) → parse (proposal .form) (q ++ b ∷ r) ≡ none
+  pub hopeless : (r : Bytes) → parse (kindDue (s .memory) proposal) (q ++ b ∷ r) ≡ none
 
 -- 9: "checksum wrong": the transfer is whole, but for that
 pub record WrongChecksum (q : Bytes) (s : Session) (b : ℕ) : Type 0 where
@@ -184,7 +184,7 @@ pub record WrongChecksum (q : Bytes) (s : Session) (b : ℕ) : Type 0 where
   pub reading : Scan
   pub within : TransferByte s b proposal reading
   pub transfer : Parsed
-  pub whole : parse (proposal .form) (q ++ (b ∷ [])) ≡ some transfer
+  pub whole : parse (kindDue (s .memory) proposal) (q ++ (b ∷ [])) ≡ some transfer
   pub wrong : transfer .right ≡ false
 
 -- 10: "body byte without room, the 65,536th included"

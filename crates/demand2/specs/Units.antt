@@ -12,7 +12,7 @@ use Rattle.grammar.specs.Turns.{Proposal}
 use Rattle.grammar.specs.Transfers.{parse}
 use Rattle.grammar.specs.Scan.{scanFrom}
 use Rattle.session.specs.Choices.{Shelf}
-use Rattle.session.specs.Session.{Phase, awaitsTransfer, Memory, Session, withPart, between, step}
+use Rattle.session.specs.Session.{kindDue, Phase, awaitsTransfer, Memory, Session, withPart, between, step}
 use Rattle.session.specs.Calls.{Received, receive}
 use Rattle.demand2.specs.Limits.{lineLimit}
 use Rattle.demand2.specs.Room.{Fits}
@@ -42,17 +42,17 @@ pub record LineWhole (E : Shelf) (p : Phase) (m : Memory) : Type 0 where
 
 -- Where the transfer of p is awaited, then those of ps, and none of its bytes has come.
 abbrev pub transferDue : Proposal → List Proposal → Memory → Bool → Session
-transferDue p ps m afterCr = between (awaitsTransfer p ps (scanFrom (p .form))) afterCr [] m
+transferDue p ps m afterCr = between (awaitsTransfer p ps (scanFrom (kindDue m p))) afterCr [] m
 
 -- The message is kept, n bytes were consumed, and the next transfer or our turn follows.
 abbrev pub keptWith : Shelf → Proposal → List Proposal → Memory → ℕ → Bytes → Bytes → Received
 keptWith E p ps m n heading body =
-    record { answer = 0; count = n; session = transfersOr E (endsWithCr (p .form)) [] ps (withMessage m (messageFrom p heading body)) }
+    record { answer = 0; count = n; session = transfersOr E (endsWithCr (kindDue m p)) [] ps (withMessage m (messageFrom p heading body)) }
 
 -- "A message is kept at its last byte.": a transfer that is right and fits, also directly after the CR of `F>` or of the transfer before it, and
 -- also if an LF that is dropped comes between
 pub record TransferKept (E : Shelf) (p : Proposal) (ps : List Proposal) (m : Memory) : Type 0 where
-  pub kept : (afterCr : Bool) (u heading body : Bytes) → parse (p .form) u ≡ some (record { heading = heading; body = body; right = true })
+  pub kept : (afterCr : Bool) (u heading body : Bytes) → parse (kindDue m p) u ≡ some (record { heading = heading; body = body; right = true })
       → Fits E (m .inbox) body → receive E (transferDue p ps m afterCr) u ≡ keptWith E p ps m (length u) heading body
-  pub afterLf : (u heading body : Bytes) → parse (p .form) u ≡ some (record { heading = heading; body = body; right = true })
+  pub afterLf : (u heading body : Bytes) → parse (kindDue m p) u ≡ some (record { heading = heading; body = body; right = true })
       → Fits E (m .inbox) body → receive E (transferDue p ps m true) (LF ∷ u) ≡ keptWith E p ps m (suc (length u)) heading body

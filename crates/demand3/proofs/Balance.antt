@@ -14,7 +14,7 @@ use Rattle.grammar.proofs.Basics.{no-both}
 use Rattle.grammar.proofs.Signs.{fs-only}
 use Rattle.mail.specs.Mail.{recordLimit, accepted, messageOf}
 use Rattle.session.specs.Choices.{Shelf}
-use Rattle.session.specs.Session.{Awaited, awaitsSid, awaitsPrompt, awaitsTurn, awaitsAnswer, Phase, aLine, newTurn, awaitsTransfer, leaving, over, Memory, Session, withSid, Outcome, refuses, goesOn, turnMarks, answerMarks, afterSid, Stepped, settled, keptIn, nextTransfer, isPlain, step, opened, levelInForce}
+use Rattle.session.specs.Session.{kindDue, Awaited, awaitsSid, awaitsPrompt, awaitsTurn, awaitsAnswer, Phase, aLine, newTurn, awaitsTransfer, leaving, over, Memory, Session, withSid, Outcome, refuses, goesOn, turnMarks, answerMarks, afterSid, Stepped, settled, keptIn, nextTransfer, isPlain, step, opened, levelInForce}
 use Rattle.session.proofs.Ways.{Passes, toEnd, toTurn, toAnswer, toTransfer, our-turn, our-answer, next-transfer, Wrong, noSid, noF, noTurnLine, ffAfterFf, ffInBlock, fqFirst, fqInBlock, emptyBlock, emptySummed, tooMany, wrongHex, noAnswer, Judged, isWrong, hearsSid, hearsText, hearsPrompt, hearsProposal, hearsFF, hearsFQ, hearsEnd, hearsFs, why-number, Way, isRefused, dropsLf, growsLine, ignoresLine, hearsLine, readsOn, readsLast, way}
 use Rattle.session.specs.Calls.{give}
 use Rattle.log.specs.Log.{dueOn, owes, unsent}
@@ -220,7 +220,7 @@ module _ (E : Shelf) where
       go o (readsLast p ps sc h x w y) e =
           let n = settled-before (awaitsTransfer p ps sc) (s .memory) (at (awaitsTransfer p ps sc) (w .awaited)) refl (at (awaitsTransfer p ps sc) (w .awaited) .held) in
           let k = keptIn (s .memory) (messageOf p (record { heading = h; body = x })) in
-          settled-balances s (isPlain (p .form)) (nextTransfer E ps k) e
+          settled-balances s (isPlain (kindDue (s .memory) p)) (nextTransfer E ps k) e
           (passes k (nextTransfer E ps k) (record { sum = n .sum; places = n .places; none = n .none }) (next-transfer E ps k))
 
   -- A GIVE, and OPEN

@@ -15,7 +15,7 @@ use Rattle.grammar.specs.Scan.{goes}
 use Rattle.grammar.proofs.Refusal.{Reach}
 use Rattle.mail.specs.Mail.{Record}
 use Rattle.session.specs.Choices.{Shelf}
-use Rattle.session.specs.Session.{Awaited, awaitsSid, awaitsPrompt, awaitsTurn, awaitsAnswer, Phase, aLine, awaitsTransfer, leaving, Memory, Session, Stepped, roomFor}
+use Rattle.session.specs.Session.{kindDue, Awaited, awaitsSid, awaitsPrompt, awaitsTurn, awaitsAnswer, Phase, aLine, awaitsTransfer, leaving, Memory, Session, Stepped, roomFor}
 use Rattle.session.specs.Calls.{give, handedOut}
 use Rattle.log.specs.Log.{gave, Theirs, theirText, theirSid, theirTurn, theirAnswer, Next, theySay, theirTransfer, Course, courseWith, Book, isOurs}
 use Rattle.log.specs.Effects.{Account}
@@ -69,7 +69,7 @@ Few (awaitsAnswer is) = Unit {0}
 -- what the session holds of the partner's unit so far, u
 abbrev pub Pending : Shelf → Memory → Phase → Bytes → Bytes → Type 0
 Pending E m (aLine a) part u = Line part u × Few a
-Pending E m (awaitsTransfer p ps sc) part u = Reach (roomFor E m) (p .form) (goes sc) u
+Pending E m (awaitsTransfer p ps sc) part u = Reach (roomFor E m) (kindDue m p) (goes sc) u
 Pending E m leaving part u = Unit {0}
 Pending E m Phase.over part u = Unit {0}
 

@@ -12,20 +12,19 @@ use Rattle.grammar.specs.Bytes.{Bytes, CR, LF, isSome}
 use Rattle.grammar.specs.Refusals.{lineTooLong, noForwarding, lineNotAllowed, proposalCount, badAnswer, badTransfer, badChecksum, storeFull, bytesWait, wrongBlockSum}
 use Rattle.grammar.specs.Ascii.{text}
 use Rattle.grammar.specs.Fields
-use Rattle.grammar.specs.Fields.{Form, plain, message, file}
 use Rattle.grammar.specs.Lines.{ends, grows, overruns, trim, isComment, isPrompt, lineLimit}
 use Rattle.grammar.specs.Sid.{readSid, hasFeature, framed, letterF}
 use Rattle.grammar.specs.Turns.{Proposal, TurnLine, saysFF, saysFQ, endsBlock, notAllowed, proposes, endsSummed, readTurnLine, fixedText, ourSid, ourFF, ourFQ, withCr, blockLimit}
 use Rattle.grammar.specs.Answers.{Sign, readFs, fsNumber, fsLine, Level}
-use Rattle.grammar.specs.Transfers.{readTransfer, sumRight}
+use Rattle.grammar.specs.Transfers.{TransferKind, plainKind, framedKind, readTransfer, sumRight}
 use Rattle.grammar.specs.Scan.{Scan, Scanned, goes, got, malformed, wrongSum, noRoom, scanByte, scanFrom}
 use Rattle.grammar.proofs.Basics.{no-both}
 use Rattle.grammar.proofs.Refusal.{Reach, reach-step, from, contentOf, read-as}
 use Rattle.mail.specs.Mail.{Record, messageOf, turnText, transfersText, accepted}
 use Rattle.session.specs.Choices.{Shelf, answersTo}
-use Rattle.session.specs.Session.{Awaited, awaitsSid, awaitsPrompt, awaitsTurn, awaitsAnswer, Phase, aLine, newTurn, awaitsTransfer, leaving, Memory, Session, withCounts, withSid, withPart, withAfterCr, between, Outcome, refuses, goesOn, proposing, speaking, ourTurn as speakNow, turnMarks, answering, answered, turnJudged, answerMarks, answerJudged, afterSid, sidJudged, textJudged, awaitedJudged, lineJudged, refused, settled, lineMoved, keptIn, nextTransfer, transferMoved, roomFor, lineStep, phaseStep, freeStep, step, ended, endedIn}
+use Rattle.session.specs.Session.{kindDue, Awaited, awaitsSid, awaitsPrompt, awaitsTurn, awaitsAnswer, Phase, aLine, newTurn, awaitsTransfer, leaving, Memory, Session, withCounts, withSid, withPart, withAfterCr, between, Outcome, refuses, goesOn, proposing, speaking, ourTurn as speakNow, turnMarks, answering, answered, turnJudged, answerMarks, answerJudged, afterSid, sidJudged, textJudged, awaitedJudged, lineJudged, refused, settled, lineMoved, keptIn, nextTransfer, transferMoved, roomFor, lineStep, phaseStep, freeStep, step, ended, endedIn}
 use Rattle.session.specs.Session
-use Rattle.log.specs.Log.{ourNewTurn, weOpen, courseWith, logWith, afterTheirs, took, ourSidLine, ourAnswer, theirText, Next, weSay, theySay, theirTransfer, Course, Book, Log, isOurs, saidOn, inOrder, said, theirsOwed, placesOf, ourProposed, Effect, effect, summedEnd, checked, rawWith, theirSaid, theirTurnLine, theirAnswered, theirSidRead, theirRead, theirLine, judgedLine}
+use Rattle.log.specs.Log.{kindOwed, ourNewTurn, weOpen, courseWith, logWith, afterTheirs, took, ourSidLine, ourAnswer, theirText, Next, weSay, theySay, theirTransfer, Course, Book, Log, isOurs, saidOn, inOrder, said, theirsOwed, placesOf, ourProposed, Effect, effect, summedEnd, checked, rawWith, theirSaid, theirTurnLine, theirAnswered, theirSidRead, theirRead, theirLine, judgedLine}
 use Rattle.log.specs.Log
 use Rattle.log.specs.Fed.{Fed, unitByte, outOfOrder, fedByte}
 use Rattle.log.proofs.Levels.{level-alike}
@@ -92,7 +91,7 @@ answer E S ps m s k l = go (accepted ss ps) (rw (accepted-alike ss ps) (fs-spoke
     go : (qs : List Proposal) → spoken (E .table) (bookOf m) (some (c, [])) (withCr (fsLine ss)) ≡ at (theirsOwed qs) (accountOf m)
         → After E (settled s true (answering E ss qs m)) (after true m c)
     go [] e = our-turn E S (withCr (fsLine ss)) false m s true c e
-    go (q ∷ qs) e = says E s true (awaitsTransfer q qs (scanFrom (q .form))) m (withCr (fsLine ss)) c e (from (roomFor E m) (q .form))
+    go (q ∷ qs) e = says E s true (awaitsTransfer q qs (scanFrom (kindDue m q))) m (withCr (fsLine ss)) c e (from (roomFor E m) (kindDue m q))
 
 -- ---------------------------------------------------------------- the partner's lines and transfers
 
@@ -122,11 +121,17 @@ effected e = record { log = afterTheirs true e; raw = [] }
 abbrev tookFree : List Record → Fed → ℕ → Fed
 tookFree T f b = cond (isOurs (f .log .course .next)) (outOfOrder f) (unitByte T (f .log) (f .raw) b false)
 
--- both have the same word for it
-plain-alike : (f : Form) → Session.isPlain f ≡ Log.isPlain f
-plain-alike plain = refl
-plain-alike message = refl
-plain-alike file = refl
+-- both read a transfer the same way
+kind-alike : (m : Memory) (p : Proposal) → kindDue m p ≡ kindOwed (bookOf m) p
+kind-alike m p = refl
+
+-- and have the same word for where an LF after it is dropped
+plain-alike : (m : Memory) (p : Proposal) → Session.isPlain (kindDue m p) ≡ Log.isPlain (kindOwed (bookOf m) p)
+plain-alike m p = go (kindDue m p) ∙ ap Log.isPlain (kind-alike m p)
+  where
+    go : (kind : TransferKind) → Session.isPlain kind ≡ Log.isPlain kind
+    go plainKind = refl
+    go framedKind = refl
 
 module _ (E : Shelf) (S : Sound E) (part : Bytes) (a : Bool) (m : Memory) where
   -- a whole line's outcome for the session, and its effect on the log
@@ -287,19 +292,21 @@ module _ (E : Shelf) (S : Sound E) (part : Bytes) (a : Bool) (m : Memory) where
       our-turn E S [] false k (idle p part a m) c (courseWith (ourNewTurn false) (accountOf k))
       (spoken-nil (E .table) (bookOf k) (at (ourNewTurn false) (accountOf k)))
   next-transfer p c (q ∷ qs) k =
-      says E (idle p part a m) c (awaitsTransfer q qs (scanFrom (q .form))) k [] (courseWith (theirTransfer q qs) (accountOf k))
+      says E (idle p part a m) c (awaitsTransfer q qs (scanFrom (kindDue k q))) k [] (courseWith (theirTransfer q qs) (accountOf k))
       (spoken-nil (E .table) (bookOf k) (at (theirTransfer q qs) (accountOf k)))
-      (from (roomFor E k) (q .form))
+      (from (roomFor E k) (kindDue k q))
 
-  transfer-byte : (p : Proposal) (ps : List Proposal) (sc : Scan) (u : Bytes) (b : ℕ) → Reach (roomFor E m) (p .form) (goes sc) u
+  transfer-byte : (p : Proposal) (ps : List Proposal) (sc : Scan) (u : Bytes) (b : ℕ) → Reach (roomFor E m) (kindDue m p) (goes sc) u
       → After E (transferMoved E p ps (idle (awaitsTransfer p ps sc) part a m) (scanByte (roomFor E m) sc b)) (tookFree (E .table) (twin (awaitsTransfer p ps sc) a m u) b)
   transfer-byte p ps sc u b h =
-      go (scanByte (roomFor E m) sc b) (read-as (roomFor E m) (p .form) u sc (omega arith) h b) (reach-step (roomFor E m) (p .form) (goes sc) u b h)
+      go (scanByte (roomFor E m) sc b)
+      (subst (λ (kind : TransferKind). readTransfer kind (u ++ (b ∷ [])) ≡ contentOf (scanByte (roomFor E m) sc b)) (kind-alike m p) (read-as (roomFor E m) (kindDue m p) u sc (omega arith) h b))
+      (reach-step (roomFor E m) (kindDue m p) (goes sc) u b h)
     where
       here : Phase
       here = awaitsTransfer p ps sc
 
-      go : (r : Scanned) → readTransfer (p .form) (u ++ (b ∷ [])) ≡ contentOf r → Reach (roomFor E m) (p .form) r (u ++ (b ∷ []))
+      go : (r : Scanned) → readTransfer (kindOwed (bookOf m) p) (u ++ (b ∷ [])) ≡ contentOf r → Reach (roomFor E m) (kindDue m p) r (u ++ (b ∷ []))
           → After E (transferMoved E p ps (idle here part a m) r) (tookFree (E .table) (twin (awaitsTransfer p ps sc) a m u) b)
       go (goes sc′) e k =
           rw e
@@ -313,9 +320,9 @@ module _ (E : Shelf) (S : Sound E) (part : Bytes) (a : Bool) (m : Memory) where
           }))
       go (got t x) e k =
           rw e
-          (rw (plain-alike (p .form))
+          (rw (plain-alike m p)
           (rw (← message-alike p (record { heading = t; body = x }))
-          (next-transfer (awaitsTransfer p ps sc) (Log.isPlain (p .form)) ps (keptIn m (messageOf p (record { heading = t; body = x }))))))
+          (next-transfer (awaitsTransfer p ps sc) (Log.isPlain (kindOwed (bookOf m) p)) ps (keptIn m (messageOf p (record { heading = t; body = x }))))))
       go malformed e k = rw e (refusal E (idle here part a m) badTransfer (twin here false m (u ++ (b ∷ []))) refl refl refl)
       go wrongSum e k = rw e (refusal E (idle here part a m) badChecksum (twin here false m (u ++ (b ∷ []))) refl refl refl)
       go noRoom e k = rw e (refusal E (idle here part a m) storeFull (twin here false m (u ++ (b ∷ []))) refl refl refl)

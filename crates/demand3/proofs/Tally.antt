@@ -13,7 +13,7 @@ use Rattle.grammar.specs.Refusals.{sessionEnded}
 use Rattle.grammar.proofs.Basics.{no-both, and2, or2}
 use Rattle.mail.specs.Mail.{recordLimit, messageOf}
 use Rattle.session.specs.Choices.{Shelf}
-use Rattle.session.specs.Session.{Phase, Memory, Session, Outcome, refuses, goesOn, Stepped, settled, keptIn, nextTransfer, isPlain, step, ended, endedIn, opened}
+use Rattle.session.specs.Session.{kindDue, Phase, Memory, Session, Outcome, refuses, goesOn, Stepped, settled, keptIn, nextTransfer, isPlain, step, ended, endedIn, opened}
 use Rattle.session.specs.Session
 use Rattle.session.proofs.Ways.{Way, isRefused, dropsLf, growsLine, ignoresLine, hearsLine, readsOn, readsLast, way}
 use Rattle.session.specs.Calls.{Received, oneMore, stoppedAt, stops, receiveOn, receive, lastByte, give, handedOut}
@@ -46,7 +46,7 @@ refusal-keeps E s b = go (step E s b) (way E s b)
     go o (ignoresLine a w x y t n) e = absurd (no-both false e refl)
     go o (hearsLine a w x y z j) e = settled-keeps true z e
     go o (readsOn p ps sc on w x) e = refl
-    go o (readsLast p ps sc h x w y) e = settled-keeps (isPlain (p .form)) (nextTransfer E ps (keptIn (s .memory) (messageOf p (record { heading = h; body = x })))) e
+    go o (readsLast p ps sc h x w y) e = settled-keeps (isPlain (kindDue (s .memory) p)) (nextTransfer E ps (keptIn (s .memory) (messageOf p (record { heading = h; body = x })))) e
 
 -- and so do all calls after it
 over-stays : (E : Shelf) (cs : List Call) (s : Session) → s .phase ≡ Phase.over → (run E s cs) .0 .memory ≡ s .memory

@@ -21,8 +21,7 @@ use Rattle.waiting.specs.Waiting.{proposalAt, firstText, blockText, sendingText
 use Rattle.pending.specs.Pending.{waits}
 use Rattle.form_closed.specs.Facts.{FiveOk}
 use Rattle.form_closed.proofs.Laws.{held-length}
-use Rattle.grammar.specs.Fields.{Form, plain, message, file}
-use Rattle.grammar.specs.Transfers.{writeTransfer}
+use Rattle.grammar.specs.Transfers.{TransferKind, plainKind, framedKind, kindOf, writeTransfer}
 use Rattle.session_memory.specs.declared.Say.{Say}
 use Rattle.places.specs.Places.{recordLen}
 
@@ -40,11 +39,10 @@ pub some-turn : (ps : List Proposal) → 0 < length (turnText ps)
 unfolding turnText
 some-turn ps = simp length-append (omega arith)
 
-pub some-transfer : (f : Form) (h x : Bytes) → 0 < length (writeTransfer f h x)
+pub some-transfer : (kind : TransferKind) (h x : Bytes) → 0 < length (writeTransfer kind h x)
 unfolding writeTransfer
-some-transfer plain h x = simp length-append (omega arith)
-some-transfer message h x = omega arith
-some-transfer file h x = omega arith
+some-transfer plainKind h x = simp length-append (omega arith)
+some-transfer framedKind h x = omega arith
 
 first-some : (s : Session) → eqb (s .say .first) pieceNone ≡ false → 0 < length (firstText s)
 unfolding firstText fsText
@@ -62,7 +60,7 @@ unfolding sendingText
 sending-some table ti na bo [] h = absurd (omega arith)
 sending-some table ti na bo (i ∷ is) h =
     let r : Record = recordOf ti na bo (entryAt recordLen table i) in
-    simp length-append (omega (arith, some-transfer (r .form) (mail.headingFor (r .form) r) (r .body)))
+    simp length-append (omega (arith, some-transfer (kindOf (r .form)) (mail.headingFor (r .form) r) (r .body)))
 
 then-some : (s : Session) (table ti na bo : Bytes) → eqb (s .say .then) pieceNone ≡ false → (pieceBlock < s .say .then → 0 < length (held (s .keep .sending)))
     → 0 < length (thenText s table ti na bo)

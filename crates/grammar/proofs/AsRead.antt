@@ -15,7 +15,7 @@ use Rattle.grammar.specs.Fields.{Form, after, bodyFair, digit, file, hex
 use Rattle.grammar.specs.Sid.{authorByte, authorRead, dataByte, dataRead, hasFeature, isLetter, letterPlace, noFeatures, readFeatures, readLevels, readSid, sidEnd, sidRead, splitLast, withFeature, dollarPlace, featurePlaces, levelValues}
 use Rattle.grammar.specs.Turns.{Proposal, fieldsRead, formSaid, inMode, isType, readProposal, sevenRead, typeOf, TurnLine, saysFF, saysFQ, endsBlock, notAllowed, proposes, endsSummed, orNotAllowed, readSummedEnd, readTurnLine, summedOr, twoHexRead}
 use Rattle.grammar.specs.Answers.{offsetDigits}
-use Rattle.grammar.specs.Transfers.{Parsed, blocks, blocksRead, bodyRead, headRead, isHeader, lenRead, offRead, parse, readFramed, spacesCR, titleRead, zeroDigit}
+use Rattle.grammar.specs.Transfers.{kindOf, Parsed, blocks, blocksRead, bodyRead, headRead, isHeader, lenRead, offRead, parse, readFramed, spacesCR, titleRead, zeroDigit}
 use Rattle.grammar.proofs.Basics.{and2, field-is}
 
 -- ---------------------------------------------------------------- a proposal as read
@@ -309,17 +309,13 @@ framed-if (a ∷ r) = go (eqb a SOH) r
     go true (len ∷ r) = head-if len (splitAt NUL r)
     go false r = tt
 
-fair-message : (o : Option Parsed) → HeadIf o → FairIf message o
-fair-message none h = tt
-fair-message (some p) h = record { heading = h; body = refl }
-
-fair-file : (o : Option Parsed) → HeadIf o → FairIf file o
-fair-file none h = tt
-fair-file (some p) h = record { heading = h; body = refl }
+fair-packed : (f : Form) (o : Option Parsed) → ((x : Bytes) → bodyFair f x ≡ true) → HeadIf o → FairIf f o
+fair-packed f none e h = tt
+fair-packed f (some p) e h = record { heading = h; body = e (p .body) }
 
 -- every transfer that is read has a heading and a body that its form allows
-pub parse-fair : (f : Form) (q : Bytes) → FairIf f (parse f q)
+pub parse-fair : (f : Form) (q : Bytes) → FairIf f (parse (kindOf f) q)
 unfolding parse
 parse-fair plain q = title-if (splitAt CR q)
-parse-fair message q = fair-message (readFramed q) (framed-if q)
-parse-fair file q = fair-file (readFramed q) (framed-if q)
+parse-fair message q = fair-packed message (readFramed q) (λ x. refl) (framed-if q)
+parse-fair file q = fair-packed file (readFramed q) (λ x. refl) (framed-if q)

@@ -12,7 +12,7 @@ use Rattle.grammar.specs.Bytes.{Bytes, SP, byteValues, NUL, STX, EOT}
 use Rattle.grammar.specs.Ascii.{char}
 use Rattle.grammar.specs.Fields.{Form, bidByte, callByte, decimal, digit, file, headingByte, isBody, isHeading, message, plain, readFrom, writeNum, callMax, atMax, bidMax, headingMax, decimalDigits}
 use Rattle.grammar.specs.Turns.{Proposal, formLetter, proposable, proposalLine, sp}
-use Rattle.grammar.specs.Transfers.{blocksOut, checksum, sendable, byteSum, writeFramed, writeTransfer, dataMax, besideLeast}
+use Rattle.grammar.specs.Transfers.{TransferKind, plainKind, framedKind, kindOf, blocksOut, checksum, sendable, byteSum, writeFramed, writeTransfer, dataMax, besideLeast}
 use Rattle.grammar.specs.AsWritten.{betweenSpaces, noLeadingZero, lettersFor, ProposalWritten, InBlocks, joined, blockNumber, blocksText, FramedWritten, TransferWritten, wholeBlock}
 use Rattle.grammar.proofs.Basics.{and2, Lacks, all-lacks, field-is}
 use Rattle.grammar.proofs.Fields.{num-field, num-back, size-ok, atByte, at-field, Word, field-word, type-word, letters-word, Ours, ours, call-field, bid-field}
@@ -159,9 +159,11 @@ framed-written h x k =
       byte = omega arith;
     }
 
--- "We write offset `0`, blocks of 256 and a shorter last one; an empty body has no block."
-pub transfer-written : (f : Form) (h x : Bytes) → sendable f h x ≡ true → TransferWritten f h x (writeTransfer f h x)
+kind-written : (kind : TransferKind) (h x : Bytes) → isHeading h ≡ true → TransferWritten kind h x (writeTransfer kind h x)
 unfolding writeTransfer
-transfer-written plain h x e = refl
-transfer-written message h x e = framed-written h x ((and2 (isHeading h) (isBody message x) e) .0)
-transfer-written file h x e = framed-written h x ((and2 (isHeading h) (isBody file x) e) .0)
+kind-written plainKind h x e = refl
+kind-written framedKind h x e = framed-written h x e
+
+-- "We write offset `0`, blocks of 256 and a shorter last one; an empty body has no block."
+pub transfer-written : (f : Form) (h x : Bytes) → sendable f h x ≡ true → TransferWritten (kindOf f) h x (writeTransfer (kindOf f) h x)
+transfer-written f h x e = kind-written (kindOf f) h x ((and2 (isHeading h) (isBody f x) e) .0)

@@ -11,8 +11,8 @@ use lib.ListN.{length}
 use borrow.Author.Tests.{le-leb}
 use Rattle.grammar.specs.Bytes.{Bytes, CR, CTRLZ, SP, every, splitAt, STX, EOT}
 use Rattle.grammar.specs.Ascii.{char}
-use Rattle.grammar.specs.Fields.{Form, file, headingByte, message, plain, headingMax, bodyLimit}
-use Rattle.grammar.specs.Transfers.{Content, Parsed, parse, readTransfer, sumRight, valid, besideLeast}
+use Rattle.grammar.specs.Fields.{headingByte, headingMax, bodyLimit}
+use Rattle.grammar.specs.Transfers.{TransferKind, plainKind, framedKind, Content, Parsed, parse, readTransfer, sumRight, valid, besideLeast}
 use Rattle.grammar.specs.Scan.{Scan, Scanned, atLen, atSize, atStart, atSum, bodyOf, goes, got, inBody, inData, inHead, inMark, inOff, inTitle, malformed, noRoom, onward, scan, scanByte, scanFrom, scanOn, wrongSum, isBodyByte, besideMost, lenLeast, lenMost}
 use Rattle.grammar.proofs.Basics.{snoc-cons, octet}
 use Rattle.grammar.proofs.Rest.{rest, Ok, Right, RightAt, Wrong, Longer, StepOk, rest-nil, onto-nil}
@@ -25,72 +25,71 @@ use Rattle.grammar.proofs.Exact.{step}
 -- goes on: not whole, and bytes exist that make it a transfer right in form and checksum, with no more body than must come
 -- got: it is whole, right, and fits; 8: whatever follows, it is no transfer; 9: it is whole, but for its checksum; both: nothing longer is one
 -- 10: what begins so is longer than the room, and bytes exist that make it right but for that
-abbrev pub Verdict : ℕ → Form → Scanned → Bytes → Type 0
-Verdict room f (goes sc) q = (parse f q ≡ none) × ((r : Bytes) × (every octet r ≡ true) × RightAt (length (bodyOf sc) + pending sc) (parse f (q ++ r)))
-Verdict room f (got h x) q =
-    (parse f q ≡ some (record { heading = h; body = x; right = true })) × (length x ≤ room) × ((c : ℕ) (r : Bytes) → parse f (q ++ c ∷ r) ≡ none)
-Verdict room f malformed q = (r : Bytes) → parse f (q ++ r) ≡ none
-Verdict room f wrongSum q = Wrong (parse f q) × ((c : ℕ) (r : Bytes) → parse f (q ++ c ∷ r) ≡ none)
-Verdict room f noRoom q = ((r : Bytes) → Longer room (parse f (q ++ r))) × ((r : Bytes) × (every octet r ≡ true) × Right (parse f (q ++ r))) × (parse f q ≡ none)
+abbrev pub Verdict : ℕ → TransferKind → Scanned → Bytes → Type 0
+Verdict room kind (goes sc) q = (parse kind q ≡ none) × ((r : Bytes) × (every octet r ≡ true) × RightAt (length (bodyOf sc) + pending sc) (parse kind (q ++ r)))
+Verdict room kind (got h x) q =
+    (parse kind q ≡ some (record { heading = h; body = x; right = true })) × (length x ≤ room) × ((c : ℕ) (r : Bytes) → parse kind (q ++ c ∷ r) ≡ none)
+Verdict room kind malformed q = (r : Bytes) → parse kind (q ++ r) ≡ none
+Verdict room kind wrongSum q = Wrong (parse kind q) × ((c : ℕ) (r : Bytes) → parse kind (q ++ c ∷ r) ≡ none)
+Verdict room kind noRoom q = ((r : Bytes) → Longer room (parse kind (q ++ r))) × ((r : Bytes) × (every octet r ≡ true) × Right (parse kind (q ++ r))) × (parse kind q ≡ none)
 
 -- ---------------------------------------------------------------- the way there
 
--- the bytes q of a transfer of this form brought the scan here
-abbrev pub Held : Form → Scan → Bytes → Type 0
-Held f sc q = (r : Bytes) → parse f (q ++ r) ≡ rest sc r
+-- the bytes q of a transfer of this kind brought the scan here
+abbrev pub Held : TransferKind → Scan → Bytes → Type 0
+Held kind sc q = (r : Bytes) → parse kind (q ++ r) ≡ rest sc r
 
-abbrev pub Reach : ℕ → Form → Scanned → Bytes → Type 0
-Reach room f (goes sc) q = Held f sc q × Ok sc × (length (bodyOf sc) ≤ room)
-Reach room f (got h x) q = Unit {0}
-Reach room f malformed q = Unit {0}
-Reach room f wrongSum q = Unit {0}
-Reach room f noRoom q = Unit {0}
+abbrev pub Reach : ℕ → TransferKind → Scanned → Bytes → Type 0
+Reach room kind (goes sc) q = Held kind sc q × Ok sc × (length (bodyOf sc) ≤ room)
+Reach room kind (got h x) q = Unit {0}
+Reach room kind malformed q = Unit {0}
+Reach room kind wrongSum q = Unit {0}
+Reach room kind noRoom q = Unit {0}
 
-held-snoc : (f : Form) (sc : Scan) (q : Bytes) (b : ℕ) (r : Bytes) → Held f sc q → parse f ((q ++ (b ∷ [])) ++ r) ≡ rest sc (b ∷ r)
-held-snoc f sc q b r h = ap (parse f) (snoc-cons q r b) ∙ h (b ∷ r)
+held-snoc : (kind : TransferKind) (sc : Scan) (q : Bytes) (b : ℕ) (r : Bytes) → Held kind sc q → parse kind ((q ++ (b ∷ [])) ++ r) ≡ rest sc (b ∷ r)
+held-snoc kind sc q b r h = ap (parse kind) (snoc-cons q r b) ∙ h (b ∷ r)
 
-pub reach-step : (room : ℕ) (f : Form) (s : Scanned) (q : Bytes) (b : ℕ) → Reach room f s q → Reach room f (onward room s b) (q ++ (b ∷ []))
-reach-step room f (goes sc) q b h = go (scanByte room sc b) (step room sc b (h .1) (h .2))
+pub reach-step : (room : ℕ) (kind : TransferKind) (s : Scanned) (q : Bytes) (b : ℕ) → Reach room kind s q → Reach room kind (onward room s b) (q ++ (b ∷ []))
+reach-step room kind (goes sc) q b h = go (scanByte room sc b) (step room sc b (h .1) (h .2))
   where
-    go : (s : Scanned) → StepOk room s sc b → Reach room f s (q ++ (b ∷ []))
-    go (goes sc′) k = (λ r. held-snoc f sc q b r (h .0) ∙ k .0 r, k .1, k .2)
+    go : (s : Scanned) → StepOk room s sc b → Reach room kind s (q ++ (b ∷ []))
+    go (goes sc′) k = (λ r. held-snoc kind sc q b r (h .0) ∙ k .0 r, k .1, k .2)
     go (got t x) k = tt
     go malformed k = tt
     go wrongSum k = tt
     go noRoom k = tt
-reach-step room f (got t x) q b h = tt
-reach-step room f malformed q b h = tt
-reach-step room f wrongSum q b h = tt
-reach-step room f noRoom q b h = tt
+reach-step room kind (got t x) q b h = tt
+reach-step room kind malformed q b h = tt
+reach-step room kind wrongSum q b h = tt
+reach-step room kind noRoom q b h = tt
 
-reach-on : (room : ℕ) (f : Form) (bs : Bytes) (s : Scanned) (q : Bytes) → Reach room f s q → Reach room f (scanOn room s bs) (q ++ bs)
-reach-on room f [] s q h = subst (Reach room f s) (sym (append-nil q)) h
-reach-on room f (b ∷ bs) s q h =
-    subst (Reach room f (scanOn room (onward room s b) bs)) (snoc-cons q bs b)
-    (reach-on room f bs (onward room s b) (q ++ (b ∷ [])) (reach-step room f s q b h))
+reach-on : (room : ℕ) (kind : TransferKind) (bs : Bytes) (s : Scanned) (q : Bytes) → Reach room kind s q → Reach room kind (scanOn room s bs) (q ++ bs)
+reach-on room kind [] s q h = subst (Reach room kind s) (sym (append-nil q)) h
+reach-on room kind (b ∷ bs) s q h =
+    subst (Reach room kind (scanOn room (onward room s b) bs)) (snoc-cons q bs b)
+    (reach-on room kind bs (onward room s b) (q ++ (b ∷ [])) (reach-step room kind s q b h))
 
-pub from : (room : ℕ) (f : Form) → Reach room f (goes (scanFrom f)) []
+pub from : (room : ℕ) (kind : TransferKind) → Reach room kind (goes (scanFrom kind)) []
 unfolding parse
-from room plain = (λ r. rw (onto-nil (splitAt CR r)), (refl, omega arith), omega arith)
-from room message = (λ r. refl, tt, omega arith)
-from room file = (λ r. refl, tt, omega arith)
+from room plainKind = (λ r. rw (onto-nil (splitAt CR r)), (refl, omega arith), omega arith)
+from room framedKind = (λ r. refl, tt, omega arith)
 
-pub reach : (room : ℕ) (f : Form) (q : Bytes) (sc : Scan) → scan room f q ≡ goes sc → Held f sc q × Ok sc × (length (bodyOf sc) ≤ room)
-reach room f q sc e = subst (λ (s : Scanned). Reach room f s q) e (reach-on room f q (goes (scanFrom f)) [] (from room f))
+pub reach : (room : ℕ) (kind : TransferKind) (q : Bytes) (sc : Scan) → scan room kind q ≡ goes sc → Held kind sc q × Ok sc × (length (bodyOf sc) ≤ room)
+reach room kind q sc e = subst (λ (s : Scanned). Reach room kind s q) e (reach-on room kind q (goes (scanFrom kind)) [] (from room kind))
 
 -- ---------------------------------------------------------------- THE THEOREM
 
 -- from any bytes that brought the scan here (what a session's invariant holds), one byte more
-pub exact-at : (room : ℕ) (f : Form) (q : Bytes) (sc : Scan) → Reach room f (goes sc) q → (b : ℕ) → Verdict room f (scanByte room sc b) (q ++ (b ∷ []))
-exact-at room f q sc h b = go (scanByte room sc b) (step room sc b (h .1) (h .2))
+pub exact-at : (room : ℕ) (kind : TransferKind) (q : Bytes) (sc : Scan) → Reach room kind (goes sc) q → (b : ℕ) → Verdict room kind (scanByte room sc b) (q ++ (b ∷ []))
+exact-at room kind q sc h b = go (scanByte room sc b) (step room sc b (h .1) (h .2))
   where
-    whole : parse f (q ++ (b ∷ [])) ≡ rest sc (b ∷ [])
+    whole : parse kind (q ++ (b ∷ [])) ≡ rest sc (b ∷ [])
     whole = h .0 (b ∷ [])
 
-    then : (r : Bytes) → parse f ((q ++ (b ∷ [])) ++ r) ≡ rest sc (b ∷ r)
-    then r = held-snoc f sc q b r (h .0)
+    then : (r : Bytes) → parse kind ((q ++ (b ∷ [])) ++ r) ≡ rest sc (b ∷ r)
+    then r = held-snoc kind sc q b r (h .0)
 
-    go : (s : Scanned) → StepOk room s sc b → Verdict room f s (q ++ (b ∷ []))
+    go : (s : Scanned) → StepOk room s sc b → Verdict room kind s (q ++ (b ∷ []))
     go (goes sc′) k = (
       whole ∙ k .0 [] ∙ rest-nil sc′,
       (complete sc′, complete-octets sc′, subst (RightAt (length (bodyOf sc′) + pending sc′)) (sym (then (complete sc′) ∙ k .0 (complete sc′))) (completes sc′ (k .1))),
@@ -100,18 +99,18 @@ exact-at room f q sc h b = go (scanByte room sc b) (step room sc b (h .1) (h .2)
     go wrongSum k = (subst Wrong (sym whole) (k .0), λ c r. then (c ∷ r) ∙ k .1 c r)
     go noRoom k = (λ r. subst (Longer room) (sym (then r)) (k .0 r), (k .1 .0, k .1 .1, subst Right (sym (then (k .1 .0))) (k .1 .2)), whole ∙ k .2)
 
-pub exact : (room : ℕ) (f : Form) (q : Bytes) (sc : Scan) → scan room f q ≡ goes sc → (b : ℕ) → Verdict room f (scanByte room sc b) (q ++ (b ∷ []))
-exact room f q sc e b = exact-at room f q sc (reach room f q sc e) b
+pub exact : (room : ℕ) (kind : TransferKind) (q : Bytes) (sc : Scan) → scan room kind q ≡ goes sc → (b : ℕ) → Verdict room kind (scanByte room sc b) (q ++ (b ∷ []))
+exact room kind q sc e b = exact-at room kind q sc (reach room kind q sc e) b
 
 -- 8, in both directions
-pub exact-8 : (room : ℕ) (f : Form) (q : Bytes) (sc : Scan) → scan room f q ≡ goes sc → (b : ℕ)
-    → (scanByte room sc b ≡ malformed → (r : Bytes) → parse f (q ++ b ∷ r) ≡ none) × (((r : Bytes) → parse f (q ++ b ∷ r) ≡ none) → scanByte room sc b ≡ malformed)
-exact-8 room f q sc e b = (λ w r. sym (ap (parse f) (snoc-cons q r b)) ∙ (subst (λ (s : Scanned). Verdict room f s (q ++ (b ∷ []))) w (exact room f q sc e b)) r, λ n. go n (scanByte room sc b) (exact room f q sc e b))
+pub exact-8 : (room : ℕ) (kind : TransferKind) (q : Bytes) (sc : Scan) → scan room kind q ≡ goes sc → (b : ℕ)
+    → (scanByte room sc b ≡ malformed → (r : Bytes) → parse kind (q ++ b ∷ r) ≡ none) × (((r : Bytes) → parse kind (q ++ b ∷ r) ≡ none) → scanByte room sc b ≡ malformed)
+exact-8 room kind q sc e b = (λ w r. sym (ap (parse kind) (snoc-cons q r b)) ∙ (subst (λ (s : Scanned). Verdict room kind s (q ++ (b ∷ []))) w (exact room kind q sc e b)) r, λ n. go n (scanByte room sc b) (exact room kind q sc e b))
   where
-    at : ((r : Bytes) → parse f (q ++ b ∷ r) ≡ none) → (r : Bytes) → parse f ((q ++ (b ∷ [])) ++ r) ≡ none
-    at n r = ap (parse f) (snoc-cons q r b) ∙ n r
+    at : ((r : Bytes) → parse kind (q ++ b ∷ r) ≡ none) → (r : Bytes) → parse kind ((q ++ (b ∷ [])) ++ r) ≡ none
+    at n r = ap (parse kind) (snoc-cons q r b) ∙ n r
 
-    go : ((r : Bytes) → parse f (q ++ b ∷ r) ≡ none) → (s : Scanned) → Verdict room f s (q ++ (b ∷ [])) → s ≡ malformed
+    go : ((r : Bytes) → parse kind (q ++ b ∷ r) ≡ none) → (s : Scanned) → Verdict room kind s (q ++ (b ∷ [])) → s ≡ malformed
     go n (goes sc′) k = absurd (subst (RightAt (length (bodyOf sc′) + pending sc′)) (at n (k .1 .0)) (k .1 .2))
     go n (got t x) k = let z : _≡_ {A = Option Parsed} none (some (record { heading = t; body = x; right = true })) = sym (n []) ∙ k .0 in cc
     go n malformed k = refl
@@ -130,16 +129,16 @@ wrong-none : (o : Option Parsed) → Wrong o → valid o ≡ none
 wrong-none none w = refl
 wrong-none (some p) w = rw w
 
-pub read-as : (room : ℕ) (f : Form) (q : Bytes) (sc : Scan) → room ≤ bodyLimit → Reach room f (goes sc) q → (b : ℕ)
-    → readTransfer f (q ++ (b ∷ [])) ≡ contentOf (scanByte room sc b)
+pub read-as : (room : ℕ) (kind : TransferKind) (q : Bytes) (sc : Scan) → room ≤ bodyLimit → Reach room kind (goes sc) q → (b : ℕ)
+    → readTransfer kind (q ++ (b ∷ [])) ≡ contentOf (scanByte room sc b)
 unfolding readTransfer
-read-as room f q sc l h b = go (scanByte room sc b) (exact-at room f q sc h b)
+read-as room kind q sc l h b = go (scanByte room sc b) (exact-at room kind q sc h b)
   where
-    go : (s : Scanned) → Verdict room f s (q ++ (b ∷ [])) → valid (parse f (q ++ (b ∷ []))) ≡ contentOf s
+    go : (s : Scanned) → Verdict room kind s (q ++ (b ∷ [])) → valid (parse kind (q ++ (b ∷ []))) ≡ contentOf s
     go (goes sc′) k = rw (k .0)
     go (got t x) k = let m = k .1 in rw (k .0) (rw (le-leb (length x) bodyLimit (omega arith)))
-    go malformed k = rw (ap (parse f) (sym (append-nil (q ++ (b ∷ [])))) ∙ k [])
-    go wrongSum k = wrong-none (parse f (q ++ (b ∷ []))) (k .0)
+    go malformed k = rw (ap (parse kind) (sym (append-nil (q ++ (b ∷ [])))) ∙ k [])
+    go wrongSum k = wrong-none (parse kind (q ++ (b ∷ []))) (k .0)
     go noRoom k = rw (k .2)
 
 -- a valid transfer begins with the bytes at which the scan goes on, but where a block's n already promises more than 65,535 bytes
@@ -153,12 +152,12 @@ right-heeded n (some p) l h =
     let m = h .1 in
     rw (h .0) (rw (le-leb (length (p .body)) bodyLimit (omega arith)) tt)
 
-pub goes-valid : (room : ℕ) (f : Form) (q : Bytes) (sc sc′ : Scan) → scan room f q ≡ goes sc → (b : ℕ) → scanByte room sc b ≡ goes sc′
-    → length (bodyOf sc′) + pending sc′ ≤ bodyLimit → (r : Bytes) × (every octet r ≡ true) × Heeded (readTransfer f ((q ++ (b ∷ [])) ++ r))
+pub goes-valid : (room : ℕ) (kind : TransferKind) (q : Bytes) (sc sc′ : Scan) → scan room kind q ≡ goes sc → (b : ℕ) → scanByte room sc b ≡ goes sc′
+    → length (bodyOf sc′) + pending sc′ ≤ bodyLimit → (r : Bytes) × (every octet r ≡ true) × Heeded (readTransfer kind ((q ++ (b ∷ [])) ++ r))
 unfolding readTransfer
-goes-valid room f q sc sc′ e b w l =
-    let k = subst (λ (s : Scanned). Verdict room f s (q ++ (b ∷ []))) w (exact room f q sc e b) in
-    (k .1 .0, k .1 .1, right-heeded (length (bodyOf sc′) + pending sc′) (parse f ((q ++ (b ∷ [])) ++ k .1 .0)) l (k .1 .2))
+goes-valid room kind q sc sc′ e b w l =
+    let k = subst (λ (s : Scanned). Verdict room kind s (q ++ (b ∷ []))) w (exact room kind q sc e b) in
+    (k .1 .0, k .1 .1, right-heeded (length (bodyOf sc′) + pending sc′) (parse kind ((q ++ (b ∷ [])) ++ k .1 .0)) l (k .1 .2))
 
 -- ---------------------------------------------------------------- byte by byte = whole
 
@@ -200,8 +199,8 @@ run-on room (b ∷ bs) sc h x k l e m = go (scanByte room sc b) (step room sc b 
     go noRoom n ih = let z = subst (Longer room) e (n .0 bs) in let y : ⊥ = omega arith in absurd y
 
 -- every valid transfer that fits is got, byte by byte
-pub whole-got : (room : ℕ) (f : Form) (q h x : Bytes) → parse f q ≡ right h x → length x ≤ room → scan room f q ≡ got h x
-whole-got room f q h x e l = let s = from room f in run-on room q (scanFrom f) h x (s .1) (s .2) (sym (s .0 q) ∙ e) l
+pub whole-got : (room : ℕ) (kind : TransferKind) (q h x : Bytes) → parse kind q ≡ right h x → length x ≤ room → scan room kind q ≡ got h x
+whole-got room kind q h x e l = let s = from room kind in run-on room q (scanFrom kind) h x (s .1) (s .2) (sym (s .0 q) ∙ e) l
 
 -- no whole transfer begins another
 run-ends : (bs : Bytes) (sc : Scan) (p : Parsed) → Ok sc → length (bodyOf sc) ≤ length (p .body) → rest sc bs ≡ some p
@@ -222,10 +221,10 @@ run-ends (b ∷ bs) sc p k l e c r = go (scanByte (length (p .body)) sc b) (step
     go wrongSum n ih = at-end bs (n .1)
     go noRoom n ih = let z = subst (Longer (length (p .body))) e (n .0 bs) in let y : ⊥ = omega arith in absurd y
 
-pub no-longer : (f : Form) (q : Bytes) (p : Parsed) → parse f q ≡ some p → (c : ℕ) (r : Bytes) → parse f (q ++ c ∷ r) ≡ none
-no-longer f q p e c r =
-    let s = from (length (p .body)) f in
-    s .0 (q ++ c ∷ r) ∙ run-ends q (scanFrom f) p (s .1) (s .2) (sym (s .0 q) ∙ e) c r
+pub no-longer : (kind : TransferKind) (q : Bytes) (p : Parsed) → parse kind q ≡ some p → (c : ℕ) (r : Bytes) → parse kind (q ++ c ∷ r) ≡ none
+no-longer kind q p e c r =
+    let s = from (length (p .body)) kind in
+    s .0 (q ++ c ∷ r) ∙ run-ends q (scanFrom kind) p (s .1) (s .2) (sym (s .0 q) ∙ e) c r
 
 -- ---------------------------------------------------------------- 10
 
@@ -269,13 +268,13 @@ exact-10 room (atSize h x) b = refl
 exact-10 room (atSum h x) b = no-ten (sumRight x b) (got h x) wrongSum refl refl
 
 -- 9: exactly where the transfer is whole, but for its checksum
-pub exact-9 : (room : ℕ) (f : Form) (q : Bytes) (sc : Scan) → scan room f q ≡ goes sc → (b : ℕ)
-    → (scanByte room sc b ≡ wrongSum → Wrong (parse f (q ++ (b ∷ [])))) × (Wrong (parse f (q ++ (b ∷ []))) → scanByte room sc b ≡ wrongSum)
-exact-9 room f q sc e b = (λ w. (subst (λ (s : Scanned). Verdict room f s (q ++ (b ∷ []))) w (exact room f q sc e b)) .0, λ n. go n (scanByte room sc b) (exact room f q sc e b))
+pub exact-9 : (room : ℕ) (kind : TransferKind) (q : Bytes) (sc : Scan) → scan room kind q ≡ goes sc → (b : ℕ)
+    → (scanByte room sc b ≡ wrongSum → Wrong (parse kind (q ++ (b ∷ [])))) × (Wrong (parse kind (q ++ (b ∷ []))) → scanByte room sc b ≡ wrongSum)
+exact-9 room kind q sc e b = (λ w. (subst (λ (s : Scanned). Verdict room kind s (q ++ (b ∷ []))) w (exact room kind q sc e b)) .0, λ n. go n (scanByte room sc b) (exact room kind q sc e b))
   where
-    go : Wrong (parse f (q ++ (b ∷ []))) → (s : Scanned) → Verdict room f s (q ++ (b ∷ [])) → s ≡ wrongSum
+    go : Wrong (parse kind (q ++ (b ∷ []))) → (s : Scanned) → Verdict room kind s (q ++ (b ∷ [])) → s ≡ wrongSum
     go n (goes sc′) k = absurd (subst Wrong (k .0) n)
-    go n (got t x) k = absurd (not-wrong t x (parse f (q ++ (b ∷ []))) n (k .0))
-    go n malformed k = absurd (subst Wrong (ap (parse f) (sym (append-nil (q ++ (b ∷ [])))) ∙ k []) n)
+    go n (got t x) k = absurd (not-wrong t x (parse kind (q ++ (b ∷ []))) n (k .0))
+    go n malformed k = absurd (subst Wrong (ap (parse kind) (sym (append-nil (q ++ (b ∷ [])))) ∙ k []) n)
     go n wrongSum k = refl
     go n noRoom k = absurd (subst Wrong (k .2) n)

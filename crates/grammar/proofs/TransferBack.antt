@@ -11,7 +11,7 @@ use borrow.Author.Tests.{eq-eqb, eqb-true, eqb-false}
 use Rattle.grammar.specs.Bytes.{Bytes, CR, CTRLZ, every, byteValues, NUL, STX, EOT}
 use Rattle.grammar.specs.Ascii.{char}
 use Rattle.grammar.specs.Fields.{Form, file, headingByte, isBody, isHeading, message, notCtrlZ, plain, headingMax, bodyLimit}
-use Rattle.grammar.specs.Transfers.{blockSize, blocks, blocksOut, checksum, consData, parse, readFramed, readPlain, readTransfer, sendable, byteSum, sumRight, valid, writeFramed, writePlain, writeTransfer, dataMax, besideLeast}
+use Rattle.grammar.specs.Transfers.{kindOf, blockSize, blocks, blocksOut, checksum, consData, parse, readFramed, readPlain, readTransfer, sendable, byteSum, sumRight, valid, writeFramed, writePlain, writeTransfer, dataMax, besideLeast}
 use Rattle.grammar.proofs.Basics.{and2, Lacks, all-lacks, split-mid, field-is}
 use Rattle.grammar.proofs.Rest.{onto, onto-nil}
 use Rattle.grammar.proofs.Headers.{header-of}
@@ -84,7 +84,7 @@ sent-back h x e =
     rw (framed-back h x (p .0)) (rw (q .0))
 
 -- THE ROUND TRIP: every transfer that we write is read back, in every form
-pub transfer-back : (f : Form) (h x : Bytes) → sendable f h x ≡ true → readTransfer f (writeTransfer f h x) ≡ some (record { heading = h; body = x })
+pub transfer-back : (f : Form) (h x : Bytes) → sendable f h x ≡ true → readTransfer (kindOf f) (writeTransfer (kindOf f) h x) ≡ some (record { heading = h; body = x })
 unfolding readTransfer writeTransfer parse
 transfer-back plain h x e =
     let p = and2 (isHeading h) (leb (length x) bodyLimit && every notCtrlZ x) e in

@@ -10,7 +10,7 @@ use Rattle.grammar.specs.Bytes.{Bytes, CR, SP, CTRLZ, NUL, SOH, STX, EOT
 use Rattle.grammar.specs.Ascii.{text, char}
 use Rattle.grammar.specs.Fields.{Form, plain, message, file, toFirst, isSize, readFrom}
 use Rattle.grammar.specs.Turns.{Proposal}
-use Rattle.grammar.specs.Transfers.{byteSum}
+use Rattle.grammar.specs.Transfers.{TransferKind, plainKind, framedKind, byteSum}
 
 -- ---------------------------------------------------------------- a proposal
 
@@ -80,7 +80,6 @@ pub record FramedWritten (h x w : Bytes) : Type 0 where
   pub byte : checksum < byteValues
 
 -- "Plain: title, CR, body, 0x1A, CR."; no space between the last two
-abbrev pub TransferWritten : Form → Bytes → Bytes → Bytes → Type 0
-TransferWritten plain h x w = w ≡ h ++ CR ∷ (x ++ CTRLZ ∷ CR ∷ [])
-TransferWritten message h x w = FramedWritten h x w
-TransferWritten file h x w = FramedWritten h x w
+abbrev pub TransferWritten : TransferKind → Bytes → Bytes → Bytes → Type 0
+TransferWritten plainKind h x w = w ≡ h ++ CR ∷ (x ++ CTRLZ ∷ CR ∷ [])
+TransferWritten framedKind h x w = FramedWritten h x w

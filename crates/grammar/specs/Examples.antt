@@ -13,7 +13,7 @@ use Rattle.grammar.specs.Lines.{trim, isComment, isPrompt, lineByte, lin
 use Rattle.grammar.specs.Sid.{framed, levelInForce, readSid, sidNumber}
 use Rattle.grammar.specs.Turns.{Proposal, TurnLine, endsBlock, endsSummed, notAllowed, ourBlock, proposes, readTurnLine, saysFF, saysFQ, turnLineNumber}
 use Rattle.grammar.specs.Answers.{Sign, accept, decline, defer, fsNumber, readFs, Level, level0}
-use Rattle.grammar.specs.Transfers.{Content, readTransfer, writeTransfer}
+use Rattle.grammar.specs.Transfers.{kindOf, Content, readTransfer, writeTransfer}
 use Rattle.grammar.specs.Scan.{Scanned, goes, got, inBody, inData, inHead, malformed, noRoom, scan, wrongSum}
 
 pub data Question : Type 0 where
@@ -70,8 +70,8 @@ answer (awaitedAt v n ln) = fsAnswer (fsNumber v n (trim ln)) (readFs v n (trim 
 answer (inForce ln) = levelAnswer (readSid (trim ln))
 answer (lineByteAt afterCr n b) = number (lineByteNumber (lineByte afterCr n b))
 answer (lineFrom afterCr bs) = lineRead (lineSteps afterCr [] bs)
-answer (sent f h x) = bytes (writeTransfer f h x)
-answer (received room f p) = heard (readTransfer f p) (scan room f p)
+answer (sent f h x) = bytes (writeTransfer (kindOf f) h x)
+answer (received room f p) = heard (readTransfer (kindOf f) p) (scan room (kindOf f) p)
 answer (oneBid v w) = isOne (sameBid v w)
 
 pub record Example : Type 0 where

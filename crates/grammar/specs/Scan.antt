@@ -8,8 +8,8 @@ use lib.ListN.{length}
 use Rattle.grammar.specs.Bytes.{Bytes, CR, SP, CTRLZ, NUL, SOH, STX, EOT}
 use Rattle.grammar.specs.Ascii.{char}
 use Rattle.grammar.specs.Refusals.{badTransfer, badChecksum, storeFull}
-use Rattle.grammar.specs.Fields.{Form, plain, message, file, headingByte, headingMax}
-use Rattle.grammar.specs.Transfers.{blockSize, sumRight, besideLeast}
+use Rattle.grammar.specs.Fields.{headingByte, headingMax}
+use Rattle.grammar.specs.Transfers.{TransferKind, plainKind, framedKind, blockSize, sumRight, besideLeast}
 
 -- Where the reading stands, with what it has read of heading and body.
 -- Plain: inTitle title; inBody, inMark (after 0x1A) title body.
@@ -71,10 +71,9 @@ scanByte room (inData h x (suc k)) b = cond (ltb (length x) room) (goes (inData 
 scanByte room (atSize h x) b = goes (inData h x (blockSize b))
 scanByte room (atSum h x) b = cond (sumRight x b) (got h x) wrongSum
 
-abbrev pub scanFrom : Form → Scan
-scanFrom plain = inTitle []
-scanFrom message = atStart
-scanFrom file = atStart
+abbrev pub scanFrom : TransferKind → Scan
+scanFrom plainKind = inTitle []
+scanFrom framedKind = atStart
 
 -- The body so far.
 abbrev pub bodyOf : Scan → Bytes
@@ -116,5 +115,5 @@ abbrev pub scanOn : ℕ → Scanned → Bytes → Scanned
 scanOn room s [] = s
 scanOn room s (b ∷ bs) = scanOn room (onward room s b) bs
 
-abbrev pub scan : ℕ → Form → Bytes → Scanned
-scan room f bs = scanOn room (goes (scanFrom f)) bs
+abbrev pub scan : ℕ → TransferKind → Bytes → Scanned
+scan room kind bs = scanOn room (goes (scanFrom kind)) bs

@@ -10,6 +10,16 @@ use Rattle.grammar.specs.Ascii.{char}
 use Rattle.grammar.specs.Fields.{Form, plain, message, file, formNumber, isHeading, sized, isBody, bodyLimit}
 use Rattle.grammar.specs.Answers.{offsetDigits}
 
+-- How the bytes of a transfer are read and written: "Plain: title, CR, ..", "Framed: 01, L, ..".
+pub data TransferKind : Type 0 where
+  plainKind framedKind : TransferKind
+
+-- "a form (0 plain text, 1 packed message, 2 packed file)": what is packed goes framed
+abbrev pub kindOf : Form → TransferKind
+kindOf plain = plainKind
+kindOf message = framedKind
+kindOf file = framedKind
+
 -- A transfer right in form: its heading, its body, and whether its checksum is right.
 pub record Parsed : Type 0 where
   pub heading : Bytes
@@ -92,13 +102,12 @@ abbrev pub readFramed : Bytes → Option Parsed
 readFramed [] = none
 readFramed (a ∷ r) = cond (eqb a SOH) (lenRead r) none
 
--- ---------------------------------------------------------------- either form
+-- ---------------------------------------------------------------- either kind
 
 -- A transfer right in form, "a wrong checksum (9) or lack of room (10) apart".
-unfoldable pub parse : Form → Bytes → Option Parsed
-parse plain p = readPlain p
-parse message p = readFramed p
-parse file p = readFramed p
+unfoldable pub parse : TransferKind → Bytes → Option Parsed
+parse plainKind p = readPlain p
+parse framedKind p = readFramed p
 
 -- What a valid transfer brings.
 pub record Content : Type 0 where
@@ -110,8 +119,8 @@ abbrev pub valid : Option Parsed → Option Content
 valid none = none
 valid (some p) = cond (p .right && leb (length (p .body)) bodyLimit) (some (record { heading = p .heading; body = p .body })) none
 
-unfoldable pub readTransfer : Form → Bytes → Option Content
-readTransfer f p = valid (parse f p)
+unfoldable pub readTransfer : TransferKind → Bytes → Option Content
+readTransfer kind p = valid (parse kind p)
 
 -- ---------------------------------------------------------------- how we write a transfer
 
@@ -137,10 +146,9 @@ headerOut h = SOH ∷ ((length h + besideLeast) % byteValues) ∷ (h ++ NUL ∷ 
 abbrev pub writeFramed : Bytes → Bytes → Bytes
 writeFramed h x = headerOut h ++ (blocksOut (length x) x ++ EOT ∷ checksum x ∷ [])
 
-unfoldable pub writeTransfer : Form → Bytes → Bytes → Bytes
-writeTransfer plain h x = writePlain h x
-writeTransfer message h x = writeFramed h x
-writeTransfer file h x = writeFramed h x
+unfoldable pub writeTransfer : TransferKind → Bytes → Bytes → Bytes
+writeTransfer plainKind h x = writePlain h x
+writeTransfer framedKind h x = writeFramed h x
 
 -- What open checks of a record's heading and body.
 abbrev pub sendable : Form → Bytes → Bytes → Bool

@@ -18,7 +18,7 @@ use Rattle.grammar.specs.Transfers.{readTransfer}
 use Rattle.grammar.proofs.Basics.{Lacks, snoc-cons, and-false}
 use Rattle.mail.specs.Mail.{Record, recordAt, transferOf, placeOf}
 use Rattle.log.specs.Effects.{Account}
-use Rattle.log.specs.Log.{weSay, Event, took, gave, over, ourTurn, Course, Book, Log, isOurs, turn, said, placeFound, placesOf, ourSaid, theirTransfer, ourTransfer, afterOurs, whole, withAfterCr}
+use Rattle.log.specs.Log.{kindOwed, weSay, Event, took, gave, over, ourTurn, Course, Book, Log, isOurs, turn, said, placeFound, placesOf, ourSaid, theirTransfer, ourTransfer, afterOurs, whole, withAfterCr}
 use Rattle.log.specs.Fed.{Fed, unitByte, outOfOrder, fedByte, fedAll}
 use Rattle.log.proofs.Said.{summed-wrong}
 use Rattle.log.proofs.Spoken.{none-proposed}
@@ -71,10 +71,10 @@ hopeless-ends T (e ∷ es) l a u h = hopeless-at T es l a u h (λ c v k. hopeles
 
 -- the partner's: no valid transfer begins with its bytes so far
 pub their-transfer-ends : (T : List Record) (p : Proposal) (ps : List Proposal) (account : Account) (k : Book) (a : Bool) (u : Bytes)
-    → ((r : Bytes) → readTransfer (p .form) (u ++ r) ≡ none) → (es : List Event)
+    → ((r : Bytes) → readTransfer (kindOwed k p) (u ++ r) ≡ none) → (es : List Event)
     → Stays (fedAll T (within (owing a (theirTransfer p ps) account k) a u) es .log) (owing a (theirTransfer p ps) account k)
 their-transfer-ends T p ps account k a u h es =
-    hopeless-ends T es (owing a (theirTransfer p ps) account k) a u (λ r b. ap isSome (ap (readTransfer (p .form)) (append-assoc u r (b ∷ [])) ∙ h (r ++ (b ∷ []))))
+    hopeless-ends T es (owing a (theirTransfer p ps) account k) a u (λ r b. ap isSome (ap (readTransfer (kindOwed k p)) (append-assoc u r (b ∷ [])) ∙ h (r ++ (b ∷ []))))
 
 -- ours: its bytes so far do not begin what we write for its record
 pub our-transfer-ends : (T : List Record) (i : ℕ) (is : List ℕ) (account : Account) (k : Book) (a : Bool) (u : Bytes)

@@ -10,10 +10,9 @@ use native.Mathlib.Nat.{add-zero}
 use lib.ListN.{length, length-append}
 use borrow.Author.Tests.{eq-eqb, lt-ltb}
 use Rattle.grammar.specs.Bytes.{Bytes, CR, null, same}
-use Rattle.grammar.specs.Fields.{Form, plain, message, file}
 use Rattle.grammar.specs.Turns.{Proposal, endsBlock, proposes, inMode, proposable, proposalLine, fixedText, ourSid, ourPrompt, ourFF, ourFQ, ourEnd, withCr, blockLimit}
 use Rattle.grammar.specs.Answers.{Sign, readFs, fsLine, fixedLine, ourProposal, OurLine, level0}
-use Rattle.grammar.specs.Transfers.{writeTransfer}
+use Rattle.grammar.specs.Transfers.{TransferKind, plainKind, framedKind, kindOf, writeTransfer}
 use Rattle.grammar.proofs.Basics.{Lacks, snoc-cons}
 use Rattle.grammar.proofs.OurLines.{proposal-read, fs-back, ff-read, fq-read, end-read, good-line}
 use Rattle.mail.specs.Mail.{Record, recordAt, headingFor, transferOf, proposalLines, turnText, transfersText}
@@ -211,18 +210,17 @@ some-byte : (t y : Bytes) (x : ℕ) → t ++ x ∷ y ≡ [] → ⊥
 some-byte [] y x h = let z : _≡_ {A = ℕ} 0 1 = cc in omega arith
 some-byte (a ∷ t) y x h = let z : _≡_ {A = ℕ} 0 1 = cc in omega arith
 
-transfer-some : (f : Form) (h x : Bytes) → writeTransfer f h x ≡ [] → ⊥
+transfer-some : (kind : TransferKind) (h x : Bytes) → writeTransfer kind h x ≡ [] → ⊥
 unfolding writeTransfer
-transfer-some plain h x e = some-byte h _ CR e
-transfer-some message h x e = let z : _≡_ {A = ℕ} 0 1 = cc in omega arith
-transfer-some file h x e = let z : _≡_ {A = ℕ} 0 1 = cc in omega arith
+transfer-some plainKind h x e = some-byte h _ CR e
+transfer-some framedKind h x e = let z : _≡_ {A = ℕ} 0 1 = cc in omega arith
 
 pub transfer-spoken : (T : List Record) (k : Book) (i : ℕ) (is : List ℕ) (account : Account)
     → spoken T k (at (ourTransfer i is) account) (transferOf (recordAt T i)) ≡ at (oursOwed is) (withSent i account)
 transfer-spoken T k i is account = go (transferOf (recordAt T i)) refl
   where
     go : (w : Bytes) → transferOf (recordAt T i) ≡ w → spoken T k (at (ourTransfer i is) account) w ≡ at (oursOwed is) (withSent i account)
-    go [] h = absurd (transfer-some (recordAt T i .form) (headingFor (recordAt T i .form) (recordAt T i)) (recordAt T i .body) h)
+    go [] h = absurd (transfer-some (kindOf (recordAt T i .form)) (headingFor (recordAt T i .form) (recordAt T i)) (recordAt T i .body) h)
     go (x ∷ w) h = transfer-on T k i is account w x [] h
 
 -- the records at these places are sent

@@ -9,14 +9,13 @@ use native.Mathlib.Omega.{arith}
 use lib.Dec.{eqb}
 use lib.ListN.{length}
 use Rattle.grammar.specs.Bytes.{Bytes, CR, LF, null, isSome}
-use Rattle.grammar.specs.Fields.{Form}
 use Rattle.grammar.specs.Turns.{Proposal, withCr}
-use Rattle.grammar.specs.Transfers.{Content, Parsed, parse, valid, readTransfer}
+use Rattle.grammar.specs.Transfers.{TransferKind, kindOf, Content, Parsed, parse, valid, readTransfer}
 use Rattle.grammar.proofs.Basics.{Lacks, snoc-cons, and-false}
 use Rattle.grammar.proofs.Refusal.{no-longer}
 use Rattle.mail.specs.Mail.{Record, Message, recordAt, transferOf}
 use Rattle.log.specs.Effects.{Account, withSent, keptAs}
-use Rattle.log.specs.Log.{Event, took, gave, Ours, Theirs, Next, weSay, theySay, theirTransfer, ourTransfer, Book, Log, courseWith, logWith, isOurs, oursOwed, theirsOwed, isPlain, whole, applied, stopped, Cut, notWhole, outOfTurn, unit, cutUnit, withAfterCr, afterCut, logUnits, logOpened, log, withKept}
+use Rattle.log.specs.Log.{kindOwed, Event, took, gave, Ours, Theirs, Next, weSay, theySay, theirTransfer, ourTransfer, Book, Log, courseWith, logWith, isOurs, oursOwed, theirsOwed, isPlain, whole, applied, stopped, Cut, notWhole, outOfTurn, unit, cutUnit, withAfterCr, afterCut, logUnits, logOpened, log, withKept}
 use Rattle.log.specs.Fed.{Fed, unitByte, outOfOrder, fedByte, fedAll}
 use Rattle.log.proofs.Spoken.{same-prefix, transfer-spoken, gave-spoken}
 
@@ -203,26 +202,26 @@ line-fed T l ln h k c = unit-fed T l ln CR h (line-yet T (l .course .next) ln []
 never : (c : Content) → none ≡ some c → ⊥
 never c e = let z : _≡_ {A = ℕ} 0 1 = cc in omega arith
 
-pub no-longer-read : (f : Form) (q : Bytes) (c : Content) → readTransfer f q ≡ some c → (b : ℕ) (r : Bytes) → readTransfer f (q ++ b ∷ r) ≡ none
+pub no-longer-read : (kind : TransferKind) (q : Bytes) (c : Content) → readTransfer kind q ≡ some c → (b : ℕ) (r : Bytes) → readTransfer kind (q ++ b ∷ r) ≡ none
 unfolding readTransfer
-no-longer-read f q c e b r = go (parse f q) refl e
+no-longer-read kind q c e b r = go (parse kind q) refl e
   where
-    go : (o : Option Parsed) → parse f q ≡ o → valid o ≡ some c → valid (parse f (q ++ b ∷ r)) ≡ none
+    go : (o : Option Parsed) → parse kind q ≡ o → valid o ≡ some c → valid (parse kind (q ++ b ∷ r)) ≡ none
     go none p k = absurd (never c k)
-    go (some x) p k = rw (no-longer f q x p b r)
+    go (some x) p k = rw (no-longer kind q x p b r)
 
 -- of a transfer that the partner owes, no part is whole
-their-yet : (T : List Record) (p : Proposal) (ps : List Proposal) (v u : Bytes) (b : ℕ) (r : Bytes) (c : Content) → readTransfer (p .form) (u ++ (v ++ b ∷ r)) ≡ some c
+their-yet : (T : List Record) (p : Proposal) (ps : List Proposal) (v u : Bytes) (b : ℕ) (r : Bytes) (c : Content) → readTransfer (kindOf (p .form)) (u ++ (v ++ b ∷ r)) ≡ some c
     → NotYet T (theirTransfer p ps) u v
 their-yet T p ps [] u b r c e = tt
 their-yet T p ps (x ∷ v) u b r c e =
-    (go (readTransfer (p .form) (u ++ (x ∷ []))) refl, their-yet T p ps v (u ++ (x ∷ [])) b r c (rw (snoc-cons u (v ++ b ∷ r) x) e))
+    (go (readTransfer (kindOf (p .form)) (u ++ (x ∷ []))) refl, their-yet T p ps v (u ++ (x ∷ [])) b r c (rw (snoc-cons u (v ++ b ∷ r) x) e))
   where
-    more : (d : Content) → readTransfer (p .form) (u ++ (x ∷ [])) ≡ some d → (w : Bytes) → readTransfer (p .form) (u ++ x ∷ (w ++ b ∷ r)) ≡ none
-    more d k [] = ap (readTransfer (p .form)) (sym (snoc-cons u (b ∷ r) x)) ∙ no-longer-read (p .form) (u ++ (x ∷ [])) d k b r
-    more d k (y ∷ w) = ap (readTransfer (p .form)) (sym (snoc-cons u (y ∷ (w ++ b ∷ r)) x)) ∙ no-longer-read (p .form) (u ++ (x ∷ [])) d k y (w ++ b ∷ r)
+    more : (d : Content) → readTransfer (kindOf (p .form)) (u ++ (x ∷ [])) ≡ some d → (w : Bytes) → readTransfer (kindOf (p .form)) (u ++ x ∷ (w ++ b ∷ r)) ≡ none
+    more d k [] = ap (readTransfer (kindOf (p .form))) (sym (snoc-cons u (b ∷ r) x)) ∙ no-longer-read (kindOf (p .form)) (u ++ (x ∷ [])) d k b r
+    more d k (y ∷ w) = ap (readTransfer (kindOf (p .form))) (sym (snoc-cons u (y ∷ (w ++ b ∷ r)) x)) ∙ no-longer-read (kindOf (p .form)) (u ++ (x ∷ [])) d k y (w ++ b ∷ r)
 
-    go : (o : Option Content) → readTransfer (p .form) (u ++ (x ∷ [])) ≡ o → isSome o ≡ false
+    go : (o : Option Content) → readTransfer (kindOf (p .form)) (u ++ (x ∷ [])) ≡ o → isSome o ≡ false
     go none k = refl
     go (some d) k = absurd (never c (sym (more d k v) ∙ e))
 
@@ -245,15 +244,15 @@ keeping k x = withKept k (k .kept ++ (x ∷ []))
 
 -- the partner's: kept, at its last byte
 pub their-transfer-fed : (T : List Record) (p : Proposal) (ps : List Proposal) (account : Account) (k : Book) (u : Bytes) (b : ℕ) (c : Content)
-    → readTransfer (p .form) (u ++ (b ∷ [])) ≡ some c
+    → readTransfer (kindOwed k p) (u ++ (b ∷ [])) ≡ some c
     → fedAll T (record { log = owing false (theirTransfer p ps) account k; raw = [] }) (map took (u ++ (b ∷ [])))
-    ≡ record { log = owing (isPlain (p .form)) (theirsOwed ps) account (keeping k (keptAs p c)); raw = [] }
+    ≡ record { log = owing (isPlain (kindOwed k p)) (theirsOwed ps) account (keeping k (keptAs p c)); raw = [] }
 their-transfer-fed T p ps account k u b c e =
     unit-fed T (owing false (theirTransfer p ps) account k) u b refl (their-yet T p ps u [] b [] c e) (rw e) ∙ rw e
 
 -- before that, nothing
 pub their-part-fed : (T : List Record) (p : Proposal) (ps : List Proposal) (account : Account) (k : Book) (u : Bytes) (b : ℕ) (r : Bytes) (c : Content)
-    → readTransfer (p .form) (u ++ b ∷ r) ≡ some c
+    → readTransfer (kindOwed k p) (u ++ b ∷ r) ≡ some c
     → fedAll T (record { log = owing false (theirTransfer p ps) account k; raw = [] }) (map took u)
     ≡ record { log = owing false (theirTransfer p ps) account k; raw = u }
 their-part-fed T p ps account k u b r c e = grows T (owing false (theirTransfer p ps) account k) u [] refl (their-yet T p ps u [] b r c e)

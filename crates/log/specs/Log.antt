@@ -11,12 +11,11 @@ use Prim.Native.Nat.{ℕ, zero, suc, _+_}
 use lib.Dec.{eqb, ltb, leb}
 use lib.ListN.{length}
 use Rattle.grammar.specs.Bytes.{Bytes, CR, LF, same, isSome}
-use Rattle.grammar.specs.Fields.{Form, plain, message, file}
 use Rattle.grammar.specs.Lines.{trim, isComment, isPrompt, lineLimit}
 use Rattle.grammar.specs.Sid.{readSid, hasFeature, framed, levelOf, letterB, letterF}
 use Rattle.grammar.specs.Turns.{Proposal, TurnLine, saysFF, saysFQ, endsBlock, notAllowed, proposes, endsSummed, readTurnLine, fixedText, ourSid, ourPrompt, withCr, blockLimit}
 use Rattle.grammar.specs.Answers.{Sign, consO, readFs, Level, level0}
-use Rattle.grammar.specs.Transfers.{Content, readTransfer, sumRight}
+use Rattle.grammar.specs.Transfers.{TransferKind, plainKind, framedKind, kindOf, Content, readTransfer, sumRight}
 use Rattle.mail.specs.Mail.{Record, Message, recordAt, transferOf, placeOf}
 use Rattle.log.specs.Effects.{forwardedSent, acceptedBy, declinedBy, Account, noAccount, withProposed, withSent, withAnswers, withForwarded, keptAs}
 
@@ -339,6 +338,10 @@ theirLine n k account ln = cond (isComment (trim ln)) (effect k account (theySay
 abbrev pub judgedLine : Theirs → Book → Account → Bytes → Effect
 judgedLine n k account ln = cond (leb (length ln) lineLimit) (theirLine n k account ln) (effect k account over)
 
+-- How the partner's owed transfer of this proposal is read.
+abbrev pub kindOwed : Book → Proposal → TransferKind
+kindOwed k p = kindOf (p .form)
+
 -- "Partner's owed transfer, at its last byte: kept, with its proposal's form and fields as read, and its own heading and body."
 abbrev pub theirTransferred : Proposal → List Proposal → Book → Account → Option Content → Effect
 theirTransferred p ps k account none = effect k account over
@@ -349,17 +352,16 @@ theirTransferred p ps k account (some c) = effect (withKept k (k .kept ++ (keptA
 -- The bytes u with b after them are a whole unit of what is next: "Bytes are a transfer while their side owes one, else lines". Once the
 -- log has ended no unit is.
 abbrev pub whole : List Record → Next → Bytes → ℕ → Bool
-whole T (theirTransfer p ps) u b = isSome (readTransfer (p .form) (u ++ (b ∷ [])))
+whole T (theirTransfer p ps) u b = isSome (readTransfer (kindOf (p .form)) (u ++ (b ∷ [])))
 whole T (ourTransfer i is) u b = same (u ++ (b ∷ [])) (transferOf (recordAt T i))
 whole T over u b = false
 whole T (weSay n) u b = eqb b CR
 whole T (theySay n) u b = eqb b CR
 
--- "Each has a form (0 plain text, ..)"
-abbrev pub isPlain : Form → Bool
-isPlain plain = true
-isPlain message = false
-isPlain file = false
+-- A transfer is a "plain transfer", which ends with a CR.
+abbrev pub isPlain : TransferKind → Bool
+isPlain plainKind = true
+isPlain framedKind = false
 
 -- The log after a unit of the partner's with this effect; a: it ended with a CR.
 abbrev pub afterTheirs : Bool → Effect → Log
@@ -368,7 +370,7 @@ afterTheirs a e = logWith a (e .course) (e .book)
 -- The partner's whole unit u b of what is next: a transfer, "else lines". "One LF directly after the CR that ended a line, or after the CR that closes a
 -- plain transfer, is dropped": a line and a plain transfer end with a CR
 abbrev pub theirUnit : Next → Book → Account → Bytes → ℕ → Log
-theirUnit (theirTransfer p ps) k account u b = afterTheirs (isPlain (p .form)) (theirTransferred p ps k account (readTransfer (p .form) (u ++ (b ∷ []))))
+theirUnit (theirTransfer p ps) k account u b = afterTheirs (isPlain (kindOwed k p)) (theirTransferred p ps k account (readTransfer (kindOwed k p) (u ++ (b ∷ []))))
 theirUnit (theySay n) k account u b = afterTheirs true (judgedLine n k account u)
 theirUnit over k account u b = afterTheirs true (effect k account over)
 theirUnit (weSay n) k account u b = afterTheirs true (effect k account over)

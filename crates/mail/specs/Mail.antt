@@ -7,7 +7,7 @@ use Rattle.grammar.specs.Bytes.{Bytes, same}
 use Rattle.grammar.specs.Fields.{Form, plain, message, file}
 use Rattle.grammar.specs.Turns.{Proposal, proposalLine, withCr, fixedText, ourEnd}
 use Rattle.grammar.specs.Answers.{Sign, accept, decline, defer}
-use Rattle.grammar.specs.Transfers.{Content, writeTransfer}
+use Rattle.grammar.specs.Transfers.{kindOf, Content, writeTransfer}
 use Rattle.phase.specs.Phase.{stateForwarded, stateDeclined}
 
 -- "Each has a form .., a type (P or B), from, at, to, BID, announced size .., title, file name, body"; states stand beside the records
@@ -62,7 +62,7 @@ headingFor message r = r .title
 headingFor file r = r .name
 
 abbrev pub transferOf : Record → Bytes
-transferOf r = writeTransfer (r .form) (headingFor (r .form) r) (r .body)
+transferOf r = writeTransfer (kindOf (r .form)) (headingFor (r .form) r) (r .body)
 
 -- The record at a place of the table, counted from 0.
 abbrev pub recordAt : List Record → ℕ → Record

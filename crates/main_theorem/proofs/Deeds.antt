@@ -17,7 +17,7 @@ use Rattle.grammar.specs.Transfers.{Content, readTransfer}
 use Rattle.grammar.proofs.Basics.{no-both, by-cond, by-test}
 use Rattle.mail.specs.Mail.{Record}
 use Rattle.log.specs.Effects.{forwardedSent, acceptedBy, declinedBy, Account, withSent, withAnswers, withForwarded, keptAs}
-use Rattle.log.specs.Log.{weOpen, Event, took, gave, Opening, ourGreeting, ourFirstPrompt, ourSidLine, Ours, ourOpening, ourTurn, ourAnswer, Theirs, theirText, theirSid, theirTurn, theirAnswer, Next, over, weSay, theySay, theirTransfer, ourTransfer, Course, courseWith, Book, withSid, withStates, withKept, Log, logWith, isOurs, Said, unfinished, farewell, wrong, turn, said, checked, rawWith, placesOf, ourProposed, ourSaid, ourAnswered, oursOwed, theirsOwed, openingText, afterOpening, ourLine, Effect, effect, afterOurs, theirSaid, theirAnswered, afterTheirSid, theirSidRead, theirRead, theirTransferred, afterTheirTurn, whole, applied, Cut, notWhole, outOfTurn, unit, cutUnit, withAfterCr, logOpened, levelInForce, owes}
+use Rattle.log.specs.Log.{kindOwed, weOpen, Event, took, gave, Opening, ourGreeting, ourFirstPrompt, ourSidLine, Ours, ourOpening, ourTurn, ourAnswer, Theirs, theirText, theirSid, theirTurn, theirAnswer, Next, over, weSay, theySay, theirTransfer, ourTransfer, Course, courseWith, Book, withSid, withStates, withKept, Log, logWith, isOurs, Said, unfinished, farewell, wrong, turn, said, checked, rawWith, placesOf, ourProposed, ourSaid, ourAnswered, oursOwed, theirsOwed, openingText, afterOpening, ourLine, Effect, effect, afterOurs, theirSaid, theirAnswered, afterTheirSid, theirSidRead, theirRead, theirTransferred, afterTheirTurn, whole, applied, Cut, notWhole, outOfTurn, unit, cutUnit, withAfterCr, logOpened, levelInForce, owes}
 use Rattle.main_theorem.specs.Deeds.{Deed, answered, sent, turned, weAnswered, nothing, brought, turnDeed, answerDeed, ourAnswerDeed, transferDeed, theirDeed, ourDeed, deedOf, deedsCut, deedsFrom, deeds, messagesBrought, transfersBrought, gotPlus, acceptedFrom, BroughtFor, AsAccepted}
 
 -- what course and book have become after a unit with this deed: states, records sent, records owed, messages kept
@@ -86,7 +86,7 @@ data Comes (T : List Record) (st : Account) (k : Book) (u : Bytes) (b : ℕ) : N
       → Comes T st k u b (theySay n) (turned ps) (courseWith (afterTheirTurn ps) (withForwarded st)) (withStates k (forwardedSent (st .sent) (k .states)))
   weAnswer : (n : Ours) (ps : List Proposal) (ss : List Sign) (d : Account) → standOurs n ≡ answering ps → d .sent ≡ st .sent
       → Comes T st k u b (weSay n) (weAnswered ss) (courseWith (theirsOwed (acceptedBy ss ps)) d) k
-  isBrought : (p : Proposal) (ps : List Proposal) (w : Bytes) (c : Content) → readTransfer (p .form) w ≡ some c
+  isBrought : (p : Proposal) (ps : List Proposal) (w : Bytes) (c : Content) → readTransfer (kindOwed k p) w ≡ some c
       → Comes T st k u b (theirTransfer p ps) (brought w (keptAs p c)) (courseWith (theirsOwed ps) st) (withKept k (k .kept ++ (keptAs p c ∷ [])))
 
 opening-idle : (o : Opening) → Idle (afterOpening o)
@@ -177,7 +177,7 @@ module _ (T : List Record) (a : Bool) (st : Account) (k : Book) (u : Bytes) (b :
       go none = idles (weSay (ourAnswer ps)) over _ k (atAnswer ps) over-idle refl refl refl
       go (some ss) = weAnswer (ourAnswer ps) ps ss _ refl refl
 
-  transferred-comes : (p : Proposal) (ps : List Proposal) (z : Option Content) → readTransfer (p .form) (u ++ (b ∷ [])) ≡ z
+  transferred-comes : (p : Proposal) (ps : List Proposal) (z : Option Content) → readTransfer (kindOwed k p) (u ++ (b ∷ [])) ≡ z
       → ComesTo (theirTransfer p ps) (transferDeed p (u ++ (b ∷ [])) z) (theirTransferred p ps k st z)
   transferred-comes p ps none e = isPart (theirTransfer p ps) (ap isSome e)
   transferred-comes p ps (some c) e = isBrought p ps (u ++ (b ∷ [])) c e
@@ -187,7 +187,7 @@ module _ (T : List Record) (a : Bool) (st : Account) (k : Book) (u : Bytes) (b :
   comes over = isPart over refl
   comes (weSay n) = ours-comes n
   comes (theySay n) = line-comes n (leb (length u) lineLimit) (isComment (trim u))
-  comes (theirTransfer p ps) = transferred-comes p ps (readTransfer (p .form) (u ++ (b ∷ []))) refl
+  comes (theirTransfer p ps) = transferred-comes p ps (readTransfer (kindOwed k p) (u ++ (b ∷ []))) refl
   comes (ourTransfer i is) = isSent i is
 
   does : (n : Next) (d : Deed) (c : Course) (l : Book) → Comes T st k u b n d c l → Does d (courseWith n st) k c l

@@ -74,7 +74,7 @@ stop-keeps E s b = go (on-lists.step E s b) (way E s b)
     go o (ignoresLine a w x y t n) e = refl
     go o (hearsLine a w x y z j) e = settled true z (judged-keeps E (s .memory) (s .part) a z j) e
     go o (readsOn p ps sc on w x) e = refl
-    go o (readsLast p ps sc h x w y) e = next (on-lists.isPlain (p .form)) ps _ e
+    go o (readsLast p ps sc h x w y) e = next (on-lists.isPlain (on-lists.kindDue (s .memory) p)) ps _ e
 
 bytes-kept : (E : Shelf) (bs : Bytes) (s : on-lists.Session) → calls.receiveOn E s bs .session .memory .inbox ≡ lastByte E s bs .memory .inbox
 bytes-kept E [] s = refl

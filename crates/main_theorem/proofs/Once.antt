@@ -15,7 +15,7 @@ use Rattle.grammar.specs.Answers.{Sign, accept, decline, defer}
 use Rattle.grammar.proofs.Basics.{and2, or2}
 use Rattle.mail.specs.Mail.{Record, accepted, marked, declined}
 use Rattle.session.specs.Choices.{Shelf, wanted, candidates, sizeAt, chosen}
-use Rattle.session.specs.Session.{Awaited, awaitsSid, awaitsPrompt, awaitsTurn, awaitsAnswer, Phase, aLine, awaitsTransfer, leaving, over, Memory, Session, Outcome, refuses, goesOn, turnMarks, Stepped, settled, isPlain, nextTransfer, step}
+use Rattle.session.specs.Session.{kindDue, Awaited, awaitsSid, awaitsPrompt, awaitsTurn, awaitsAnswer, Phase, aLine, awaitsTransfer, leaving, over, Memory, Session, Outcome, refuses, goesOn, turnMarks, Stepped, settled, isPlain, nextTransfer, step}
 use Rattle.session.proofs.Ways.{Passes, toEnd, toTurn, toAnswer, toTransfer, our-turn, our-answer, next-transfer, Judged, isWrong, hearsSid, hearsText, hearsPrompt, hearsProposal, hearsFF, hearsFQ, hearsEnd, hearsFs, Way, isRefused, dropsLf, growsLine, ignoresLine, hearsLine, readsOn, readsLast, way}
 use Rattle.main_theorem.specs.Deeds.{gives}
 use Rattle.log.specs.Effects.{oneOf, isMinus, given}
@@ -220,7 +220,7 @@ module _ (E : Shelf) (s : Session) (w : Sends (s .phase) (s .memory)) where
   way-ok b o (hearsLine a x y z r j) = settled-ok true r (judged-ok E (s .memory) (s .part) a r j (in-phase (aLine a) (x .awaited)))
   way-ok b o (readsOn p ps sc on x e) = record { keeps = same-states (s .memory); sends = in-phase (awaitsTransfer p ps sc) (x .awaited) }
   way-ok b o (readsLast p ps sc g y x e) =
-      settled-ok (isPlain (p .form)) (nextTransfer E ps _)
+      settled-ok (isPlain (kindDue (s .memory) p)) (nextTransfer E ps _)
       (passes-ok E (s .memory .states) _ _ (next-transfer E ps _) (same-states (s .memory)) (in-phase (awaitsTransfer p ps sc) (x .awaited)))
 
   -- A BYTE keeps every state but 0

@@ -11,10 +11,10 @@ use Rattle.grammar.specs.Bytes.{Bytes}
 use Rattle.grammar.specs.Lines.{trim, isComment, lineLimit}
 use Rattle.grammar.specs.Turns.{Proposal, readTurnLine}
 use Rattle.grammar.specs.Answers.{Sign, accept, decline, defer, readFs, level0}
-use Rattle.grammar.specs.Transfers.{Content, readTransfer}
+use Rattle.grammar.specs.Transfers.{kindOf, Content, readTransfer}
 use Rattle.mail.specs.Mail.{Record, Message}
 use Rattle.log.specs.Effects.{keptAs}
-use Rattle.log.specs.Log.{Event, Ours, ourOpening, ourTurn, ourAnswer, Theirs, theirText, theirSid, theirTurn, theirAnswer, Next, over, weSay, theySay, theirTransfer, ourTransfer, Log, Said, unfinished, farewell, wrong, turn, said, checked, applied, Cut, notWhole, outOfTurn, unit, cutUnit, withAfterCr, logOpened, Book, levelInForce}
+use Rattle.log.specs.Log.{kindOwed, Event, Ours, ourOpening, ourTurn, ourAnswer, Theirs, theirText, theirSid, theirTurn, theirAnswer, Next, over, weSay, theySay, theirTransfer, ourTransfer, Log, Said, unfinished, farewell, wrong, turn, said, checked, applied, Cut, notWhole, outOfTurn, unit, cutUnit, withAfterCr, logOpened, Book, levelInForce}
 use Rattle.phase.specs.Phase.{stateWaiting, stateForwarded, stateDeclined}
 
 -- ---------------------------------------------------------------- what a whole unit does
@@ -72,7 +72,7 @@ ourDeed (ourAnswer ps) u = ourAnswerDeed (readFs level0 (length ps) u)
 abbrev pub deedOf : Next → Book → Bytes → ℕ → Deed
 deedOf (theySay n) k u b = ifLine u (theirDeed n k u)
 deedOf (weSay n) k u b = ourDeed n u
-deedOf (theirTransfer p ps) k u b = transferDeed p (u ++ (b ∷ [])) (readTransfer (p .form) (u ++ (b ∷ [])))
+deedOf (theirTransfer p ps) k u b = transferDeed p (u ++ (b ∷ [])) (readTransfer (kindOwed k p) (u ++ (b ∷ [])))
 deedOf (ourTransfer i is) k u b = sent i
 deedOf over k u b = nothing
 
@@ -213,7 +213,7 @@ pub record KeptFrom (p : Proposal) (w : Bytes) (x : Message) : Type 0 where
   pub at : x .at ≡ p .at
   pub to : x .to ≡ p .to
   pub bid : x .bid ≡ p .bid
-  pub content : readTransfer (p .form) w ≡ some (record { heading = x .heading; body = x .body })
+  pub content : readTransfer (kindOf (p .form)) w ≡ some (record { heading = x .heading; body = x .body })
 
 -- The messages are of these transfers and proposals, one by one from the first; the proposals after them have no message yet.
 abbrev pub BroughtFor : List Bytes → List Message → List Proposal → Type 0

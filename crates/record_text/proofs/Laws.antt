@@ -10,7 +10,7 @@ use lib.Seq.{getD-take, getD-drop}
 use borrow.Author.Tests.{eq-eqb, ne-eqb, ltb-true, ltb-false}
 use Rattle.grammar.specs.Bytes.{Bytes, byteValues}
 use Rattle.grammar.specs.Fields.{Form, plain, message, file, formNumber, formIs}
-use Rattle.grammar.specs.Transfers.{partOf, writePlain, writeFramed, writeTransfer}
+use Rattle.grammar.specs.Transfers.{kindOf, partOf, writePlain, writeFramed, writeTransfer}
 use Rattle.grammar.proofs.Basics.{by-cond}
 use Rattle.mail.specs.Mail.{transferOf, headingFor}
 use Rattle.layout.specs.Layout.{byteAt, le4At, recordOf}
@@ -63,9 +63,9 @@ plain-as {h} {y} {x} p q = ap (λ (w : Bytes). writePlain w x) p ∙ ap (λ (w :
 
 module _ (titles names bodies r : Bytes) where
   by-form : (k : Form) → formIs (byteAt r recordForm) ≡ k
-      → writeTransfer k (headingFor k (recordOf titles names bodies r)) (bodyIn bodies r) ≡ transferOf (recordOf titles names bodies r)
+      → writeTransfer (kindOf k) (headingFor k (recordOf titles names bodies r)) (bodyIn bodies r) ≡ transferOf (recordOf titles names bodies r)
   unfolding bodyIn
-  by-form k e = ap (λ (o : Form). writeTransfer o (headingFor o (recordOf titles names bodies r)) (bodyIn bodies r)) (sym e)
+  by-form k e = ap (λ (o : Form). writeTransfer (kindOf o) (headingFor o (recordOf titles names bodies r)) (bodyIn bodies r)) (sym e)
 
   title-is : (byteAt r recordForm ≡ fileForm → ⊥) → headingPart titles names r ≡ partOf titles (le4At r recordTitle) (byteAt r recordTitleLength)
   unfolding headingPart

@@ -6,7 +6,7 @@ use mathlib.Core.List.{[], _∷_}
 use Prim.Native.Nat.{ℕ}
 use Rattle.grammar.specs.Bytes.{Bytes, null}
 use Rattle.grammar.proofs.Basics.{no-both}
-use Rattle.session.specs.Session.{Awaited, Phase, aLine, leaving, Memory, Session, Outcome, refuses, goesOn, isPlain, keptIn, nextTransfer, Stepped, settled, step, endedIn, ended}
+use Rattle.session.specs.Session.{kindDue, Awaited, Phase, aLine, leaving, Memory, Session, Outcome, refuses, goesOn, isPlain, keptIn, nextTransfer, Stepped, settled, step, endedIn, ended}
 use Rattle.session.specs.Calls.{receive, stops, stoppedAt, oneMore, receiveOn}
 use Rattle.session.proofs.Ways as ways
 use Rattle.mail.specs.Mail.{messageOf}
@@ -78,7 +78,7 @@ way-can s b o (ways.hearsLine a w e f x j) l = settled-can s true x (line-fine (
 way-can s b o (ways.readsOn p ps sc on w e) l = refl
 way-can s b o (ways.readsLast p ps sc h x w e) l =
     let m = keptIn (s .memory) (messageOf p (record { heading = h; body = x })) in
-    settled-can s (isPlain (p .form)) (nextTransfer emptyShelf ps m) (passes-fine m _ (ways.next-transfer emptyShelf ps m))
+    settled-can s (isPlain (kindDue (s .memory) p)) (nextTransfer emptyShelf ps m) (passes-fine m _ (ways.next-transfer emptyShelf ps m))
 
 one-can : (v : Session) (b : ℕ) → Live v → Can (fedOne v b .refusal)
 unfolding fedOne receive

@@ -16,7 +16,7 @@ use Rattle.grammar.specs.Answers.{Sign, fsLine}
 use Rattle.grammar.specs.Refusals.{badChecksum}
 use Rattle.mail.specs.Mail.{messageOf, accepted}
 use Rattle.session.specs.Choices.{chosen, answersTo}
-use Rattle.session.specs.Session.{Awaited, awaitsSid, awaitsPrompt, awaitsTurn, awaitsAnswer, Phase, aLine, awaitsTransfer, leaving, over, Memory, Session, Outcome, refuses, goesOn, ourTurn, answering, answered, isPlain, keptIn, nextTransfer, Stepped, settled, step}
+use Rattle.session.specs.Session.{kindDue, Awaited, awaitsSid, awaitsPrompt, awaitsTurn, awaitsAnswer, Phase, aLine, awaitsTransfer, leaving, over, Memory, Session, Outcome, refuses, goesOn, ourTurn, answering, answered, isPlain, keptIn, nextTransfer, Stepped, settled, step}
 use Rattle.session.proofs.Choices.{one-sign-each}
 use Rattle.session.proofs.Ways as ways
 use Rattle.replayed.specs.Replayed.{emptyShelf}
@@ -98,7 +98,7 @@ way-quiet s b (ways.hearsLine a w e f o j) k = settled-quiet s true o (line-says
 way-quiet s b (ways.readsOn p ps sc on w e) k = (tt, k .1)
 way-quiet s b (ways.readsLast p ps sc h x w e) k =
     let m = keptIn (s .memory) (messageOf p (record { heading = h; body = x })) in
-    settled-quiet s (isPlain (p .form)) (nextTransfer emptyShelf ps m) (next-says ps m)
+    settled-quiet s (isPlain (kindDue (s .memory) p)) (nextTransfer emptyShelf ps m) (next-says ps m)
 
 -- NEVER MORE THAN 32 BYTES WAIT
 pub step-quiet : (s : Session) (b : ℕ) → Quiet s → Quiet (step emptyShelf s b .session)

@@ -172,10 +172,10 @@ module _ (F : Fixed) (E : Shelf) {nt ni ns : ℕ} (c : Cs) (g : Good F nt ni ns 
       let o = owing (u .say .signs) (u .now .block) (u .now .proposals) (g .say .signs) (under .signs) (suc (u .now .current)) j q qs found in
       rw (ne-eqb j noProposal (λ e. omega (arith, o .within, g .now .proposals)))
       (goes-quiet F E d (isPlainAt u) (v .memory) noMarks (toTransferAt j (d .session)) m′ [] (h .standing .entries) holds″ refl refl (omega arith) (omega arith) (first-nothing (toTransferAt j (d .session)) first)
-      (on-lists.awaitsTransfer q qs (scanFrom (q .form))) ((waits-none (c .session .say) quiet) .1) (await-transfer (d .session) (c .table) inbox′ st j q qs (h .standing .entries) (g .say .signs) (k .array) o))
+      (on-lists.awaitsTransfer q qs (scanFrom (on-lists.kindDue m′ q))) ((waits-none (c .session .say) quiet) .1) (await-transfer m′ (d .session) (c .table) inbox′ st j q qs (h .standing .entries) (g .say .signs) (k .array) o))
 
   -- THE MESSAGE KEPT, at its last byte
-  pub keep-law : Settling F E d (keepOf u (c .table)) (on-lists.settled v (on-lists.isPlain (p .form)) (on-lists.nextTransfer E ps m′))
+  pub keep-law : Settling F E d (keepOf u (c .table)) (on-lists.settled v (on-lists.isPlain (on-lists.kindDue (v .memory) p)) (on-lists.nextTransfer E ps m′))
   unfolding keepOf nextAccepted
   keep-law =
       subst (λ (x : Bool). Settling F E d (keepOf u (c .table)) (on-lists.settled v x (on-lists.nextTransfer E ps m′))) plain
@@ -186,5 +186,5 @@ module _ (F : Fixed) (E : Shelf) {nt ni ns : ℕ} (c : Cs) (g : Good F nt ni ns 
       (plusFrom (suc (u .now .current)) (drop (suc (u .now .current)) (held (u .say .signs)))) l) (sym rest-owed)
       (next-found (u .say .signs) (u .now .block) (u .now .proposals) (g .say .signs) (under .signs) (suc (u .now .current)))))))
     where
-      plain : isPlainAt u ≡ on-lists.isPlain (p .form)
-      plain = plain-law (byteAt entry formAt) (written-form (h .standing .entries (u .now .current) (under .current))) ∙ ap (λ (q : Proposal). on-lists.isPlain (q .form)) (sym this)
+      plain : isPlainAt u ≡ on-lists.isPlain (on-lists.kindDue (v .memory) p)
+      plain = plain-law (byteAt entry formAt) (written-form (h .standing .entries (u .now .current) (under .current))) ∙ ap (λ (q : Proposal). on-lists.isPlain (on-lists.kindDue (v .memory) q)) (sym this)

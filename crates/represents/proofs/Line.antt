@@ -16,7 +16,7 @@ use Rattle.grammar.specs.Sid.{hasFeature, framed, levelInForce, letterF}
 use Rattle.grammar.specs.Turns.{Proposal, TurnLine, saysFF, saysFQ, endsBlock, notAllowed, proposes, endsSummed, withCr, fixedText, ourSid, blockLimit}
 use Rattle.grammar.specs.Answers.{Sign, fsLine, writeSign}
 use Rattle.grammar.specs.Scan.{scanFrom}
-use Rattle.grammar.specs.Transfers.{byteSum, sumRight}
+use Rattle.grammar.specs.Transfers.{kindOf, byteSum, sumRight}
 use Rattle.grammar.proofs.AsRead.{TurnOk}
 use Rattle.mail.specs.Mail.{Message, accepted}
 use Rattle.session.specs.Choices.{Shelf, answersTo, bodyBytes}
@@ -77,19 +77,19 @@ abbrev pub toTransferAt : ℕ → Session → Session
 toTransferAt j s = withNow (toTransfer j (s .now)) (withReading (withReader (readerFor (s .now) j) (s .reading)) s)
 
 -- none of its bytes is there
-pub await-transfer : (s : Session) (t i st : Bytes) (j : ℕ) (p : Proposal) (qs : List Proposal)
+pub await-transfer : (m : Memory) (s : Session) (t i st : Bytes) (j : ℕ) (p : Proposal) (qs : List Proposal)
     → Entries (s .now .block) (s .now .proposals) → FiveOk (s .say .signs) → length (s .reading .heading) ≡ headingLen → Owing (s .say .signs) (s .now .block) (s .now .proposals) j p qs
-    → Awaits (cs (toTransferAt j s) t i st) (on-lists.awaitsTransfer p qs (scanFrom (p .form)))
+    → Awaits (cs (toTransferAt j s) t i st) (on-lists.awaitsTransfer p qs (scanFrom (on-lists.kindDue m p)))
 unfolding readerFor
-await-transfer s t i st j p qs b g heading o =
+await-transfer m s t i st j p qs b g heading o =
     let byte = byteAt (entryAt proposalLen (s .now .block) j) 0 in
     let free = drop (s .keep .used) st in
     let this : p ≡ proposalIn (entryAt proposalLen (s .now .block) j) = (cc (o .owed, owed-now (s .say .signs) (s .now .block) (s .now .proposals) g (o .count) j (o .within) (o .plus))) in (
       refl,
       o .owed,
-      subst (λ (q : Proposal). Stands (roomOf free) (startOf byte) (s .reading .heading) free (scanFrom (q .form))) (sym this)
-          (subst (λ (q : Reader). Stands (roomOf free) q (s .reading .heading) free (scanFrom (formIs byte))) (sym (start-law byte (written-form (b j (o .within)))))
-          (stands-fresh (formIs byte) (roomOf free) (s .reading .heading) free heading (omega arith))),
+      subst (λ (q : Proposal). Stands (roomOf free) (startOf byte) (s .reading .heading) free (scanFrom (on-lists.kindDue m q))) (sym this)
+          (subst (λ (q : Reader). Stands (roomOf free) q (s .reading .heading) free (scanFrom (kindOf (formIs byte)))) (sym (start-law byte (written-form (b j (o .within)))))
+          (stands-fresh (kindOf (formIs byte)) (roomOf free) (s .reading .heading) free heading (omega arith))),
     )
 
 module _ (F : Fixed) (E : Shelf) (c : Cs) (m : Memory) (ready : Ready F E c m) where
@@ -246,7 +246,7 @@ module _ (F : Fixed) (E : Shelf) (c : Cs) (m : Memory) (ready : Ready F E c m) w
         let s′ = withSay said (withKeep (judge.settledKeep k) s) in
         rw (ne-eqb j noProposal (λ e. omega (arith, o .within, ready .now .proposals)))
         (goes-quiet F E c true m (judge.turnMarks k) (toTransferAt j s′) (on-lists.turnMarks m) (withCr (fsLine ss)) b (holds-turn F E k t i st m h (ready .keep .terms .partner)) refl turn-counts few (omega arith) (fs-said (toTransferAt j s′) refl)
-        (on-lists.awaitsTransfer p qs (scanFrom (p .form))) (ready .then) (await-transfer s′ (marking k (judge.turnMarks k) t) i st j p qs b signs-ok (ready .heading) o))
+        (on-lists.awaitsTransfer p qs (scanFrom (on-lists.kindDue (on-lists.turnMarks m) p))) (ready .then) (await-transfer (on-lists.turnMarks m) s′ (marking k (judge.turnMarks k) t) i st j p qs b signs-ok (ready .heading) o))
 
   -- our answers on lent memory are those on lists
   abbrev theirs : List Proposal

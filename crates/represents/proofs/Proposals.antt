@@ -14,6 +14,7 @@ use Rattle.grammar.specs.Bytes.{Bytes, same}
 use Rattle.grammar.specs.Fields.{Form, plain, message, file, formIs, formNumber}
 use Rattle.grammar.specs.Turns.{Proposal, blockLimit}
 use Rattle.grammar.specs.Answers.{Sign, accept, decline, defer, writeSign, plusSign, minusSign}
+use Rattle.grammar.specs.Transfers.{TransferKind, plainKind, framedKind, kindOf}
 use Rattle.grammar.specs.Scan.{scanFrom}
 use Rattle.grammar.proofs.AsRead.{Proper}
 use Rattle.grammar.proofs.Fields.{call-field, at-field, bid-field}
@@ -209,19 +210,18 @@ module _ (signs : Five) (block : Bytes) (n : ℕ) (g : FiveOk signs) (same : sig
 
 -- ---------------------------------------------------------------- where its transfer begins
 
-pub start-law : (b : ℕ) → b ≤ formNumber file → startOf b ≡ numbersOf (scanFrom (formIs b))
+pub start-law : (b : ℕ) → b ≤ formNumber file → startOf b ≡ numbersOf (scanFrom (kindOf (formIs b)))
 start-law zero h = refl
 start-law (suc zero) h = refl
 start-law (suc (suc zero)) h = refl
 start-law (suc (suc (suc b))) h = absurd (omega arith)
 
-pub plain-law : (b : ℕ) → b ≤ formNumber file → eqb b (formNumber plain) ≡ isPlain (formIs b)
+pub plain-law : (b : ℕ) → b ≤ formNumber file → eqb b (formNumber plain) ≡ isPlain (kindOf (formIs b))
 plain-law zero h = refl
 plain-law (suc zero) h = refl
 plain-law (suc (suc zero)) h = refl
 plain-law (suc (suc (suc b))) h = absurd (omega arith)
 
-pub stands-fresh : (f : Form) (room : ℕ) (hd st : Bytes) → length hd ≡ headingLen → room ≤ length st → Stands room (numbersOf (scanFrom f)) hd st (scanFrom f)
-stands-fresh plain room hd st l h = record { numbers = refl; heading = refl; body = refl; short = omega arith; fits = omega arith; array = l; store = h }
-stands-fresh message room hd st l h = record { numbers = refl; heading = refl; body = refl; short = omega arith; fits = omega arith; array = l; store = h }
-stands-fresh file room hd st l h = record { numbers = refl; heading = refl; body = refl; short = omega arith; fits = omega arith; array = l; store = h }
+pub stands-fresh : (kind : TransferKind) (room : ℕ) (hd st : Bytes) → length hd ≡ headingLen → room ≤ length st → Stands room (numbersOf (scanFrom kind)) hd st (scanFrom kind)
+stands-fresh plainKind room hd st l h = record { numbers = refl; heading = refl; body = refl; short = omega arith; fits = omega arith; array = l; store = h }
+stands-fresh framedKind room hd st l h = record { numbers = refl; heading = refl; body = refl; short = omega arith; fits = omega arith; array = l; store = h }

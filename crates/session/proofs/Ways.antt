@@ -18,7 +18,7 @@ use Rattle.grammar.specs.Scan.{Scan, Scanned, goes, got, malformed, wrongSum, n
 use Rattle.grammar.specs.Transfers.{sumRight}
 use Rattle.mail.specs.Mail.{messageOf, transfersText, accepted}
 use Rattle.session.specs.Choices.{Shelf, chosen, answersTo}
-use Rattle.session.specs.Session.{Awaited, awaitsSid, awaitsPrompt, awaitsTurn, awaitsAnswer, Phase, aLine, newTurn, awaitsTransfer, leaving, over, Terms, Memory, Session, withTerms, withSid, withPhase, withPart, withAfterCr, between, Outcome, refuses, goesOn, proposing, speaking, ourTurn, turnMarks, answering, answered, turnJudged, answerMarks, answerJudged, afterSid, sidJudged, textJudged, awaitedJudged, lineJudged, Stepped, refused, moved, settled, lineMoved, isPlain, keptIn, nextTransfer, transferMoved, roomFor, phaseStep, freeStep, step, levelInForce}
+use Rattle.session.specs.Session.{kindDue, Awaited, awaitsSid, awaitsPrompt, awaitsTurn, awaitsAnswer, Phase, aLine, newTurn, awaitsTransfer, leaving, over, Terms, Memory, Session, withTerms, withSid, withPhase, withPart, withAfterCr, between, Outcome, refuses, goesOn, proposing, speaking, ourTurn, turnMarks, answering, answered, turnJudged, answerMarks, answerJudged, afterSid, sidJudged, textJudged, awaitedJudged, lineJudged, Stepped, refused, moved, settled, lineMoved, isPlain, keptIn, nextTransfer, transferMoved, roomFor, phaseStep, freeStep, step, levelInForce}
 
 -- ---------------------------------------------------------------- what we say
 
@@ -28,7 +28,7 @@ pub data Passes (E : Shelf) (m : Memory) : Outcome → Type 0 where
   toTurn : (o : Bytes) → Passes E m (goesOn (newTurn true) m o)
   toAnswer : (o : Bytes) (i : ℕ) (is : List ℕ) → chosen (E .table) (m .framed) (m .states) (m .deferred) ≡ i ∷ is
       → Passes E m (goesOn (aLine (awaitsAnswer (i ∷ is))) (proposing (i ∷ is) m) o)
-  toTransfer : (o : Bytes) (p : Proposal) (ps : List Proposal) → Passes E m (goesOn (awaitsTransfer p ps (scanFrom (p .form))) m o)
+  toTransfer : (o : Bytes) (p : Proposal) (ps : List Proposal) → Passes E m (goesOn (awaitsTransfer p ps (scanFrom (kindDue m p))) m o)
 
 pub our-turn : (E : Shelf) (o : Bytes) (ff : Bool) (m : Memory) → Passes E m (ourTurn E o ff m)
 our-turn E o ff m = go ff (chosen (E .table) (m .framed) (m .states) (m .deferred)) refl
@@ -186,7 +186,7 @@ pub data Way (E : Shelf) (s : Session) (b : ℕ) : Stepped → Type 0 where
   readsOn : (p : Proposal) (ps : List Proposal) (sc on : Scan) → At s b (awaitsTransfer p ps sc) → scanByte (roomFor E (s .memory)) sc b ≡ goes on
       → Way E s b (moved (withPhase (awaitsTransfer p ps on) (withAfterCr false s)))
   readsLast : (p : Proposal) (ps : List Proposal) (sc : Scan) (h x : Bytes) → At s b (awaitsTransfer p ps sc) → scanByte (roomFor E (s .memory)) sc b ≡ got h x
-      → Way E s b (settled s (isPlain (p .form)) (nextTransfer E ps (keptIn (s .memory) (messageOf p (record { heading = h; body = x })))))
+      → Way E s b (settled s (isPlain (kindDue (s .memory) p)) (nextTransfer E ps (keptIn (s .memory) (messageOf p (record { heading = h; body = x })))))
 
 module _ (E : Shelf) (s : Session) (b : ℕ) where
   line-way : (a : Awaited) → At s b (aLine a) → (c d e : Bool) → eqb b CR ≡ c → ltb (length (s .part)) lineLimit ≡ d → isComment (trim (s .part)) ≡ e

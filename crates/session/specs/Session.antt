@@ -9,7 +9,7 @@ use lib.Dec.{eqb, ltb}
 use lib.ListN.{length, set, replicate}
 use Rattle.grammar.specs.Bytes.{Bytes, LF, null}
 use Rattle.grammar.specs.Refusals.{notSid, noForwarding, lineNotAllowed, proposalCount, bytesWait, sessionEnded, wrongBlockSum}
-use Rattle.grammar.specs.Fields.{Form, plain, message, file, bodyLimit}
+use Rattle.grammar.specs.Fields.{bodyLimit}
 use Rattle.grammar.specs.Lines.{LineByte, dropped, ends, grows, overruns, lineByte, lineByteNumber, trim, isComment, isPrompt}
 use Rattle.grammar.specs.Sid as sid
 use Rattle.grammar.specs.Sid.{readSid, hasFeature, letterF}
@@ -17,7 +17,7 @@ use Rattle.grammar.specs.Turns.{Proposal, TurnLine, saysFF, saysFQ, endsBlock, 
 use Rattle.grammar.specs.Errors.{errorText}
 use Rattle.grammar.specs.Answers.{Sign, accept, decline, defer, readFs, fsNumber, fsLine, Level, level0}
 use Rattle.grammar.specs.Scan.{Scan, Scanned, goes, got, malformed, wrongSum, noRoom, scanFrom, scanByte, scannedNumber}
-use Rattle.grammar.specs.Transfers.{sumRight}
+use Rattle.grammar.specs.Transfers.{TransferKind, plainKind, framedKind, kindOf, sumRight}
 use Rattle.mail.specs.Mail.{Message, messageOf, proposalOf, recordAt, turnText, transfersText, accepted, marked, declined, recordLimit}
 use Rattle.mail.specs.Tally.{Counts, noCounts, moreProposed, moreForwarded, moreDeclined, moreDeferred, declinedOnes, deferredOnes}
 use Rattle.session.specs.Choices.{Shelf, chosen, answersTo, bodyBytes}
@@ -139,10 +139,14 @@ ourTurn E o ff m = speaking E o ff (chosen (E .table) (m .framed) (m .states) (m
 abbrev pub turnMarks : Memory → Memory
 turnMarks m = withSending [] (withStates (marked (m .sending) (m .states)) (withCounts (moreForwarded (length (m .sending)) (m .counts)) m))
 
+-- How the transfer of this proposal, which is due now, is read.
+abbrev pub kindDue : Memory → Proposal → TransferKind
+kindDue m p = kindOf (p .form)
+
 -- "The right to propose passes to whoever sent the FS.": after the transfers that our FS line accepts, if there are any
 abbrev pub answering : Shelf → List Sign → List Proposal → Memory → Outcome
 answering E ss [] m = ourTurn E (withCr (fsLine ss)) false m
-answering E ss (p ∷ ps) m = goesOn (awaitsTransfer p ps (scanFrom (p .form))) m (withCr (fsLine ss))
+answering E ss (p ∷ ps) m = goesOn (awaitsTransfer p ps (scanFrom (kindDue m p))) m (withCr (fsLine ss))
 
 abbrev pub answered : Shelf → List Proposal → Memory → Outcome
 answered E ps m = answering E (answersTo E (m .inbox) ps) (accepted (answersTo E (m .inbox) ps) ps) m
@@ -248,10 +252,9 @@ lineMoved E a s b ends = settled s true (lineJudged E a (s .memory) (s .part))
 lineMoved E a s b grows = moved (withPart (s .part ++ (b ∷ [])) (withAfterCr false s))
 lineMoved E a s b overruns = refused s (lineByteNumber overruns)
 
-abbrev pub isPlain : Form → Bool
-isPlain plain = true
-isPlain message = false
-isPlain file = false
+abbrev pub isPlain : TransferKind → Bool
+isPlain plainKind = true
+isPlain framedKind = false
 
 abbrev pub keptIn : Memory → Message → Memory
 keptIn m x = withInbox (m .inbox ++ (x ∷ [])) m
@@ -259,13 +262,13 @@ keptIn m x = withInbox (m .inbox ++ (x ∷ [])) m
 -- "A message is kept at its last byte."; then the next transfer is awaited, or it is our turn
 abbrev pub nextTransfer : Shelf → List Proposal → Memory → Outcome
 nextTransfer E [] m = ourTurn E [] false m
-nextTransfer E (p ∷ ps) m = goesOn (awaitsTransfer p ps (scanFrom (p .form))) m []
+nextTransfer E (p ∷ ps) m = goesOn (awaitsTransfer p ps (scanFrom (kindDue m p))) m []
 
 -- "One LF directly after .. the CR that closes a plain transfer, is dropped"
 abbrev pub transferMoved : Shelf → Proposal → List Proposal → Session → Scanned → Stepped
 transferMoved E p ps s (goes sc) = moved (withPhase (awaitsTransfer p ps sc) (withAfterCr false s))
 transferMoved E p ps s (got h x) =
-    settled s (isPlain (p .form)) (nextTransfer E ps (keptIn (s .memory) (messageOf p (record { heading = h; body = x }))))
+    settled s (isPlain (kindDue (s .memory) p)) (nextTransfer E ps (keptIn (s .memory) (messageOf p (record { heading = h; body = x }))))
 transferMoved E p ps s malformed = refused s (scannedNumber malformed)
 transferMoved E p ps s wrongSum = refused s (scannedNumber wrongSum)
 transferMoved E p ps s noRoom = refused s (scannedNumber noRoom)

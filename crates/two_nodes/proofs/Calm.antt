@@ -11,18 +11,18 @@ use lib.ListN.{length}
 use borrow.Author.Tests.{eqb-true, eq-eqb}
 use Rattle.grammar.specs.Bytes.{Bytes, CR, LF, CTRLZ, every}
 use Rattle.grammar.specs.Refusals.{badChecksum}
-use Rattle.grammar.specs.Fields.{Form, plain, message, file, headingByte, isHeading, isBody, headingMax}
+use Rattle.grammar.specs.Fields.{headingByte, isHeading, isBody, headingMax}
 use Rattle.grammar.specs.Lines.{LineByte, dropped, ends, grows, overruns, lineByte, trim, isComment, isPrompt}
 use Rattle.grammar.specs.Sid.{readSid, hasFeature, framed}
 use Rattle.grammar.specs.Turns.{Proposal, TurnLine, saysFF, saysFQ, endsBlock, notAllowed, proposes, readTurnLine, proposalLine, fixedText, ourSid, protocolError, checksumError, withCr}
 use Rattle.grammar.specs.Errors.{isSilent, errorText}
 use Rattle.grammar.specs.Answers.{Sign, readFs, fsNumber, fsLine}
-use Rattle.grammar.specs.Transfers.{sendable, writeTransfer}
+use Rattle.grammar.specs.Transfers.{TransferKind, plainKind, framedKind, kindOf, sendable, writeTransfer}
 use Rattle.grammar.specs.Scan.{Scanned, goes, got, malformed, wrongSum, noRoom, scanByte}
 use Rattle.grammar.proofs.Basics.{and2, no-both, not-so, by-cond, field-is}
 use Rattle.mail.specs.Mail.{Record, messageOf, headingFor, transferOf, recordAt, noRecord, proposalOf, turnText, transfersText, accepted}
 use Rattle.session.specs.Choices.{Shelf, chosen, answersTo}
-use Rattle.session.specs.Session.{Awaited, Memory, Session, Outcome, refuses, goesOn, speaking, turnMarks, answering, Stepped, settled, isPlain, keptIn, nextTransfer, step}
+use Rattle.session.specs.Session.{kindDue, Awaited, Memory, Session, Outcome, refuses, goesOn, speaking, turnMarks, answering, Stepped, settled, isPlain, keptIn, nextTransfer, step}
 use Rattle.session.proofs.Ways.{Judged, isWrong, hearsSid, hearsText, hearsPrompt, hearsProposal, hearsFF, hearsFQ, hearsEnd, hearsFs, Way, isRefused, dropsLf, growsLine, ignoresLine, hearsLine, readsOn, readsLast, way}
 use Rattle.log.specs.Log.{Event, took, gave}
 use Rattle.two_nodes.specs.Link.{gaveIn}
@@ -41,18 +41,18 @@ heading-calm [] r e = absurd (let z = field-is headingByte headingMax [] e .leas
 heading-calm (x ∷ h) r e =
     not-so (eqb x LF) (λ k. no-both (headingByte x) ((and2 (headingByte x) (every headingByte h) (field-is headingByte headingMax (x ∷ h) e .class)) .0) (ap headingByte (eqb-true x LF k)))
 
-transfer-calm : (f : Form) (h x r : Bytes) → sendable f h x ≡ true → headLf (writeTransfer f h x ++ r) ≡ false
+transfer-calm : (kind : TransferKind) (h x r : Bytes) → isHeading h ≡ true → headLf (writeTransfer kind h x ++ r) ≡ false
 unfolding writeTransfer
-transfer-calm plain h x r e =
-    ap headLf (append-assoc h (CR ∷ (x ++ CTRLZ ∷ CR ∷ [])) r) ∙ heading-calm h (CR ∷ (x ++ CTRLZ ∷ CR ∷ []) ++ r) ((and2 (isHeading h) (isBody plain x) e) .0)
-transfer-calm message h x r e = refl
-transfer-calm file h x r e = refl
+transfer-calm plainKind h x r e =
+    ap headLf (append-assoc h (CR ∷ (x ++ CTRLZ ∷ CR ∷ [])) r) ∙ heading-calm h (CR ∷ (x ++ CTRLZ ∷ CR ∷ []) ++ r) e
+transfer-calm framedKind h x r e = refl
 
 record-calm : (T : List Record) (j : ℕ) (r : Bytes) → allSendable T ≡ true → headLf (transferOf (recordAt T j) ++ r) ≡ false
 unfolding writeTransfer
 record-calm [] j r h = refl
 record-calm (x ∷ T) zero r h =
-    transfer-calm (x .form) (headingFor (x .form) x) (x .body) r ((and2 (sendable (x .form) (headingFor (x .form) x) (x .body)) (allSendable T) h) .0)
+    transfer-calm (kindOf (x .form)) (headingFor (x .form) x) (x .body) r
+    ((and2 (isHeading (headingFor (x .form) x)) (isBody (x .form) (x .body)) ((and2 (sendable (x .form) (headingFor (x .form) x) (x .body)) (allSendable T) h) .0)) .0)
 record-calm (x ∷ T) (suc j) r h = record-calm T j r ((and2 (sendable (x .form) (headingFor (x .form) x) (x .body)) (allSendable T) h) .1)
 
 transfers-calm : (T : List Record) (js : List ℕ) → allSendable T ≡ true → headLf (transfersText T js) ≡ false
@@ -129,7 +129,7 @@ module _ (E : Shelf) (h : allSendable (E .table) ≡ true) where
   way-calm s b c o (readsOn p ps sc on w k) = c
   way-calm s b c o (readsLast p ps sc x y w k) =
       let m : Memory = keptIn (s .memory) (messageOf p (record { heading = x; body = y })) in
-      settled-calm s (isPlain (p .form)) (nextTransfer E ps m) (next-calm ps m)
+      settled-calm s (isPlain (kindDue (s .memory) p)) (nextTransfer E ps m) (next-calm ps m)
 
   step-calm : (s : Session) (b : ℕ) → headLf (s .out) ≡ false → headLf (step E s b .session .out) ≡ false
   step-calm s b c = way-calm s b c (step E s b) (way E s b)

@@ -21,7 +21,7 @@ use Rattle.grammar.specs.Scan.{Scanned, goes, got, malformed, wrongSum, noRoom,
 use Rattle.grammar.proofs.Basics.{no-both, by-cond, or2}
 use Rattle.mail.specs.Mail.{messageOf, accepted}
 use Rattle.session.specs.Choices.{Shelf, chosen, answersTo}
-use Rattle.session.specs.Session.{Awaited, Phase, over, Memory, Session, Outcome, refuses, goesOn, speaking, turnMarks, answering, levelInForce, Stepped, settled, isPlain, keptIn, nextTransfer, step, ended, endedIn, opened}
+use Rattle.session.specs.Session.{kindDue, Awaited, Phase, over, Memory, Session, Outcome, refuses, goesOn, speaking, turnMarks, answering, levelInForce, Stepped, settled, isPlain, keptIn, nextTransfer, step, ended, endedIn, opened}
 use Rattle.session.proofs.Ways.{Wrong, noSid, noF, noTurnLine, ffAfterFf, ffInBlock, fqFirst, fqInBlock, emptyBlock, emptySummed, tooMany, wrongHex, noAnswer, Judged, isWrong, hearsSid, hearsText, hearsPrompt, hearsProposal, hearsFF, hearsFQ, hearsEnd, hearsFs, why-number, Way, isRefused, dropsLf, growsLine, ignoresLine, hearsLine, readsOn, readsLast, way}
 use Rattle.demand3.specs.Demand.{Call, receiving, giving, refusedCall, run}
 use Rattle.two_nodes.specs.Session.{End, ran, FqArrives}
@@ -115,7 +115,7 @@ module _ (E : Shelf) where
   way-ends s b l o (ignoresLine a w x y t n) e f = never f
   way-ends s b l o (hearsLine a w x y j d) e f = settled-ends s j (line-ends (s .memory) (s .part) j d) e f
   way-ends s b l o (readsOn p ps sc on w k) e f = never f
-  way-ends s b l o (readsLast p ps sc h x w k) e f = kept-ends s (isPlain (p .form)) ps (keptIn (s .memory) (messageOf p (record { heading = h; body = x }))) e f
+  way-ends s b l o (readsLast p ps sc h x w k) e f = kept-ends s (isPlain (kindDue (s .memory) p)) ps (keptIn (s .memory) (messageOf p (record { heading = h; body = x }))) e f
 
   step-ends : (s : Session) (b : ℕ) → ended s ≡ false → EndsByFq (step E s b)
   step-ends s b l = way-ends s b l (step E s b) (way E s b)

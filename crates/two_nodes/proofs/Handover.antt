@@ -16,14 +16,14 @@ use Rattle.grammar.specs.Fields.{Form, plain, message, file}
 use Rattle.grammar.specs.Sid.{readSid, hasFeature, framed, letterF}
 use Rattle.grammar.specs.Turns.{Proposal, inMode, proposable, readTurnLine, proposalLine, fixedText, ourSid, ourPrompt, ourFF, ourFQ, ourEnd, withCr, blockLimit}
 use Rattle.grammar.specs.Answers.{Sign, accept, decline, defer, readFs, fsLine, fixedLine, ourProposal, OurLine}
-use Rattle.grammar.specs.Transfers.{sendable, writeTransfer, readTransfer, Content}
+use Rattle.grammar.specs.Transfers.{kindOf, sendable, writeTransfer, readTransfer, Content}
 use Rattle.grammar.specs.Scan.{scanFrom}
 use Rattle.grammar.proofs.Basics.{and2, no-both}
 use Rattle.grammar.proofs.OurLines.{GoodLine, good-line, proposal-read, fs-back, ff-read, fq-read, end-read, prompt-read}
 use Rattle.grammar.proofs.TransferBack.{transfer-back}
 use Rattle.mail.specs.Mail.{Record, Message, proposalOf, headingFor, transferOf, recordAt, accepted, marked, declined}
 use Rattle.session.specs.Choices.{Shelf, answersTo}
-use Rattle.session.specs.Session.{awaitsSid, awaitsPrompt, awaitsTurn, awaitsAnswer, Phase, aLine, newTurn, over, awaitsTransfer, Memory, Session, between, Stepped, moved, step, turnMarks, answerMarks, levelInForce, greeting}
+use Rattle.session.specs.Session.{kindDue, awaitsSid, awaitsPrompt, awaitsTurn, awaitsAnswer, Phase, aLine, newTurn, over, awaitsTransfer, Memory, Session, between, Stepped, moved, step, turnMarks, answerMarks, levelInForce, greeting}
 use Rattle.session.proofs.Choices.{Places, chosen-places, one-sign-each}
 use Rattle.log.proofs.Spoken.{Fit, AllFit}
 use Rattle.demand2.specs.Refusals.{WholeLine}
@@ -67,7 +67,7 @@ pub data Handover (E F : Shelf) (p : Phase) (m : Memory) (o : Bytes) (q : Phase)
       → m .framed ≡ true → n .framed ≡ true → m .sending ≡ [] → n .sending ≡ [] → Handover E F p m o q n
   -- the accepted transfers
   sends : (j : ℕ) (js : List ℕ) → Places true (E .table) (j ∷ js) → p ≡ newTurn false → o ≡ transfersSaid (E .table) (j ∷ js)
-      → q ≡ awaitsTransfer (proposalOf (recordAt (E .table) j)) (proposalsAt (E .table) js) (scanFrom (recordAt (E .table) j .form))
+      → q ≡ awaitsTransfer (proposalOf (recordAt (E .table) j)) (proposalsAt (E .table) js) (scanFrom (kindDue n (proposalOf (recordAt (E .table) j))))
       → m .framed ≡ true → n .framed ≡ true → m .sending ≡ j ∷ js → n .sending ≡ [] → Handover E F p m o q n
 
 -- The listener u has heard all and speaks; the speaker's phase is p and its memory m.
@@ -129,7 +129,7 @@ fs-loud : (ss : List Sign) (r : Bytes) → null (withCr (fsLine ss) ++ r) ≡ fa
 unfolding fsLine
 fs-loud ss r = refl
 
-transfer-head : (f : Form) (h x : Bytes) → inMode true f ≡ true → (headLf (writeTransfer f h x) ≡ false) × ((r : Bytes) → null (writeTransfer f h x ++ r) ≡ false)
+transfer-head : (f : Form) (h x : Bytes) → inMode true f ≡ true → (headLf (writeTransfer (kindOf f) h x) ≡ false) × ((r : Bytes) → null (writeTransfer (kindOf f) h x ++ r) ≡ false)
 unfolding writeTransfer
 transfer-head plain h x e = absurd (no-both false e refl)
 transfer-head message h x e = (refl, λ r. refl)
@@ -383,8 +383,8 @@ module _ (E F : Shelf) (SE : Sound E) (SF : Sound F) (s t : List ℕ) (p : Phase
       all-snoc (E .table) (n .inbox ++ (x ∷ [])) done j (all-more (E .table) (n .inbox) x done a) (has-last x (n .inbox))
 
   transfer-heard : (js : List ℕ) (j : ℕ) (n : Memory) (cr : Bool) → j < length (E .table) → inMode true (recordAt (E .table) j .form) ≡ true → R → P n
-      → Hears F P R Q (transfersOr F (endsWithCr (recordAt (E .table) j .form)) [] (proposalsAt (E .table) js) (withKept n j)) (transfersSaid (E .table) js)
-      → Hears F P R Q (between (awaitsTransfer (proposalOf (recordAt (E .table) j)) (proposalsAt (E .table) js) (scanFrom (recordAt (E .table) j .form))) cr [] n)
+      → Hears F P R Q (transfersOr F (endsWithCr (kindDue n (proposalOf (recordAt (E .table) j)))) [] (proposalsAt (E .table) js) (withKept n j)) (transfersSaid (E .table) js)
+      → Hears F P R Q (between (awaitsTransfer (proposalOf (recordAt (E .table) j)) (proposalsAt (E .table) js) (scanFrom (kindDue n (proposalOf (recordAt (E .table) j))))) cr [] n)
       (transfersSaid (E .table) (j ∷ js))
   transfer-heard js j n cr l f e c h =
       let r : Record = recordAt (E .table) j in
@@ -396,7 +396,7 @@ module _ (E F : Shelf) (SE : Sound E) (SF : Sound F) (s t : List ℕ) (p : Phase
   -- TRANSFERS: those at done have been kept
   transfers-heard : (js : List ℕ) (j : ℕ) (done : List ℕ) (n : Memory) (cr : Bool) → Places true (E .table) (j ∷ js) → p ≡ newTurn false
       → m .framed ≡ true → n .framed ≡ true → m .sending ≡ done ++ (j ∷ js) → n .sending ≡ [] → AllHas (E .table) (n .inbox) done → P n
-      → Hears F P R Q (between (awaitsTransfer (proposalOf (recordAt (E .table) j)) (proposalsAt (E .table) js) (scanFrom (recordAt (E .table) j .form))) cr [] n)
+      → Hears F P R Q (between (awaitsTransfer (proposalOf (recordAt (E .table) j)) (proposalsAt (E .table) js) (scanFrom (kindDue n (proposalOf (recordAt (E .table) j))))) cr [] n)
       (transfersSaid (E .table) (j ∷ js))
   transfers-heard [] j done n cr h e fm fn sm sn a c =
       transfer-heard [] j n cr (h .0) (h .1) e c
@@ -409,7 +409,7 @@ module _ (E F : Shelf) (SE : Sound E) (SF : Sound F) (s t : List ℕ) (p : Phase
       }))
   transfers-heard (k ∷ ks) j done n cr h e fm fn sm sn a c =
       transfer-heard (k ∷ ks) j n cr (h .0) (h .1) e c
-      (transfers-heard ks k (done ++ (j ∷ [])) (withKept n j) (endsWithCr (recordAt (E .table) j .form)) (h .2) e fm fn
+      (transfers-heard ks k (done ++ (j ∷ [])) (withKept n j) (endsWithCr (kindDue n (proposalOf (recordAt (E .table) j)))) (h .2) e fm fn
       (sm ∙ sym (append-assoc done (j ∷ []) (k ∷ ks))) sn (all-kept n j done a) (kept-claims n j c))
 
   -- SIDs

@@ -11,18 +11,17 @@ use lib.Dec.{eqb, ltb}
 use lib.ListN.{length, length-append}
 use borrow.Author.Tests.{lt-ltb}
 use Rattle.grammar.specs.Bytes.{Bytes, CR, LF}
-use Rattle.grammar.specs.Fields.{Form, plain, message, file}
 use Rattle.grammar.specs.Lines.{ends, grows, overruns, lineLimit}
 use Rattle.grammar.specs.Turns.{Proposal, fixedText, protocolError, withCr}
 use Rattle.grammar.specs.Errors.{errorText}
-use Rattle.grammar.specs.Transfers.{Content, parse, readTransfer, valid}
+use Rattle.grammar.specs.Transfers.{TransferKind, plainKind, framedKind, Content, parse, readTransfer, valid}
 use Rattle.grammar.specs.Scan.{Scan, Scanned, goes, got, malformed, wrongSum, noRoom, scanByte, scanFrom}
 use Rattle.grammar.proofs.Basics.{snoc-cons, Lacks, and-false}
 use Rattle.grammar.proofs.OurLines.{GoodLine}
 use Rattle.grammar.proofs.Refusal.{Reach, Verdict, reach-step, from, exact-at, read-as, contentOf}
 use Rattle.mail.specs.Mail.{messageOf}
 use Rattle.session.specs.Choices.{Shelf}
-use Rattle.session.specs.Session.{Awaited, Phase, aLine, over, awaitsTransfer, Memory, Session, between}
+use Rattle.session.specs.Session.{kindDue, Awaited, Phase, aLine, over, awaitsTransfer, Memory, Session, between}
 use Rattle.session.specs.Session.{Stepped, moved, settled, lineMoved, isPlain, keptIn, nextTransfer, transferMoved, step, ended, endedIn}
 use Rattle.demand2.specs.Room.{room}
 use Rattle.demand2.specs.Refusals.{WholeLine, TransferByte}
@@ -106,15 +105,14 @@ module _ (E : Shelf) (P : Memory → Type 0) (R : Type 0) (Q : Session → Type 
 never : {A : Type 0} (c : Content) → none ≡ some c → A
 never c e = let y : _≡_ {A = ℕ} 0 1 = cc in absurd (omega arith)
 
-read-none : (f : Form) (q : Bytes) → parse f q ≡ none → readTransfer f q ≡ none
+read-none : (kind : TransferKind) (q : Bytes) → parse kind q ≡ none → readTransfer kind q ≡ none
 unfolding readTransfer
-read-none f q n = ap valid n
+read-none kind q n = ap valid n
 
-read-nothing : (f : Form) → readTransfer f [] ≡ none
+read-nothing : (kind : TransferKind) → readTransfer kind [] ≡ none
 unfolding readTransfer parse
-read-nothing plain = refl
-read-nothing message = refl
-read-nothing file = refl
+read-nothing plainKind = refl
+read-nothing framedKind = refl
 
 module _ (E : Shelf) (P : Memory → Type 0) (R : Type 0) (Q : Session → Type 0) (p : Proposal) (ps : List Proposal) (m : Memory) (h : P m) (sends : R) (c : Content) (later : Bytes) where
   abbrev reading : Scan → Bool → Session
@@ -122,7 +120,7 @@ module _ (E : Shelf) (P : Memory → Type 0) (R : Type 0) (Q : Session → Type 
 
   -- the message is kept, and the next transfer is awaited or it is the listener's turn
   abbrev pub keptThen : Session
-  keptThen = transfersOr E (endsWithCr (p .form)) [] ps (withMessage m (messageFrom p (c .heading) (c .body)))
+  keptThen = transfersOr E (endsWithCr (kindDue m p)) [] ps (withMessage m (messageFrom p (c .heading) (c .body)))
 
   hears-byte : (sc : Scan) (cr : Bool) → Listening P (reading sc cr)
   hears-byte sc cr = record { live = refl; silent = refl; claims = h }
@@ -143,16 +141,16 @@ module _ (E : Shelf) (P : Memory → Type 0) (R : Type 0) (Q : Session → Type 
   whole sc cr b t y d e k =
       let z : _≡_ {A = Content} (record { heading = t; body = y }) c = cc in
       scans sc cr b (got t y) d e
-      ∙ next E (reading sc cr) (isPlain (p .form)) ps (keptIn m (messageOf p (record { heading = t; body = y })))
-      ∙ ap (λ (x : Bool). moved (transfersOr E x [] ps (withMessage m (messageFrom p t y)))) (plain-is (p .form))
-      ∙ ap (λ (x : Content). moved (transfersOr E (endsWithCr (p .form)) [] ps (withMessage m (messageFrom p (x .heading) (x .body))))) z
+      ∙ next E (reading sc cr) (isPlain (kindDue m p)) ps (keptIn m (messageOf p (record { heading = t; body = y })))
+      ∙ ap (λ (x : Bool). moved (transfersOr E x [] ps (withMessage m (messageFrom p t y)))) (plain-is (kindDue m p))
+      ∙ ap (λ (x : Content). moved (transfersOr E (endsWithCr (kindDue m p)) [] ps (withMessage m (messageFrom p (x .heading) (x .body))))) z
 
   -- its bytes x and v, after u
-  rest-of-transfer : (v : Bytes) (x : ℕ) (u : Bytes) (sc : Scan) (cr : Bool) → Reach (room E (m .inbox)) (p .form) (goes sc) u
-      → readTransfer (p .form) (u ++ x ∷ v) ≡ some c → cr && eqb x LF ≡ false → Heard E P R Q keptThen later
+  rest-of-transfer : (v : Bytes) (x : ℕ) (u : Bytes) (sc : Scan) (cr : Bool) → Reach (room E (m .inbox)) (kindDue m p) (goes sc) u
+      → readTransfer (kindDue m p) (u ++ x ∷ v) ≡ some c → cr && eqb x LF ≡ false → Heard E P R Q keptThen later
       → Hears E P R Q (reading sc cr) (x ∷ (v ++ later))
   rest-of-transfer [] x u sc cr r e d k =
-      (hears-byte sc cr, go (scanByte (room E (m .inbox)) sc x) refl (sym (read-as (room E (m .inbox)) (p .form) u sc (omega arith) r x) ∙ e))
+      (hears-byte sc cr, go (scanByte (room E (m .inbox)) sc x) refl (sym (read-as (room E (m .inbox)) (kindDue m p) u sc (omega arith) r x) ∙ e))
     where
       go : (o : Scanned) → scanByte (room E (m .inbox)) sc x ≡ o → contentOf o ≡ some c → Heard E P R Q (step E (reading sc cr) x .session) later
       go (goes sc′) g f = never c f
@@ -162,15 +160,15 @@ module _ (E : Shelf) (P : Memory → Type 0) (R : Type 0) (Q : Session → Type 
       go noRoom g f = never c f
   rest-of-transfer (y ∷ v) x u sc cr r e d k = (
     hears-byte sc cr,
-    go (scanByte (room E (m .inbox)) sc x) refl (exact-at (room E (m .inbox)) (p .form) u sc r x) (reach-step (room E (m .inbox)) (p .form) (goes sc) u x r)
-        (λ sc′ r′. rest-of-transfer v y (u ++ (x ∷ [])) sc′ false r′ (ap (readTransfer (p .form)) (snoc-cons u (y ∷ v) x) ∙ e) refl k),
+    go (scanByte (room E (m .inbox)) sc x) refl (exact-at (room E (m .inbox)) (kindDue m p) u sc r x) (reach-step (room E (m .inbox)) (kindDue m p) (goes sc) u x r)
+        (λ sc′ r′. rest-of-transfer v y (u ++ (x ∷ [])) sc′ false r′ (ap (readTransfer (kindDue m p)) (snoc-cons u (y ∷ v) x) ∙ e) refl k),
   )
     where
-      none-longer : parse (p .form) ((u ++ (x ∷ [])) ++ y ∷ v) ≡ none → ⊥
-      none-longer n = never c (sym (read-none (p .form) ((u ++ (x ∷ [])) ++ y ∷ v) n) ∙ ap (readTransfer (p .form)) (snoc-cons u (y ∷ v) x) ∙ e)
+      none-longer : parse (kindDue m p) ((u ++ (x ∷ [])) ++ y ∷ v) ≡ none → ⊥
+      none-longer n = never c (sym (read-none (kindDue m p) ((u ++ (x ∷ [])) ++ y ∷ v) n) ∙ ap (readTransfer (kindDue m p)) (snoc-cons u (y ∷ v) x) ∙ e)
 
-      go : (o : Scanned) → scanByte (room E (m .inbox)) sc x ≡ o → Verdict (room E (m .inbox)) (p .form) o (u ++ (x ∷ [])) → Reach (room E (m .inbox)) (p .form) o (u ++ (x ∷ []))
-          → ((sc′ : Scan) → Reach (room E (m .inbox)) (p .form) (goes sc′) (u ++ (x ∷ [])) → Hears E P R Q (reading sc′ false) (y ∷ (v ++ later)))
+      go : (o : Scanned) → scanByte (room E (m .inbox)) sc x ≡ o → Verdict (room E (m .inbox)) (kindDue m p) o (u ++ (x ∷ [])) → Reach (room E (m .inbox)) (kindDue m p) o (u ++ (x ∷ []))
+          → ((sc′ : Scan) → Reach (room E (m .inbox)) (kindDue m p) (goes sc′) (u ++ (x ∷ [])) → Hears E P R Q (reading sc′ false) (y ∷ (v ++ later)))
           → Heard E P R Q (step E (reading sc cr) x .session) (y ∷ (v ++ later))
       go (goes sc′) g w r′ ih = inl (subst (λ (o : Stepped). Hears E P R Q (o .session) (y ∷ (v ++ later))) (sym (scans sc cr x (goes sc′) d g)) (ih sc′ r′))
       go (got t z) g w r′ ih = absurd (none-longer (w .2 y v))
@@ -179,7 +177,7 @@ module _ (E : Shelf) (P : Memory → Type 0) (R : Type 0) (Q : Session → Type 
       go noRoom g w r′ ih = inr (broken sc cr x d g)
 
   -- A WHOLE TRANSFER
-  pub hears-transfer : (bytes : Bytes) (cr : Bool) → readTransfer (p .form) bytes ≡ some c → headLf bytes ≡ false → Heard E P R Q keptThen later
-      → Hears E P R Q (reading (scanFrom (p .form)) cr) (bytes ++ later)
-  hears-transfer [] cr e z k = never c (sym (read-nothing (p .form)) ∙ e)
-  hears-transfer (x ∷ v) cr e z k = rest-of-transfer v x [] (scanFrom (p .form)) cr (from (room E (m .inbox)) (p .form)) e (and-false cr (eqb x LF) z) k
+  pub hears-transfer : (bytes : Bytes) (cr : Bool) → readTransfer (kindDue m p) bytes ≡ some c → headLf bytes ≡ false → Heard E P R Q keptThen later
+      → Hears E P R Q (reading (scanFrom (kindDue m p)) cr) (bytes ++ later)
+  hears-transfer [] cr e z k = never c (sym (read-nothing (kindDue m p)) ∙ e)
+  hears-transfer (x ∷ v) cr e z k = rest-of-transfer v x [] (scanFrom (kindDue m p)) cr (from (room E (m .inbox)) (kindDue m p)) e (and-false cr (eqb x LF) z) k

@@ -17,7 +17,7 @@ use Rattle.grammar.specs.Scan.{Scanned, goes, got, malformed, wrongSum, noRoom,
 use Rattle.grammar.proofs.Basics.{by-cond, or2}
 use Rattle.mail.specs.Mail.{Message, messageOf, accepted}
 use Rattle.session.specs.Choices.{Shelf, among, recordBids, messageBids, proposalBids, haveBid, noRoomFor, withAccepted, answersAfter, answersTo, chosen}
-use Rattle.session.specs.Session.{Awaited, Phase, aLine, awaitsTransfer, leaving, over, Memory, Session, Outcome, refuses, goesOn, speaking, turnMarks, answering, Stepped, settled, isPlain, keptIn, nextTransfer, step, opened, withOut}
+use Rattle.session.specs.Session.{kindDue, Awaited, Phase, aLine, awaitsTransfer, leaving, over, Memory, Session, Outcome, refuses, goesOn, speaking, turnMarks, answering, Stepped, settled, isPlain, keptIn, nextTransfer, step, opened, withOut}
 use Rattle.session.proofs.Ways.{Judged, isWrong, hearsSid, hearsText, hearsPrompt, hearsProposal, hearsFF, hearsFQ, hearsEnd, hearsFs, At, Way, isRefused, dropsLf, growsLine, ignoresLine, hearsLine, readsOn, readsLast, way}
 use Rattle.log.specs.Log.{Event, took, gave}
 use Rattle.demand3.specs.Demand.{Call, run}
@@ -139,10 +139,10 @@ module _ (E : Shelf) where
 
   -- a kept message was the first of those awaited
   kept-on : (s : Session) (p : Proposal) (ps : List Proposal) (h x : Bytes) → EachNew E [] (messageBids (s .memory .inbox) ++ p .bid ∷ proposalBids ps) → NewIn s
-      → NewIn (settled s (isPlain (p .form)) (nextTransfer E ps (keptIn (s .memory) (messageOf p (record { heading = h; body = x })))) .session)
+      → NewIn (settled s (isPlain (kindDue (s .memory) p)) (nextTransfer E ps (keptIn (s .memory) (messageOf p (record { heading = h; body = x })))) .session)
   kept-on s p ps h x k n =
       let m : Memory = keptIn (s .memory) (messageOf p (record { heading = h; body = x })) in
-      settled-new s (isPlain (p .form)) (nextTransfer E ps m) n
+      settled-new s (isPlain (kindDue (s .memory) p)) (nextTransfer E ps m) n
       (next-new ps m
       (subst (EachNew E [])
       (sym

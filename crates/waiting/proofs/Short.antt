@@ -12,7 +12,7 @@ use borrow.Author.Tests.{ltb-true, ltb-false}
 use Rattle.grammar.specs.Bytes.{Bytes, byteValues}
 use Rattle.grammar.specs.Fields.{Form, plain, message, file, bodyLimit}
 use Rattle.grammar.specs.Turns.{proposalLine, withCr}
-use Rattle.grammar.specs.Transfers.{partOf, writeTransfer, blocksOut, dataMax}
+use Rattle.grammar.specs.Transfers.{TransferKind, plainKind, framedKind, kindOf, partOf, writeTransfer, blocksOut, dataMax}
 use Rattle.grammar.proofs.Basics.{by-cond}
 use Rattle.grammar.proofs.Fields.{num-field}
 use Rattle.mail.specs.Mail.{Record, headingFor, transferOf, proposalLines, turnText}
@@ -71,11 +71,10 @@ blocks-short (suc f) [] = omega arith
 blocks-short (suc f) (b ∷ x) =
     simp length-append (omega (arith, blocks-short f (drop dataMax (b ∷ x)), length-drop dataMax (b ∷ x), length-take dataMax (b ∷ x)))
 
-pub transfer-short : (f : Form) (h x : Bytes) → length h ≤ byteValues - 1 → length x ≤ bodyLimit → length (writeTransfer f h x) ≤ transferBound
+pub transfer-short : (kind : TransferKind) (h x : Bytes) → length h ≤ byteValues - 1 → length x ≤ bodyLimit → length (writeTransfer kind h x) ≤ transferBound
 unfolding writeTransfer
-transfer-short plain h x k l = simp length-append (omega arith)
-transfer-short message h x k l = simp length-append (omega (arith, blocks-short (length x) x))
-transfer-short file h x k l = simp length-append (omega (arith, blocks-short (length x) x))
+transfer-short plainKind h x k l = simp length-append (omega arith)
+transfer-short framedKind h x k l = simp length-append (omega (arith, blocks-short (length x) x))
 
 pub heading-short : (f : Form) (r : Record) → length (r .title) ≤ byteValues - 1 → length (r .name) ≤ byteValues - 1 → length (headingFor f r) ≤ byteValues - 1
 heading-short plain r t n = t
@@ -92,7 +91,7 @@ record-short table titles names bodies o i =
     let t : length (r .title) ≤ byteValues - 1 = omega (arith, part-short titles (le4At c recordTitle) (byteAt c recordTitleLength), b recordTitleLength) in
     let n : length (r .name) ≤ byteValues - 1 = omega (arith, part-short names (le4At c recordName) (byteAt c recordNameLength), b recordNameLength) in
     let x : length (r .body) ≤ bodyLimit = omega (arith, part-short bodies (le4At c recordBody) (le2At c recordBodyLength), le2-small c b recordBodyLength) in
-    transfer-short (r .form) (headingFor (r .form) r) (r .body) (heading-short (r .form) r t n) x
+    transfer-short (kindOf (r .form)) (headingFor (r .form) r) (r .body) (heading-short (r .form) r t n) x
 
 -- ---------------------------------------------------------------- all that waits
 
