@@ -3,11 +3,11 @@
 use numbers::Numbers;
 ghost use mathlib.Core.Path.{_≡_};
 ghost use mathlib.Core.Bool.{_&&_};
-ghost use Prim.Native.Nat.{_≤_};
 ghost use lib.Dec.{eqb};
 ghost use lib.ListN.{length};
 ghost use Rattle.grammar.specs.Bytes.{Bytes, LF};
 ghost use Rattle.phase.specs.Phase.{phaseTransfer};
+ghost use Rattle.receive_defined.specs.Roomy.{Roomy};
 ghost use Rattle.byte_run.specs.Taking.{hasCr, Takes, Live, Quiet};
 
 // One of the bytes ends a line.
@@ -50,7 +50,7 @@ fn line_run(s: Numbers, bytes: &[u8], sm: &mut [u8]) -> bool
 
 // Bytes of a body.
 fn body_run(s: Numbers, bytes: &[u8], sm: &mut [u8], store: &mut [u8]) -> bool
-    requires { ⌜ Live s (now sm) (now bytes) × Quiet s (now bytes) × (s .now .phase ≡ phaseTransfer) × (s .keep .used ≤ length (now store)) ⌝ }
+    requires { ⌜ Live s (now sm) (now bytes) × Quiet s (now bytes) × (s .now .phase ≡ phaseTransfer) × Roomy s (length (now store)) ⌝ }
     ensures { λ r. ⌜ Takes r (now (sm .entry)) (now (store .entry)) (now (bytes .entry)) (now (sm .exit)) (now (store .exit)) ⌝ }
 {
     let reader = s.reader;
@@ -76,7 +76,7 @@ pub fn is_dropped(after_cr: bool, b: u8) -> bool
 
 // Takes the bytes if all of them only make the line or the body under way longer; whether they do. s: the numbers in session memory.
 pub fn take(s: Numbers, bytes: &[u8], sm: &mut [u8], store: &mut [u8]) -> bool
-    requires { ⌜ Live s (now sm) (now bytes) × (s .keep .used ≤ length (now store)) ⌝ }
+    requires { ⌜ Live s (now sm) (now bytes) × Roomy s (length (now store)) ⌝ }
     ensures { λ r. ⌜ Takes r (now (sm .entry)) (now (store .entry)) (now (bytes .entry)) (now (sm .exit)) (now (store .exit)) ⌝ }
 {
     let b = bytes[0];

@@ -13,11 +13,11 @@ ghost use Rattle.numbers.specs.Whole as whole;
 ghost use Rattle.numbers.specs.Whole.{Arrays, sessionOf, wholeOf};
 ghost use Rattle.line_effect.specs.Verdict.{judgedIn};
 ghost use Rattle.receive_defined.specs.Receiving.{settled, keptKeep, nextJudged, isPlainAt, keepOf, keptInbox};
-ghost use Rattle.kept_message.specs.Keeping.{Keepable};
+ghost use Rattle.receive_defined.specs.Roomy.{Underway};
 
 // One message more is kept, its body behind those kept before.
 fn kept_keep(s: Numbers) -> KeepNumbers
-    requires { ⌜ Keepable s ⌝ }
+    requires { ⌜ Underway s ⌝ }
     ensures { λ r. ⌜ ((a : Arrays) → whole.keepWith r a ≡ keptKeep (sessionOf s a)) ⌝ }
 {
     let mut k = s.keep;
@@ -28,7 +28,7 @@ fn kept_keep(s: Numbers) -> KeepNumbers
 
 // After a kept message: the transfer of the next accepted proposal; our turn where none is left.
 fn next_judged(s: Numbers, mem: &[u8], next: u8) -> Verdict
-    requires { ⌜ Keepable s × (length (now mem) ≡ arraysLen) ⌝ }
+    requires { ⌜ Underway s × (length (now mem) ≡ arraysLen) ⌝ }
     ensures { λ r. ⌜ judgedIn r (now (mem .entry)) ≡ nextJudged (wholeOf s (now (mem .entry))) next ⌝ }
 {
     let mut t = s;
@@ -62,7 +62,7 @@ fn is_plain(s: Numbers, mem: &[u8]) -> bool
 
 // A whole transfer: the message is kept, then the next is awaited or it is our turn. mem: the state's arrays.
 pub fn keep_message(s: Numbers, mem: &[u8], inbox: &mut [u8], table: &mut [u8]) -> Left
-    requires { ⌜ Keepable s × (length (now mem) ≡ arraysLen) ⌝ }
+    requires { ⌜ Underway s × (length (now mem) ≡ arraysLen) ⌝ }
     ensures { λ r. ⌜ (settled (r .answer) (wholeOf (r .session) (now (mem .entry))) (now (table .exit)) ≡ keepOf (wholeOf s (now (mem .entry))) (now (table .entry))) × (now (inbox .exit) ≡ keptInbox (wholeOf s (now (mem .entry))) (now (inbox .entry))) ⌝ }
 {
     let signs = s.say.signs;

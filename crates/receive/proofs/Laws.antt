@@ -24,7 +24,8 @@ use Rattle.numbers.specs.Whole.{wholeOf, numbersAt, numberBytes}
 use Rattle.numbers_in_place.proofs.Arrays.{arraysPart, arrays-length, load-arrays, saved-lent}
 use Rattle.byte_run.specs.Taking.{Takes, Live}
 use Rattle.receive_defined.specs.Receiving.{Cs, cs, moved, Run, run, stops, receiveFrom, Received, saved, receiveOf}
-use Rattle.receive_defined.specs.Portion.{portionOf, Roomy}
+use Rattle.receive_defined.specs.Portion.{portionOf}
+use Rattle.receive_defined.specs.Roomy.{Roomy}
 use Rattle.form_closed.specs.Fixed.{Fixed}
 use Rattle.form_closed.specs.Facts.{Octets, Good}
 use Rattle.form_closed.proofs.Laws.{octets-nil, octets-cons, octets-drop}
@@ -41,8 +42,8 @@ octets-of (x ∷ l) h = octets-cons (h 0) (octets-of l (λ i. h (suc i)))
 
 -- ---------------------------------------------------------------- for `take_bytes`
 
-pub sound-roomy : {c : Cs} → Sound c → Roomy c
-sound-roomy {c} s = good-roomy (s .fixed) (s .table) (s .inbox) (s .store) c (s .good)
+pub sound-roomy : (h : Numbers) (m table inbox store : Bytes) → Sound (cs (wholeOf h m) table inbox store) → Roomy h (length store)
+sound-roomy h m table inbox store s = good-roomy (s .fixed) (s .table) (s .inbox) (s .store) h m table inbox store (s .good)
 
 -- i bytes are taken, and the state is c: the bytes after them lead to what all of them lead to from c₀
 pub record Taking (known : Bytes) (c₀ : Cs) (bs : Bytes) (c : Cs) (i : ℕ) : Type 0 where
@@ -121,10 +122,8 @@ module _ (h : Numbers) (sm bs : Bytes) (v : Live h sm bs) where
   pub loaded-sound : (table inbox store : Bytes) → Sound (cs (loadOf sm) table inbox store) → Sound (cs (wholeOf h (arraysPart sm)) table inbox store)
   loaded-sound table inbox store s = subst (λ (x : Session). Sound (cs x table inbox store)) loads s
 
-  -- the kept messages lie in the store
-  pub used-within : (table inbox store : Bytes) → Sound (cs (loadOf sm) table inbox store) → h .keep .used ≤ length store
-  unfolding wholeOf
-  used-within table inbox store s = sound-roomy (loaded-sound table inbox store s) .used
+  pub loaded-roomy : (table inbox store : Bytes) → Sound (cs (loadOf sm) table inbox store) → Roomy h (length store)
+  loaded-roomy table inbox store s = sound-roomy h (arraysPart sm) table inbox store (loaded-sound table inbox store s)
 
   -- the arrays are w after the bytes, and then the numbers are saved
   pub all-saved : (known table inbox store : Bytes) (n k : ℕ) (t : Numbers) (w table′ inbox′ store′ x : Bytes) (r : Reply) → length w ≡ length (arraysPart sm)

@@ -3,10 +3,13 @@ use mathlib.Core.Path.{_≡_}
 use mathlib.Core.List.{[], _∷_}
 use Prim.Native.Nat.{ℕ, _<_, _≤_}
 use native.Mathlib.Omega.{arith}
-use lib.ListN.{length, drop, length-drop}
+use lib.ListN.{length}
 use Rattle.grammar.specs.Bytes.{Bytes, byteValues}
-use Rattle.receive_defined.specs.Receiving.{Cs}
-use Rattle.receive_defined.specs.Portion.{portionOf, Roomy}
+use Rattle.numbers.specs.declared.Numbers.{Numbers}
+use Rattle.numbers.specs.Whole.{wholeOf}
+use Rattle.receive_defined.specs.Receiving.{Cs, cs}
+use Rattle.receive_defined.specs.Portion.{portionOf}
+use Rattle.receive_defined.specs.Roomy.{Roomy}
 use Rattle.receive_defined.proofs.Portions.{Each, portion-keeps}
 use Rattle.form_closed.specs.Fixed.{Fixed}
 use Rattle.form_closed.specs.Facts.{Octets, Good}
@@ -14,12 +17,14 @@ use Rattle.form_closed.proofs.Laws.{octets-first, octets-rest}
 use Rattle.form_closed.proofs.Bytes.{byte-ok}
 
 -- The form test bounds the numbers that grow.
-pub good-roomy : (F : Fixed) (nt ni ns : ℕ) (c : Cs) → Good F nt ni ns c → Roomy c
-good-roomy F nt ni ns c g =
+pub good-roomy : (F : Fixed) (nt ni ns : ℕ) (h : Numbers) (m table inbox store : Bytes) → Good F nt ni ns (cs (wholeOf h m) table inbox store) → Roomy h (length store)
+unfolding wholeOf
+good-roomy F nt ni ns h m table inbox store g =
     record {
+      fits = omega (arith, g .lent .store, g .lent .fits);
       kept = omega (arith, g .box .placed, g .box .limit);
       used = g .box .within;
-      body = λ e. let u = g .awaited .under e in omega (arith, u .short, u .room, length-drop (c .session .keep .used) (c .store));
+      body = λ e. let u = g .awaited .under e in record { short = u .short; room = u .room };
     }
 
 each-octet : (bs : Bytes) → Octets bs → Each (λ b. b < byteValues) bs

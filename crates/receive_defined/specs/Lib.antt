@@ -2,3 +2,4 @@
 pub mod Tallied
 pub mod Receiving
 pub mod Portion
+pub mod Roomy

@@ -1,13 +1,11 @@
 -- What receive takes at once: one byte, or the run of a transfer's bytes up to its end or the input's. That this is byte after byte as
 -- Receiving has it is proved in proofs/Portions; the run is there for speed.
-use mathlib.Core.Path.{_≡_}
 use mathlib.Core.Bool.{Bool, cond, not, _&&_}
 use mathlib.Core.List.{[], _∷_, _++_}
-use Prim.Native.Nat.{ℕ, _≤_}
+use Prim.Native.Nat.{ℕ}
 use lib.Dec.{eqb}
-use lib.ListN.{length, take, drop}
+use lib.ListN.{take, drop}
 use Rattle.grammar.specs.Bytes.{Bytes, LF}
-use Rattle.mail.specs.Mail.{placeLimit}
 use Rattle.phase.specs.Phase.{phaseTransfer}
 use Rattle.transfer_read.specs.Feed as transfer
 use Rattle.transfer_read.specs.Feed.{roomOf, feedOf}
@@ -41,9 +39,3 @@ ofTransfer c b = not (c .session .line .«after_cr» && eqb b LF) && (not (waits
 unfoldable pub portionOf : Bytes → Cs → Bytes → Run
 portionOf known c [] = run 0 0 c
 portionOf known c (b ∷ bs) = cond (ofTransfer c b) (transferPortionOf c (b ∷ bs)) (counted 1 (byteOf known c b))
-
--- What the form test gives, of the numbers that grow when a message is kept: they stay within their bytes.
-pub record Roomy (c : Cs) : Type 0 where
-  pub kept : c .session .keep .kept ≤ placeLimit
-  pub used : c .session .keep .used ≤ length (c .store)
-  pub body : c .session .now .phase ≡ phaseTransfer → c .session .reading .reader .body ≤ roomLeft c

@@ -8,10 +8,9 @@ use lib.Dec.{eqb}
 use lib.ListN.{length, getD, take, drop, length-drop, drop-of-length-le}
 use lib.Seq.{drop-cons, length-take-le}
 use borrow.Author.Tests.{eq-eqb, ne-eqb}
-use Rattle.grammar.specs.Bytes.{Bytes, LF, wordValues}
+use Rattle.grammar.specs.Bytes.{Bytes, LF}
 use Rattle.grammar.proofs.Basics.{to-end}
 use Rattle.grammar.specs.Refusals.{badTransfer, badChecksum, storeFull, bytesWait}
-use Rattle.mail.specs.Mail.{placeLimit}
 use Rattle.places.specs.Places.{arraysLen, headingAt, headingLen}
 use Rattle.phase.specs.Phase.{phaseTransfer}
 use Rattle.transfer_read.specs.declared.Fed.{Fed}
@@ -30,7 +29,7 @@ use Rattle.numbers_in_place.proofs.Arrays.{heading-lent}
 use Rattle.settling.specs.declared.Left.{Left}
 use Rattle.receive_defined.specs.Receiving.{Cs, Moved, cs, moved, refusedOf, Settled, settled, lineStepOf, keptInbox, keepOf, reading, transferMoved, transferStepOf, lfDropped, lineByteOf, byteOf, Run, run}
 use Rattle.receive_defined.specs.Portion.{fed, counted, ofTransfer, transferPortionOf, portionOf}
-use Rattle.kept_message.specs.Keeping.{Keepable}
+use Rattle.receive_defined.specs.Roomy.{Roomy, Underway}
 use Rattle.receive_step.specs.declared.Taken.{Taken}
 use Rattle.receive_step.specs.declared.Reached.{Reached}
 use Rattle.receive_step.specs.Parts.{taken, ReadOn, Leaves}
@@ -99,18 +98,27 @@ module _ (s : Numbers) (m : Bytes) (n : length m ≡ arraysLen) (bs st : Bytes) 
       }
 
 module _ (s : Numbers) (m bs st : Bytes) (r : Reached) (m′ st′ : Bytes) (q : ReadOn (cs (wholeOf s m) [] [] st) bs r m′ st′) where
-  -- the numbers of a kept message still fit
-  pub run-fits : s .keep .kept ≤ placeLimit → s .keep .used ≤ length st → s .reader .body ≤ roomOf (drop (s .keep .used) st) → length st < wordValues
-      → Keepable (r .session)
+  -- the body under way stays within its room
+  pub still-underway : s .now .phase ≡ phaseTransfer → Roomy s (length st) → Underway (r .session)
   unfolding wholeOf
-  run-fits k u b l =
+  still-underway p g =
       let c : Cs = cs (wholeOf s m) [] [] st in
-      let h = feed-within (roomOf (drop (s .keep .used) st)) (s .reader) bs (c .session .reading .heading) (drop (s .keep .used) st) b in
+      let b = g .body p in
       let d : length (drop (s .keep .used) st) ≡ length st - s .keep .used = length-drop (s .keep .used) st in
+      let h = feed-within (roomOf (drop (s .keep .used) st)) (s .reader) bs (c .session .reading .heading) (drop (s .keep .used) st) (omega (arith, b .short, b .room, d)) in
       let kept : r .session .keep .kept ≡ s .keep .kept = ap (λ (x : Session). x .keep .kept) (q .session) in
       let used : r .session .keep .used ≡ s .keep .used = ap (λ (x : Session). x .keep .used) (q .session) in
       let body : r .session .reader .body ≡ fed c bs .fed .reader .body = ap (λ (x : Session). x .reading .reader .body) (q .session) in
-      (omega (arith, k, kept), omega (arith, h, d, u, l, used, body))
+      record {
+        phase = ap (λ (x : Session). x .now .phase) (q .session) ∙ p;
+        store = length st;
+        roomy = record {
+          fits = g .fits;
+          kept = omega (arith, g .kept, kept);
+          used = omega (arith, g .used, used);
+          body = λ e. record { short = omega (arith, h, body); room = omega (arith, h, d, g .used, used, body) };
+        };
+      }
 
   pub run-by : (table inbox : Bytes) (v : Left) (table′ inbox′ : Bytes) → Leaves (r .outcome) (r .session) m′ table inbox v table′ inbox′
       → run (v .answer) (r .count) (cs (wholeOf (v .session) m′) table′ inbox′ st′) ≡ transferPortionOf (cs (wholeOf s m) table inbox st) bs

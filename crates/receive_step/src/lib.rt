@@ -4,16 +4,14 @@ use settling::Left;
 use transfer_step::Outcome;
 ghost use mathlib.Core.Path.{_≡_};
 ghost use mathlib.Core.List.{[]};
-ghost use Prim.Native.Nat.{_≤_};
-ghost use lib.ListN.{length, drop};
+ghost use lib.ListN.{length};
 ghost use Rattle.grammar.specs.Bytes.{Bytes};
-ghost use Rattle.mail.specs.Mail.{placeLimit};
+ghost use Rattle.phase.specs.Phase.{phaseTransfer};
 ghost use Rattle.places.specs.Places.{arraysLen};
-ghost use Rattle.transfer_read.specs.Feed.{roomOf};
 ghost use Rattle.numbers.specs.Whole.{wholeOf};
 ghost use Rattle.receive_defined.specs.Receiving.{cs, lfDropped, run};
-ghost use Rattle.receive_defined.specs.Portion.{transferPortionOf, portionOf, Roomy};
-ghost use Rattle.kept_message.specs.Keeping.{Keepable};
+ghost use Rattle.receive_defined.specs.Portion.{transferPortionOf, portionOf};
+ghost use Rattle.receive_defined.specs.Roomy.{Roomy, Underway};
 ghost use Rattle.receive_step.specs.Parts.{taken, ReadOn, Leaves};
 
 // 01's number, how many bytes were taken, a refused one included, and the numbers after them.
@@ -32,7 +30,7 @@ pub struct Reached {
 
 // What a transfer's bytes leave, by what they came to. mem: the state's arrays.
 fn moved(outcome: Outcome, s: Numbers, mem: &[u8], table: &mut [u8], inbox: &mut [u8]) -> Left
-    requires { ⌜ Keepable s × (length (now mem) ≡ arraysLen) ⌝ }
+    requires { ⌜ Underway s × (length (now mem) ≡ arraysLen) ⌝ }
     ensures { λ r. ⌜ Leaves outcome s (now (mem .entry)) (now (table .entry)) (now (inbox .entry)) r (now (table .exit)) (now (inbox .exit)) ⌝ }
 {
     match outcome {
@@ -58,7 +56,7 @@ fn moved(outcome: Outcome, s: Numbers, mem: &[u8], table: &mut [u8], inbox: &mut
 
 // A transfer's bytes, read to its end or theirs; the heading goes to its place, the body behind those kept.
 fn read_on(s: Numbers, input: &[u8], mem: &mut [u8], store: &mut [u8]) -> Reached
-    requires { ⌜ (s .keep .used ≤ length (now store)) × (length (now mem) ≡ arraysLen) ⌝ }
+    requires { ⌜ Roomy s (length (now store)) × (length (now mem) ≡ arraysLen) ⌝ }
     ensures { λ r. ⌜ ReadOn (cs (wholeOf s (now (mem .entry))) [] [] (now (store .entry))) (now (input .entry)) r (now (mem .exit)) (now (store .exit)) ⌝ }
 {
     let reader = s.reader;
@@ -90,7 +88,7 @@ fn transfer_run(
     inbox: &mut [u8],
     store: &mut [u8],
 ) -> Taken
-    requires { ⌜ (s .keep .kept ≤ placeLimit) × (s .keep .used ≤ length (now store)) × (s .reader .body ≤ roomOf (drop (s .keep .used) (now store))) × (length (now mem) ≡ arraysLen) ⌝ }
+    requires { ⌜ Roomy s (length (now store)) × (s .now .phase ≡ phaseTransfer) × (length (now mem) ≡ arraysLen) ⌝ }
     ensures { λ r. ⌜ run (r .answer) (r .count) (cs (wholeOf (r .session) (now (mem .exit))) (now (table .exit)) (now (inbox .exit)) (now (store .exit))) ≡ transferPortionOf (cs (wholeOf s (now (mem .entry))) (now (table .entry)) (now (inbox .entry)) (now (store .entry))) (now (input .entry)) ⌝ }
 {
     let r = read_on(s, input, mem, store);
@@ -132,7 +130,7 @@ pub fn step(
     inbox: &mut [u8],
     store: &mut [u8],
 ) -> Taken
-    requires { ⌜ Roomy (cs (wholeOf s (now mem)) (now table) (now inbox) (now store)) × (length (now mem) ≡ arraysLen) ⌝ }
+    requires { ⌜ Roomy s (length (now store)) × (length (now mem) ≡ arraysLen) ⌝ }
     ensures { λ r. ⌜ run (r .answer) (r .count) (cs (wholeOf (r .session) (now (mem .exit))) (now (table .exit)) (now (inbox .exit)) (now (store .exit))) ≡ portionOf (now (known .entry)) (cs (wholeOf s (now (mem .entry))) (now (table .entry)) (now (inbox .entry)) (now (store .entry))) (now (input .entry)) ⌝ }
 {
     if input.len() == 0 {

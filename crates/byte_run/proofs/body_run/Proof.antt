@@ -48,7 +48,7 @@ returns-2 c =
     let q = c .before .before .before .before .before .before .before .before .before .run-on in
     let f = not-false _ (c .before .before .before .before .before .if1 .left) in
     subst (λ (l : Bytes). Takes true (a .sm .now) (a .store .now) (a .bytes .now) (c .before .before .put-reader .last .0) l) (sym (store-after (a .store .now) (a .s .keep .used) (q .result .all) (q .result .reader) (a .s .reader) (a .bytes .now) (q .last .1 .1 .0) (q .ensures)))
-    (body-taken (a .sm .now) (a .bytes .now) (a .s) (p .0) (p .1) (p .2) (a .store .now) (p .3) (q .result .reader) (q .last .1 .1 .0) (c .before .before .put-reader .last .0) (runs-on (a .store .now) (a .s .keep .used) (q .result .all) (q .result .reader) (a .s .reader) (a .bytes .now) (q .last .1 .1 .0) (q .ensures) f) (c .before .before .put-reader .ensures))
+    (body-taken (a .sm .now) (a .bytes .now) (a .s) (p .0) (p .1) (p .2) (a .store .now) (p .3 .used) (q .result .reader) (q .last .1 .1 .0) (c .before .before .put-reader .last .0) (runs-on (a .store .now) (a .s .keep .used) (q .result .all) (q .result .reader) (a .s .reader) (a .bytes .now) (q .last .1 .1 .0) (q .ensures) f) (c .before .before .put-reader .ensures))
 
 pub body-run-spec : {M : Type 1} → statement M
 body-run-spec =

@@ -1,6 +1,6 @@
 -- The form test, the session's end, no bytes, bytes taken where the state stands, bytes taken by the whole state: each is a law.
 use borrow.Author.Tests.{not-true, not-false}
-use Rattle.receive.proofs.Laws.{octets-of, used-within, form-size, receive-bad, receive-sound, receive-over, receive-none, receive-live, receive-saved, receive-run, still-live, again-live, still-sound, still-saved}
+use Rattle.receive.proofs.Laws.{octets-of, loaded-roomy, form-size, receive-bad, receive-sound, receive-over, receive-none, receive-live, receive-saved, receive-run, still-live, again-live, still-sound, still-saved}
 use borrow.Author.Needs.{needs}
 use Rattle.receive.proofs.receive.Statement.{statement}
 use Rattle.receive.proofs.receive.Tie as tie
@@ -88,7 +88,7 @@ take-requires c κs =
     let f = c .before .before .before .before .before .before .before .before .form .ensures in
     let q = not-false _ (c .before .before .before .before .before .before .before .if1 .left) in
     let v = receive-live (a .sm .now) (a .table .now) (a .titles .now) (a .names .now) (a .bodies .now) (a .known .now) (a .inbox .now) (a .store .now) (a .bytes .now) f q (c .before .before .before .before .before .load .ensures) (c .before .before .before .before .is-over .ensures) (c .before .before .before .if2 .left) (c .before .before .if3 .left) in
-    (v, used-within _ (a .sm .now) (a .bytes .now) v (a .table .now) (a .inbox .now) (a .store .now) (receive-sound (a .sm .now) (a .table .now) (a .titles .now) (a .names .now) (a .bodies .now) (a .known .now) (a .inbox .now) (a .store .now) (a .bytes .now) f q (octets-of (a .sm .now) (λ i. (c .before .before .before .before .before .before .before .before .before .before .before .before .before .before .before .before .before .before .before .before .before .slice-known .given i) .fits)) (octets-of (a .table .now) (λ i. (c .before .before .before .before .before .before .before .before .before .before .before .before .before .before .before .before .before .before .before .before .slice-known2 .given i) .fits)) (octets-of (a .inbox .now) (λ i. (c .before .before .before .before .before .before .before .before .before .before .before .before .before .before .before .slice-known3 .given i) .fits)) (octets-of (a .store .now) (λ i. (c .before .before .before .before .before .before .before .before .before .before .before .before .before .before .slice-known4 .given i) .fits))))
+    (v, loaded-roomy _ (a .sm .now) (a .bytes .now) v (a .table .now) (a .inbox .now) (a .store .now) (receive-sound (a .sm .now) (a .table .now) (a .titles .now) (a .names .now) (a .bodies .now) (a .known .now) (a .inbox .now) (a .store .now) (a .bytes .now) f q (octets-of (a .sm .now) (λ i. (c .before .before .before .before .before .before .before .before .before .before .before .before .before .before .before .before .before .before .before .before .before .slice-known .given i) .fits)) (octets-of (a .table .now) (λ i. (c .before .before .before .before .before .before .before .before .before .before .before .before .before .before .before .before .before .before .before .before .slice-known2 .given i) .fits)) (octets-of (a .inbox .now) (λ i. (c .before .before .before .before .before .before .before .before .before .before .before .before .before .before .before .slice-known3 .given i) .fits)) (octets-of (a .store .now) (λ i. (c .before .before .before .before .before .before .before .before .before .before .before .before .before .before .slice-known4 .given i) .fits))))
 
 reply-requires-4 : tie.Need-reply-requires-4
 reply-requires-4 c κs = search needs

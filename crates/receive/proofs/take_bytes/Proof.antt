@@ -31,7 +31,7 @@ part-step-end : tie.Need-part-step-end Inv-loop μ-loop
 part-step-end c = search needs
 
 step-requires : tie.Need-step-requires Inv-loop μ-loop
-step-requires c κs = (sound-roomy (c .before .before .before .before .before .before .loop .inv .5 .sound), c .before .before .before .before .before .before .loop .inv .1 ∙ c .before .before .before .before .before .before .before .before .before .before .before .before .before .pre .1)
+step-requires c κs = (sound-roomy _ _ _ _ _ (c .before .before .before .before .before .before .loop .inv .5 .sound), c .before .before .before .before .before .before .loop .inv .1 ∙ c .before .before .before .before .before .before .before .before .before .before .before .before .before .pre .1)
 
 add-end : tie.Need-add-end Inv-loop μ-loop
 add-end c = let p = c .before .before .before .before .before .before .before .before .before in let q = c .before .before .before .before .before .before .before .before .before .before .before .before .before .before .before in let a = c .before .before .before .before .before .before .before .before .before .before .before .before .before .before .before .before .before .before .before .before .before .before .before .args in omega (arith, count-most (a .known .now) (cs (wholeOf (a .s) (a .mem .now)) (a .table .now) (a .inbox .now) (a .store .now)) (a .bytes .now) (q .before .loop .inv .5) (q .loop-test .taken) (p .step .ensures), c .before .before .before .before .before .before .before .before .before .before .before .before .before .before .before .before .before .before .before .before .before .before .before .good .1 .0 .0)

@@ -50,8 +50,7 @@ returns-3 c =
     (portion-waits (a .known .now) (wholeOf (a .s) (a .mem .now)) (a .table .now) (a .inbox .now) (a .store .now) (a .input .now) (c .before .before .before .before .before .before .before .before .if1 .left) _ (c .before .before .before .before .before .before .is-dropped .ensures) (c .before .before .before .before .before .if2 .left) _ (c .before .before .before .is-waiting .ensures) _ (c .before .before .if3 .taken) (c .before .refused .ensures (a .mem .now)))
 
 transfer-run-requires : tie.Need-transfer-run-requires
-unfolding wholeOf
-transfer-run-requires c κs = let p = c .before .before .before .before .before .before .before .before .before .before .before .before .before .before .before .before .before .before .before .pre in (p .0 .kept, p .0 .used, p .0 .body (c .before .before .before .before .if4 .taken), p .1)
+transfer-run-requires c κs = let p = c .before .before .before .before .before .before .before .before .before .before .before .before .before .before .before .before .before .before .before .pre in (p .0, c .before .before .before .before .if4 .taken, p .1)
 
 same-length : tie.Need-same-length
 same-length c = search needs

@@ -1,6 +1,6 @@
--- The body stays within its room, so a kept message's numbers fit; then the two calls make the run.
+-- The body under way stays within its room; then the two calls make the run.
 use native.Mathlib.Omega.{arith}
-use Rattle.receive_step.proofs.Laws.{run-fits, run-by, taken-by}
+use Rattle.receive_step.proofs.Laws.{still-underway, run-by, taken-by}
 use borrow.Author.Needs.{needs}
 use Rattle.receive_step.proofs.transfer_run.Statement.{statement}
 use Rattle.receive_step.proofs.transfer_run.Tie as tie
@@ -12,7 +12,7 @@ moved-requires : tie.Need-moved-requires
 moved-requires c κs =
     let a = c .before .before .before .before .before .before .before .before .before .before .before .before .before .before .before .before .args in
     let p = c .before .before .before .before .before .before .before .before .before .before .before .before .before .before .before .before .pre in
-    (run-fits (a .s) (a .mem .now) (a .input .now) (a .store .now) _ _ _ (c .before .before .before .before .before .before .before .before .read-on .ensures) (p .0) (p .1) (p .2) (search (needs, c .before .before .before .before .before .before .before .before .before .before .before .before .before .before .before .before .good .1)), omega (arith, c .before .before .before .before .before .before .before .mem .given, p .3))
+    (still-underway (a .s) (a .mem .now) (a .input .now) (a .store .now) _ _ _ (c .before .before .before .before .before .before .before .before .read-on .ensures) (p .1) (p .0), omega (arith, c .before .before .before .before .before .before .before .mem .given, p .2))
 
 taken-as-requires : tie.Need-taken-as-requires
 taken-as-requires c κs = search needs

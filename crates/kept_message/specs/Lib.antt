@@ -1,2 +1,0 @@
--- When a message can be kept.
-pub mod Keeping
