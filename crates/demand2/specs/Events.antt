@@ -18,8 +18,8 @@ use Rattle.grammar.specs.Transfers.{TransferKind, plainKind, framedKind, parse,
 use Rattle.grammar.specs.Scan.{Scan, goes, scan, scanFrom}
 use Rattle.mail.specs.Mail.{Record, Message, proposalOf, transferOf, recordAt}
 use Rattle.session.specs.Choices.{Shelf, chosen, answersTo}
-use Rattle.session.specs.Session.{kindDue, awaitsSid, awaitsPrompt, awaitsTurn, awaitsAnswer, Phase, aLine, newTurn, awaitsTransfer, leaving, over, Memory, Session, withLevel, withFramed, withTerms, withInbox, withCounts, withPhase, withPart, withAfterCr, between}
-use Rattle.demand2.specs.Limits.{lineLimit, blockLimit, letterF, levelBetween, levelInForce}
+use Rattle.session.specs.Session.{awaitsSid, awaitsPrompt, awaitsTurn, awaitsAnswer, Phase, aLine, newTurn, awaitsTransfer, leaving, over, Memory, Session, withLevel, withFramed, withTerms, withInbox, withCounts, withPhase, withPart, withAfterCr, between}
+use Rattle.demand2.specs.Limits.{kindDue, lineLimit, blockLimit, letterF, levelBetween, levelInForce}
 use Rattle.demand2.specs.Room.{Fits, room}
 use Rattle.demand2.specs.Marks.{withSign, AnswerLeaves, TurnLeaves}
 use Rattle.demand2.specs.Refusals.{isDropped, Heeded, awaitsLine, WholeLine, TurnSaid, TransferByte}

@@ -10,7 +10,9 @@ use Rattle.grammar.specs.Lines as lines
 use Rattle.grammar.specs.Fields as fields
 use Rattle.grammar.specs.Turns as turns
 use Rattle.grammar.specs.Sid as sid
+use Rattle.grammar.specs.Turns.{Proposal}
 use Rattle.grammar.specs.Answers.{Level, level0, level1}
+use Rattle.grammar.specs.Transfers.{TransferKind, kindOf}
 use Rattle.mail.specs.Mail as mail
 use Rattle.phase.specs.Phase as phase
 use Rattle.session.specs.Session as model
@@ -62,6 +64,10 @@ levelBetween fs = cond (ltb 1 (getD fs letterB 0)) level1 level0
 -- The level at which the partner's FS line is read.
 abbrev pub levelInForce : Memory → Level
 levelInForce m = m .terms .level
+
+-- How the partner's transfer of this proposal is read: "Plain: title, CR, ..", "Framed: 01, L, ..", by its form.
+abbrev pub kindDue : Memory → Proposal → TransferKind
+kindDue m p = kindOf (p .form)
 
 -- The session's model, and the grammar that it reads by, have these numbers.
 pub record LimitsAre : Type 0 where

@@ -27,9 +27,9 @@ use Rattle.grammar.specs.Answers.{readFs}
 use Rattle.grammar.specs.Transfers.{Parsed, parse, byteSum}
 use Rattle.grammar.specs.Scan.{Scan, goes, scan, bodyOf, isBodyByte}
 use Rattle.session.specs.Choices.{Shelf}
-use Rattle.session.specs.Session.{kindDue, awaitsSid, awaitsTurn, awaitsAnswer, Phase, aLine, awaitsTransfer, leaving, over, Memory, Session, between, step, ended}
+use Rattle.session.specs.Session.{awaitsSid, awaitsTurn, awaitsAnswer, Phase, aLine, awaitsTransfer, leaving, over, Memory, Session, between, step, ended}
 use Rattle.session.specs.Calls.{receive}
-use Rattle.demand2.specs.Limits.{lineLimit, blockLimit, letterF, levelInForce}
+use Rattle.demand2.specs.Limits.{kindDue, lineLimit, blockLimit, letterF, levelInForce}
 use Rattle.demand2.specs.Room.{Full, room}
 
 -- ---------------------------------------------------------------- the order: "then 12, 11, 2, then the rule of the line or transfer"

@@ -12,9 +12,9 @@ use Rattle.grammar.specs.Turns.{Proposal}
 use Rattle.grammar.specs.Transfers.{parse}
 use Rattle.grammar.specs.Scan.{scanFrom}
 use Rattle.session.specs.Choices.{Shelf}
-use Rattle.session.specs.Session.{kindDue, Phase, awaitsTransfer, Memory, Session, withPart, between, step}
+use Rattle.session.specs.Session.{Phase, awaitsTransfer, Memory, Session, withPart, between, step}
 use Rattle.session.specs.Calls.{Received, receive}
-use Rattle.demand2.specs.Limits.{lineLimit}
+use Rattle.demand2.specs.Limits.{kindDue, lineLimit}
 use Rattle.demand2.specs.Room.{Fits}
 use Rattle.demand2.specs.Events.{messageFrom, withMessage, endsWithCr, transfersOr}
 
