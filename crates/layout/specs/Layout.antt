@@ -4,7 +4,7 @@ use mathlib.Core.List.{[], _∷_, _++_}
 use Prim.Native.Nat.{ℕ, _+_, _*_, _/_, _%_, min}
 use lib.ListN.{length, getD, take, drop, replicate}
 use Rattle.grammar.specs.Bytes.{Bytes, byteValues, twoByteValues, threeByteValues, fourByteValues}
-use Rattle.grammar.specs.Fields.{Form, formIs}
+use Rattle.grammar.specs.Fields.{Form, formIs, formNumber}
 use Rattle.grammar.specs.Turns.{Proposal}
 use Rattle.grammar.specs.Transfers.{partOf}
 use Rattle.mail.specs.Mail.{Record, Message}
@@ -41,6 +41,27 @@ fieldIn n at s = partOf s (at + 1) (min n (byteAt s at))
 -- A field as it is written: its length, its bytes, zeros up to n.
 abbrev pub fieldOut : ℕ → Bytes → Bytes
 fieldOut n w = length w % byteValues ∷ take n (w ++ replicate n 0)
+
+-- ---------------------------------------------------------------- a text in a store
+
+-- "Title, name and body are a start and a length in three lent stores."
+pub record Extent : Type 0 where
+  pub start : ℕ
+  pub len : ℕ
+
+abbrev pub extent : ℕ → ℕ → Extent
+extent start len = record { start = start; len = len }
+
+-- The bytes of a store there; empty where it runs past the end.
+abbrev pub textIn : Bytes → Extent → Bytes
+textIn store e = partOf store (e .start) (e .len)
+
+-- Written: a start of four bytes, then the length, of a title or name in one byte, of a body in two.
+abbrev pub headingExtentOut : Extent → Bytes
+headingExtentOut e = le4 (e .start) ++ (e .len % byteValues ∷ [])
+
+abbrev pub bodyExtentOut : Extent → Bytes
+bodyExtentOut e = le4 (e .start) ++ le2 (e .len)
 
 -- ---------------------------------------------------------------- entries
 
@@ -85,20 +106,35 @@ proposalAt b c = proposalWith (fieldsAt b c) (le4At c (b + proposalSizeAt))
 abbrev pub proposalOut : ℕ → ℕ → Bytes → Bytes → Bytes → Bytes → ℕ → Bytes
 proposalOut form type from at to bid size = fieldsOut form type from at to bid ++ le4 size
 
+abbrev pub proposalBytes : Proposal → Bytes
+proposalBytes p = proposalOut (formNumber (p .form)) (p .type) (p .from) (p .at) (p .to) (p .bid) (p .size)
+
 -- In session memory.
 abbrev pub proposalIn : Bytes → Proposal
 proposalIn c = proposalAt 0 c
 
--- ---------------------------------------------------------------- a record: its states, a proposal's parts, title, name and body
+-- ---------------------------------------------------------------- a record: its states, a proposal's parts, where title, name and body lie
+
+-- Where they lie. Nothing else says these places.
+abbrev pub titleExtent : Bytes → Extent
+titleExtent c = extent (le4At c recordTitle) (byteAt c recordTitleLength)
+
+abbrev pub nameExtent : Bytes → Extent
+nameExtent c = extent (le4At c recordName) (byteAt c recordNameLength)
+
+abbrev pub bodyExtent : Bytes → Extent
+bodyExtent c = extent (le4At c recordBody) (le2At c recordBodyLength)
 
 abbrev pub recordWith : Proposal → Bytes → Bytes → Bytes → Record
 recordWith p title name body =
     record { form = p .form; type = p .type; from = p .from; at = p .at; to = p .to; bid = p .bid; size = p .size; title = title; name = name; body = body }
 
 abbrev pub recordOf : Bytes → Bytes → Bytes → Bytes → Record
-recordOf titles names bodies c =
-    recordWith (proposalAt recordFields c) (partOf titles (le4At c recordTitle) (byteAt c recordTitleLength))
-    (partOf names (le4At c recordName) (byteAt c recordNameLength)) (partOf bodies (le4At c recordBody) (le2At c recordBodyLength))
+recordOf titles names bodies c = recordWith (proposalAt recordFields c) (textIn titles (titleExtent c)) (textIn names (nameExtent c)) (textIn bodies (bodyExtent c))
+
+-- Written: its state for each partner, a proposal's parts, where title, name and body lie.
+abbrev pub recordOut : Bytes → Proposal → Extent → Extent → Extent → Bytes
+recordOut states p title name body = states ++ (proposalBytes p ++ (headingExtentOut title ++ (headingExtentOut name ++ bodyExtentOut body)))
 
 -- Where it has its state for a partner: a byte a partner, from where its states begin. Nothing else says this place.
 abbrev pub statePlace : ℕ → ℕ
@@ -126,12 +162,29 @@ messageWith f heading body =
 abbrev pub messageIn : Bytes → Bytes → Message
 messageIn c body = messageWith (fieldsAt 0 c) (fieldIn headingMax entryHeading c) body
 
+-- Where its body lies in the store.
+abbrev pub keptExtent : Bytes → Extent
+keptExtent c = extent (le4At c entryBody) (le2At c entryBodyLength)
+
 abbrev pub bodyStart : Bytes → ℕ
-bodyStart c = le4At c entryBody
+bodyStart c = keptExtent c .start
 
 abbrev pub bodyLength : Bytes → ℕ
-bodyLength c = le2At c entryBodyLength
+bodyLength c = keptExtent c .len
+
+-- All of the message, its body out of the store.
+abbrev pub messageKept : Bytes → Bytes → Message
+messageKept store c = messageIn c (textIn store (keptExtent c))
+
+-- Written: the fields' bytes, the heading, where the body lies.
+abbrev pub entryWith : Bytes → Bytes → Extent → Bytes
+entryWith fields heading body = fields ++ (fieldOut headingMax heading ++ bodyExtentOut body)
 
 -- What is kept of a proposal c with its heading, and a body of n bytes from start on.
 abbrev pub entryOut : Bytes → Bytes → ℕ → ℕ → Bytes
-entryOut c heading start n = partOf c 0 fieldsSize ++ (fieldOut headingMax heading ++ (le4 start ++ le2 n))
+entryOut c heading start n = entryWith (partOf c 0 fieldsSize) heading (extent start n)
+
+-- The same of a message, its body from start on: "form, type, from, at, to, BID, title or name, and body", of which it has the place in the store and the length.
+abbrev pub messageBytes : Message → ℕ → Bytes
+messageBytes m start =
+    entryWith (fieldsOut (formNumber (m .form)) (m .type) (m .from) (m .at) (m .to) (m .bid)) (m .heading) (extent start (length (m .body)))

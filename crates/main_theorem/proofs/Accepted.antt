@@ -10,7 +10,7 @@ use borrow.Author.Tests.{eqb-true, eqb-false, leb-true, le-leb, lt-ltb, not-true
 use Rattle.grammar.specs.Bytes.{Bytes}
 use Rattle.grammar.specs.Fields.{plain, message, file, isCall, isAt, isBid, isHeading, isBody, sameBid, formNumber}
 use Rattle.grammar.specs.Turns.{isType, proposable, sizeValues}
-use Rattle.grammar.specs.Transfers.{partOf, sendable}
+use Rattle.grammar.specs.Transfers.{sendable}
 use Rattle.grammar.specs.Refusals.{noPlace}
 use Rattle.grammar.proofs.Basics.{and2, both, or2, no-both}
 use Rattle.mail.specs.Mail.{Record, noRecord, recordAt, proposalOf, headingFor, recordLimit}
@@ -19,9 +19,9 @@ use Rattle.demand2.specs.ReadBack.{ReadsBack}
 use Rattle.demand2.proofs.ReadBack as read-back
 use Rattle.demand2.proofs.ReadBack.{reads-back}
 use Rattle.demand3.specs.Demand.{GoodTable, allProposable, noneWith, distinctBids}
-use Rattle.places.specs.Places.{atMax, bidMax, callMax, recordBid, recordBody, recordBodyLength, recordForm, recordFrom, recordName, recordNameLength, recordSizeAt, recordTitle, recordTitleLength, recordTo, recordType, recordLen}
+use Rattle.places.specs.Places.{atMax, bidMax, callMax, recordBid, recordForm, recordFrom, recordSizeAt, recordTo, recordType, recordLen}
 use Rattle.places.specs.Places as places
-use Rattle.layout.specs.Layout.{byteAt, le2At, le4At, fieldIn, entryAt, recordOf}
+use Rattle.layout.specs.Layout.{Extent, byteAt, le4At, fieldIn, textIn, entryAt, titleExtent, nameExtent, bodyExtent, recordOf}
 use Rattle.entries.specs.Decoded.{entriesFrom, entries, recordCount, recordsOf}
 use Rattle.entries.proofs.Laws.{entries-length, entries-at}
 use Rattle.open.specs.Opening.{lengthOk, statesOk, numbersOk, fieldsOk, within, headingOk, textsOk, recordOk, placeOk, faultFrom, tableFault}
@@ -59,28 +59,28 @@ module _ (c titles names bodies : Bytes) (h : recordOk c titles names bodies ≡
 
   -- its title, its name and its body, as open has looked at them
   record Texts : Type 0 where
-    pub title : headingOk titles (le4At c recordTitle) (byteAt c recordTitleLength) (not (eqb (byteAt c recordForm) (formNumber file))) ≡ true
-    pub name : headingOk names (le4At c recordName) (byteAt c recordNameLength) (eqb (byteAt c recordForm) (formNumber file)) ≡ true
+    pub title : headingOk titles (titleExtent c) (not (eqb (byteAt c recordForm) (formNumber file))) ≡ true
+    pub name : headingOk names (nameExtent c) (eqb (byteAt c recordForm) (formNumber file)) ≡ true
     pub body : isBody (r .form) (r .body) ≡ true
 
   texts : Texts
   unfolding textsOk
   texts =
       let t = and2 (fieldsOk c) (textsOk c titles names bodies) rest-ok .1 in
-      let t₁ = and2 (headingOk titles (le4At c recordTitle) (byteAt c recordTitleLength) (not (eqb (byteAt c recordForm) (formNumber file)))) _ t in
-      let t₂ = and2 (headingOk names (le4At c recordName) (byteAt c recordNameLength) (eqb (byteAt c recordForm) (formNumber file))) _ (t₁ .1) in
+      let t₁ = and2 (headingOk titles (titleExtent c) (not (eqb (byteAt c recordForm) (formNumber file)))) _ t in
+      let t₂ = and2 (headingOk names (nameExtent c) (eqb (byteAt c recordForm) (formNumber file))) _ (t₁ .1) in
       record {
         title = t₁ .0;
         name = t₂ .0;
-        body = and2 (within bodies (le4At c recordBody) (le2At c recordBodyLength)) (isBody (r .form) (r .body)) (t₂ .1) .1;
+        body = and2 (within bodies (bodyExtent c)) (isBody (r .form) (r .body)) (t₂ .1) .1;
       }
 
   -- "Forms 0 and 1 need a title, form 2 a name"
-  needed-is : (s : Bytes) (start len : ℕ) → headingOk s start len true ≡ true → isHeading (partOf s start len) ≡ true
+  needed-is : (s : Bytes) (x : Extent) → headingOk s x true ≡ true → isHeading (textIn s x) ≡ true
   unfolding headingOk
-  needed-is s start len e = go (eqb len 0) (and2 (within s start len) (cond (eqb len 0) (not true) (isHeading (partOf s start len))) e .1)
+  needed-is s x e = go (eqb (x .len) 0) (and2 (within s x) (cond (eqb (x .len) 0) (not true) (isHeading (textIn s x))) e .1)
     where
-      go : (b : Bool) → cond b (not true) (isHeading (partOf s start len)) ≡ true → isHeading (partOf s start len) ≡ true
+      go : (b : Bool) → cond b (not true) (isHeading (textIn s x)) ≡ true → isHeading (textIn s x) ≡ true
       go true q = absurd (no-both false q refl)
       go false q = q
 
@@ -88,12 +88,12 @@ module _ (c titles names bodies : Bytes) (h : recordOk c titles names bodies ≡
   heading-is = go (eqb (byteAt c recordForm) (formNumber message)) (eqb (byteAt c recordForm) (formNumber file)) refl refl
     where
       title : eqb (byteAt c recordForm) (formNumber file) ≡ false → isHeading (r .title) ≡ true
-      title e = needed-is titles (le4At c recordTitle) (byteAt c recordTitleLength) (subst (λ (b : Bool). headingOk titles (le4At c recordTitle) (byteAt c recordTitleLength) (not b) ≡ true) e (texts .title))
+      title e = needed-is titles (titleExtent c) (subst (λ (b : Bool). headingOk titles (titleExtent c) (not b) ≡ true) e (texts .title))
 
       go : (a b : Bool) → eqb (byteAt c recordForm) (formNumber message) ≡ a → eqb (byteAt c recordForm) (formNumber file) ≡ b → isHeading (headingFor (cond a message (cond b file plain)) r) ≡ true
       go true true p q = let y = eqb-true (byteAt c recordForm) (formNumber message) p in let z = eqb-true (byteAt c recordForm) (formNumber file) q in absurd (omega arith)
       go true false p q = title q
-      go false true p q = needed-is names (le4At c recordName) (byteAt c recordNameLength) (subst (λ (b : Bool). headingOk names (le4At c recordName) (byteAt c recordNameLength) b ≡ true) q (texts .name))
+      go false true p q = needed-is names (nameExtent c) (subst (λ (b : Bool). headingOk names (nameExtent c) b ≡ true) q (texts .name))
       go false false p q = title q
 
   record-sendable : sendable (r .form) (headingFor (r .form) r) (r .body) ≡ true

@@ -20,8 +20,9 @@ use Rattle.grammar.proofs.Basics.{and2}
 use Rattle.mail.specs.Mail.{Record, marked, recordLimit}
 use Rattle.places.specs.Places.{recordLen, partners, callMax, atMax, bidMax, recordForm, recordType, recordFrom, recordAtField, recordTo, recordBid, recordSizeAt, recordTitle, recordTitleLength, recordName, recordNameLength, recordBody, recordBodyLength}
 use Rattle.phase.specs.Phase.{stateForwarded}
-use Rattle.layout.specs.Layout.{byteAt, le2At, le4At, fieldIn, entryAt, recordOf, statePlace, stateFor, stateOf}
+use Rattle.layout.specs.Layout.{byteAt, le2At, le4At, fieldIn, textIn, entryAt, recordOf, statePlace, stateFor, stateOf}
 use Rattle.layout.proofs.Places.{part-in}
+use Rattle.layout.proofs.Laws.{same-extent}
 use Rattle.entries.specs.Decoded.{entries, recordCount, recordsOf}
 use Rattle.entries.proofs.Laws.{entries-length, entries-at, entries-same}
 use Rattle.marking.specs.States.{InColumn, statesOf, setState, markAll, withStatesFrom, withStates, StatesOnly, Whole}
@@ -64,10 +65,6 @@ same-record : {f g : Form} {t u z y : ℕ} {a b d e h i j k l m n o q r : Bytes}
     (record { form = g; type = u; from = b; at = e; to = i; bid = k; size = y; title = m; name = o; body = r })
 same-record e₁ e₂ e₃ e₄ e₅ e₆ e₇ e₈ e₉ e₀ = rw (e₁, e₂, e₃, e₄, e₅, e₆, e₇, e₈, e₉, e₀)
 
--- a text in its store, from its start and its length
-same-part : (s : Bytes) {a b n m : ℕ} → a ≡ b → n ≡ m → partOf s a n ≡ partOf s b m
-same-part s e f = rw (e, f)
-
 -- a record but for its states
 record-beside : (ti na bo c : Bytes) (p v : ℕ) → p < partners → recordOf ti na bo (set c (statePlace p) v) ≡ recordOf ti na bo c
 record-beside ti na bo c p v h =
@@ -75,9 +72,9 @@ record-beside ti na bo c p v h =
     same-record (ap formIs (byte-beside c s v recordForm (λ k. omega arith))) (byte-beside c s v recordType (λ k. omega arith)) (field-beside c s v callMax recordFrom (λ k. omega arith))
     (field-beside c s v atMax recordAtField (λ k. omega arith)) (field-beside c s v callMax recordTo (λ k. omega arith)) (field-beside c s v bidMax recordBid (λ k. omega arith))
     (four-beside c s v recordSizeAt (λ k. omega arith))
-    (same-part ti (four-beside c s v recordTitle (λ k. omega arith)) (byte-beside c s v recordTitleLength (λ k. omega arith)))
-    (same-part na (four-beside c s v recordName (λ k. omega arith)) (byte-beside c s v recordNameLength (λ k. omega arith)))
-    (same-part bo (four-beside c s v recordBody (λ k. omega arith)) (two-beside c s v recordBodyLength (λ k. omega arith)))
+    (ap (textIn ti) (same-extent (four-beside c s v recordTitle (λ k. omega arith)) (byte-beside c s v recordTitleLength (λ k. omega arith))))
+    (ap (textIn na) (same-extent (four-beside c s v recordName (λ k. omega arith)) (byte-beside c s v recordNameLength (λ k. omega arith))))
+    (ap (textIn bo) (same-extent (four-beside c s v recordBody (λ k. omega arith)) (two-beside c s v recordBodyLength (λ k. omega arith))))
 
 -- ---------------------------------------------------------------- one state is set
 

@@ -9,12 +9,11 @@ use lib.ListN.{length}
 use borrow.Author.Tests.{le-leb, lt-leb, eq-eqb, ne-eqb, eqb-true}
 use Rattle.grammar.specs.Bytes.{Bytes}
 use Rattle.grammar.specs.Fields.{Form, isBid, isBody}
-use Rattle.grammar.specs.Transfers.{partOf}
 use Rattle.grammar.specs.Refusals.{badMemory, noPlace}
 use Rattle.grammar.proofs.Basics.{and2, told, told-not}
 use Rattle.session.specs.Choices.{among}
 use Rattle.phase.specs.Phase.{stateDeclined}
-use Rattle.layout.specs.Layout.{fieldIn, entryAt, stateFor}
+use Rattle.layout.specs.Layout.{Extent, extent, textIn, fieldIn, entryAt, stateFor}
 use Rattle.session_memory.specs.State.{saveOf, saveSizes, freshOf}
 use Rattle.session_memory.specs.declared.Sizes.{Sizes}
 use Rattle.session_memory.specs.declared.Tally.{Tally}
@@ -26,23 +25,24 @@ use Rattle.give.specs.Giving.{reply}
 use Rattle.give.specs.declared.Reply.{Reply}
 use Rattle.places.specs.Places.{bidMax, recordBid, knownLen, recordLen, sessionLen}
 use Rattle.open.specs.Lending.{Lending, roleCaller}
-use Rattle.open.specs.Opening.{lengthOk, statesFrom, within, recordOk, placeOk, faultFrom, bidsOk, sizesOk, Opened, opened, sizesLent, faultIn, beforeOk, openBy, openOf}
+use Rattle.open.specs.Opening.{lengthOk, statesFrom, within, bodyOk, recordOk, placeOk, faultFrom, bidsOk, sizesOk, Opened, opened, sizesLent, faultIn, beforeOk, openBy, openOf}
 use Rattle.open.proofs.Accepted.{before-told}
 
 -- ---------------------------------------------------------------- the body
 
-module _ (bodies : Bytes) (form : Form) (start len S L : ℕ) (a : start ≡ S) (b : len ≡ L) {t : Bool} (e : t ≡ within bodies start len) where
-  lies : t ≡ within bodies S L
-  lies = e ∙ ap (λ (x : ℕ). within bodies x len) a ∙ ap (λ (x : ℕ). within bodies S x) b
+-- its start and its length as they were read
+module _ (bodies : Bytes) (form : Form) (start len : ℕ) (x : Extent) (a : start ≡ x .start) (b : len ≡ x .len) {t : Bool} (e : t ≡ within bodies (extent start len)) where
+  read : extent start len ≡ x
+  read = ap (λ (k : ℕ). extent k len) a ∙ ap (extent (x .start)) b
 
-  pub body-outside : not t ≡ true → false ≡ (within bodies S L && isBody form (partOf bodies S L))
-  body-outside h = sym (ap (λ (x : Bool). x && isBody form (partOf bodies S L)) (told-not lies h))
+  lies : t ≡ within bodies x
+  lies = e ∙ ap (within bodies) read
 
-  pub body-read : {r : Bool} → not t ≡ false → r ≡ isBody form (partOf bodies start len)
-      → r ≡ (within bodies S L && isBody form (partOf bodies S L))
-  body-read h f =
-      f ∙ ap (λ (x : ℕ). isBody form (partOf bodies x len)) a ∙ ap (λ (x : ℕ). isBody form (partOf bodies S x)) b
-      ∙ sym (ap (λ (x : Bool). x && isBody form (partOf bodies S L)) (told lies h))
+  pub body-outside : not t ≡ true → false ≡ bodyOk bodies x form
+  body-outside h = sym (ap (λ (y : Bool). y && isBody form (textIn bodies x)) (told-not lies h))
+
+  pub body-read : {r : Bool} → not t ≡ false → r ≡ isBody form (textIn bodies (extent start len)) → r ≡ bodyOk bodies x form
+  body-read h f = f ∙ ap (λ (y : Extent). isBody form (textIn bodies y)) read ∙ sym (ap (λ (y : Bool). y && isBody form (textIn bodies x)) (told lies h))
 
 -- ---------------------------------------------------------------- a record at its place
 

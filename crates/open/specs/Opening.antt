@@ -6,14 +6,13 @@ use lib.Dec.{eqb, leb, ltb}
 use lib.ListN.{length}
 use Rattle.grammar.specs.Bytes.{Bytes}
 use Rattle.grammar.specs.Refusals.{badMemory, noPlace}
-use Rattle.grammar.specs.Fields.{formIs, isCall, isAt, isBid, isHeading, isBody}
+use Rattle.grammar.specs.Fields.{Form, formIs, isCall, isAt, isBid, isHeading, isBody}
 use Rattle.grammar.specs.Turns.{isType}
-use Rattle.grammar.specs.Transfers.{partOf}
 use Rattle.mail.specs.Mail.{recordLimit, placeLimit}
 use Rattle.session.specs.Choices.{among}
 use Rattle.phase.specs.Phase.{stateDeclined}
-use Rattle.places.specs.Places.{atMax, bidMax, callMax, partners, recordAtField, recordBid, recordBody, recordBodyLength, recordForm, recordFrom, recordName, recordNameLength, recordSizeAt, recordTitle, recordTitleLength, recordTo, recordType, entryLen, knownLen, recordLen, sessionLen}
-use Rattle.layout.specs.Layout.{byteAt, le2At, le4At, fieldIn, entryAt, stateFor}
+use Rattle.places.specs.Places.{atMax, bidMax, callMax, partners, recordAtField, recordBid, recordForm, recordFrom, recordSizeAt, recordTo, recordType, entryLen, knownLen, recordLen, sessionLen}
+use Rattle.layout.specs.Layout.{Extent, byteAt, le4At, fieldIn, textIn, entryAt, titleExtent, nameExtent, bodyExtent, stateFor}
 use Rattle.record_text.specs.Texts.{fileForm}
 use Rattle.session_memory.specs.State.{saveOf, saveSizes, freshOf}
 use Rattle.session_memory.specs.Session.{Session}
@@ -55,17 +54,20 @@ fieldsOk c =
     && ((lengthOk c recordTo callMax && isCall (fieldIn callMax recordTo c)) && (lengthOk c recordBid bidMax && isBid (fieldIn bidMax recordBid c))))
 
 -- "Title, name and body are a start and a length in three lent stores."
-unfoldable pub within : Bytes → ℕ → ℕ → Bool
-within s start len = leb start (length s) && leb len (length s - start)
+unfoldable pub within : Bytes → Extent → Bool
+within s e = leb (e .start) (length s) && leb (e .len) (length s - e .start)
 
 -- "Forms 0 and 1 need a title, form 2 a name; the unused one may be empty, else the same bytes and length hold."
-unfoldable pub headingOk : Bytes → ℕ → ℕ → Bool → Bool
-headingOk s start len needed = within s start len && cond (eqb len 0) (not needed) (isHeading (partOf s start len))
+unfoldable pub headingOk : Bytes → Extent → Bool → Bool
+headingOk s e needed = within s e && cond (eqb (e .len) 0) (not needed) (isHeading (textIn s e))
+
+abbrev pub bodyOk : Bytes → Extent → Form → Bool
+bodyOk s e form = within s e && isBody form (textIn s e)
 
 unfoldable pub textsOk : Bytes → Bytes → Bytes → Bytes → Bool
 textsOk c titles names bodies =
-    headingOk titles (le4At c recordTitle) (byteAt c recordTitleLength) (not (eqb (byteAt c recordForm) fileForm)) && (headingOk names (le4At c recordName) (byteAt c recordNameLength) (eqb (byteAt c recordForm) fileForm)
-    && (within bodies (le4At c recordBody) (le2At c recordBodyLength) && isBody (formIs (byteAt c recordForm)) (partOf bodies (le4At c recordBody) (le2At c recordBodyLength))))
+    headingOk titles (titleExtent c) (not (eqb (byteAt c recordForm) fileForm)) && (headingOk names (nameExtent c) (eqb (byteAt c recordForm) fileForm)
+    && bodyOk bodies (bodyExtent c) (formIs (byteAt c recordForm)))
 
 unfoldable pub recordOk : Bytes → Bytes → Bytes → Bytes → Bool
 recordOk c titles names bodies = numbersOk c && (fieldsOk c && textsOk c titles names bodies)

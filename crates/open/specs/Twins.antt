@@ -1,25 +1,25 @@
 -- Tables with two or three records of one BID or nearly so, and the place of the fault that open finds; proved by computation (proofs/Twins).
 use mathlib.Core.List.{List, [], _∷_, _++_}
-use Prim.Native.Nat.{ℕ, _-_}
-use lib.ListN.{length, replicate}
+use Prim.Native.Nat.{ℕ}
+use lib.ListN.{replicate}
 use Rattle.grammar.specs.Bytes.{Bytes}
-use Rattle.grammar.specs.Ascii.{text}
+use Rattle.grammar.specs.Ascii.{text, char}
+use Rattle.grammar.specs.Fields.{plain}
 use Rattle.grammar.specs.Refusals.{noPlace}
-use Rattle.places.specs.Places.{atMax, bidMax, callMax, partners}
+use Rattle.phase.specs.Phase.{stateWaiting}
+use Rattle.places.specs.Places.{partners}
+use Rattle.layout.specs.Layout.{extent, recordOut}
 use Rattle.open.specs.Opening.{tableFault}
 
--- A field with room for so many bytes, and a good record with this BID, titled by the first byte of its store.
-abbrev pub slot : ℕ → Bytes → Bytes
-slot room w = length w ∷ (w ++ replicate (room - length w) 0)
-
-abbrev pub recordWith : Bytes → Bytes
-recordWith bid =
-    replicate partners 0 ++ ((0 ∷ 80 ∷ []) ++ (slot callMax (text "A") ++ (slot atMax (text "B") ++ (slot callMax (text "C") ++ (slot bidMax bid
-    ++ (replicate 4 0 ++ ((0 ∷ 0 ∷ 0 ∷ 0 ∷ 1 ∷ []) ++ replicate 11 0)))))))
+-- A good record with this BID, titled by the first byte of its store.
+abbrev pub goodWith : Bytes → Bytes
+goodWith bid =
+    recordOut (replicate partners stateWaiting) (record { form = plain; type = char "P"; from = text "A"; at = text "B"; to = text "C"; bid = bid; size = 0 })
+    (extent 0 1) (extent 0 0) (extent 0 0)
 
 abbrev pub tableWith : List Bytes → Bytes
 tableWith [] = []
-tableWith (b ∷ bs) = recordWith b ++ tableWith bs
+tableWith (b ∷ bs) = goodWith b ++ tableWith bs
 
 abbrev pub faultWith : List Bytes → ℕ
 faultWith bids = tableFault (tableWith bids) (text "T") [] []

@@ -14,19 +14,18 @@ ghost use mathlib.Core.Bool.{_&&_, not};
 ghost use mathlib.Core.List.{[]};
 ghost use Prim.Native.Nat.{_<_};
 ghost use lib.Dec.{eqb};
-ghost use Rattle.grammar.specs.Fields.{formIs, isCall, isAt, isBid, isBody};
+ghost use Rattle.grammar.specs.Fields.{formIs, isCall, isAt, isBid};
 ghost use Rattle.grammar.specs.Turns.{isType};
-ghost use Rattle.grammar.specs.Transfers.{partOf};
 ghost use Rattle.grammar.specs.Refusals.{badMemory};
-ghost use Rattle.layout.specs.Layout.{byteAt, le2At, le4At, fieldIn};
+ghost use Rattle.layout.specs.Layout.{extent, byteAt, fieldIn, titleExtent, nameExtent, bodyExtent};
 ghost use Rattle.entries.specs.Decoded.{recordCount, knownLimit};
 ghost use Rattle.give.specs.Giving.{reply};
-ghost use Rattle.places.specs.Places.{atMax, bidMax, callMax, recordForm, recordTitle, recordTitleLength, recordName, recordNameLength, recordBody, recordBodyLength, entryLen, knownLen, recordLen, sessionLen};
+ghost use Rattle.places.specs.Places.{atMax, bidMax, callMax, recordForm, entryLen, knownLen, recordLen, sessionLen};
 ghost use Rattle.mail.specs.Mail.{recordLimit, placeLimit};
 ghost use Rattle.record_text.specs.Texts.{fileForm};
 ghost use Rattle.sheet.specs.Sheet.{noSheet};
 ghost use Rattle.open.specs.Lending.{lending};
-ghost use Rattle.open.specs.Opening.{lengthOk, statesOk, numbersOk, fieldsOk, within, headingOk, textsOk, recordOk, placeOk, tableFault, knownOk, entriesOk, sizesOk, beforeOk, openOf, Opened};
+ghost use Rattle.open.specs.Opening.{lengthOk, statesOk, numbersOk, fieldsOk, within, headingOk, bodyOk, textsOk, recordOk, placeOk, tableFault, knownOk, entriesOk, sizesOk, beforeOk, openOf, Opened};
 
 // Roles: called, caller.
 const CALLER: u8 = 1;
@@ -160,7 +159,7 @@ fn fields_ok(c: &[u8]) -> bool
 
 // The len bytes from start on lie in the store.
 fn lies_within(s: &[u8], start: usize, len: usize) -> bool
-    ensures { λ r. ⌜ r ≡ within (now (s .entry)) start len ⌝ }
+    ensures { λ r. ⌜ r ≡ within (now (s .entry)) (extent start len) ⌝ }
 {
     if s.len() < start {
         return false;
@@ -170,7 +169,7 @@ fn lies_within(s: &[u8], start: usize, len: usize) -> bool
 
 // A title or name; one that is not needed may be empty.
 fn heading_ok(s: &[u8], start: usize, len: usize, needed: bool) -> bool
-    ensures { λ r. ⌜ r ≡ headingOk (now (s .entry)) start len needed ⌝ }
+    ensures { λ r. ⌜ r ≡ headingOk (now (s .entry)) (extent start len) needed ⌝ }
 {
     if !lies_within(s, start, len) {
         return false;
@@ -183,7 +182,7 @@ fn heading_ok(s: &[u8], start: usize, len: usize, needed: bool) -> bool
 
 // The title; forms 0 and 1 need one.
 fn title_ok(c: &[u8], titles: &[u8]) -> bool
-    ensures { λ r. ⌜ r ≡ headingOk (now (titles .entry)) (le4At (now (c .entry)) recordTitle) (byteAt (now (c .entry)) recordTitleLength) (not (eqb (byteAt (now (c .entry)) recordForm) fileForm)) ⌝ }
+    ensures { λ r. ⌜ r ≡ headingOk (now (titles .entry)) (titleExtent (now (c .entry))) (not (eqb (byteAt (now (c .entry)) recordForm) fileForm)) ⌝ }
 {
     heading_ok(
         titles,
@@ -195,7 +194,7 @@ fn title_ok(c: &[u8], titles: &[u8]) -> bool
 
 // The name; form 2 needs one.
 fn name_ok(c: &[u8], names: &[u8]) -> bool
-    ensures { λ r. ⌜ r ≡ headingOk (now (names .entry)) (le4At (now (c .entry)) recordName) (byteAt (now (c .entry)) recordNameLength) (eqb (byteAt (now (c .entry)) recordForm) fileForm) ⌝ }
+    ensures { λ r. ⌜ r ≡ headingOk (now (names .entry)) (nameExtent (now (c .entry))) (eqb (byteAt (now (c .entry)) recordForm) fileForm) ⌝ }
 {
     heading_ok(
         names,
@@ -207,7 +206,7 @@ fn name_ok(c: &[u8], names: &[u8]) -> bool
 
 // The body.
 fn body_ok(c: &[u8], bodies: &[u8]) -> bool
-    ensures { λ r. ⌜ r ≡ within (now (bodies .entry)) (le4At (now (c .entry)) recordBody) (le2At (now (c .entry)) recordBodyLength) && isBody (formIs (byteAt (now (c .entry)) recordForm)) (partOf (now (bodies .entry)) (le4At (now (c .entry)) recordBody) (le2At (now (c .entry)) recordBodyLength)) ⌝ }
+    ensures { λ r. ⌜ r ≡ bodyOk (now (bodies .entry)) (bodyExtent (now (c .entry))) (formIs (byteAt (now (c .entry)) recordForm)) ⌝ }
 {
     let form = byte_at(c, FORM);
     let start = number4(c, BODY);

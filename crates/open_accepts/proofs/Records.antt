@@ -21,8 +21,8 @@ use Rattle.grammar.proofs.Basics.{and2, both, no-both, not-so, or2, or-left, or
 use Rattle.session.specs.Choices.{among}
 use Rattle.mail.specs.Mail.{Record, noRecord}
 use Rattle.phase.specs.Phase.{stateWaiting, stateForwarded, stateDeclined}
-use Rattle.places.specs.Places.{atMax, bidMax, callMax, partners, recordAtField, recordBid, recordBody, recordBodyLength, recordForm, recordFrom, recordName, recordNameLength, recordSizeAt, recordTitle, recordTitleLength, recordTo, recordType, recordLen}
-use Rattle.layout.specs.Layout.{byteAt, le2At, le4At, fieldIn, recordOf, stateFor}
+use Rattle.places.specs.Places.{atMax, bidMax, callMax, partners, recordAtField, recordBid, recordForm, recordFrom, recordSizeAt, recordTo, recordType, recordLen}
+use Rattle.layout.specs.Layout.{Extent, byteAt, le4At, fieldIn, textIn, titleExtent, nameExtent, bodyExtent, recordOf, stateFor}
 use Rattle.entries.specs.Decoded.{entriesFrom, entries, recordCount, recordsOf}
 use Rattle.entries.proofs.Laws.{entries-at, entries-length}
 use Rattle.marking.proofs.States.{state-read}
@@ -113,46 +113,48 @@ state-decides s = (λ e. there (eqb s stateWaiting) (eqb s stateForwarded) refl 
 
 -- ---------------------------------------------------------------- title, name and body
 
-lies-decides : (s : Bytes) (start len : ℕ) → Decides (within s start len) (Lies s start len)
+lies-decides : (s : Bytes) (x : Extent) → Decides (within s x) (Lies s x)
 unfolding within
-lies-decides s start len =
-    as-well (both-decide (leb start (length s)) (leb len (length s - start)) (leb-decides start (length s)) (leb-decides len (length s - start)))
+lies-decides s x =
+    as-well (both-decide (leb (x .start) (length s)) (leb (x .len) (length s - x .start)) (leb-decides (x .start) (length s)) (leb-decides (x .len) (length s - x .start)))
     (λ p. let a = p .0 in let b = p .1 in omega arith) (λ h. (omega arith, omega arith))
 
-module _ (s : Bytes) (start len : ℕ) where
+module _ (s : Bytes) (x : Extent) where
   abbrev w : Bytes
-  w = partOf s start len
+  w = textIn s x
 
   -- a part that lies in its store is as long as was asked
-  lying-long : Lies s start len → length w ≡ len
-  lying-long h = rw (le-leb start (length s) (omega arith), le-leb len (length s - start) (omega arith)) (length-take-le len (drop start s) (rw (length-drop start s) (omega arith)))
+  lying-long : Lies s x → length w ≡ x .len
+  lying-long h =
+      rw (le-leb (x .start) (length s) (omega arith), le-leb (x .len) (length s - x .start) (omega arith))
+      (length-take-le (x .len) (drop (x .start) s) (rw (length-drop (x .start) s) (omega arith)))
 
-  headed-decides : (needed : Bool) (Needed : Type 0) → Decides needed Needed → Decides (headingOk s start len needed) (Headed Needed s start len w)
+  headed-decides : (needed : Bool) (Needed : Type 0) → Decides needed Needed → Decides (headingOk s x needed) (Headed Needed s x w)
   unfolding headingOk
   headed-decides needed Needed d = (there, back)
     where
-      there : headingOk s start len needed ≡ true → Headed Needed s start len w
+      there : headingOk s x needed ≡ true → Headed Needed s x w
       there e =
-          let p = and2 (within s start len) (cond (eqb len 0) (not needed) (isHeading w)) e in
-          let l = lies-decides s start len .0 (p .0) in
-          go l (lying-long l) (eqb len 0) refl (p .1)
+          let p = and2 (within s x) (cond (eqb (x .len) 0) (not needed) (isHeading w)) e in
+          let l = lies-decides s x .0 (p .0) in
+          go l (lying-long l) (eqb (x .len) 0) refl (p .1)
         where
-          go : Lies s start len → length w ≡ len → (b : Bool) → eqb len 0 ≡ b → cond b (not needed) (isHeading w) ≡ true → Headed Needed s start len w
+          go : Lies s x → length w ≡ x .len → (b : Bool) → eqb (x .len) 0 ≡ b → cond b (not needed) (isHeading w) ≡ true → Headed Needed s x w
           go l n true z e =
-              let k = eqb-true len 0 z in
+              let k = eqb-true (x .len) 0 z in
               record { lies = l; needed = λ x. absurd (no-both needed (d .1 x) (not-true needed e)); heading = λ h. absurd (omega arith) }
           go l n false z e = let h = heading-decides w .0 e in record { lies = l; needed = λ x. h .notEmpty; heading = λ x. h }
 
-      back : Headed Needed s start len w → headingOk s start len needed ≡ true
-      back h = both (within s start len) (cond (eqb len 0) (not needed) (isHeading w)) (lies-decides s start len .1 (h .lies)) (go (lying-long (h .lies)) (eqb len 0) refl)
+      back : Headed Needed s x w → headingOk s x needed ≡ true
+      back h = both (within s x) (cond (eqb (x .len) 0) (not needed) (isHeading w)) (lies-decides s x .1 (h .lies)) (go (lying-long (h .lies)) (eqb (x .len) 0) refl)
         where
           not-needed : length w ≡ 0 → (b : Bool) → needed ≡ b → not b ≡ true
           not-needed n true e = let k = h .needed (d .0 e) in absurd (omega arith)
           not-needed n false e = refl
 
-          go : length w ≡ len → (b : Bool) → eqb len 0 ≡ b → cond b (not needed) (isHeading w) ≡ true
-          go n true z = not-needed (n ∙ eqb-true len 0 z) needed refl
-          go n false z = let k = eqb-false len 0 z in heading-decides w .1 (h .heading (omega arith))
+          go : length w ≡ x .len → (b : Bool) → eqb (x .len) 0 ≡ b → cond b (not needed) (isHeading w) ≡ true
+          go n true z = not-needed (n ∙ eqb-true (x .len) 0 z) needed refl
+          go n false z = let k = eqb-false (x .len) 0 z in heading-decides w .1 (h .heading (omega arith))
 
   fair-decides : (b : ℕ) → Decides (notCtrlZ b) (b ≡ CTRLZ → ⊥)
   fair-decides b = (λ e. eqb-false b CTRLZ (not-true (eqb b CTRLZ) e), λ h. rw (ne-eqb b CTRLZ h))
@@ -166,9 +168,9 @@ module _ (s : Bytes) (start len : ℕ) where
   body-fair message = (λ e x. let z = ap formNumber x in absurd (omega arith), λ h. refl)
   body-fair file = (λ e x. let z = ap formNumber x in absurd (omega arith), λ h. refl)
 
-  bodied-decides : (f : Form) → Decides (within s start len && isBody f w) (Bodied f s start len w)
+  bodied-decides : (f : Form) → Decides (within s x && isBody f w) (Bodied f s x w)
   bodied-decides f =
-      as-well (both-decide (within s start len) (isBody f w) (lies-decides s start len)
+      as-well (both-decide (within s x) (isBody f w) (lies-decides s x)
       (both-decide (leb (length w) bodyMost) (bodyFair f w) (leb-decides (length w) bodyMost) (body-fair f)))
       (λ p. record { lies = p .0; short = p .1 .0; fair = p .1 .1 }) (λ h. (h .lies, (h .short, h .fair)))
 
@@ -238,22 +240,22 @@ module _ (L : Lending) (c : Bytes) where
       (both-decide (lengthOk c recordTo callMax && isCall (fieldIn callMax recordTo c)) (lengthOk c recordBid bidMax && isBid (fieldIn bidMax recordBid c)) (call-in recordTo c) (bid-in recordBid c)))
 
   abbrev Title : Type 0
-  Title = Headed (NeedsTitle (r .form)) (L .titles) (le4At c recordTitle) (byteAt c recordTitleLength) (r .title)
+  Title = Headed (NeedsTitle (r .form)) (L .titles) (titleExtent c) (r .title)
 
   abbrev Name : Type 0
-  Name = Headed (NeedsName (r .form)) (L .names) (le4At c recordName) (byteAt c recordNameLength) (r .name)
+  Name = Headed (NeedsName (r .form)) (L .names) (nameExtent c) (r .name)
 
   abbrev Body : Type 0
-  Body = Bodied (r .form) (L .bodies) (le4At c recordBody) (le2At c recordBodyLength) (r .body)
+  Body = Bodied (r .form) (L .bodies) (bodyExtent c) (r .body)
 
   texts-decide : Decides (textsOk c (L .titles) (L .names) (L .bodies)) (Title × (Name × Body))
   unfolding textsOk
   texts-decide =
-      both-decide (headingOk (L .titles) (le4At c recordTitle) (byteAt c recordTitleLength) (not (eqb form (formNumber file)))) _
-      (headed-decides (L .titles) (le4At c recordTitle) (byteAt c recordTitleLength) (not (eqb form (formNumber file))) (NeedsTitle (r .form)) (needs-title form))
-      (both-decide (headingOk (L .names) (le4At c recordName) (byteAt c recordNameLength) (eqb form (formNumber file))) _
-      (headed-decides (L .names) (le4At c recordName) (byteAt c recordNameLength) (eqb form (formNumber file)) (NeedsName (r .form)) (needs-name form))
-      (bodied-decides (L .bodies) (le4At c recordBody) (le2At c recordBodyLength) (r .form)))
+      both-decide (headingOk (L .titles) (titleExtent c) (not (eqb form (formNumber file)))) _
+      (headed-decides (L .titles) (titleExtent c) (not (eqb form (formNumber file))) (NeedsTitle (r .form)) (needs-title form))
+      (both-decide (headingOk (L .names) (nameExtent c) (eqb form (formNumber file))) _
+      (headed-decides (L .names) (nameExtent c) (eqb form (formNumber file)) (NeedsName (r .form)) (needs-name form))
+      (bodied-decides (L .bodies) (bodyExtent c) (r .form)))
 
   pub record-decides : Decides (recordOk c (L .titles) (L .names) (L .bodies)) (GoodRecord L (λ (p : ℕ). stateFor p c) c r)
   unfolding recordOk

@@ -11,7 +11,7 @@ use Rattle.grammar.specs.Fields.{formNumber, plain, file}
 use Rattle.grammar.specs.Refusals.{badMemory, noPlace}
 use Rattle.phase.specs.Phase.{stateWaiting, stateForwarded, stateDeclined}
 use Rattle.places.specs.Places.{recordForm, recordType, recordFrom, recordAtField, recordTo, recordBid, recordSizeAt, recordTitle, recordTitleLength, recordName, recordBodyLength, recordLen, entryLen, sessionLen, bidMax, partners}
-use Rattle.layout.specs.Layout.{le2, le4, proposalOut, fieldOut, statePlace}
+use Rattle.layout.specs.Layout.{extent, fieldOut, recordOut, statePlace}
 use Rattle.marking.specs.States.{statesOf}
 use Rattle.give.specs.Giving.{reply}
 use Rattle.give.specs.declared.Reply.{Reply}
@@ -24,8 +24,8 @@ use Rattle.open.specs.Lending.{Lending, lending, roleCalled, roleCaller}
 -- A record in this state for every partner, with this BID: a plain text with the first title and the first eight bytes of the body store.
 abbrev pub letter : ℕ → Bytes → Bytes
 letter state bid =
-    replicate partners state ++ (proposalOut (formNumber plain) (char "P") (text "F0ABC") (text "N0SUD.TST.FRA.EU") (text "F0XYZ") bid 160
-    ++ (le4 0 ++ (5 ∷ (le4 0 ++ (0 ∷ (le4 0 ++ le2 8))))))
+    recordOut (replicate partners state) (record { form = plain; type = char "P"; from = text "F0ABC"; at = text "N0SUD.TST.FRA.EU"; to = text "F0XYZ"; bid = bid; size = 160 })
+    (extent 0 5) (extent 0 0) (extent 0 8)
 
 abbrev pub first : Bytes
 first = letter stateWaiting (text "101_N0NOR")

@@ -10,8 +10,8 @@ use Rattle.grammar.specs.Bytes.{Bytes}
 use Rattle.grammar.specs.Fields.{formNumber}
 use Rattle.mail.specs.Mail.{Record, recordLimit, placeLimit}
 use Rattle.phase.specs.Phase.{stateWaiting, stateForwarded, stateDeclined}
-use Rattle.places.specs.Places.{recordForm, recordFrom, recordAtField, recordTo, recordBid, recordTitle, recordTitleLength, recordName, recordNameLength, recordBody, recordBodyLength, recordLen, partners, knownLen, entryLen, sessionLen}
-use Rattle.layout.specs.Layout.{byteAt, le2At, le4At}
+use Rattle.places.specs.Places.{recordForm, recordFrom, recordAtField, recordTo, recordBid, recordLen, partners, knownLen, entryLen, sessionLen}
+use Rattle.layout.specs.Layout.{byteAt, titleExtent, nameExtent, bodyExtent}
 use Rattle.open_accepts.specs.Words.{Callsign, At, Bid, Field, Headed, Bodied, NeedsTitle, NeedsName}
 use Rattle.open.specs.Lending.{Lending, roleCalled, roleCaller}
 use Rattle.open_accepts.specs.Lent.{recordsIn, recordIn, stateIn, bytesIn, knownIn, bidIn, knownBytesIn}
@@ -70,9 +70,9 @@ pub record GoodRecord (L : Lending) (s : ℕ → ℕ) (c : Bytes) (r : Record) :
   pub to : Field Callsign (byteAt c recordTo) (r .to)
   pub bid : Field Bid (byteAt c recordBid) (r .bid)
   pub size : r .size ≤ sizeMost
-  pub title : Headed (NeedsTitle (r .form)) (L .titles) (le4At c recordTitle) (byteAt c recordTitleLength) (r .title)
-  pub name : Headed (NeedsName (r .form)) (L .names) (le4At c recordName) (byteAt c recordNameLength) (r .name)
-  pub body : Bodied (r .form) (L .bodies) (le4At c recordBody) (le2At c recordBodyLength) (r .body)
+  pub title : Headed (NeedsTitle (r .form)) (L .titles) (titleExtent c) (r .title)
+  pub name : Headed (NeedsName (r .form)) (L .names) (nameExtent c) (r .name)
+  pub body : Bodied (r .form) (L .bodies) (bodyExtent c) (r .body)
 
 -- The record at place i, counted from 0.
 pub record GoodAt (L : Lending) (i : ℕ) : Type 0 where

@@ -7,6 +7,7 @@ use Prim.Native.Nat.{ℕ, _+_, _≤_, _<_}
 use lib.ListN.{length, getD}
 use Rattle.grammar.specs.Bytes.{Bytes, CTRLZ}
 use Rattle.grammar.specs.Fields.{Form, plain, message, file}
+use Rattle.layout.specs.Layout.{Extent}
 
 -- ---------------------------------------------------------------- kinds of bytes
 
@@ -125,17 +126,17 @@ NeedsName message = ⊥
 NeedsName file = Unit {0}
 
 -- "Title, name and body are a start and a length in three lent stores."
-abbrev pub Lies : Bytes → ℕ → ℕ → Type 0
-Lies store start len = start + len ≤ length store
+abbrev pub Lies : Bytes → Extent → Type 0
+Lies store e = e .start + e .len ≤ length store
 
 -- A title or name: one that is needed is not empty; "the unused one may be empty, else the same bytes and length hold."
-pub record Headed (Needed : Type 0) (store : Bytes) (start len : ℕ) (w : Bytes) : Type 0 where
-  pub lies : Lies store start len
+pub record Headed (Needed : Type 0) (store : Bytes) (e : Extent) (w : Bytes) : Type 0 where
+  pub lies : Lies store e
   pub needed : Needed → 1 ≤ length w
   pub heading : 1 ≤ length w → Heading w
 
 -- "A body has at most 65,535 bytes; a plain body holds no 0x1A."
-pub record Bodied (form : Form) (store : Bytes) (start len : ℕ) (w : Bytes) : Type 0 where
-  pub lies : Lies store start len
+pub record Bodied (form : Form) (store : Bytes) (e : Extent) (w : Bytes) : Type 0 where
+  pub lies : Lies store e
   pub short : length w ≤ bodyMost
   pub fair : form ≡ plain → (k : ℕ) → k < length w → getD w k 0 ≢ CTRLZ

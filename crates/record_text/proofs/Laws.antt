@@ -13,9 +13,9 @@ use Rattle.grammar.specs.Fields.{Form, plain, message, file, formNumber, formIs
 use Rattle.grammar.specs.Transfers.{kindOf, partOf, writePlain, writeFramed, writeTransfer}
 use Rattle.grammar.proofs.Basics.{by-cond}
 use Rattle.mail.specs.Mail.{transferOf, headingFor}
-use Rattle.layout.specs.Layout.{byteAt, le4At, recordOf}
+use Rattle.layout.specs.Layout.{byteAt, textIn, titleExtent, nameExtent, recordOf}
 use Rattle.layout.proofs.Places.{part-in}
-use Rattle.places.specs.Places.{recordForm, recordTitle, recordTitleLength, recordName, recordNameLength}
+use Rattle.places.specs.Places.{recordForm}
 use Rattle.record_text.specs.Texts.{headingPart, bodyIn, fileForm}
 
 -- ---------------------------------------------------------------- numbers that were read
@@ -67,11 +67,11 @@ module _ (titles names bodies r : Bytes) where
   unfolding bodyIn
   by-form k e = ap (λ (o : Form). writeTransfer (kindOf o) (headingFor o (recordOf titles names bodies r)) (bodyIn bodies r)) (sym e)
 
-  title-is : (byteAt r recordForm ≡ fileForm → ⊥) → headingPart titles names r ≡ partOf titles (le4At r recordTitle) (byteAt r recordTitleLength)
+  title-is : (byteAt r recordForm ≡ fileForm → ⊥) → headingPart titles names r ≡ textIn titles (titleExtent r)
   unfolding headingPart
   title-is n = rw (ne-eqb (byteAt r recordForm) fileForm n)
 
-  name-is : byteAt r recordForm ≡ fileForm → headingPart titles names r ≡ partOf names (le4At r recordName) (byteAt r recordNameLength)
+  name-is : byteAt r recordForm ≡ fileForm → headingPart titles names r ≡ textIn names (nameExtent r)
   unfolding headingPart
   name-is e = rw (eq-eqb (byteAt r recordForm) fileForm e)
 

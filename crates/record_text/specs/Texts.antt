@@ -4,9 +4,8 @@ use Prim.Native.Nat.{ℕ}
 use lib.Dec.{eqb}
 use Rattle.grammar.specs.Bytes.{Bytes}
 use Rattle.grammar.specs.Fields.{file, formNumber}
-use Rattle.grammar.specs.Transfers.{partOf}
-use Rattle.layout.specs.Layout.{byteAt, le2At, le4At}
-use Rattle.places.specs.Places.{recordForm, recordTitle, recordTitleLength, recordName, recordNameLength, recordBody, recordBodyLength}
+use Rattle.layout.specs.Layout.{byteAt, textIn, titleExtent, nameExtent, bodyExtent}
+use Rattle.places.specs.Places.{recordForm}
 
 -- "Each has a form (0 plain text, 1 packed message, 2 packed file)"
 abbrev pub fileForm : ℕ
@@ -14,9 +13,7 @@ fileForm = formNumber file
 
 -- "the title for a message or the file name for a file"
 unfoldable pub headingPart : Bytes → Bytes → Bytes → Bytes
-headingPart titles names r =
-    cond (eqb (byteAt r recordForm) fileForm) (partOf names (le4At r recordName) (byteAt r recordNameLength))
-    (partOf titles (le4At r recordTitle) (byteAt r recordTitleLength))
+headingPart titles names r = cond (eqb (byteAt r recordForm) fileForm) (textIn names (nameExtent r)) (textIn titles (titleExtent r))
 
 unfoldable pub bodyIn : Bytes → Bytes → Bytes
-bodyIn bodies r = partOf bodies (le4At r recordBody) (le2At r recordBodyLength)
+bodyIn bodies r = textIn bodies (bodyExtent r)

@@ -15,12 +15,12 @@ use Rattle.mail.specs.Mail.{Message, placeLimit}
 use Rattle.session.specs.Choices.{bodyBytes}
 use Rattle.buffer.specs.Put.{putBytes}
 use Rattle.places.specs.Places.{entryLen, fieldsSize, headingMax}
-use Rattle.layout.specs.Layout.{le2, le4, fieldOut, fieldsOut, entryAt, messageIn, proposalIn, bodyStart, bodyLength, entryOut}
+use Rattle.layout.specs.Layout.{le2, le4, fieldOut, fieldsOut, entryAt, messageIn, messageKept, proposalIn, bodyStart, bodyLength, entryOut, messageBytes}
 use Rattle.layout.proofs.Places.{part-in, part-kept, part-here}
 use Rattle.layout.proofs.Laws.{withContent, entry-length, message-back, start-back, length-back, inbox-back, inbox-kept}
 use Rattle.form_test.specs.Form.{usedFrom, usedBy}
 use Rattle.session_memory.specs.State.{at}
-use Rattle.represents.specs.Laid.{messageBytes, bodiesBytes}
+use Rattle.represents.specs.Laid.{bodiesBytes}
 use Rattle.represents.specs.Represents.{messagesFrom, messagesOf, InRow, LaidFrom, Written, Boxed}
 
 -- ---------------------------------------------------------------- the same entries
@@ -29,8 +29,8 @@ module _ (e f : Bytes) (k : ℕ) (same : (j : ℕ) → j < k → entryAt entryLe
   messages-same : (st : Bytes) (i n : ℕ) → i + n ≤ k → messagesFrom f st i n ≡ messagesFrom e st i n
   messages-same st i zero h = refl
   messages-same st i (suc n) h =
-      ap (λ (c : Bytes). messageIn c (partOf st (bodyStart c) (bodyLength c)) ∷ messagesFrom f st (suc i) n) (same i (omega arith))
-      ∙ ap (λ (l : List Message). messageIn (entryAt entryLen e i) (partOf st (bodyStart (entryAt entryLen e i)) (bodyLength (entryAt entryLen e i))) ∷ l) (messages-same st (suc i) n (omega arith))
+      ap (λ (c : Bytes). messageKept st c ∷ messagesFrom f st (suc i) n) (same i (omega arith))
+      ∙ ap (λ (l : List Message). messageKept st (entryAt entryLen e i) ∷ l) (messages-same st (suc i) n (omega arith))
 
   row-same : (i n place : ℕ) → i + n ≤ k → InRow e i n place → InRow f i n place
   row-same i zero place h r = tt
@@ -54,7 +54,7 @@ module _ (e f : Bytes) (k : ℕ) (same : (j : ℕ) → j < k → entryAt entryLe
 
 module _ (e : Bytes) where
   abbrev messageAt : Bytes → ℕ → Message
-  messageAt st i = messageIn (entryAt entryLen e i) (partOf st (bodyStart (entryAt entryLen e i)) (bodyLength (entryAt entryLen e i)))
+  messageAt st i = messageKept st (entryAt entryLen e i)
 
   messages-snoc : (st : Bytes) (i n : ℕ) → messagesFrom e st i (suc n) ≡ messagesFrom e st i n ++ (messageAt st (i + n) ∷ [])
   messages-snoc st i zero = ap (λ (j : ℕ). messageAt st j ∷ []) (sym (add-zero i))
@@ -144,7 +144,7 @@ module _ (kept used : ℕ) (inbox store : Bytes) (ms : List Message) (places n :
         count = omega (arith, h .count, length-append ms (messageIn x (take n (drop used store)) ∷ []));
         messages = ap (messagesFrom grown store 0) (add-one kept) ∙ messages-snoc grown store 0 kept
             ∙ ap (λ (ls : List Message). ls ++ (messageAt grown store (0 + kept) ∷ [])) (messages-same inbox grown kept before store 0 kept (omega arith) ∙ h .messages)
-            ∙ ap (λ (e : Bytes). ms ++ (messageIn e (partOf store (bodyStart e) (bodyLength e)) ∷ [])) here
+            ∙ ap (λ (e : Bytes). ms ++ (messageKept store e ∷ [])) here
             ∙ ap (λ (o : Bytes). ms ++ (messageIn x o ∷ [])) read;
         laid = laid-snoc grown 0 0 ms kept-message (laid-same inbox grown kept before 0 0 ms (omega (arith, h .count)) (h .laid))
             (ap (λ (j : ℕ). entryAt entryLen grown (0 + j)) (sym (h .count)) ∙ here ∙ w ∙ ap (messageBytes kept-message) (h .bytes ∙ sym (zero-add (bodyBytes ms))));

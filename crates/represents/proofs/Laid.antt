@@ -9,7 +9,8 @@ use Rattle.grammar.specs.Bytes.{Bytes}
 use Rattle.mail.specs.Mail.{Message}
 use Rattle.places.specs.Places.{entryLen}
 use Rattle.layout.proofs.Places.{part-in}
-use Rattle.represents.specs.Laid.{messageBytes, entriesBytes, bodiesBytes}
+use Rattle.layout.specs.Layout.{messageBytes}
+use Rattle.represents.specs.Laid.{entriesBytes, bodiesBytes}
 use Rattle.represents.specs.Represents.{LaidFrom}
 
 pub entries-laid : (inbox : Bytes) (i start : ℕ) (ms : List Message) → LaidFrom inbox i start ms → (i + length ms) * entryLen ≤ length inbox

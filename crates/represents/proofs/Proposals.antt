@@ -22,9 +22,9 @@ use Rattle.mail.specs.Mail.{accepted}
 use Rattle.session.specs.Session.{isPlain}
 use Rattle.buffer.specs.Put.{putBytes}
 use Rattle.places.specs.Places.{proposalLen, headingLen, blockLen, formAt}
-use Rattle.layout.specs.Layout.{byteAt, entryAt, proposalIn}
+use Rattle.layout.specs.Layout.{byteAt, entryAt, proposalBytes, proposalIn}
 use Rattle.layout.proofs.Places.{entry-written}
-use Rattle.layout.proofs.Laws.{Fits, written, proposal-length, proposal-back, block-kept}
+use Rattle.layout.proofs.Laws.{Fits, proposal-length, proposal-back, block-kept}
 use Rattle.transfer_step.specs.Step.{startOf}
 use Rattle.transfer_read.specs.Meaning.{numbersOf, Stands}
 use Rattle.entries.specs.Decoded.{entries, proposalsOf}
@@ -69,16 +69,16 @@ form-small file = omega arith
 
 module _ (block : Bytes) (n : ℕ) (size : length block ≡ blockLen) (few : n < blockLimit) (q : Proposal) where
   abbrev more : Bytes
-  more = putBytes block (at (n * proposalLen)) (written q)
+  more = putBytes block (at (n * proposalLen)) (proposalBytes q)
 
-  long : length (written q) ≡ proposalLen
+  long : length (proposalBytes q) ≡ proposalLen
   long = proposal-length (formNumber (q .form)) (q .type) (q .from) (q .at) (q .to) (q .bid) (q .size)
 
-  here : entryAt proposalLen more n ≡ written q
-  here = entry-written proposalLen block n (written q) long (omega (arith, size))
+  here : entryAt proposalLen more n ≡ proposalBytes q
+  here = entry-written proposalLen block n (proposalBytes q) long (omega (arith, size))
 
   other : (j : ℕ) → j < n → entryAt proposalLen more j ≡ entryAt proposalLen block j
-  other j h = block-kept block n size few (written q) long j (λ e. omega arith)
+  other j h = block-kept block n size few (proposalBytes q) long j (λ e. omega arith)
 
   pub proposals-more : Fits q → proposalsOf more (n + 1) ≡ proposalsOf block n ++ (q ∷ [])
   unfolding proposalsOf
@@ -92,7 +92,7 @@ module _ (block : Bytes) (n : ℕ) (size : length block ≡ blockLen) (few : n <
   entries-more fits h j k = go (eqb j n) refl
     where
       go : (c : Bool) → eqb j n ≡ c → Written (entryAt proposalLen more j)
-      go true e = subst (λ (i : ℕ). Written (entryAt proposalLen more i)) (sym (eqb-true j n e)) (subst Written (sym here) (ap written (proposal-back q fits)))
+      go true e = subst (λ (i : ℕ). Written (entryAt proposalLen more i)) (sym (eqb-true j n e)) (subst Written (sym here) (ap proposalBytes (proposal-back q fits)))
       go false e =
           let ne = eqb-false j n e in
           let l : j < n = omega arith in

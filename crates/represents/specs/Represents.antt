@@ -10,11 +10,11 @@ use lib.ListN.{length, take, drop}
 use Rattle.grammar.specs.Bytes.{Bytes, byteValues}
 use Rattle.grammar.specs.Turns.{Proposal}
 use Rattle.grammar.specs.Answers.{Sign, accept, decline, defer, plusSign, minusSign}
-use Rattle.grammar.specs.Transfers.{partOf, byteSum}
+use Rattle.grammar.specs.Transfers.{byteSum}
 use Rattle.mail.specs.Mail.{Message, accepted}
 use Rattle.session.specs.Choices.{Shelf, bodyBytes}
 use Rattle.session.specs.Session as on-lists
-use Rattle.layout.specs.Layout.{entryAt, proposalIn, messageIn, bodyStart, bodyLength}
+use Rattle.layout.specs.Layout.{entryAt, proposalBytes, proposalIn, messageKept, bodyStart, bodyLength, messageBytes}
 use Rattle.transfer_read.specs.Feed.{roomOf}
 use Rattle.transfer_read.specs.Meaning.{Stands}
 use Rattle.session_memory.specs.State.{held}
@@ -25,7 +25,7 @@ use Rattle.entries.specs.Decoded.{recordsOf, knownBids, proposalsOf, placeCount
 use Rattle.marking.specs.States.{statesOf, Whole}
 use Rattle.waiting.specs.Waiting.{waitingOf}
 use Rattle.receive_defined.specs.Receiving.{Cs}
-use Rattle.represents.specs.Laid.{proposalBytes, messageBytes, bodiesBytes}
+use Rattle.represents.specs.Laid.{bodiesBytes}
 use Rattle.represents.specs.Tallies.{Tallies}
 use Rattle.form_closed.specs.Fixed.{Fixed}
 use Rattle.grammar.specs.Fields.{bodyLimit}
@@ -38,8 +38,7 @@ use Rattle.places.specs.Places.{entryLen, proposalLen}
 -- n messages of the inbox from message i on, with their bodies.
 abbrev pub messagesFrom : Bytes → Bytes → ℕ → ℕ → List Message
 messagesFrom inbox store i zero = []
-messagesFrom inbox store i (suc n) =
-    messageIn (entryAt entryLen inbox i) (partOf store (bodyStart (entryAt entryLen inbox i)) (bodyLength (entryAt entryLen inbox i))) ∷ messagesFrom inbox store (suc i) n
+messagesFrom inbox store i (suc n) = messageKept store (entryAt entryLen inbox i) ∷ messagesFrom inbox store (suc i) n
 
 -- The inbox up to its count.
 unfoldable pub messagesOf : Bytes → Bytes → ℕ → List Message

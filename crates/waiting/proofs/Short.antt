@@ -16,14 +16,14 @@ use Rattle.grammar.specs.Transfers.{TransferKind, plainKind, framedKind, kindOf
 use Rattle.grammar.proofs.Basics.{by-cond}
 use Rattle.grammar.proofs.Fields.{num-field}
 use Rattle.mail.specs.Mail.{Record, headingFor, transferOf, proposalLines, turnText}
-use Rattle.layout.specs.Layout.{byteAt, le2At, le4At, fieldIn, entryAt, recordOf}
-use Rattle.layout.proofs.Laws.{le2-small}
+use Rattle.layout.specs.Layout.{byteAt, fieldIn, entryAt, titleExtent, nameExtent, bodyExtent, recordOf}
+use Rattle.layout.proofs.Laws.{title-fits, name-fits, body-fits}
 use Rattle.record_text.proofs.Laws.{part-short, part-octets}
 use Rattle.our_line.specs.Lines.{fsText}
 use Rattle.session_memory.specs.State.{held}
 use Rattle.session_memory.specs.declared.Five.{Five}
 use Rattle.session_memory.specs.Session.{Session}
-use Rattle.places.specs.Places.{callMax, atMax, bidMax, recordLen, recordFrom, recordAtField, recordTo, recordBid, recordTitle, recordTitleLength, recordName, recordNameLength, recordBody, recordBodyLength}
+use Rattle.places.specs.Places.{callMax, atMax, bidMax, recordLen, recordFrom, recordAtField, recordTo, recordBid}
 use Rattle.phase.specs.Phase.{pieceNone, pieceSidAndPrompt, pieceSid, pieceProtocolError, pieceChecksumError, pieceFF, pieceFQ, pieceBlock, blockLimit}
 use Rattle.waiting.specs.Waiting.{proposalAt, firstText, blockText, sendingText, thenText, waitingOf}
 
@@ -88,9 +88,9 @@ record-short table titles names bodies o i =
     let c : Bytes = entryAt recordLen table i in
     let r : Record = recordOf titles names bodies c in
     let b : (j : ℕ) → byteAt c j < byteValues = part-octets table o (i * recordLen) recordLen in
-    let t : length (r .title) ≤ byteValues - 1 = omega (arith, part-short titles (le4At c recordTitle) (byteAt c recordTitleLength), b recordTitleLength) in
-    let n : length (r .name) ≤ byteValues - 1 = omega (arith, part-short names (le4At c recordName) (byteAt c recordNameLength), b recordNameLength) in
-    let x : length (r .body) ≤ bodyLimit = omega (arith, part-short bodies (le4At c recordBody) (le2At c recordBodyLength), le2-small c b recordBodyLength) in
+    let t : length (r .title) ≤ byteValues - 1 = omega (arith, part-short titles (titleExtent c .start) (titleExtent c .len), title-fits c b .len) in
+    let n : length (r .name) ≤ byteValues - 1 = omega (arith, part-short names (nameExtent c .start) (nameExtent c .len), name-fits c b .len) in
+    let x : length (r .body) ≤ bodyLimit = omega (arith, part-short bodies (bodyExtent c .start) (bodyExtent c .len), body-fits c b .len) in
     transfer-short (kindOf (r .form)) (headingFor (r .form) r) (r .body) (heading-short (r .form) r t n) x
 
 -- ---------------------------------------------------------------- all that waits

@@ -10,8 +10,7 @@ use Rattle.mail.specs.Mail as mail
 use Rattle.mail.specs.Mail.{turnText}
 use Rattle.layout.specs.Layout.{entryAt, recordOf}
 use Rattle.phase.specs.Phase.{pieceNone, pieceSidAndPrompt, pieceSid, pieceProtocolError, pieceChecksumError, pieceFF, pieceFQ, pieceBlock}
-use Rattle.places.specs.Places.{recordTitle, recordName, recordLen}
-use Rattle.record_text.specs.Texts.{fileForm}
+use Rattle.places.specs.Places.{recordLen}
 use Rattle.our_line.specs.Lines.{fsText}
 use Rattle.session_memory.specs.State.{held}
 use Rattle.session_memory.specs.Session.{Session}
@@ -19,10 +18,6 @@ use Rattle.session_memory.specs.Session.{Session}
 -- The proposal of the record at a place of the table.
 abbrev pub proposalAt : Bytes → ℕ → Proposal
 proposalAt table i = mail.proposalOf (recordOf [] [] [] (entryAt recordLen table i))
-
--- Where a record of this form tells the start of its heading; its length stands four bytes further. The name's for a file, else the title's.
-abbrev pub headingPlace : ℕ → ℕ
-headingPlace form = cond (eqb form fileForm) recordName recordTitle
 
 -- What is said first by this number; any without a name of its own: the FS line of our signs
 abbrev pub firstBy : ℕ → Session → Bytes

@@ -1,7 +1,7 @@
 -- Within its store, then its bytes.
 use Rattle.grammar.specs.Fields.{formIs}
-use Rattle.layout.specs.Layout.{byteAt, le2At, le4At}
-use Rattle.places.specs.Places.{recordForm, recordBody, recordBodyLength}
+use Rattle.layout.specs.Layout.{byteAt, bodyExtent}
+use Rattle.places.specs.Places.{recordForm}
 use Rattle.open.proofs.Laws.{body-outside, body-read}
 use borrow.Author.Needs.{needs}
 use Rattle.open.proofs.body_ok.Statement.{statement}
@@ -22,7 +22,7 @@ lies-within-requires c κs = search needs
 returns : tie.Need-returns
 returns c =
     let a = c .before .before .before .before .before .before .before .args in
-    body-outside (a .bodies .now) (formIs (byteAt (a .c .now) recordForm)) _ _ (le4At (a .c .now) recordBody) (le2At (a .c .now) recordBodyLength) (c .before .before .before .number4 .ensures) (c .before .before .number2 .ensures) (c .before .lies-within .ensures) (c .if1 .taken)
+    body-outside (a .bodies .now) (formIs (byteAt (a .c .now) recordForm)) _ _ (bodyExtent (a .c .now)) (c .before .before .before .number4 .ensures) (c .before .before .number2 .ensures) (c .before .lies-within .ensures) (c .if1 .taken)
 
 part-requires : tie.Need-part-requires
 part-requires c κs = search needs
@@ -33,7 +33,7 @@ is-body-requires c κs = search needs
 returns-2 : tie.Need-returns-2
 returns-2 c =
     let a = c .before .before .before .before .before .before .before .before .before .args in
-    body-read (a .bodies .now) (formIs (byteAt (a .c .now) recordForm)) _ _ (le4At (a .c .now) recordBody) (le2At (a .c .now) recordBodyLength) (c .before .before .before .before .before .number4 .ensures) (c .before .before .before .before .number2 .ensures) (c .before .before .before .lies-within .ensures) (c .before .before .if1 .left)
+    body-read (a .bodies .now) (formIs (byteAt (a .c .now) recordForm)) _ _ (bodyExtent (a .c .now)) (c .before .before .before .before .before .number4 .ensures) (c .before .before .before .before .number2 .ensures) (c .before .before .before .lies-within .ensures) (c .before .before .if1 .left)
     (rw (← c .before .before .before .before .before .before .byte-at .ensures, ← c .before .part .ensures) (c .is-body .ensures))
 
 pub body-ok-spec : {M : Type 1} → statement M
