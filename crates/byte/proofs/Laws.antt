@@ -12,9 +12,9 @@ use lib.ListN.{length, getD, drop, drop-of-length-le}
 use lib.Seq.{drop-cons}
 use borrow.Author.Tests.{eq-eqb, ne-eqb, ltb-true, ltb-false}
 use Rattle.grammar.specs.Bytes.{Bytes, every}
-use Rattle.grammar.specs.Fields.{digit, upper, hexCapital, hexDigit, hexPair, hexBase}
+use Rattle.grammar.specs.Fields.{digit, upper, hexCapital, hexDigit, hexPair, hexBase, hexAbove, digitsEnd, hexEnd}
 use Rattle.byte.specs.declared.Hex.{Hex}
-use Rattle.byte.specs.Hex.{hexIs, valueA}
+use Rattle.byte.specs.Hex.{hexIs}
 use Rattle.grammar.proofs.Basics.{and2}
 use Rattle.grammar.specs.Ascii.{char}
 
@@ -85,7 +85,7 @@ Low (some n) = n < hexBase
 capital-low : (u : ℕ) → Low (hexCapital u)
 capital-low u = go (ltb u (char "0")) (ltb u (char "9" + 1)) (ltb u (char "A")) (ltb u (char "F" + 1)) refl refl refl
   where
-    go : (a b c d : Bool) → ltb u (char "9" + 1) ≡ b → ltb u (char "A") ≡ c → ltb u (char "F" + 1) ≡ d → Low (cond a none (cond b (some (u - char "0")) (cond c none (cond d (some (u - (char "A" - valueA))) none))))
+    go : (a b c d : Bool) → ltb u digitsEnd ≡ b → ltb u (char "A") ≡ c → ltb u hexEnd ≡ d → Low (cond a none (cond b (some (u - char "0")) (cond c none (cond d (some (u - hexAbove)) none))))
     go true b c d q r s = tt
     go false true c d q r s = let z = ltb-true u (char "9" + 1) q in omega arith
     go false false true d q r s = tt

@@ -9,12 +9,13 @@ ghost use Rattle.byte.specs.Hex.{hexIs};
 // A small letter stands so much further on than its capital.
 const TO_SMALL: u8 = b'a' - b'A';
 
-// Hexadecimal digits: `A` stands for ten, and a digit counts sixteen times the one after it.
-const VALUE_A: u8 = 10;
+// A decimal digit counts ten times the one after it, a hexadecimal one sixteen times.
+pub const DECIMAL_BASE: u8 = 10;
 
 const HEX_BASE: u8 = 16;
 
-const BELOW_A: u8 = b'A' - VALUE_A;
+// Hexadecimal `A` stands for ten.
+const BELOW_A: u8 = b'A' - DECIMAL_BASE;
 
 // The classes by name, so that a rule over a class is written and proved once.
 pub enum Class {

@@ -15,6 +15,11 @@ pub const CYCLE_YEARS: u16 = 4;
 
 const FEBRUARY: u8 = 2;
 
+// February's days in a short year and in a long one.
+const FEBRUARY_DAYS: u8 = 28;
+
+const LONG_FEBRUARY_DAYS: u8 = FEBRUARY_DAYS + 1;
+
 const LAST_HOUR: u8 = 23;
 
 const LAST_MINUTE: u8 = 59;
@@ -37,9 +42,9 @@ fn february(leap: bool) -> u8
     ensures { λ r. ⌜ r ≡ daysIn leap february ⌝ }
 {
     if leap {
-        return 29;
+        return LONG_FEBRUARY_DAYS;
     }
-    28
+    FEBRUARY_DAYS
 }
 
 // How many days a month has, in a long year or a short one.
@@ -50,7 +55,7 @@ fn days_in(leap: bool, month: u8) -> u8
     if month == FEBRUARY {
         return february(leap);
     }
-    let lengths = [31u8, 28, 31, 30, 31, 30, 31, 31, 30, 31, 30, 31];
+    let lengths = [31u8, FEBRUARY_DAYS, 31, 30, 31, 30, 31, 31, 30, 31, 30, 31];
     let i = (month - 1) as usize;
     lengths[i]
 }

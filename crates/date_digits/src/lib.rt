@@ -1,5 +1,6 @@
 // Dates as six digits, YYMMDD, and times as four, HHMM: read and written.
 use byte::Class;
+use byte::DECIMAL_BASE;
 use byte::all_of;
 use calendar::Date;
 use calendar::Time;
@@ -10,7 +11,7 @@ ghost use mathlib.Core.Bool.{true};
 ghost use Prim.Native.Nat.{_+_, _/_, _%_, _<_};
 ghost use lib.ListN.{length};
 ghost use Rattle.grammar.specs.Bytes.{every};
-ghost use Rattle.grammar.specs.Fields.{digit};
+ghost use Rattle.grammar.specs.Fields.{digit, decimalBase};
 ghost use Rattle.grammar.specs.Ascii.{char};
 ghost use Rattle.dates.specs.Digits.{fullYear, pairAt, readDate, readTime, dateText, timeText, pairValues};
 ghost use Rattle.calendar.specs.Meaning.{dateIs, timeIs};
@@ -35,7 +36,7 @@ const LAST_CENTURY: u16 = 1900;
 const THIS_CENTURY: u16 = 2000;
 
 // Two digits are a number below this.
-const PAIR_VALUES: u16 = 100;
+const PAIR_VALUES: u16 = DECIMAL_BASE as u16 * DECIMAL_BASE as u16;
 
 // The date that bytes say, or that they say none.
 pub enum ReadDate {
@@ -54,7 +55,7 @@ fn pair(text: &[u8], i: usize) -> u8
     requires { ⌜ (every digit (now text) ≡ true) × (i + 1 < length (now text)) ⌝ }
     ensures { λ r. ⌜ (r ≡ pairAt (now (text .entry)) i) × (r < pairValues) ⌝ }
 {
-    (text[i] - b'0') * 10 + (text[i + 1] - b'0')
+    (text[i] - b'0') * DECIMAL_BASE + (text[i + 1] - b'0')
 }
 
 // Years 70 to 99 are 19xx, the rest 20xx.
@@ -110,16 +111,16 @@ pub fn read_time(text: &[u8]) -> ReadTime
 
 // The first of a number's two digits.
 fn tens(n: u8) -> u8
-    ensures { λ r. ⌜ r ≡ char "0" + n / 10 ⌝ }
+    ensures { λ r. ⌜ r ≡ char "0" + n / decimalBase ⌝ }
 {
-    b'0' + n / 10
+    b'0' + n / DECIMAL_BASE
 }
 
 // The second.
 fn ones(n: u8) -> u8
-    ensures { λ r. ⌜ r ≡ char "0" + n % 10 ⌝ }
+    ensures { λ r. ⌜ r ≡ char "0" + n % decimalBase ⌝ }
 {
-    b'0' + n % 10
+    b'0' + n % DECIMAL_BASE
 }
 
 // The last two digits of a year, as a number.

@@ -8,7 +8,7 @@ use native.Mathlib.Nat.{mul-add-mod-self-left, mul-add-div, mod-eq-of-lt}
 use lib.Dec.{eqb, ltb, leb}
 use borrow.Author.Tests.{eq-eqb, ne-eqb, lt-ltb, le-ltb, le-leb, lt-leb, leb-true, ltb-true, ltb-false, eqb-true, eqb-false}
 use Rattle.grammar.proofs.Basics.{and2, both, or-second}
-use Rattle.dates.specs.Dates.{Date, isLeap, monthStarts, startOf, daysIn, isDate, dayNumber, monthOf, yearIn, yearStart, dateIn, dateOf, firstYear, lastYear, cycleYears, yearDays, longYearDays, lastMonth, cycleDays, longYear, thirdYear, fourthYear, allDays}
+use Rattle.dates.specs.Dates.{Date, isLeap, monthStarts, startOf, daysIn, isDate, dayNumber, monthOf, yearIn, yearStart, dateIn, dateOf, firstYear, lastYear, cycleYears, yearDays, longYearDays, lastMonth, cycleDays, longYear, thirdYear, fourthYear, allDays, allYears, mostDays}
 
 -- ---------------------------------------------------------------- a test over the numbers below n
 
@@ -46,14 +46,14 @@ unfolding below dayTest
 all-days true = refl
 all-days false = refl
 
-all-months : (leap : Bool) → below lastMonth (λ m. below 31 (monthTest leap m)) ≡ true
+all-months : (leap : Bool) → below lastMonth (λ m. below mostDays (monthTest leap m)) ≡ true
 unfolding below monthTest
 all-months true = refl
 all-months false = refl
 
 -- the same for the ends of months: within the year, and at most 31 days
 endTest : Bool → ℕ → Bool
-endTest leap m = leb (startOf leap (m + 1) + daysIn leap (m + 1)) (lengthOf leap) && leb (daysIn leap (m + 1)) 31
+endTest leap m = leb (startOf leap (m + 1) + daysIn leap (m + 1)) (lengthOf leap) && leb (daysIn leap (m + 1)) mostDays
 
 all-ends : (leap : Bool) → below lastMonth (endTest leap) ≡ true
 unfolding below endTest
@@ -112,7 +112,7 @@ placed : (n : ℕ) → n < allDays → Placed n (firstYear + cycleYears * (n / c
 placed n h = go (ltb (n % cycleDays) yearDays) refl (ltb (n % cycleDays) thirdYear) refl (ltb (n % cycleDays) fourthYear) refl
   where
     year : Bool → Bool → Bool → ℕ
-    year a b c = cond a 0 (cond b 1 (cond c 2 3))
+    year a b c = cond a 0 (cond b 1 (cond c longYear (cycleYears - 1)))
 
     go : (a : Bool) → ltb (n % cycleDays) yearDays ≡ a → (b : Bool) → ltb (n % cycleDays) thirdYear ≡ b → (c : Bool) → ltb (n % cycleDays) fourthYear ≡ c
         → Placed n (firstYear + cycleYears * (n / cycleDays) + year a b c) (eqb (year a b c) longYear) (n % cycleDays - yearStart (year a b c))
@@ -126,10 +126,10 @@ placed n h = go (ltb (n % cycleDays) yearDays) refl (ltb (n % cycleDays) thirdYe
     go false e false f true g =
         let x = ltb-true (n % cycleDays) fourthYear g in
         let y = ltb-false (n % cycleDays) thirdYear f in
-        record { year = eq-eqb ((firstYear + cycleYears * (n / cycleDays) + 2) % cycleYears) 0 (omega arith); least = omega arith; most = omega arith; day = omega arith; sum = omega arith }
+        record { year = eq-eqb ((firstYear + cycleYears * (n / cycleDays) + longYear) % cycleYears) 0 (omega arith); least = omega arith; most = omega arith; day = omega arith; sum = omega arith }
     go false e false f false g =
         let x = ltb-false (n % cycleDays) fourthYear g in
-        record { year = ne-eqb ((firstYear + cycleYears * (n / cycleDays) + 3) % cycleYears) 0 (λ z. omega arith); least = omega arith; most = omega arith; day = omega arith; sum = omega arith }
+        record { year = ne-eqb ((firstYear + cycleYears * (n / cycleDays) + (cycleYears - 1)) % cycleYears) 0 (λ z. omega arith); least = omega arith; most = omega arith; day = omega arith; sum = omega arith }
 
 -- a day number is its date's, for every day of the hundred years
 pub number-back : (n : ℕ) → n < allDays → (dayNumber (dateOf n) ≡ n) × (isDate (dateOf n) ≡ true)
@@ -170,22 +170,22 @@ month-back : (leap : Bool) (m d : ℕ) → 1 ≤ m → m ≤ lastMonth → 1 ≤
 unfolding monthTest endTest
 month-back leap (suc m) d h k i j =
     let one : suc m ≡ m + 1 = omega arith in
-    let x = and2 (leb (startOf leap (m + 1) + daysIn leap (m + 1)) (lengthOf leap)) (leb (daysIn leap (m + 1)) 31) (below-at lastMonth (endTest leap) (all-ends leap) m (omega arith)) in
+    let x = and2 (leb (startOf leap (m + 1) + daysIn leap (m + 1)) (lengthOf leap)) (leb (daysIn leap (m + 1)) mostDays) (below-at lastMonth (endTest leap) (all-ends leap) m (omega arith)) in
     let j′ : d ≤ daysIn leap (m + 1) = subst (λ (z : ℕ). d ≤ daysIn leap z) one j in
-    let y = leb-true (daysIn leap (m + 1)) 31 (x .1) in
+    let y = leb-true (daysIn leap (m + 1)) mostDays (x .1) in
     let w = leb-true (startOf leap (m + 1) + daysIn leap (m + 1)) (lengthOf leap) (x .0) in
-    let e = below-at 31 (monthTest leap m) (below-at lastMonth (λ (z : ℕ). below 31 (monthTest leap z)) (all-months leap) m (omega arith)) (d - 1) (omega arith) in
+    let e = below-at mostDays (monthTest leap m) (below-at lastMonth (λ (z : ℕ). below mostDays (monthTest leap z)) (all-months leap) m (omega arith)) (d - 1) (omega arith) in
     let f = or-second (leb (daysIn leap (m + 1)) (d - 1)) _ (lt-leb (daysIn leap (m + 1)) (d - 1) (omega arith)) e in
     rw one (eqb-true (monthOf leap (startOf leap (m + 1) + (d - 1))) (m + 1) f, omega arith)
 month-back leap zero d h k i j = absurd (omega arith)
 
 -- no month has more than 31 days
-pub days-most : (leap : Bool) (m : ℕ) → 1 ≤ m → m ≤ lastMonth → daysIn leap m ≤ 31
+pub days-most : (leap : Bool) (m : ℕ) → 1 ≤ m → m ≤ lastMonth → daysIn leap m ≤ mostDays
 unfolding endTest
 days-most leap (suc m) h k =
     let one : suc m ≡ m + 1 = omega arith in
-    let x = and2 (leb (startOf leap (m + 1) + daysIn leap (m + 1)) (lengthOf leap)) (leb (daysIn leap (m + 1)) 31) (below-at lastMonth (endTest leap) (all-ends leap) m (omega arith)) in
-    rw one (leb-true (daysIn leap (m + 1)) 31 (x .1))
+    let x = and2 (leb (startOf leap (m + 1) + daysIn leap (m + 1)) (lengthOf leap)) (leb (daysIn leap (m + 1)) mostDays) (below-at lastMonth (endTest leap) (all-ends leap) m (omega arith)) in
+    rw one (leb-true (daysIn leap (m + 1)) mostDays (x .1))
 days-most leap zero h k = absurd (omega arith)
 
 -- a day of the cycle q
@@ -196,7 +196,7 @@ cycle-of : (q x : ℕ) → x < cycleDays → (cycleDays * q + x) / cycleDays ≡
 cycle-of q x h = mul-add-div {m = cycleDays} (omega arith) q x ∙ (let z : x / cycleDays ≡ 0 = omega arith in omega arith)
 
 -- day t of the year 1970 + k, in numbers
-year-back : (k t : ℕ) → k < 100 → t < lengthOf (isLeap (firstYear + k))
+year-back : (k t : ℕ) → k < allYears → t < lengthOf (isLeap (firstYear + k))
     → (firstYear + cycleYears * ((yearDays * k + (k + 1) / cycleYears + t) / cycleDays) + yearIn ((yearDays * k + (k + 1) / cycleYears + t) % cycleDays) ≡ firstYear + k)
     × (eqb (yearIn ((yearDays * k + (k + 1) / cycleYears + t) % cycleDays)) longYear ≡ isLeap (firstYear + k))
     × ((yearDays * k + (k + 1) / cycleYears + t) % cycleDays - yearStart (yearIn ((yearDays * k + (k + 1) / cycleYears + t) % cycleDays)) ≡ t)
@@ -229,7 +229,7 @@ year-back k t h l = go (k % cycleYears) refl (omega arith)
     go (suc (suc zero)) e b =
         let f : isLeap (firstYear + k) ≡ true = eq-eqb ((firstYear + k) % cycleYears) 0 (omega arith) in
         let l′ : t < longYearDays = rw f at l in
-        let u : k ≡ cycleYears * (k / cycleYears) + 2 = omega arith in
+        let u : k ≡ cycleYears * (k / cycleYears) + longYear = omega arith in
         let v : (k + 1) / cycleYears ≡ k / cycleYears = omega arith in
         let w : yearDays * k + (k + 1) / cycleYears + t ≡ cycleDays * (k / cycleYears) + (thirdYear + t) = omega arith in
         let r : (yearDays * k + (k + 1) / cycleYears + t) % cycleDays ≡ thirdYear + t = ap (λ (x : ℕ). x % cycleDays) w ∙ cycle-day (k / cycleYears) (thirdYear + t) (omega arith) in
@@ -238,7 +238,7 @@ year-back k t h l = go (k % cycleYears) refl (omega arith)
     go (suc (suc (suc zero))) e b =
         let f : isLeap (firstYear + k) ≡ false = ne-eqb ((firstYear + k) % cycleYears) 0 (λ z. omega arith) in
         let l′ : t < yearDays = rw f at l in
-        let u : k ≡ cycleYears * (k / cycleYears) + 3 = omega arith in
+        let u : k ≡ cycleYears * (k / cycleYears) + (cycleYears - 1) = omega arith in
         let v : (k + 1) / cycleYears ≡ k / cycleYears + 1 = omega arith in
         let w : yearDays * k + (k + 1) / cycleYears + t ≡ cycleDays * (k / cycleYears) + (fourthYear + t) = omega arith in
         let r : (yearDays * k + (k + 1) / cycleYears + t) % cycleDays ≡ fourthYear + t = ap (λ (x : ℕ). x % cycleDays) w ∙ cycle-day (k / cycleYears) (fourthYear + t) (omega arith) in
@@ -273,8 +273,14 @@ date-back d e =
 -- ---------------------------------------------------------------- long years
 
 -- the calendar's own rule: every fourth year, but of the full centuries only every fourth
+abbrev century : ℕ
+century = 100
+
+abbrev fourCenturies : ℕ
+fourCenturies = 4 * century
+
 abbrev pub calendarLeap : ℕ → Bool
-calendarLeap y = (eqb (y % cycleYears) 0 && not (eqb (y % 100) 0)) || eqb (y % 400) 0
+calendarLeap y = (eqb (y % cycleYears) 0 && not (eqb (y % century) 0)) || eqb (y % fourCenturies) 0
 
 abbrev agree : Bool → Bool → Bool
 agree true b = b
@@ -289,7 +295,7 @@ agree-same false false e = refl
 yearTest : ℕ → Bool
 yearTest k = agree (isLeap (firstYear + k)) (calendarLeap (firstYear + k))
 
-all-years : below 100 yearTest ≡ true
+all-years : below allYears yearTest ≡ true
 unfolding below yearTest
 all-years = refl
 
@@ -297,6 +303,6 @@ all-years = refl
 pub leap-rule : (y : ℕ) → firstYear ≤ y → y ≤ lastYear → isLeap y ≡ calendarLeap y
 unfolding yearTest
 leap-rule y h k =
-    let e = agree-same _ _ (below-at 100 yearTest all-years (y - firstYear) (omega arith)) in
+    let e = agree-same _ _ (below-at allYears yearTest all-years (y - firstYear) (omega arith)) in
     let z : firstYear + (y - firstYear) ≡ y = omega arith in
     subst (λ (n : ℕ). isLeap n ≡ calendarLeap n) z e

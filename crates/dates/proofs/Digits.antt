@@ -7,20 +7,20 @@ use native.Mathlib.Omega.{arith}
 use lib.Dec.{ltb, leb}
 use borrow.Author.Tests.{lt-ltb, le-ltb, ltb-true, ltb-false, leb-true}
 use Rattle.grammar.specs.Bytes.{every}
-use Rattle.grammar.specs.Fields.{digit}
+use Rattle.grammar.specs.Fields.{digit, decimalBase, digitsEnd}
 use Rattle.grammar.proofs.Basics.{and2, both}
 use Rattle.grammar.specs.Ascii.{char}
 use Rattle.dates.specs.Dates.{Date, Time, isDate, isTime, daysIn, isLeap, monthStarts, firstYear, lastYear, lastHour, lastMinute}
 use Rattle.dates.specs.Digits.{fullYear, pairAt, digits, dateSaid, timeSaid, readDate, readTime, twoDigits, dateText, timeText, turnYear, lastCentury, thisCentury, pairValues, dateLength, timeLength}
 use Rattle.dates.proofs.Dates.{Valid, valid, days-most}
 
-digit-of : (d : ℕ) → d < 10 → digit (char "0" + d) ≡ true
-digit-of d h = rw (le-ltb (char "0" + d) (char "0") (omega arith)) (lt-ltb (char "0" + d) (char "9" + 1) (omega arith))
+digit-of : (d : ℕ) → d < decimalBase → digit (char "0" + d) ≡ true
+digit-of d h = rw (le-ltb (char "0" + d) (char "0") (omega arith)) (lt-ltb (char "0" + d) digitsEnd (omega arith))
 
-two : (n : ℕ) → n < pairValues → (digit (char "0" + n / 10) ≡ true) × (digit (char "0" + n % 10) ≡ true)
-two n h = (digit-of (n / 10) (omega arith), digit-of (n % 10) (omega arith))
+two : (n : ℕ) → n < pairValues → (digit (char "0" + n / decimalBase) ≡ true) × (digit (char "0" + n % decimalBase) ≡ true)
+two n h = (digit-of (n / decimalBase) (omega arith), digit-of (n % decimalBase) (omega arith))
 
-pair-back : (n : ℕ) → n < pairValues → (char "0" + n / 10 - char "0") * 10 + (char "0" + n % 10 - char "0") ≡ n
+pair-back : (n : ℕ) → n < pairValues → (char "0" + n / decimalBase - char "0") * decimalBase + (char "0" + n % decimalBase - char "0") ≡ n
 pair-back n h = omega arith
 
 -- "years 70 to 99 are 19xx, the rest 20xx": the last two digits say the year

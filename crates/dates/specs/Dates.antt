@@ -21,6 +21,9 @@ firstYear = 1970
 abbrev pub lastYear : ℕ
 lastYear = 2069
 
+abbrev pub allYears : ℕ
+allYears = lastYear - firstYear + 1
+
 -- Four years make a cycle, in which one is a long one.
 abbrev pub cycleYears : ℕ
 cycleYears = 4
@@ -33,6 +36,16 @@ longYearDays = yearDays + 1
 
 abbrev pub february : ℕ
 february = 2
+
+-- February's days in a short year and in a long one; no month has more days than the longest
+abbrev pub februaryDays : ℕ
+februaryDays = 28
+
+abbrev pub longFebruaryDays : ℕ
+longFebruaryDays = februaryDays + 1
+
+abbrev pub mostDays : ℕ
+mostDays = 31
 
 -- "Month 1 to 12", "hour to 23, minute to 59"
 abbrev pub lastMonth : ℕ
@@ -63,10 +76,10 @@ daysIn leap m = getD (monthStarts leap) m 0 - startOf leap m
 abbrev months : List ℕ
 months = 1 ∷ 2 ∷ 3 ∷ 4 ∷ 5 ∷ 6 ∷ 7 ∷ 8 ∷ 9 ∷ 10 ∷ 11 ∷ 12 ∷ []
 
-example-short : map (daysIn false) months ≡ 31 ∷ 28 ∷ 31 ∷ 30 ∷ 31 ∷ 30 ∷ 31 ∷ 31 ∷ 30 ∷ 31 ∷ 30 ∷ 31 ∷ []
+example-short : map (daysIn false) months ≡ 31 ∷ februaryDays ∷ 31 ∷ 30 ∷ 31 ∷ 30 ∷ 31 ∷ 31 ∷ 30 ∷ 31 ∷ 30 ∷ 31 ∷ []
 example-short = refl
 
-example-long : map (daysIn true) months ≡ 31 ∷ 29 ∷ 31 ∷ 30 ∷ 31 ∷ 30 ∷ 31 ∷ 31 ∷ 30 ∷ 31 ∷ 30 ∷ 31 ∷ []
+example-long : map (daysIn true) months ≡ 31 ∷ longFebruaryDays ∷ 31 ∷ 30 ∷ 31 ∷ 30 ∷ 31 ∷ 31 ∷ 30 ∷ 31 ∷ 30 ∷ 31 ∷ []
 example-long = refl
 
 -- "Month 1 to 12, day fitting the month"
@@ -106,13 +119,13 @@ longYear = 2
 
 -- The days of a cycle before its third year, and before its fourth.
 abbrev pub thirdYear : ℕ
-thirdYear = 2 * yearDays
+thirdYear = longYear * yearDays
 
 abbrev pub fourthYear : ℕ
 fourthYear = thirdYear + longYearDays
 
 abbrev pub yearIn : ℕ → ℕ
-yearIn r = cond (ltb r yearDays) 0 (cond (ltb r thirdYear) 1 (cond (ltb r fourthYear) 2 3))
+yearIn r = cond (ltb r yearDays) 0 (cond (ltb r thirdYear) 1 (cond (ltb r fourthYear) longYear (cycleYears - 1)))
 
 abbrev pub yearStart : ℕ → ℕ
 yearStart i = getD (0 ∷ yearDays ∷ thirdYear ∷ fourthYear ∷ []) i 0
@@ -121,9 +134,9 @@ yearStart i = getD (0 ∷ yearDays ∷ thirdYear ∷ fourthYear ∷ []) i 0
 abbrev pub dateIn : ℕ → Bool → ℕ → Date
 dateIn y leap t = record { year = y; month = monthOf leap t; day = t - startOf leap (monthOf leap t) + 1 }
 
--- So many days have the hundred years: 25 cycles.
+-- So many days have the hundred years, which are 25 cycles.
 abbrev pub allDays : ℕ
-allDays = 25 * cycleDays
+allDays = allYears / cycleYears * cycleDays
 
 -- The date of a day number below `allDays`.
 unfoldable pub dateOf : ℕ → Date

@@ -7,7 +7,7 @@ use Prim.Native.Nat.{ℕ, _+_, _-_, _*_, _/_, _%_}
 use lib.Dec.{eqb, ltb}
 use lib.ListN.{length, getD}
 use Rattle.grammar.specs.Bytes.{Bytes, every}
-use Rattle.grammar.specs.Fields.{digit}
+use Rattle.grammar.specs.Fields.{digit, decimalBase}
 use Rattle.grammar.specs.Ascii.{text, char}
 use Rattle.dates.specs.Dates.{Date, Time, isDate, isTime}
 
@@ -23,7 +23,7 @@ thisCentury = 2000
 
 -- Two digits are a number below this.
 abbrev pub pairValues : ℕ
-pairValues = 100
+pairValues = decimalBase * decimalBase
 
 -- "YYMMDD", "HHMM": how long each is, and where its parts stand.
 abbrev pub dateLength : ℕ
@@ -46,7 +46,7 @@ fullYear yy = cond (ltb yy turnYear) (thisCentury + yy) (lastCentury + yy)
 
 -- The number of the two digits at place i.
 abbrev pub pairAt : Bytes → ℕ → ℕ
-pairAt w i = (getD w i 0 - char "0") * 10 + (getD w (i + 1) 0 - char "0")
+pairAt w i = (getD w i 0 - char "0") * decimalBase + (getD w (i + 1) 0 - char "0")
 
 -- Exactly n bytes, each a digit.
 abbrev pub digits : ℕ → Bytes → Bool
@@ -70,7 +70,7 @@ readTime w = cond (digits timeLength w && isTime (timeSaid w)) (some (timeSaid w
 
 -- A number below 100 as two digits.
 abbrev pub twoDigits : ℕ → Bytes
-twoDigits n = (char "0" + n / 10) ∷ (char "0" + n % 10) ∷ []
+twoDigits n = (char "0" + n / decimalBase) ∷ (char "0" + n % decimalBase) ∷ []
 
 unfoldable pub dateText : Date → Bytes
 dateText d = twoDigits (d .year % pairValues) ++ (twoDigits (d .month) ++ twoDigits (d .day))

@@ -9,7 +9,7 @@ use lib.Dec.{eqb, ltb}
 use lib.ListN.{length, getD, drop}
 use lib.Seq.{drop-cons}
 use borrow.Author.Tests.{lt-ltb, le-ltb, ltb-true, ltb-false}
-use Rattle.dates.specs.Dates.{Date, isDate, isLeap, monthStarts, startOf, daysIn, dayNumber, monthFrom, later, monthOf, yearIn, yearStart, dateIn, dateOf, firstYear, cycleYears, yearDays, longYearDays, lastMonth, cycleDays, longYear, thirdYear, fourthYear, allDays}
+use Rattle.dates.specs.Dates.{Date, isDate, isLeap, monthStarts, startOf, daysIn, dayNumber, monthFrom, later, monthOf, yearIn, yearStart, dateIn, dateOf, firstYear, cycleYears, yearDays, longYearDays, lastMonth, cycleDays, longYear, thirdYear, fourthYear, allDays, mostDays}
 use Rattle.dates.proofs.Dates.{Valid, valid, number-back, days-most}
 use Rattle.day_number.specs.Meaning.{yearLength, MonthIs}
 
@@ -84,13 +84,13 @@ number-is d years long start day e a b c f = rw (a, b, c, f)
 pub record InCycle (r : ℕ) : Type 0 where
   pub four : yearIn r < cycleYears
   pub starts : yearStart (yearIn r) ≤ r
-  pub day : r - yearStart (yearIn r) < yearLength (eqb (yearIn r) 2)
+  pub day : r - yearStart (yearIn r) < yearLength (eqb (yearIn r) longYear)
 
 pub in-cycle : (r : ℕ) → r < cycleDays → InCycle r
 in-cycle r h = go (ltb r yearDays) refl (ltb r thirdYear) refl (ltb r fourthYear) refl
   where
     year : Bool → Bool → Bool → ℕ
-    year a b c = cond a 0 (cond b 1 (cond c 2 3))
+    year a b c = cond a 0 (cond b 1 (cond c longYear (cycleYears - 1)))
 
     all : (n : ℕ) → yearIn r ≡ n → n < cycleYears → yearStart n ≤ r → r - yearStart n < yearLength (eqb n longYear) → InCycle r
     all n e a b c = subst (λ (i : ℕ). (i < cycleYears) → (yearStart i ≤ r) → (r - yearStart i < yearLength (eqb i longYear)) → InCycle r) e (λ x y z. record { four = x; starts = y; day = z }) a b c
@@ -98,8 +98,8 @@ in-cycle r h = go (ltb r yearDays) refl (ltb r thirdYear) refl (ltb r fourthYear
     go : (a : Bool) → ltb r yearDays ≡ a → (b : Bool) → ltb r thirdYear ≡ b → (c : Bool) → ltb r fourthYear ≡ c → InCycle r
     go true e b f c g = let x = ltb-true r yearDays e in all 0 (rw e) (omega arith) (omega arith) (omega arith)
     go false e true f c g = let x = ltb-true r thirdYear f in let y = ltb-false r yearDays e in all 1 (rw (e, f)) (omega arith) (omega arith) (omega arith)
-    go false e false f true g = let x = ltb-true r fourthYear g in let y = ltb-false r thirdYear f in all 2 (rw (e, f, g)) (omega arith) (omega arith) (omega arith)
-    go false e false f false g = let x = ltb-false r fourthYear g in all 3 (rw (e, f, g)) (omega arith) (omega arith) (omega arith)
+    go false e false f true g = let x = ltb-true r fourthYear g in let y = ltb-false r thirdYear f in all longYear (rw (e, f, g)) (omega arith) (omega arith) (omega arith)
+    go false e false f false g = let x = ltb-false r fourthYear g in all (cycleYears - 1) (rw (e, f, g)) (omega arith) (omega arith) (omega arith)
 
 module _ (n y : ℕ) (h : n < allDays) (e : y ≡ yearIn (n % cycleDays)) where
   cycle-of : InCycle (n % cycleDays)
@@ -124,7 +124,7 @@ module _ (n y : ℕ) (h : n < allDays) (e : y ≡ yearIn (n % cycleDays)) where
       date-is = rw (k, g, start-is, e)
 
       -- no month has more than 31 days
-      pub day-most : n % cycleDays - z - s + 1 ≤ 31
+      pub day-most : n % cycleDays - z - s + 1 ≤ mostDays
       day-most =
           let v = valid (dateOf n) ((number-back n h) .1) in
           let a = days-most (isLeap ((dateOf n) .year)) ((dateOf n) .month) (v .month) (v .months) in

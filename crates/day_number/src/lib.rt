@@ -20,11 +20,13 @@ const CYCLE_YEARS: u32 = calendar::CYCLE_YEARS as u32;
 
 const CYCLE_DAYS: u32 = CYCLE_YEARS * YEAR_DAYS + 1;
 
-const THIRD_YEAR: u32 = 2 * YEAR_DAYS;
+const LONG_YEAR: u32 = 2;
+
+const LAST_OF_CYCLE: u32 = CYCLE_YEARS - 1;
+
+const THIRD_YEAR: u32 = LONG_YEAR * YEAR_DAYS;
 
 const FOURTH_YEAR: u32 = THIRD_YEAR + LONG_YEAR_DAYS;
-
-const LONG_YEAR: u32 = 2;
 
 // How many days of a long year come before a month.
 fn long_start(month: u8) -> u16
@@ -108,9 +110,9 @@ fn year_in(day: u32) -> u32
         return 1;
     }
     if day < FOURTH_YEAR {
-        return 2;
+        return LONG_YEAR;
     }
-    3
+    LAST_OF_CYCLE
 }
 
 // How many days of a cycle come before a year of it.

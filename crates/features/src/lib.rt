@@ -16,11 +16,11 @@ pub struct FeatureSet {
 }
 
 impl FeatureSet {
-    pub const B: u8 = 1;
+    pub const B: u8 = b'B' - b'A';
 
-    pub const F: u8 = 5;
+    pub const F: u8 = b'F' - b'A';
 
-    pub const H: u8 = 7;
+    pub const H: u8 = b'H' - b'A';
 
     pub const DOLLAR: u8 = 26;
 

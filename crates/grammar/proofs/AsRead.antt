@@ -15,7 +15,7 @@ use Rattle.grammar.specs.Fields.{Form, after, bodyFair, digit, file, hex
 use Rattle.grammar.specs.Sid.{authorByte, authorRead, dataByte, dataRead, hasFeature, isLetter, letterPlace, noFeatures, readFeatures, readLevels, readSid, sidEnd, sidRead, splitLast, withFeature, dollarPlace, featurePlaces, levelValues}
 use Rattle.grammar.specs.Turns.{Proposal, fieldsRead, formSaid, inMode, isType, readProposal, sevenRead, typeOf, TurnLine, saysFF, saysFQ, endsBlock, notAllowed, proposes, endsSummed, orNotAllowed, readSummedEnd, readTurnLine, summedOr, twoHexRead}
 use Rattle.grammar.specs.Answers.{offsetDigits}
-use Rattle.grammar.specs.Transfers.{kindOf, Parsed, blocks, blocksRead, bodyRead, headRead, isHeader, lenRead, offRead, parse, readFramed, spacesCR, titleRead, zeroDigit}
+use Rattle.grammar.specs.Transfers.{kindOf, Parsed, blocks, blocksRead, bodyRead, headRead, isHeader, lenRead, offRead, parse, readFramed, spacesCR, titleRead, zeroDigit, headerNuls}
 use Rattle.grammar.proofs.Basics.{and2, field-is}
 
 -- ---------------------------------------------------------------- a proposal as read
@@ -293,7 +293,7 @@ off-if len h none = tt
 off-if len h (some p) = go (isHeader len h (p .0)) refl
   where
     go : (c : Bool) → isHeader len h (p .0) ≡ c → HeadIf (cond c (blocksRead h (blocks 0 (p .1))) none)
-    go true e = data-if h (blocks 0 (p .1)) ((and2 (isHeading h) ((every zeroDigit (p .0) && sized offsetDigits (p .0)) && eqb len (length h + length (p .0) + 2)) e) .0)
+    go true e = data-if h (blocks 0 (p .1)) ((and2 (isHeading h) ((every zeroDigit (p .0) && sized offsetDigits (p .0)) && eqb len (length h + length (p .0) + headerNuls)) e) .0)
     go false e = tt
 
 head-if : (len : ℕ) (o : Option (Bytes × Bytes)) → HeadIf (headRead len o)

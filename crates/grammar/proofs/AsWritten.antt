@@ -10,10 +10,10 @@ use lib.ListN.{length, take, drop, length-append, length-take, length-drop, take
 use borrow.Author.Tests.{eq-eqb, ne-eqb, eqb-true, eqb-false, ltb-true, ltb-false}
 use Rattle.grammar.specs.Bytes.{Bytes, SP, byteValues, NUL, STX, EOT}
 use Rattle.grammar.specs.Ascii.{char}
-use Rattle.grammar.specs.Fields.{Form, bidByte, callByte, decimal, digit, file, headingByte, isBody, isHeading, message, plain, readFrom, writeNum, callMax, atMax, bidMax, headingMax, decimalDigits}
+use Rattle.grammar.specs.Fields.{Form, bidByte, callByte, decimal, digit, file, headingByte, isBody, isHeading, message, plain, readFrom, writeNum, callMax, atMax, bidMax, headingMax, decimalDigits, decimalBase}
 use Rattle.grammar.specs.Turns.{Proposal, formLetter, proposable, proposalLine, sp}
-use Rattle.grammar.specs.Transfers.{TransferKind, plainKind, framedKind, kindOf, blocksOut, checksum, sendable, byteSum, writeFramed, writeTransfer, dataMax, besideLeast}
-use Rattle.grammar.specs.AsWritten.{betweenSpaces, noLeadingZero, lettersFor, ProposalWritten, InBlocks, joined, blockNumber, blocksText, FramedWritten, TransferWritten, wholeBlock}
+use Rattle.grammar.specs.Transfers.{TransferKind, plainKind, framedKind, kindOf, blocksOut, checksum, sendable, writeFramed, writeTransfer, dataMax, besideLeast}
+use Rattle.grammar.specs.AsWritten.{betweenSpaces, noLeadingZero, lettersFor, ProposalWritten, InBlocks, joined, blockNumber, blocksText, FramedWritten, TransferWritten, wholeBlock, ourOffset, twoZeros}
 use Rattle.grammar.proofs.Basics.{and2, Lacks, all-lacks, field-is}
 use Rattle.grammar.proofs.Fields.{num-field, num-back, size-ok, atByte, at-field, Word, field-word, type-word, letters-word, Ours, ours, call-field, bid-field}
 
@@ -61,21 +61,21 @@ not-zero w n r l q = let z = ap (readFrom 0) q in omega arith
 
 shortest : (f n : ℕ) → n < 10 ^ suc f → noLeadingZero (writeNum (suc f) n) ≡ true
 unfolding writeNum
-shortest zero n h = go (ltb n 10) refl
+shortest zero n h = go (ltb n decimalBase) refl
   where
-    go : (c : Bool) → ltb n 10 ≡ c → noLeadingZero (cond c ((char "0" + n) ∷ []) ([] ++ ((char "0" + n % 10) ∷ []))) ≡ true
+    go : (c : Bool) → ltb n decimalBase ≡ c → noLeadingZero (cond c ((char "0" + n) ∷ []) ([] ++ ((char "0" + n % decimalBase) ∷ []))) ≡ true
     go true e = refl
     go false e = refl
-shortest (suc f) n h = go (ltb n 10) refl (shortest f (n / 10) (omega arith))
+shortest (suc f) n h = go (ltb n decimalBase) refl (shortest f (n / decimalBase) (omega arith))
   where
-    go : (c : Bool) → ltb n 10 ≡ c → noLeadingZero (writeNum (suc f) (n / 10)) ≡ true
-        → noLeadingZero (cond c ((char "0" + n) ∷ []) (writeNum (suc f) (n / 10) ++ ((char "0" + n % 10) ∷ []))) ≡ true
+    go : (c : Bool) → ltb n decimalBase ≡ c → noLeadingZero (writeNum (suc f) (n / decimalBase)) ≡ true
+        → noLeadingZero (cond c ((char "0" + n) ∷ []) (writeNum (suc f) (n / decimalBase) ++ ((char "0" + n % decimalBase) ∷ []))) ≡ true
     go true e ih = refl
     go false e ih =
-        let l = ltb-false n 10 e in
-        let m : n / 10 < 10 ^ suc f = omega arith in
-        shortest-snoc (writeNum (suc f) (n / 10)) (char "0" + n % 10) ((num-field f (n / 10)) .least) ih
-        (λ q. not-zero (writeNum (suc f) (n / 10)) (n / 10) (num-back (suc f) (n / 10) m) (omega arith) q)
+        let l = ltb-false n decimalBase e in
+        let m : n / decimalBase < 10 ^ suc f = omega arith in
+        shortest-snoc (writeNum (suc f) (n / decimalBase)) (char "0" + n % decimalBase) ((num-field f (n / decimalBase)) .least) ih
+        (λ q. not-zero (writeNum (suc f) (n / decimalBase)) (n / decimalBase) (num-back (suc f) (n / decimalBase) m) (omega arith) q)
 
 -- "We write one space and no leading zeros."
 pub proposal-written : (p : Proposal) → proposable p ≡ true → ProposalWritten p (proposalLine p)
@@ -148,7 +148,7 @@ blocks-cut (suc f) (y ∷ x) =
 framed-written : (h x : Bytes) → isHeading h ≡ true → FramedWritten h x (writeFramed h x)
 framed-written h x k =
     let m = (field-is headingByte headingMax h k) .most in
-    let l : (length h + besideLeast) % byteValues ≡ length h + 1 + 2 = omega arith in
+    let l : (length h + besideLeast) % byteValues ≡ length h + length ourOffset + twoZeros = omega arith in
     record {
       blocks = cutFrom (length x) x;
       checksum = checksum x;

@@ -12,7 +12,7 @@ use Rattle.grammar.specs.Bytes.{Bytes, CR, CTRLZ, every, splitAt, byteVa
 use Rattle.grammar.specs.Ascii.{char}
 use Rattle.grammar.specs.Fields.{headingByte, isHeading, headingMax}
 use Rattle.grammar.specs.Answers.{offsetDigits}
-use Rattle.grammar.specs.Transfers.{blocks, checksum, byteSum, sumRight, zeroDigit, besideLeast}
+use Rattle.grammar.specs.Transfers.{blocks, checksum, byteSum, sumRight, zeroDigit, besideLeast, headerNuls, offsetDigit}
 use Rattle.grammar.specs.Scan.{Scan, atLen, atSize, atStart, atSum, bodyOf, inBody, inData, inHead, inMark, inOff, inTitle, lenLeast}
 use Rattle.grammar.proofs.Basics.{both, all-append, all-replicate, field-of, Lacks, all-lacks, split-mid, octet, snoc-length}
 use Rattle.grammar.proofs.Rest.{onto-nil, rest, Ok, RightAt}
@@ -24,11 +24,11 @@ complete (inTitle []) = char "A" ∷ CR ∷ CTRLZ ∷ CR ∷ []
 complete (inTitle (x ∷ t)) = CR ∷ CTRLZ ∷ CR ∷ []
 complete (inBody t x) = CTRLZ ∷ CR ∷ []
 complete (inMark t x) = CR ∷ []
-complete atStart = SOH ∷ lenLeast ∷ char "A" ∷ NUL ∷ char "0" ∷ NUL ∷ EOT ∷ 0 ∷ []
-complete atLen = lenLeast ∷ char "A" ∷ NUL ∷ char "0" ∷ NUL ∷ EOT ∷ 0 ∷ []
+complete atStart = SOH ∷ lenLeast ∷ char "A" ∷ NUL ∷ offsetDigit ∷ NUL ∷ EOT ∷ 0 ∷ []
+complete atLen = lenLeast ∷ char "A" ∷ NUL ∷ offsetDigit ∷ NUL ∷ EOT ∷ 0 ∷ []
 complete (inHead len h) =
-    replicate (min headingMax (len - besideLeast) - length h) (char "A") ++ NUL ∷ (replicate (len - 2 - min headingMax (len - besideLeast)) (char "0") ++ NUL ∷ EOT ∷ 0 ∷ [])
-complete (inOff len h o) = replicate (len - 2 - length h - length o) (char "0") ++ NUL ∷ EOT ∷ 0 ∷ []
+    replicate (min headingMax (len - besideLeast) - length h) (char "A") ++ NUL ∷ (replicate (len - headerNuls - min headingMax (len - besideLeast)) offsetDigit ++ NUL ∷ EOT ∷ 0 ∷ [])
+complete (inOff len h o) = replicate (len - headerNuls - length h - length o) offsetDigit ++ NUL ∷ EOT ∷ 0 ∷ []
 complete (inData h x k) = replicate k 0 ++ EOT ∷ checksum x ∷ []
 complete (atSize h x) = 1 ∷ 0 ∷ EOT ∷ checksum x ∷ []
 complete (atSum h x) = checksum x ∷ []
@@ -61,30 +61,30 @@ blocks-zeros : (k c : ℕ) → blocks k (replicate k 0 ++ EOT ∷ c ∷ []) ≡ 
 blocks-zeros zero c = refl
 blocks-zeros (suc k) c = rw (blocks-zeros k c)
 
-lacks-digits : (n : ℕ) → Lacks NUL (replicate n (char "0"))
-lacks-digits n = all-lacks zeroDigit NUL (replicate n (char "0")) refl (all-replicate zeroDigit n (char "0") refl)
+lacks-digits : (n : ℕ) → Lacks NUL (replicate n offsetDigit)
+lacks-digits n = all-lacks zeroDigit NUL (replicate n offsetDigit) refl (all-replicate zeroDigit n offsetDigit refl)
 
 lacks-pad : (n : ℕ) → Lacks NUL (replicate n (char "A"))
 lacks-pad n = all-lacks headingByte NUL (replicate n (char "A")) refl (all-replicate headingByte n (char "A") refl)
 
 -- n digits more, and an empty body
-done-off : (len n : ℕ) (h o : Bytes) → isHeading h ≡ true → every zeroDigit o ≡ true → 1 ≤ length o + n → length o + n ≤ offsetDigits → len ≡ length h + (length o + n) + 2
-    → RightAt 0 (rest (inOff len h o) (replicate n (char "0") ++ NUL ∷ EOT ∷ 0 ∷ []))
+done-off : (len n : ℕ) (h o : Bytes) → isHeading h ≡ true → every zeroDigit o ≡ true → 1 ≤ length o + n → length o + n ≤ offsetDigits → len ≡ length h + (length o + n) + headerNuls
+    → RightAt 0 (rest (inOff len h o) (replicate n offsetDigit ++ NUL ∷ EOT ∷ 0 ∷ []))
 done-off len n h o e f a b c =
-    let l : length (o ++ replicate n (char "0")) ≡ length o + n = simp (length-append, length-replicate) in
-    rw (split-mid NUL (replicate n (char "0")) (EOT ∷ 0 ∷ []) (lacks-digits n))
-    (rw (header-of len h (o ++ replicate n (char "0")) e
-    (field-of zeroDigit offsetDigits (o ++ replicate n (char "0")) (all-append zeroDigit o (replicate n (char "0")) f (all-replicate zeroDigit n (char "0") refl)) (omega arith) (omega arith))
+    let l : length (o ++ replicate n offsetDigit) ≡ length o + n = simp (length-append, length-replicate) in
+    rw (split-mid NUL (replicate n offsetDigit) (EOT ∷ 0 ∷ []) (lacks-digits n))
+    (rw (header-of len h (o ++ replicate n offsetDigit) e
+    (field-of zeroDigit offsetDigits (o ++ replicate n offsetDigit) (all-append zeroDigit o (replicate n offsetDigit) f (all-replicate zeroDigit n offsetDigit refl)) (omega arith) (omega arith))
     (omega arith))
     (refl, refl))
 
 -- n bytes of heading more, then m digits
-done-head : (len n m : ℕ) (h : Bytes) → every headingByte h ≡ true → 1 ≤ length h + n → length h + n ≤ headingMax → 1 ≤ m → m ≤ offsetDigits → len ≡ (length h + n) + m + 2
-    → RightAt 0 (rest (inHead len h) (replicate n (char "A") ++ NUL ∷ (replicate m (char "0") ++ NUL ∷ EOT ∷ 0 ∷ [])))
+done-head : (len n m : ℕ) (h : Bytes) → every headingByte h ≡ true → 1 ≤ length h + n → length h + n ≤ headingMax → 1 ≤ m → m ≤ offsetDigits → len ≡ (length h + n) + m + headerNuls
+    → RightAt 0 (rest (inHead len h) (replicate n (char "A") ++ NUL ∷ (replicate m offsetDigit ++ NUL ∷ EOT ∷ 0 ∷ [])))
 done-head len n m h e a b c d s =
     let l : length (h ++ replicate n (char "A")) ≡ length h + n = simp (length-append, length-replicate) in
-    rw (split-mid NUL (replicate n (char "A")) (replicate m (char "0") ++ NUL ∷ EOT ∷ 0 ∷ []) (lacks-pad n))
-    (rw (sym (onto-nil (splitAt NUL (replicate m (char "0") ++ NUL ∷ EOT ∷ 0 ∷ []))))
+    rw (split-mid NUL (replicate n (char "A")) (replicate m offsetDigit ++ NUL ∷ EOT ∷ 0 ∷ []) (lacks-pad n))
+    (rw (sym (onto-nil (splitAt NUL (replicate m offsetDigit ++ NUL ∷ EOT ∷ 0 ∷ []))))
     (done-off len m (h ++ replicate n (char "A")) []
     (field-of headingByte headingMax (h ++ replicate n (char "A")) (all-append headingByte h (replicate n (char "A")) e (all-replicate headingByte n (char "A") refl)) (omega arith) (omega arith))
     refl (omega arith) (omega arith) (omega arith)))
@@ -101,12 +101,12 @@ completes (inHead len h) k =
     let b = k .2 in
     let c = k .3 in
     let d = k .4 in
-    done-head len (min headingMax (len - besideLeast) - length h) (len - 2 - min headingMax (len - besideLeast)) h (k .0) (omega arith) (omega arith) (omega arith) (omega arith) (omega arith)
+    done-head len (min headingMax (len - besideLeast) - length h) (len - headerNuls - min headingMax (len - besideLeast)) h (k .0) (omega arith) (omega arith) (omega arith) (omega arith) (omega arith)
 completes (inOff len h o) k =
     let a = k .2 in
     let b = k .3 in
     let c = k .4 in
-    done-off len (len - 2 - length h - length o) h o (k .0) (k .1) (omega arith) (omega arith) (omega arith)
+    done-off len (len - headerNuls - length h - length o) h o (k .0) (k .1) (omega arith) (omega arith) (omega arith)
 completes (inData h x k) u = rw (blocks-zeros k (checksum x)) (sum-closed x k, simp (length-append, length-replicate))
 completes (atSize h x) k = (sum-closed x 1, snoc-length x 0)
 completes (atSum h x) k = (sum-closed x 0, nil-length x)
@@ -119,11 +119,11 @@ complete-octets (inMark t x) = refl
 complete-octets atStart = refl
 complete-octets atLen = refl
 complete-octets (inHead len h) =
-    all-append octet (replicate (min headingMax (len - besideLeast) - length h) (char "A")) (NUL ∷ (replicate (len - 2 - min headingMax (len - besideLeast)) (char "0") ++ NUL ∷ EOT ∷ 0 ∷ []))
+    all-append octet (replicate (min headingMax (len - besideLeast) - length h) (char "A")) (NUL ∷ (replicate (len - headerNuls - min headingMax (len - besideLeast)) offsetDigit ++ NUL ∷ EOT ∷ 0 ∷ []))
     (all-replicate octet (min headingMax (len - besideLeast) - length h) (char "A") refl)
-    (all-append octet (replicate (len - 2 - min headingMax (len - besideLeast)) (char "0")) (NUL ∷ EOT ∷ 0 ∷ []) (all-replicate octet (len - 2 - min headingMax (len - besideLeast)) (char "0") refl) refl)
+    (all-append octet (replicate (len - headerNuls - min headingMax (len - besideLeast)) offsetDigit) (NUL ∷ EOT ∷ 0 ∷ []) (all-replicate octet (len - headerNuls - min headingMax (len - besideLeast)) offsetDigit refl) refl)
 complete-octets (inOff len h o) =
-    all-append octet (replicate (len - 2 - length h - length o) (char "0")) (NUL ∷ EOT ∷ 0 ∷ []) (all-replicate octet (len - 2 - length h - length o) (char "0") refl) refl
+    all-append octet (replicate (len - headerNuls - length h - length o) offsetDigit) (NUL ∷ EOT ∷ 0 ∷ []) (all-replicate octet (len - headerNuls - length h - length o) offsetDigit refl) refl
 complete-octets (inData h x k) =
     all-append octet (replicate k 0) (EOT ∷ checksum x ∷ []) (all-replicate octet k 0 refl) (both (octet (checksum x)) true (lt-ltb (checksum x) byteValues (omega arith)) refl)
 complete-octets (atSize h x) = both (octet (checksum x)) true (lt-ltb (checksum x) byteValues (omega arith)) refl

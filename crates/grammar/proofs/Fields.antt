@@ -10,7 +10,7 @@ use lib.ListN.{length, length-append}
 use borrow.Author.Tests.{ltb-true, lt-ltb, le-ltb, leb-true, ne-eqb, eqb-true}
 use Rattle.grammar.specs.Bytes.{Bytes, SP, every}
 use Rattle.grammar.specs.Ascii.{char}
-use Rattle.grammar.specs.Fields.{Form, afterDot, allCalls, bidByte, callByte, decimal, digit, field, file, isAt, isBid, isCall, isSize, message, parts, plain, readFrom, toFirst, upper, words, writeNum, callMax, atMax, afterDotMax, bidMax, digitsEnd, sizeDigits, decimalDigits}
+use Rattle.grammar.specs.Fields.{Form, afterDot, allCalls, bidByte, callByte, decimal, digit, field, file, isAt, isBid, isCall, isSize, message, parts, plain, readFrom, toFirst, upper, words, writeNum, callMax, atMax, afterDotMax, bidMax, digitsEnd, sizeDigits, decimalDigits, decimalBase}
 use Rattle.grammar.specs.Turns.{Proposal, formLetter, formSaid, inMode, isType, proposable, proposalLine, readProposal, sp, typeOf, sizeValues}
 use Rattle.grammar.proofs.Basics.{and2, both, all-append, Field, field-is, field-of, Lacks, all-lacks, or-left, or-right, or-second}
 
@@ -49,41 +49,41 @@ field-word c n w e f = word-of w (f .least) (all-lacks c SP w e (f .class))
 
 -- ---------------------------------------------------------------- numbers
 
-read-snoc : (a : ℕ) (xs : Bytes) (d : ℕ) → readFrom a (xs ++ (d ∷ [])) ≡ readFrom a xs * 10 + (d - char "0")
+read-snoc : (a : ℕ) (xs : Bytes) (d : ℕ) → readFrom a (xs ++ (d ∷ [])) ≡ readFrom a xs * decimalBase + (d - char "0")
 unfolding readFrom
 read-snoc a [] d = refl
-read-snoc a (x ∷ xs) d = read-snoc (a * 10 + (x - char "0")) xs d
+read-snoc a (x ∷ xs) d = read-snoc (a * decimalBase + (x - char "0")) xs d
 
 pub num-back : (f n : ℕ) → n < 10 ^ f → readFrom 0 (writeNum f n) ≡ n
 unfolding writeNum readFrom
 num-back zero n h = omega arith
-num-back (suc f) n h = go (ltb n 10) (num-back f (n / 10) (omega arith))
+num-back (suc f) n h = go (ltb n decimalBase) (num-back f (n / decimalBase) (omega arith))
   where
-    go : (c : Bool) → readFrom 0 (writeNum f (n / 10)) ≡ n / 10 → readFrom 0 (cond c ((char "0" + n) ∷ []) (writeNum f (n / 10) ++ ((char "0" + n % 10) ∷ []))) ≡ n
+    go : (c : Bool) → readFrom 0 (writeNum f (n / decimalBase)) ≡ n / decimalBase → readFrom 0 (cond c ((char "0" + n) ∷ []) (writeNum f (n / decimalBase) ++ ((char "0" + n % decimalBase) ∷ []))) ≡ n
     go true k = omega arith
-    go false k = read-snoc 0 (writeNum f (n / 10)) (char "0" + n % 10) ∙ rw k (omega arith)
+    go false k = read-snoc 0 (writeNum f (n / decimalBase)) (char "0" + n % decimalBase) ∙ rw k (omega arith)
 
-digit-of : (d : ℕ) → d < 10 → digit (char "0" + d) ≡ true
+digit-of : (d : ℕ) → d < decimalBase → digit (char "0" + d) ≡ true
 digit-of d h = rw (le-ltb (char "0" + d) (char "0") (omega arith)) (lt-ltb (char "0" + d) digitsEnd (omega arith))
 
 -- what we write is a field of 1 to f digits
 pub num-field : (f n : ℕ) → Field digit (suc f) (writeNum (suc f) n)
 unfolding writeNum
-num-field zero n = go (ltb n 10) refl
+num-field zero n = go (ltb n decimalBase) refl
   where
-    go : (c : Bool) → ltb n 10 ≡ c → Field digit 1 (cond c ((char "0" + n) ∷ []) ([] ++ ((char "0" + n % 10) ∷ [])))
-    go true e = record { class = both (digit (char "0" + n)) true (digit-of n (ltb-true n 10 e)) refl; least = omega arith; most = omega arith }
-    go false e = record { class = both (digit (char "0" + n % 10)) true (digit-of (n % 10) (omega arith)) refl; least = omega arith; most = omega arith }
-num-field (suc f) n = go (ltb n 10) refl (num-field f (n / 10))
+    go : (c : Bool) → ltb n decimalBase ≡ c → Field digit 1 (cond c ((char "0" + n) ∷ []) ([] ++ ((char "0" + n % decimalBase) ∷ [])))
+    go true e = record { class = both (digit (char "0" + n)) true (digit-of n (ltb-true n decimalBase e)) refl; least = omega arith; most = omega arith }
+    go false e = record { class = both (digit (char "0" + n % decimalBase)) true (digit-of (n % decimalBase) (omega arith)) refl; least = omega arith; most = omega arith }
+num-field (suc f) n = go (ltb n decimalBase) refl (num-field f (n / decimalBase))
   where
-    go : (c : Bool) → ltb n 10 ≡ c → Field digit (suc f) (writeNum (suc f) (n / 10))
-        → Field digit (suc (suc f)) (cond c ((char "0" + n) ∷ []) (writeNum (suc f) (n / 10) ++ ((char "0" + n % 10) ∷ [])))
-    go true e k = record { class = both (digit (char "0" + n)) true (digit-of n (ltb-true n 10 e)) refl; least = omega arith; most = omega arith }
+    go : (c : Bool) → ltb n decimalBase ≡ c → Field digit (suc f) (writeNum (suc f) (n / decimalBase))
+        → Field digit (suc (suc f)) (cond c ((char "0" + n) ∷ []) (writeNum (suc f) (n / decimalBase) ++ ((char "0" + n % decimalBase) ∷ [])))
+    go true e k = record { class = both (digit (char "0" + n)) true (digit-of n (ltb-true n decimalBase e)) refl; least = omega arith; most = omega arith }
     go false e k =
         let m = k .most in
-        let l = length-append (writeNum (suc f) (n / 10)) ((char "0" + n % 10) ∷ []) in
+        let l = length-append (writeNum (suc f) (n / decimalBase)) ((char "0" + n % decimalBase) ∷ []) in
         record {
-          class = all-append digit (writeNum (suc f) (n / 10)) ((char "0" + n % 10) ∷ []) (k .class) (both (digit (char "0" + n % 10)) true (digit-of (n % 10) (omega arith)) refl);
+          class = all-append digit (writeNum (suc f) (n / decimalBase)) ((char "0" + n % decimalBase) ∷ []) (k .class) (both (digit (char "0" + n % decimalBase)) true (digit-of (n % decimalBase) (omega arith)) refl);
           least = omega arith;
           most = omega arith;
         }
@@ -91,9 +91,9 @@ num-field (suc f) n = go (ltb n 10) refl (num-field f (n / 10))
 -- more digits than are needed change nothing
 num-fuel : (f g n : ℕ) → f ≤ g → n < 10 ^ suc f → writeNum (suc g) n ≡ writeNum (suc f) n
 unfolding writeNum
-num-fuel zero g n l h = simp (lt-ltb n 10 (omega arith))
+num-fuel zero g n l h = simp (lt-ltb n decimalBase (omega arith))
 num-fuel (suc f) zero n l h = let z : ⊥ = omega arith in absurd z
-num-fuel (suc f) (suc g) n l h = rw (num-fuel f g (n / 10) (omega arith) (omega arith))
+num-fuel (suc f) (suc g) n l h = rw (num-fuel f g (n / decimalBase) (omega arith) (omega arith))
 
 -- ---------------------------------------------------------------- at
 

@@ -10,10 +10,9 @@ use lib.Dec.{eqb, leb, ltb}
 use lib.ListN.{length}
 use borrow.Author.Tests.{lt-ltb, le-ltb, le-leb, ltb-true, ltb-false, leb-true, eqb-true, eqb-false}
 use Rattle.grammar.specs.Bytes.{Bytes, every, splitAt, NUL, SOH, STX, EOT}
-use Rattle.grammar.specs.Ascii.{char}
 use Rattle.grammar.specs.Fields.{field, headingByte, isHeading, headingMax}
 use Rattle.grammar.specs.Answers.{offsetDigits}
-use Rattle.grammar.specs.Transfers.{blocks, blocksRead, isHeader, sumRight, zeroDigit, besideLeast}
+use Rattle.grammar.specs.Transfers.{blocks, blocksRead, isHeader, sumRight, zeroDigit, besideLeast, headerNuls, offsetDigit}
 use Rattle.grammar.specs.Scan.{atLen, atSize, atStart, atSum, goes, got, inData, inHead, inOff, malformed, noRoom, scanByte, wrongSum, besideMost, lenLeast, lenMost}
 use Rattle.grammar.proofs.Basics.{and2, both, not-so, no-both, or2, nonzero, snoc-cons, all-append, all-mid, field-of, snoc-length, mid-length}
 use Rattle.grammar.proofs.Rest.{onto, onto-nil, onto-before, onto-data, sizeRead, lastRead, rest, Ok, rest-nil, Right, right-of, Longer, StepOk}
@@ -73,7 +72,7 @@ step-head room len h b k = go (eqb b NUL) refl (eqb (length h) 0 || ltb (length 
         let s = f .sum-up in
         let i = f .off .least in
         let l = mid-length h u b in
-        let m = mid-head h u b ((and2 (isHeading ((h ++ (b ∷ [])) ++ u)) (field zeroDigit offsetDigits w && eqb len (length ((h ++ (b ∷ [])) ++ u) + length w + 2)) e) .0) in
+        let m = mid-head h u b ((and2 (isHeading ((h ++ (b ∷ [])) ++ u)) (field zeroDigit offsetDigits w && eqb len (length ((h ++ (b ∷ [])) ++ u) + length w + headerNuls)) e) .0) in
         no-both (headingByte b && (ltb (length h) headingMax && ltb (length h + besideLeast) len))
         (both (headingByte b) (ltb (length h) headingMax && ltb (length h + besideLeast) len) (m .0)
         (both (ltb (length h) headingMax) (ltb (length h + besideLeast) len) (lt-ltb (length h) headingMax (m .1)) (lt-ltb (length h + besideLeast) len (omega arith))))
@@ -107,22 +106,22 @@ step-head room len h b k = go (eqb b NUL) refl (eqb (length h) 0 || ltb (length 
         (head-none len (h ++ (b ∷ [])) (splitAt NUL r) (λ s w. not-so (isHeader len ((h ++ (b ∷ [])) ++ s) w) (more s w u))))
 
 pub step-off : (room len : ℕ) (h o : Bytes) (b : ℕ) → Ok (inOff len h o) → StepOk room (scanByte room (inOff len h o) b) (inOff len h o) b
-step-off room len h o b k = go (eqb b NUL) refl (eqb len (length h + length o + 2)) refl (eqb b (char "0") && ltb (length h + length o + 2) len) refl
+step-off room len h o b k = go (eqb b NUL) refl (eqb len (length h + length o + headerNuls)) refl (eqb b offsetDigit && ltb (length h + length o + headerNuls) len) refl
   where
-    more : (u : Bytes) → eqb b (char "0") && ltb (length h + length o + 2) len ≡ false → isHeader len h ((o ++ (b ∷ [])) ++ u) ≡ true → ⊥
+    more : (u : Bytes) → eqb b offsetDigit && ltb (length h + length o + headerNuls) len ≡ false → isHeader len h ((o ++ (b ∷ [])) ++ u) ≡ true → ⊥
     more u q e =
         let f = header-is len h ((o ++ (b ∷ [])) ++ u) e in
         let s = f .sum-up in
         let l = mid-length o u b in
-        no-both (eqb b (char "0") && ltb (length h + length o + 2) len)
-        (both (eqb b (char "0")) (ltb (length h + length o + 2) len)
-        (all-mid zeroDigit o u b (ap (every zeroDigit) (sym (snoc-cons o u b)) ∙ f .off .class)) (lt-ltb (length h + length o + 2) len (omega arith)))
+        no-both (eqb b offsetDigit && ltb (length h + length o + headerNuls) len)
+        (both (eqb b offsetDigit) (ltb (length h + length o + headerNuls) len)
+        (all-mid zeroDigit o u b (ap (every zeroDigit) (sym (snoc-cons o u b)) ∙ f .off .class)) (lt-ltb (length h + length o + headerNuls) len (omega arith)))
         q
 
-    go : (e : Bool) → eqb b NUL ≡ e → (v : Bool) → eqb len (length h + length o + 2) ≡ v → (f : Bool) → eqb b (char "0") && ltb (length h + length o + 2) len ≡ f
+    go : (e : Bool) → eqb b NUL ≡ e → (v : Bool) → eqb len (length h + length o + headerNuls) ≡ v → (f : Bool) → eqb b offsetDigit && ltb (length h + length o + headerNuls) len ≡ f
         → StepOk room (cond e (cond v (goes (inData h [] 0)) malformed) (cond f (goes (inOff len h (o ++ (b ∷ [])))) malformed)) (inOff len h o) b
     go true p true q f u =
-        let s = eqb-true len (length h + length o + 2) q in
+        let s = eqb-true len (length h + length o + headerNuls) q in
         let m = k .2 in
         let n = k .3 in (
           λ r. rw p (rw (append-nil o)
@@ -131,13 +130,13 @@ step-off room len h o b k = go (eqb b NUL) refl (eqb len (length h + length o + 
           omega arith,
         )
     go true p false q f u =
-        λ r. rw p (rw (append-nil o) (rw (not-so (isHeader len h o) (λ e. eqb-false len (length h + length o + 2) q ((header-is len h o e) .sum-up)))))
+        λ r. rw p (rw (append-nil o) (rw (not-so (isHeader len h o) (λ e. eqb-false len (length h + length o + headerNuls) q ((header-is len h o e) .sum-up)))))
     go false p v q true u =
-        let w = and2 (eqb b (char "0")) (ltb (length h + length o + 2) len) u in
-        let n = ltb-true (length h + length o + 2) len (w .1) in
+        let w = and2 (eqb b offsetDigit) (ltb (length h + length o + headerNuls) len) u in
+        let n = ltb-true (length h + length o + headerNuls) len (w .1) in
         let l = snoc-length o b in (
           λ r. rw p (rw (onto-before o b (splitAt NUL r))),
-          (k .0, all-append zeroDigit o (b ∷ []) (k .1) (both (eqb b (char "0")) true (w .0) refl), k .2, k .3, omega arith),
+          (k .0, all-append zeroDigit o (b ∷ []) (k .1) (both (eqb b offsetDigit) true (w .0) refl), k .2, k .3, omega arith),
           omega arith,
         )
     go false p v q false u =

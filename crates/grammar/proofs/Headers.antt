@@ -11,25 +11,25 @@ use borrow.Author.Tests.{eq-eqb, eqb-true}
 use Rattle.grammar.specs.Bytes.{Bytes, every, splitAt}
 use Rattle.grammar.specs.Fields.{field, headingByte, isHeading, headingMax}
 use Rattle.grammar.specs.Answers.{offsetDigits}
-use Rattle.grammar.specs.Transfers.{headRead, isHeader, offRead, titleRead, zeroDigit}
+use Rattle.grammar.specs.Transfers.{headRead, isHeader, offRead, titleRead, zeroDigit, headerNuls}
 use Rattle.grammar.proofs.Basics.{and2, both, snoc-cons, all-mid, Field, field-is, mid-length}
 use Rattle.grammar.proofs.Rest.{onto, onto-nil}
 
 pub record Header (len : ℕ) (h o : Bytes) : Type 0 where
   pub heading : Field headingByte headingMax h
   pub off : Field zeroDigit offsetDigits o
-  pub sum-up : len ≡ length h + length o + 2
+  pub sum-up : len ≡ length h + length o + headerNuls
 
 pub header-is : (len : ℕ) (h o : Bytes) → isHeader len h o ≡ true → Header len h o
 header-is len h o e =
-    let p = and2 (isHeading h) (field zeroDigit offsetDigits o && eqb len (length h + length o + 2)) e in
-    let q = and2 (field zeroDigit offsetDigits o) (eqb len (length h + length o + 2)) (p .1) in
-    record { heading = field-is headingByte headingMax h (p .0); off = field-is zeroDigit offsetDigits o (q .0); sum-up = eqb-true len (length h + length o + 2) (q .1) }
+    let p = and2 (isHeading h) (field zeroDigit offsetDigits o && eqb len (length h + length o + headerNuls)) e in
+    let q = and2 (field zeroDigit offsetDigits o) (eqb len (length h + length o + headerNuls)) (p .1) in
+    record { heading = field-is headingByte headingMax h (p .0); off = field-is zeroDigit offsetDigits o (q .0); sum-up = eqb-true len (length h + length o + headerNuls) (q .1) }
 
-pub header-of : (len : ℕ) (h o : Bytes) → isHeading h ≡ true → field zeroDigit offsetDigits o ≡ true → len ≡ length h + length o + 2 → isHeader len h o ≡ true
+pub header-of : (len : ℕ) (h o : Bytes) → isHeading h ≡ true → field zeroDigit offsetDigits o ≡ true → len ≡ length h + length o + headerNuls → isHeader len h o ≡ true
 header-of len h o e f g =
-    both (isHeading h) (field zeroDigit offsetDigits o && eqb len (length h + length o + 2)) e
-    (both (field zeroDigit offsetDigits o) (eqb len (length h + length o + 2)) f (eq-eqb len (length h + length o + 2) g))
+    both (isHeading h) (field zeroDigit offsetDigits o && eqb len (length h + length o + headerNuls)) e
+    (both (field zeroDigit offsetDigits o) (eqb len (length h + length o + headerNuls)) f (eq-eqb len (length h + length o + headerNuls) g))
 
 -- a heading with the byte b in it: b is of the class, and the bytes before it are fewer than 80
 pub mid-head : (t u : Bytes) (b : ℕ) → isHeading ((t ++ (b ∷ [])) ++ u) ≡ true → (headingByte b ≡ true) × (length t < headingMax)

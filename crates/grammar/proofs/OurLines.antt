@@ -149,8 +149,9 @@ prop-lacks p h =
     (field-lacks bidByte bidMax (p .bid) refl (bid-field (p .bid) (h .bid)))
     (field-lacks digit decimalDigits (writeNum decimalDigits (p .size)) refl (num-field (decimalDigits - 1) (p .size)))
 
+-- the letters, the type and five fields, with the spaces between
 abbrev proposalMax : ℕ
-proposalMax = 81
+proposalMax = length (text "FB P ") + (callMax + 1) + (atMax + 1) + (callMax + 1) + (bidMax + 1) + decimalDigits
 
 prop-short : (p : Proposal) → Ours p → length (proposalLine p) ≤ proposalMax
 unfolding proposalLine

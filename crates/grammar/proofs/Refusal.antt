@@ -10,9 +10,8 @@ use lib.Dec.{eqb, leb, ltb}
 use lib.ListN.{length}
 use borrow.Author.Tests.{le-leb}
 use Rattle.grammar.specs.Bytes.{Bytes, CR, CTRLZ, SP, every, splitAt, STX, EOT}
-use Rattle.grammar.specs.Ascii.{char}
 use Rattle.grammar.specs.Fields.{headingByte, headingMax, bodyLimit}
-use Rattle.grammar.specs.Transfers.{TransferKind, plainKind, framedKind, Content, Parsed, parse, readTransfer, sumRight, valid, besideLeast}
+use Rattle.grammar.specs.Transfers.{TransferKind, plainKind, framedKind, Content, Parsed, parse, readTransfer, sumRight, valid, besideLeast, headerNuls, offsetDigit}
 use Rattle.grammar.specs.Scan.{Scan, Scanned, atLen, atSize, atStart, atSum, bodyOf, goes, got, inBody, inData, inHead, inMark, inOff, inTitle, malformed, noRoom, onward, scan, scanByte, scanFrom, scanOn, wrongSum, isBodyByte, besideMost, lenLeast, lenMost}
 use Rattle.grammar.proofs.Basics.{snoc-cons, octet}
 use Rattle.grammar.proofs.Rest.{rest, Ok, Right, RightAt, Wrong, Longer, StepOk, rest-nil, onto-nil}
@@ -256,8 +255,8 @@ exact-10 room (inHead len h) b =
     no-ten (eqb b 0) _ _ (no-ten (eqb (length h) 0 || ltb (length h + besideMost) len) malformed (goes (inOff len h [])) refl refl)
     (no-ten (headingByte b && (ltb (length h) headingMax && ltb (length h + besideLeast) len)) (goes (inHead len (h ++ (b ∷ [])))) malformed refl refl)
 exact-10 room (inOff len h o) b =
-    no-ten (eqb b 0) _ _ (no-ten (eqb len (length h + length o + 2)) (goes (inData h [] 0)) malformed refl refl)
-    (no-ten (eqb b (char "0") && ltb (length h + length o + 2) len) (goes (inOff len h (o ++ (b ∷ [])))) malformed refl refl)
+    no-ten (eqb b 0) _ _ (no-ten (eqb len (length h + length o + headerNuls)) (goes (inData h [] 0)) malformed refl refl)
+    (no-ten (eqb b offsetDigit && ltb (length h + length o + headerNuls) len) (goes (inOff len h (o ++ (b ∷ [])))) malformed refl refl)
 exact-10 room (inData h x zero) b = no-ten (eqb b STX) (goes (atSize h x)) _ refl (no-ten (eqb b EOT) (goes (atSum h x)) malformed refl refl)
 exact-10 room (inData h x (suc k)) b = go (ltb (length x) room)
   where

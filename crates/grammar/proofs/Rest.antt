@@ -8,7 +8,7 @@ use Prim.Native.Nat.{ℕ, zero, suc, _+_, _≤_, _<_}
 use lib.ListN.{length}
 use Rattle.grammar.specs.Bytes.{Bytes, CR, CTRLZ, every, before, null, splitAt}
 use Rattle.grammar.specs.Fields.{headingByte, isHeading, headingMax}
-use Rattle.grammar.specs.Transfers.{Parsed, blockSize, blocks, blocksRead, bodyRead, consData, headRead, lenRead, offRead, readFramed, spacesCR, titleRead, zeroDigit, besideLeast}
+use Rattle.grammar.specs.Transfers.{Parsed, blockSize, blocks, blocksRead, bodyRead, consData, headRead, lenRead, offRead, readFramed, spacesCR, titleRead, zeroDigit, besideLeast, headerNuls}
 use Rattle.grammar.specs.Scan.{Scan, Scanned, atLen, atSize, atStart, atSum, bodyOf, goes, got, inBody, inData, inHead, inMark, inOff, inTitle, malformed, noRoom, wrongSum, besideMost, lenLeast, lenMost}
 use Rattle.grammar.proofs.Basics.{snoc-cons, octet}
 
@@ -55,7 +55,7 @@ rest (atSum h x) r = lastRead h x r
 abbrev pub Ok : Scan → Type 0
 Ok (inTitle t) = (every headingByte t ≡ true) × (length t ≤ headingMax)
 Ok (inHead len h) = (every headingByte h ≡ true) × (length h ≤ headingMax) × (lenLeast ≤ len) × (len ≤ lenMost) × (length h + besideLeast ≤ len)
-Ok (inOff len h o) = (isHeading h ≡ true) × (every zeroDigit o ≡ true) × (length h + besideLeast ≤ len) × (len ≤ length h + besideMost) × (length h + length o + 2 ≤ len)
+Ok (inOff len h o) = (isHeading h ≡ true) × (every zeroDigit o ≡ true) × (length h + besideLeast ≤ len) × (len ≤ length h + besideMost) × (length h + length o + headerNuls ≤ len)
 Ok (inBody t x) = Unit {0}
 Ok (inMark t x) = Unit {0}
 Ok atStart = Unit {0}

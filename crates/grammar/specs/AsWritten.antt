@@ -66,12 +66,20 @@ abbrev pub blocksText : List Bytes → Bytes
 blocksText [] = []
 blocksText (d ∷ ds) = STX ∷ blockNumber d ∷ (d ++ blocksText ds)
 
+-- "We write offset `0`"
+abbrev pub ourOffset : Bytes
+ourOffset = text "0"
+
+-- "L = heading + offset + 2.": the two 00
+abbrev pub twoZeros : ℕ
+twoZeros = 2
+
 -- The bytes w are the framed transfer of the heading h and the body x as we write it.
 pub record FramedWritten (h x w : Bytes) : Type 0 where
   pub blocks : List Bytes
   pub checksum : ℕ
-  -- "Framed: 01, L, heading, 00, offset digits, 00; blocks 02, n, data; 04, checksum. L = heading + offset + 2."; "We write offset `0`"
-  pub bytes : w ≡ SOH ∷ (length h + 1 + 2) ∷ (h ++ (NUL ∷ char "0" ∷ NUL ∷ (blocksText blocks ++ EOT ∷ checksum ∷ [])))
+  -- "Framed: 01, L, heading, 00, offset digits, 00; blocks 02, n, data; 04, checksum. L = heading + offset + 2."
+  pub bytes : w ≡ SOH ∷ (length h + length ourOffset + twoZeros) ∷ (h ++ (NUL ∷ (ourOffset ++ (NUL ∷ (blocksText blocks ++ EOT ∷ checksum ∷ [])))))
   -- "blocks of 256 and a shorter last one; an empty body has no block"
   pub cut : InBlocks blocks
   pub whole : joined blocks ≡ x

@@ -32,13 +32,13 @@ field c n w = every c w && sized n w
 
 -- ---------------------------------------------------------------- from, to and at
 
--- 0x21, the first byte after the space
+-- 0x21, the byte after the space
 abbrev pub visibleFrom : ℕ
-visibleFrom = 33
+visibleFrom = SP + 1
 
--- the byte after 0x7E
+-- the byte after 0x7E, which is `~`
 abbrev pub visibleEnd : ℕ
-visibleEnd = 127
+visibleEnd = char "~" + 1
 
 -- "bytes in 0x21-0x7E without `@` and `.`"
 abbrev pub callByte : ℕ → Bool
@@ -127,11 +127,11 @@ isBody f x = leb (length x) bodyLimit && bodyFair f x
 
 -- the byte after `z`
 abbrev pub smallEnd : ℕ
-smallEnd = 123
+smallEnd = char "z" + 1
 
 -- A capital stands so much before its small letter.
 abbrev pub toCapital : ℕ
-toCapital = 32
+toCapital = char "a" - char "A"
 
 -- "Command, type and feature letters are taken in either case and written as capitals": a letter as a capital, any other byte as it is
 abbrev pub upper : ℕ → ℕ
@@ -165,7 +165,7 @@ words (x ∷ xs) = cond (eqb x SP) (words xs) (attach x (starts xs) (words xs))
 
 -- the byte after `9`
 abbrev pub digitsEnd : ℕ
-digitsEnd = 58
+digitsEnd = char "9" + 1
 
 abbrev pub digit : ℕ → Bool
 digit b = cond (ltb b (char "0")) false (ltb b digitsEnd)
@@ -177,10 +177,14 @@ sizeDigits = 9
 unfoldable pub isSize : Bytes → Bool
 isSize w = field digit sizeDigits w
 
+-- A decimal digit is so much more than the one behind it.
+abbrev pub decimalBase : ℕ
+decimalBase = 10
+
 -- The number that decimal digits stand for, after those that gave a.
 unfoldable pub readFrom : ℕ → Bytes → ℕ
 readFrom a [] = a
-readFrom a (x ∷ xs) = readFrom (a * 10 + (x - char "0")) xs
+readFrom a (x ∷ xs) = readFrom (a * decimalBase + (x - char "0")) xs
 
 -- The size that a word says, where it is one.
 abbrev pub readSize : Bytes → Option ℕ
@@ -188,11 +192,11 @@ readSize w = cond (isSize w) (some (readFrom 0 w)) none
 
 -- the byte after `F`
 abbrev pub hexEnd : ℕ
-hexEnd = 71
+hexEnd = char "F" + 1
 
 -- `A` stands for ten: what a letter's byte is above its value.
 abbrev pub hexAbove : ℕ
-hexAbove = 55
+hexAbove = char "A" - decimalBase
 
 -- The value of a hexadecimal digit: 0-9, or a capital A-F.
 abbrev pub hexCapital : ℕ → Option ℕ
@@ -223,7 +227,7 @@ twoHex (a ∷ b ∷ c ∷ cs) = none
 -- The decimal digits of n without leading zeros, f at most.
 unfoldable pub writeNum : ℕ → ℕ → Bytes
 writeNum zero n = []
-writeNum (suc f) n = cond (ltb n 10) ((char "0" + n) ∷ []) (writeNum f (n / 10) ++ ((char "0" + n % 10) ∷ []))
+writeNum (suc f) n = cond (ltb n decimalBase) ((char "0" + n) ∷ []) (writeNum f (n / decimalBase) ++ ((char "0" + n % decimalBase) ∷ []))
 
 -- ten digits hold every 32-bit number
 abbrev pub decimalDigits : ℕ

@@ -6,10 +6,10 @@ use Prim.Native.Nat.{ℕ, zero, suc, _+_}
 use lib.Dec.{eqb, ltb, leb}
 use lib.ListN.{length}
 use Rattle.grammar.specs.Bytes.{Bytes, CR, SP, CTRLZ, NUL, SOH, STX, EOT}
-use Rattle.grammar.specs.Ascii.{char}
 use Rattle.grammar.specs.Refusals.{badTransfer, badChecksum, storeFull}
 use Rattle.grammar.specs.Fields.{headingByte, headingMax}
-use Rattle.grammar.specs.Transfers.{TransferKind, plainKind, framedKind, blockSize, sumRight, besideLeast}
+use Rattle.grammar.specs.Transfers.{TransferKind, plainKind, framedKind, blockSize, sumRight, besideLeast, offsetDigit, headerNuls}
+use Rattle.grammar.specs.Answers.{offsetDigits}
 
 -- Where the reading stands, with what it has read of heading and body.
 -- Plain: inTitle title; inBody, inMark (after 0x1A) title body.
@@ -38,15 +38,16 @@ scannedNumber malformed = badTransfer
 scannedNumber wrongSum = badChecksum
 scannedNumber noRoom = storeFull
 
--- "L = heading + offset + 2": with six digits of offset, L is so much more than the heading at most; and L itself at least and at most.
+-- "L = heading + offset + 2": with six digits of offset, L is so much more than the heading at most; and L itself at least, with a heading of
+-- one byte, and at most.
 abbrev pub besideMost : ℕ
-besideMost = 8
+besideMost = offsetDigits + headerNuls
 
 abbrev pub lenLeast : ℕ
-lenLeast = 4
+lenLeast = 1 + besideLeast
 
 abbrev pub lenMost : ℕ
-lenMost = 88
+lenMost = headingMax + besideMost
 
 -- One byte; room is what the store has left for this body, 65,535 at most.
 abbrev pub scanByte : ℕ → Scan → ℕ → Scanned
@@ -64,8 +65,8 @@ scanByte room (inHead len h) b =
     (cond (headingByte b && (ltb (length h) headingMax && ltb (length h + besideLeast) len)) (goes (inHead len (h ++ (b ∷ [])))) malformed)
 scanByte room (inOff len h o) b =
     cond (eqb b NUL)
-    (cond (eqb len (length h + length o + 2)) (goes (inData h [] 0)) malformed)
-    (cond (eqb b (char "0") && ltb (length h + length o + 2) len) (goes (inOff len h (o ++ (b ∷ [])))) malformed)
+    (cond (eqb len (length h + length o + headerNuls)) (goes (inData h [] 0)) malformed)
+    (cond (eqb b offsetDigit && ltb (length h + length o + headerNuls) len) (goes (inOff len h (o ++ (b ∷ [])))) malformed)
 scanByte room (inData h x zero) b = cond (eqb b STX) (goes (atSize h x)) (cond (eqb b EOT) (goes (atSum h x)) malformed)
 scanByte room (inData h x (suc k)) b = cond (ltb (length x) room) (goes (inData h (x ++ (b ∷ [])) k)) noRoom
 scanByte room (atSize h x) b = goes (inData h x (blockSize b))

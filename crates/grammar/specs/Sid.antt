@@ -8,13 +8,13 @@ use lib.ListN.{getD, set, replicate}
 use Rattle.grammar.specs.Bytes.{Bytes, SP, null, every, same, splitAt}
 use Rattle.grammar.specs.Ascii.{text, char}
 use Rattle.grammar.specs.Refusals.{notSid, noForwarding}
-use Rattle.grammar.specs.Fields.{upper, after, digit}
+use Rattle.grammar.specs.Fields.{upper, after, digit, decimalBase}
 
 -- ---------------------------------------------------------------- the feature set
 
 -- the byte after `Z`
 abbrev pub capitalsEnd : ℕ
-capitalsEnd = 91
+capitalsEnd = char "Z" + 1
 
 -- "Letters have fixed places A = 0 to Z = 25", in either case
 abbrev pub isLetter : ℕ → Bool
@@ -29,7 +29,7 @@ dollarPlace = 26
 
 -- the letters' places and that of `$`
 abbrev pub featurePlaces : ℕ
-featurePlaces = 27
+featurePlaces = dollarPlace + 1
 
 -- at each place: 0 where the feature is not there, else its level and 1 more
 abbrev pub noFeatures : List ℕ
@@ -37,17 +37,17 @@ noFeatures = replicate featurePlaces 0
 
 -- Two letters that a session looks for, by their places: F, that the partner forwards, and B, framed transfers.
 abbrev pub letterB : ℕ
-letterB = 1
+letterB = letterPlace (char "B")
 
 abbrev pub letterF : ℕ
-letterF = 5
+letterF = letterPlace (char "F")
 
 abbrev pub hasFeature : ℕ → List ℕ → Bool
 hasFeature i fs = ltb 0 (getD fs i 0)
 
 -- A level is a digit, so it is below this.
 abbrev pub levelValues : ℕ
-levelValues = 10
+levelValues = decimalBase
 
 -- What is no level adds nothing, and so does a place that is none of these.
 abbrev pub withFeature : ℕ → ℕ → List ℕ → List ℕ
@@ -55,7 +55,7 @@ withFeature i level fs = cond (ltb level levelValues) (set fs i (level + 1)) fs
 
 -- ---------------------------------------------------------------- the line
 
--- the byte after 0x7F
+-- the byte after 0x7F, the last of ASCII
 abbrev pub asciiValues : ℕ
 asciiValues = 128
 

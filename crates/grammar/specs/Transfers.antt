@@ -79,12 +79,20 @@ abbrev pub blocksRead : Bytes → Option (Bytes × ℕ) → Option Parsed
 blocksRead h none = none
 blocksRead h (some p) = some (record { heading = h; body = p .0; right = sumRight (p .0) (p .1) })
 
+-- "Offset has 1 to 6 digits, value 0.": the digit of an offset
+abbrev pub offsetDigit : ℕ
+offsetDigit = char "0"
+
 abbrev pub zeroDigit : ℕ → Bool
-zeroDigit b = eqb b (char "0")
+zeroDigit b = eqb b offsetDigit
+
+-- "L = heading + offset + 2": the 00 behind the heading and the one behind the offset
+abbrev pub headerNuls : ℕ
+headerNuls = 2
 
 -- "L = heading + offset + 2. Offset has 1 to 6 digits, value 0."
 abbrev pub isHeader : ℕ → Bytes → Bytes → Bool
-isHeader len h o = isHeading h && ((every zeroDigit o && sized offsetDigits o) && eqb len (length h + length o + 2))
+isHeader len h o = isHeading h && ((every zeroDigit o && sized offsetDigits o) && eqb len (length h + length o + headerNuls))
 
 abbrev pub offRead : ℕ → Bytes → Option (Bytes × Bytes) → Option Parsed
 offRead len h none = none
@@ -137,11 +145,11 @@ blocksOut (suc f) x = cond (null x) [] (STX ∷ (length (take dataMax x) % byteV
 
 -- "L = heading + offset + 2", with an offset of one digit: what L is beside the heading at least
 abbrev pub besideLeast : ℕ
-besideLeast = 3
+besideLeast = 1 + headerNuls
 
 -- "We write offset `0`": L is one byte
 abbrev pub headerOut : Bytes → Bytes
-headerOut h = SOH ∷ ((length h + besideLeast) % byteValues) ∷ (h ++ NUL ∷ char "0" ∷ NUL ∷ [])
+headerOut h = SOH ∷ ((length h + besideLeast) % byteValues) ∷ (h ++ NUL ∷ offsetDigit ∷ NUL ∷ [])
 
 abbrev pub writeFramed : Bytes → Bytes → Bytes
 writeFramed h x = headerOut h ++ (blocksOut (length x) x ++ EOT ∷ checksum x ∷ [])

@@ -8,7 +8,7 @@ use lib.Dec.{ltb}
 use lib.ListN.{length, take, drop, length-append, length-drop}
 use lib.Seq.{take-all}
 use Rattle.grammar.specs.Bytes.{Bytes}
-use Rattle.grammar.specs.Fields.{decimal, writeNum, decimalDigits}
+use Rattle.grammar.specs.Fields.{decimal, writeNum, decimalDigits, decimalBase}
 use Rattle.grammar.specs.Ascii.{char}
 use Rattle.refusal_line.specs.Line.{refusalLine, lineMost}
 
@@ -20,9 +20,9 @@ number-text bytes start n l e = rw (take-all (decimalDigits - start) (drop start
 digits-few : (f n : ℕ) → length (writeNum f n) ≤ f
 unfolding writeNum
 digits-few zero n = omega arith
-digits-few (suc f) n = go (ltb n 10) (digits-few f (n / 10))
+digits-few (suc f) n = go (ltb n decimalBase) (digits-few f (n / decimalBase))
   where
-    go : (c : Bool) → length (writeNum f (n / 10)) ≤ f → length (cond c ((char "0" + n) ∷ []) (writeNum f (n / 10) ++ ((char "0" + n % 10) ∷ []))) ≤ suc f
+    go : (c : Bool) → length (writeNum f (n / decimalBase)) ≤ f → length (cond c ((char "0" + n) ∷ []) (writeNum f (n / decimalBase) ++ ((char "0" + n % decimalBase) ∷ []))) ≤ suc f
     go true h = omega arith
     go false h = simp length-append (omega arith)
 

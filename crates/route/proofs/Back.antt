@@ -10,7 +10,7 @@ use lib.ListN.{length, take, drop, length-append}
 use lib.Seq.{take-all, take-at, drop-at}
 use borrow.Author.Tests.{ne-eqb, le-leb, ltb-true, leb-true}
 use Rattle.grammar.specs.Bytes.{Bytes, CR, SP, every}
-use Rattle.grammar.specs.Fields.{digit, isAt, isSize, readSize, writeNum, bodyLimit}
+use Rattle.grammar.specs.Fields.{digit, isAt, isSize, readSize, writeNum, bodyLimit, decimalBase}
 use Rattle.grammar.proofs.Basics.{and2, Lacks, lacks-append, all-lacks, field-of}
 use Rattle.grammar.proofs.Fields.{num-back, num-field, at-field, atByte}
 use Rattle.grammar.specs.Ascii.{char}
@@ -99,7 +99,7 @@ header-back o e =
 -- ---------------------------------------------------------------- the body
 
 two-lacks : (n : ℕ) → Lacks CR (twoDigits n)
-two-lacks n = (ne-eqb (char "0" + n / 10) CR (λ z. omega arith), (ne-eqb (char "0" + n % 10) CR (λ z. omega arith), tt))
+two-lacks n = (ne-eqb (char "0" + n / decimalBase) CR (λ z. omega arith), (ne-eqb (char "0" + n % decimalBase) CR (λ z. omega arith), tt))
 
 stamp-lacks : (d : Date) (t : Time) → Lacks CR (stampText d t)
 unfolding stampText dateText timeText

@@ -9,7 +9,7 @@ use native.Mathlib.Nat.{pow-succ', pow-le-pow-right}
 use lib.ListN.{length, getD, drop, drop-of-length-le}
 use lib.Seq.{drop-cons}
 use Rattle.grammar.specs.Bytes.{Bytes, isSome}
-use Rattle.grammar.specs.Fields.{digit, isSize, readFrom, readSize, field, sizeDigits, decimalDigits}
+use Rattle.grammar.specs.Fields.{digit, isSize, readFrom, readSize, field, sizeDigits, decimalDigits, decimalBase}
 use Rattle.grammar.proofs.Basics.{field-is, field-of}
 use Rattle.grammar.specs.Ascii.{char}
 use Rattle.byte.specs.Classes.{classOf}
@@ -41,7 +41,7 @@ module _ (s : Bytes) (v i : ℕ) (f : field digit decimalDigits s ≡ true) (h :
       let k : 10 ^ i ≤ 10 ^ sizeDigits = pow-le-pow-right (omega arith) h9 in
       omega (arith, k)
 
-  pub num-bound : v * 10 + (getD s i 0 - char "0") < 10 ^ (i + 1)
+  pub num-bound : v * decimalBase + (getD s i 0 - char "0") < 10 ^ (i + 1)
   num-bound =
       let d = num-digit in
       let d0 = d .0 in
@@ -49,7 +49,7 @@ module _ (s : Bytes) (v i : ℕ) (f : field digit decimalDigits s ≡ true) (h :
       let e : 10 ^ (i + 1) ≡ 10 * 10 ^ i = ap (λ (n : ℕ). 10 ^ n) (add-one i) ∙ pow-succ' 10 i in
       omega (arith, e)
 
-  pub num-more : readFrom v (drop i s) ≡ readFrom (v * 10 + (getD s i 0 - char "0")) (drop (i + 1) s)
+  pub num-more : readFrom v (drop i s) ≡ readFrom (v * decimalBase + (getD s i 0 - char "0")) (drop (i + 1) s)
   unfolding readFrom
   num-more = rw (drop-cons s i 0 h, add-one i)
 

@@ -14,6 +14,8 @@ const SIZE_DIGITS: usize = 9;
 // The digit 0, as a number.
 const ZERO: u64 = b'0' as u64;
 
+const BASE: u64 = byte::DECIMAL_BASE as u64;
+
 // The size that a field says, or that it says none.
 pub enum Size {
     Value(u32),
@@ -35,7 +37,7 @@ pub fn number(s: &[u8]) -> u64
     let mut v = 0;
     let mut i = 0;
     while i < s.len() {
-        v = v * 10 + (wide(s[i]) - ZERO);
+        v = v * BASE + (wide(s[i]) - ZERO);
         i += 1;
     }
     v

@@ -10,7 +10,7 @@ use lib.ListN.{length, take, drop, length-append, length-take, length-drop}
 use lib.Seq.{length-take-le}
 use borrow.Author.Tests.{lt-ltb, le-ltb, leb-true}
 use Rattle.grammar.specs.Bytes.{Bytes, byteValues, fourByteValues}
-use Rattle.grammar.specs.Fields.{writeNum, decimal, formNumber, message, decimalDigits}
+use Rattle.grammar.specs.Fields.{writeNum, decimal, formNumber, message, decimalDigits, decimalBase}
 use Rattle.grammar.specs.Turns.{withCr, proposalLine}
 use Rattle.grammar.specs.Transfers.{partOf, blocksOut, headerOut, checksum, writeFramed, writePlain, dataMax}
 use Rattle.grammar.specs.Ascii.{char}
@@ -92,21 +92,21 @@ module _ (table titles names bodies : Bytes) (i : ℕ) {r : Bytes} (e : r ≡ en
 -- ---------------------------------------------------------------- digits
 
 -- a turn of the loop: the last digit is counted
-pub digits-more : (n rest before : ℕ) → 1 ≤ before → 10 ≤ rest → length (writeNum decimalDigits n) + before ≡ decimalDigits - 1 + length (writeNum (before + 1) rest)
-    → length (writeNum decimalDigits n) + (before - 1) ≡ decimalDigits - 1 + length (writeNum (before - 1 + 1) (rest / 10))
+pub digits-more : (n rest before : ℕ) → 1 ≤ before → decimalBase ≤ rest → length (writeNum decimalDigits n) + before ≡ decimalDigits - 1 + length (writeNum (before + 1) rest)
+    → length (writeNum decimalDigits n) + (before - 1) ≡ decimalDigits - 1 + length (writeNum (before - 1 + 1) (rest / decimalBase))
 unfolding writeNum
 digits-more n rest before g k e =
     let z : before - 1 + 1 ≡ before = omega arith in
-    let m : length (writeNum (before + 1) rest) ≡ length (writeNum before (rest / 10)) + 1 =
-    rw (add-one before, le-ltb rest 10 k) (length-append (writeNum before (rest / 10)) ((char "0" + rest % 10) ∷ [])) in
+    let m : length (writeNum (before + 1) rest) ≡ length (writeNum before (rest / decimalBase)) + 1 =
+    rw (add-one before, le-ltb rest decimalBase k) (length-append (writeNum before (rest / decimalBase)) ((char "0" + rest % decimalBase) ∷ [])) in
     rw z (omega (arith, e, m))
 
 -- the digit that is left at the end
-pub digits-end : (n rest before : ℕ) → before ≤ decimalDigits - 1 → rest < 10 → length (writeNum decimalDigits n) + before ≡ decimalDigits - 1 + length (writeNum (before + 1) rest)
+pub digits-end : (n rest before : ℕ) → before ≤ decimalDigits - 1 → rest < decimalBase → length (writeNum decimalDigits n) + before ≡ decimalDigits - 1 + length (writeNum (before + 1) rest)
     → decimalDigits - before ≡ length (writeNum decimalDigits n)
 unfolding writeNum
 digits-end n rest before g k e =
-    let m : length (writeNum (before + 1) rest) ≡ 1 = rw (add-one before, lt-ltb rest 10 k) in
+    let m : length (writeNum (before + 1) rest) ≡ 1 = rw (add-one before, lt-ltb rest decimalBase k) in
     omega (arith, e, m)
 
 -- ---------------------------------------------------------------- the proposal of a record of the table

@@ -44,6 +44,8 @@ const LESS_THAN_BLOCK: usize = BLOCK_DATA - 1;
 // The last place of a number's digits.
 const LAST_DIGIT: usize = MOST_DIGITS - 1;
 
+const BASE: u32 = byte::DECIMAL_BASE as u32;
+
 // A framed transfer with a heading and a body of so many bytes: blocks of 256 data bytes and a shorter last one.
 fn framed(heading: usize, body: usize) -> usize
     requires { ⌜ (heading ≤ byteValues - 1) × (body ≤ bodyLimit) ⌝ }
@@ -78,8 +80,8 @@ fn digits(size: u32) -> usize
 {
     let mut before = LAST_DIGIT;
     let mut rest = size;
-    while 10 <= rest {
-        rest = rest / 10;
+    while BASE <= rest {
+        rest = rest / BASE;
         before -= 1;
     }
     MOST_DIGITS - before

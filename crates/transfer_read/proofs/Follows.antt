@@ -11,7 +11,7 @@ use lib.Seq.{take-suc-set}
 use borrow.Author.Tests.{ne-eqb, ltb-true}
 use Rattle.grammar.specs.Bytes.{Bytes, CR, SP, CTRLZ, byteValues, NUL, SOH, STX, EOT}
 use Rattle.grammar.specs.Fields.{headingByte}
-use Rattle.grammar.specs.Transfers.{byteSum, sumRight, besideLeast}
+use Rattle.grammar.specs.Transfers.{byteSum, sumRight, besideLeast, offsetDigit, headerNuls}
 use Rattle.grammar.specs.Scan.{Scan, inTitle, inBody, inMark, atStart, atLen, inHead, inOff, inData, atSize, atSum, Scanned, goes, got, malformed, wrongSum, noRoom, scanByte, scanOn, bodyOf, besideMost, lenLeast, lenMost}
 use Rattle.grammar.proofs.Basics.{by-test, and2, snoc-length}
 use Rattle.grammar.proofs.TransferBack.{sum-wraps, right-wraps}
@@ -21,7 +21,7 @@ use Rattle.transfer_step.specs.declared.Outcome.the-variants.{Whole, Malformed,
 use Rattle.transfer_step.specs.Step.{goesOn, reader, at, headingMore, onward, ended, titleStep, bodyStep, markStep, beginStep, lengthStep, headingStep, offsetStep, dataStep, sizeStep, sumStep, stepAt, stepOf}
 use Rattle.transfer_read.specs.Feed.{Run, run, after, headingPut, storePut, feedOf}
 use Rattle.transfer_read.specs.Meaning.{headingSoFar, numbersOf, placeOf, steppedOf, outcomeOf, Stands, Ended, FedAs}
-use Rattle.transfer_step.specs.Names.{bodyPlace, markPlace, lengthPlace, headingPlace, offsetPlace, dataPlace, sizePlace, checksumPlace, nowhere, toHeading, toBody, offsetDigit, headerNuls}
+use Rattle.transfer_step.specs.Names.{bodyPlace, markPlace, lengthPlace, headingPlace, offsetPlace, dataPlace, sizePlace, checksumPlace, nowhere, toHeading, toBody}
 use Rattle.places.specs.Places.{headingMax}
 
 -- ---------------------------------------------------------------- the numbers
@@ -64,8 +64,8 @@ step-scan room (inOff len h o) b =
     (λ _. two (inOff len h o) b (eqb b offsetDigit && ltb (length h + length o + headerNuls) len) (onward (reader offsetPlace len (length h) (length o + 1) 0 0 0) nowhere) (ended r Malformed) (goes (inOff len h (o ++ (b ∷ [])))) malformed (λ _. rw (snoc-length o b)) (λ _. refl))
 step-scan room (inData h x zero) b =
     let r = numbersOf (inData h x zero) in
-    two (inData h x zero) b (eqb b STX) (onward (at sizePlace r) 0) _ (goes (atSize h x)) _ (λ _. refl)
-    (λ _. two (inData h x zero) b (eqb b EOT) (onward (at checksumPlace r) 0) (ended r Malformed) (goes (atSum h x)) malformed (λ _. refl) (λ _. refl))
+    two (inData h x zero) b (eqb b STX) (onward (at sizePlace r) nowhere) _ (goes (atSize h x)) _ (λ _. refl)
+    (λ _. two (inData h x zero) b (eqb b EOT) (onward (at checksumPlace r) nowhere) (ended r Malformed) (goes (atSum h x)) malformed (λ _. refl) (λ _. refl))
 step-scan room (inData h x (suc k)) b =
     let r = numbersOf (inData h x (suc k)) in
     let e : suc k - 1 ≡ k = omega arith in
@@ -82,8 +82,8 @@ step-scan room (atSum h x) b =
 -- what one byte adds to heading and body, and that both stay within their bounds; a whole transfer is what was read so far
 Grows : ℕ → Scan → ℕ → Scanned → Type 0
 Grows room sc b (goes sc′) =
-    (headingSoFar sc′ ≡ cond (eqb (placeOf sc b) 1) (headingSoFar sc ++ (b ∷ [])) (headingSoFar sc))
-    × (bodyOf sc′ ≡ cond (eqb (placeOf sc b) 2) (bodyOf sc ++ (b ∷ [])) (bodyOf sc))
+    (headingSoFar sc′ ≡ cond (eqb (placeOf sc b) toHeading) (headingSoFar sc ++ (b ∷ [])) (headingSoFar sc))
+    × (bodyOf sc′ ≡ cond (eqb (placeOf sc b) toBody) (bodyOf sc ++ (b ∷ [])) (bodyOf sc))
     × (length (headingSoFar sc′) ≤ headingMax) × (length (bodyOf sc′) ≤ room)
 Grows room sc b (got h x) = (h ≡ headingSoFar sc) × (x ≡ bodyOf sc)
 Grows room sc b malformed = Unit {0}

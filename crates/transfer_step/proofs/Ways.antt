@@ -7,7 +7,7 @@ use lib.Dec.{eqb, ltb, leb}
 use borrow.Author.Tests.{ltb-true}
 use Rattle.grammar.specs.Bytes.{CR, SP, CTRLZ, byteValues, NUL, SOH, STX, EOT}
 use Rattle.grammar.specs.Fields.{headingByte}
-use Rattle.grammar.specs.Transfers.{blockSize, besideLeast}
+use Rattle.grammar.specs.Transfers.{blockSize, besideLeast, offsetDigit, headerNuls}
 use Rattle.grammar.proofs.Basics.{and2, by-test, by-cond}
 use Rattle.grammar.specs.Scan.{besideMost, lenLeast, lenMost}
 use Rattle.transfer_step.specs.declared.Reader.{Reader}
@@ -15,7 +15,7 @@ use Rattle.transfer_step.specs.declared.Stepped.{Stepped}
 use Rattle.transfer_step.specs.declared.Outcome.{Outcome}
 use Rattle.transfer_step.specs.declared.Outcome.the-variants.{Whole, Malformed, WrongSum, NoRoom}
 use Rattle.transfer_step.specs.Step.{reader, at, headingMore, onward, ended, titleStep, bodyStep, markStep, beginStep, lengthStep, headingStep, offsetStep, dataStep, sizeStep, sumStep, stepAt, stepOf}
-use Rattle.transfer_step.specs.Names.{titlePlace, bodyPlace, markPlace, startPlace, lengthPlace, headingPlace, offsetPlace, dataPlace, sizePlace, checksumPlace, nowhere, toHeading, toBody, offsetDigit, headerNuls}
+use Rattle.transfer_step.specs.Names.{titlePlace, bodyPlace, markPlace, startPlace, lengthPlace, headingPlace, offsetPlace, dataPlace, sizePlace, checksumPlace, nowhere, toHeading, toBody}
 use Rattle.places.specs.Places.{headingMax}
 
 module _ (room : ℕ) (r : Reader) (b : ℕ) (P : Stepped → Type 0) where

@@ -1,8 +1,6 @@
 -- The numbers that a reading is held in, by name; and those of 01, "Transfers".
 use Prim.Native.Nat.{ℕ, _+_}
-use Rattle.grammar.specs.Ascii.{char}
-use Rattle.grammar.specs.Transfers.{dataMax, besideLeast}
-use Rattle.grammar.specs.Scan.{besideMost}
+use Rattle.grammar.specs.Transfers.{dataMax}
 
 -- ---------------------------------------------------------------- the places: what the next byte is, or is of
 
@@ -46,16 +44,6 @@ toHeading = 1
 
 abbrev pub toBody : ℕ
 toBody = 2
-
--- ---------------------------------------------------------------- "L = heading + offset + 2", "value 0"
-
--- The digit of an offset.
-abbrev pub offsetDigit : ℕ
-offsetDigit = char "0"
-
--- The 00 behind the heading and behind the offset.
-abbrev pub headerNuls : ℕ
-headerNuls = 2
 
 -- ---------------------------------------------------------------- a block: "02, n, data"; "n = 00 means 256."
 

@@ -5,13 +5,13 @@ use lib.Dec.{eqb, ltb, leb}
 use Rattle.grammar.specs.Bytes.{CR, SP, CTRLZ, byteValues, SOH, STX, EOT, NUL}
 use Rattle.grammar.specs.Refusals.{badTransfer, badChecksum, storeFull}
 use Rattle.grammar.specs.Fields.{headingByte, plain, formNumber}
-use Rattle.grammar.specs.Transfers.{blockSize, besideLeast}
+use Rattle.grammar.specs.Transfers.{blockSize, besideLeast, offsetDigit, headerNuls}
 use Rattle.grammar.specs.Scan.{besideMost, lenLeast, lenMost}
 use Rattle.transfer_step.specs.declared.Reader.{Reader}
 use Rattle.transfer_step.specs.declared.Stepped.{Stepped}
 use Rattle.transfer_step.specs.declared.Outcome.{Outcome}
 use Rattle.transfer_step.specs.declared.Outcome.the-variants.{More, Whole, Malformed, WrongSum, NoRoom}
-use Rattle.transfer_step.specs.Names.{titlePlace, bodyPlace, markPlace, startPlace, lengthPlace, headingPlace, offsetPlace, dataPlace, sizePlace, checksumPlace, nowhere, toHeading, toBody, offsetDigit, headerNuls}
+use Rattle.transfer_step.specs.Names.{titlePlace, bodyPlace, markPlace, startPlace, lengthPlace, headingPlace, offsetPlace, dataPlace, sizePlace, checksumPlace, nowhere, toHeading, toBody}
 use Rattle.places.specs.Places.{headingMax}
 
 -- 01's number for each outcome: "no refusal", "transfer wrong in header, title, offset or mark", "checksum wrong", "body byte without room"

@@ -7,7 +7,7 @@ use Rattle.buffer.proofs.Laws.{puts-then}
 use Rattle.transfer_write.proofs.Laws.{length-wraps}
 use Rattle.transfer_write.proofs.put_header.Statement.{statement}
 use Rattle.transfer_write.proofs.put_header.Tie as tie
-use Rattle.transfer_step.specs.Names.{offsetDigit}
+use Rattle.grammar.specs.Transfers.{offsetDigit}
 
 put-byte-requires : tie.Need-put-byte-requires
 put-byte-requires c κs = search needs
