@@ -66,9 +66,9 @@ all-end c l i h = rw (drop-of-length-le l {i = i} h)
 pub digit-is : (x : ℕ) → digit x ≡ true → (char "0" ≤ x) × (x ≤ char "9")
 digit-is x e = go (ltb x (char "0")) refl e
   where
-    go : (c : Bool) → ltb x (char "0") ≡ c → cond c false (ltb x (char "9" + 1)) ≡ true → (char "0" ≤ x) × (x ≤ char "9")
+    go : (c : Bool) → ltb x (char "0") ≡ c → cond c false (ltb x digitsEnd) ≡ true → (char "0" ≤ x) × (x ≤ char "9")
     go true q k = let z : _≡_ {A = ℕ} 0 1 = cc in (omega arith, omega arith)
-    go false q k = let y = ltb-false x (char "0") q in let z = ltb-true x (char "9" + 1) k in (omega arith, omega arith)
+    go false q k = let y = ltb-false x (char "0") q in let z = ltb-true x digitsEnd k in (omega arith, omega arith)
 
 -- ---------------------------------------------------------------- hexadecimal digits
 
@@ -83,13 +83,13 @@ Low none = Unit {0}
 Low (some n) = n < hexBase
 
 capital-low : (u : ℕ) → Low (hexCapital u)
-capital-low u = go (ltb u (char "0")) (ltb u (char "9" + 1)) (ltb u (char "A")) (ltb u (char "F" + 1)) refl refl refl
+capital-low u = go (ltb u (char "0")) (ltb u digitsEnd) (ltb u (char "A")) (ltb u hexEnd) refl refl refl
   where
     go : (a b c d : Bool) → ltb u digitsEnd ≡ b → ltb u (char "A") ≡ c → ltb u hexEnd ≡ d → Low (cond a none (cond b (some (u - char "0")) (cond c none (cond d (some (u - hexAbove)) none))))
     go true b c d q r s = tt
-    go false true c d q r s = let z = ltb-true u (char "9" + 1) q in omega arith
+    go false true c d q r s = let z = ltb-true u digitsEnd q in omega arith
     go false false true d q r s = tt
-    go false false false true q r s = let z = ltb-true u (char "F" + 1) s in omega arith
+    go false false false true q r s = let z = ltb-true u hexEnd s in omega arith
     go false false false false q r s = tt
 
 module _ (h x : Hex) (b : ℕ) (e : hexIs h ≡ hexDigit b) (f : h ≡ x) where

@@ -23,4 +23,4 @@ level-between fs = go (getD fs letterB 0) (ltb 1 (getD fs letterB 0 - 1)) refl (
 
 -- THE SAME NUMBERS
 pub limits-are : LimitsAre
-limits-are = record { line = refl; body = refl; block = refl; announced = refl; records = refl; f = refl; waiting = refl; forwarded = refl; declined = refl; b = refl; between = level-between; level = λ m. refl }
+limits-are = record { line = refl; body = refl; block = refl; announced = refl; records = refl; f = refl; waiting = refl; forwarded = refl; declined = refl; notDeferred = refl; wasDeferred = refl; b = refl; between = level-between; level = λ m. refl }

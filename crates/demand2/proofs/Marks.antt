@@ -14,7 +14,7 @@ use Rattle.grammar.proofs.Basics.{or-second, no-both}
 use Rattle.mail.specs.Mail.{Message, accepted, marked, declined}
 use Rattle.mail.specs.Tally.{Counts, declinedOnes, deferredOnes}
 use Rattle.session.specs.Session.{Terms, withFramed, withTerms, withStates, withSending, withInbox, withDeferred, withCounts, Memory, turnMarks, deferring, answerMarks}
-use Rattle.demand2.specs.Limits.{stateForwarded, stateDeclined}
+use Rattle.demand2.specs.Limits.{stateForwarded, stateDeclined, wasDeferred}
 use Rattle.demand2.specs.Marks.{isIn, isSign, withSign, AnswerLeaves, TurnLeaves}
 use Rattle.demand2.specs.OurTurn.{rising}
 use Rattle.demand2.proofs.Candidates.{rising-first, rising-rest}
@@ -92,8 +92,8 @@ answer-marks is ss m =
     record {
       state = λ k h. ap (λ (l : List ℕ). getD l k 0) (declined-is is ss (m .states)) ∙ set-at (withSign decline is ss) stateDeclined (m .states) k h;
       records = ap length (declined-is is ss (m .states)) ∙ set-length (withSign decline is ss) stateDeclined (m .states);
-      flag = λ k h. ap (λ (l : List ℕ). getD l k 0) (deferring-is is ss (m .deferred)) ∙ set-at (withSign defer is ss) 1 (m .deferred) k h;
-      flags = ap length (deferring-is is ss (m .deferred)) ∙ set-length (withSign defer is ss) 1 (m .deferred);
+      flag = λ k h. ap (λ (l : List ℕ). getD l k 0) (deferring-is is ss (m .deferred)) ∙ set-at (withSign defer is ss) wasDeferred (m .deferred) k h;
+      flags = ap length (deferring-is is ss (m .deferred)) ∙ set-length (withSign defer is ss) wasDeferred (m .deferred);
       sending = ap (λ (l : List ℕ). m .sending ++ l) (accepted-is is ss);
       declined = ap (λ (l : List ℕ). m .counts .declined + length l) (declined-ones is ss);
       deferred = ap (λ (l : List ℕ). m .counts .deferred + length l) (deferred-ones is ss);
@@ -155,7 +155,7 @@ answer-only is ss m n a =
     (alike (λ (k : ℕ). cond (isIn k (withSign decline is ss)) stateDeclined (getD (m .states) k 0)) (m .states) (n .states) (declined is ss (m .states))
     (a .records) (z .records) (a .state) (z .state))
     (a .sending ∙ sym (z .sending)) (a .inbox)
-    (alike (λ (k : ℕ). cond (isIn k (withSign defer is ss)) 1 (getD (m .deferred) k 0)) (m .deferred) (n .deferred) (deferring is ss (m .deferred))
+    (alike (λ (k : ℕ). cond (isIn k (withSign defer is ss)) wasDeferred (getD (m .deferred) k 0)) (m .deferred) (n .deferred) (deferring is ss (m .deferred))
     (a .flags) (z .flags) (a .flag) (z .flag))
     (counts-are (n .counts) (answerMarks is ss m .counts) (a .proposed) (a .forwarded) (a .declined ∙ sym (z .declined)) (a .deferred ∙ sym (z .deferred)))
 

@@ -9,7 +9,7 @@ use lib.Seq.{ext-getD}
 use Rattle.grammar.specs.Bytes.{Bytes}
 use Rattle.grammar.specs.Answers.{Level}
 use Rattle.session.specs.Session.{Phase, Memory, Session, withPhase, withPart, withAfterCr, withOut, withMemory, withLevel, greeting, opened}
-use Rattle.demand2.specs.Limits.{recordLimit}
+use Rattle.demand2.specs.Limits.{recordLimit, notDeferred}
 use Rattle.demand2.specs.Opening.{OpenExact}
 use Rattle.demand2.proofs.Marks.{counts-are, memory-is}
 
@@ -25,7 +25,7 @@ open-exact caller states =
       marks = refl;
       sending = refl;
       flag = λ k h. getD-replicate recordLimit k 0 0 h;
-      flags = length-replicate {A = ℕ} recordLimit 0;
+      flags = length-replicate {A = ℕ} recordLimit notDeferred;
       inbox = refl;
       proposed = refl;
       forwarded = refl;
@@ -49,7 +49,7 @@ pub open-only : (caller : Bool) (states : List ℕ) (s : Session) → OpenExact 
 open-only caller states s h =
     session-is s (opened caller states) (h .awaits) (h .part) (h .noCr) (waits caller (h .called) (h .calling))
     (memory-is (s .memory) (opened caller states .memory) (h .mode) (ap (λ (v : Level). withLevel v (s .memory .terms)) (h .level)) (h .marks) (h .sending) (h .inbox)
-    (ext-getD 0 (s .memory .deferred) (replicate recordLimit 0) (h .flags ∙ sym (length-replicate {A = ℕ} recordLimit 0))
+    (ext-getD 0 (s .memory .deferred) (replicate recordLimit notDeferred) (h .flags ∙ sym (length-replicate {A = ℕ} recordLimit notDeferred))
     (λ k l. h .flag k (omega (arith, h .flags)) ∙ sym (getD-replicate recordLimit k 0 0 (omega (arith, h .flags)))))
     (counts-are (s .memory .counts) (opened caller states .memory .counts) (h .proposed) (h .forwarded) (h .declined) (h .deferred)))
   where

@@ -52,6 +52,13 @@ stateForwarded = 1
 abbrev pub stateDeclined : ℕ
 stateDeclined = 2
 
+-- "none deferred in this session": the flag of a record that is not, and of one that is
+abbrev pub notDeferred : ℕ
+notDeferred = 0
+
+abbrev pub wasDeferred : ℕ
+wasDeferred = 1
+
 -- that of B
 abbrev pub letterB : ℕ
 letterB = 1
@@ -80,6 +87,8 @@ pub record LimitsAre : Type 0 where
   pub waiting : phase.stateWaiting ≡ stateWaiting
   pub forwarded : phase.stateForwarded ≡ stateForwarded
   pub declined : phase.stateDeclined ≡ stateDeclined
+  pub notDeferred : phase.notDeferred ≡ notDeferred
+  pub wasDeferred : phase.wasDeferred ≡ wasDeferred
   pub b : sid.letterB ≡ letterB
   pub between : (fs : List ℕ) → sid.levelInForce fs ≡ levelBetween fs
   pub level : (m : Memory) → model.levelInForce m ≡ levelInForce m

@@ -7,7 +7,7 @@ use lib.Dec.{eqb}
 use lib.ListN.{length, getD}
 use Rattle.grammar.specs.Answers.{Sign, accept, decline, defer, writeSign}
 use Rattle.session.specs.Session.{Memory}
-use Rattle.demand2.specs.Limits.{stateForwarded, stateDeclined}
+use Rattle.demand2.specs.Limits.{stateForwarded, stateDeclined, wasDeferred}
 
 -- This place is among these.
 abbrev pub isIn : ℕ → List ℕ → Bool
@@ -29,8 +29,8 @@ pub record AnswerLeaves (is : List ℕ) (ss : List Sign) (before after : Memory)
   -- "`-` sets state 2 at the CR of a valid line.", and nothing else is set: "A deferred record stays 0."
   pub state : (k : ℕ) → k < length (before .states) → getD (after .states) k 0 ≡ cond (isIn k (withSign decline is ss)) stateDeclined (getD (before .states) k 0)
   pub records : length (after .states) ≡ length (before .states)
-  -- "`=` defer": deferred in this session (flag 1) is what was, and what this line defers
-  pub flag : (k : ℕ) → k < length (before .deferred) → getD (after .deferred) k 0 ≡ cond (isIn k (withSign defer is ss)) 1 (getD (before .deferred) k 0)
+  -- "`=` defer": deferred in this session is what was, and what this line defers
+  pub flag : (k : ℕ) → k < length (before .deferred) → getD (after .deferred) k 0 ≡ cond (isIn k (withSign defer is ss)) wasDeferred (getD (before .deferred) k 0)
   pub flags : length (after .deferred) ≡ length (before .deferred)
   -- "Accepted records are sent in order."
   pub sending : after .sending ≡ before .sending ++ withSign accept is ss

@@ -8,7 +8,7 @@ use Rattle.grammar.specs.Ascii.{text}
 use Rattle.grammar.specs.Turns.{withCr}
 use Rattle.grammar.specs.Answers.{level0}
 use Rattle.session.specs.Session.{awaitsSid, aLine, Session}
-use Rattle.demand2.specs.Limits.{recordLimit}
+use Rattle.demand2.specs.Limits.{recordLimit, notDeferred}
 
 -- caller: the role (true: 1, caller); states: those of the records, as open found them
 pub record OpenExact (caller : Bool) (states : List ℕ) (s : Session) : Type 0 where
@@ -22,7 +22,7 @@ pub record OpenExact (caller : Bool) (states : List ℕ) (s : Session) : Type 0 
   -- "each record's state, as open found it"; none is being sent, none was deferred
   pub marks : s .memory .states ≡ states
   pub sending : s .memory .sending ≡ []
-  pub flag : (k : ℕ) → k < recordLimit → getD (s .memory .deferred) k 0 ≡ 0
+  pub flag : (k : ℕ) → k < recordLimit → getD (s .memory .deferred) k 0 ≡ notDeferred
   pub flags : length (s .memory .deferred) ≡ recordLimit
   -- "Its count stands in session memory, 0 once open accepts."
   pub inbox : s .memory .inbox ≡ []

@@ -12,14 +12,14 @@ use Rattle.grammar.specs.Turns.{inMode, fixedText, ourFF, ourFQ, withCr}
 use Rattle.mail.specs.Mail.{Record, recordAt}
 use Rattle.session.specs.Choices.{Shelf, sizeAt}
 use Rattle.session.specs.Session.{Memory}
-use Rattle.demand2.specs.Limits.{blockLimit, announcedLimit, stateWaiting}
+use Rattle.demand2.specs.Limits.{blockLimit, announcedLimit, stateWaiting, notDeferred}
 use Rattle.demand2.specs.Marks.{isIn}
 use Rattle.demand2.specs.Events.{proposed, blockText, turnSaid}
 
 -- "waiting records .. form 0 in plain mode, 1 and 2 in framed mode, none deferred in this session": waiting, and no flag
 abbrev pub mayPropose : List Record → Bool → List ℕ → List ℕ → ℕ → Bool
 mayPropose T framed states flags i =
-    ltb i (length T) && (inMode framed (recordAt T i .form) && (eqb (getD states i 0) stateWaiting && eqb (getD flags i 0) 0))
+    ltb i (length T) && (inMode framed (recordAt T i .form) && (eqb (getD states i 0) stateWaiting && eqb (getD flags i 0) notDeferred))
 
 -- "in table order"
 abbrev pub rising : List ℕ → Bool

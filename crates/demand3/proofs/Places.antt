@@ -13,7 +13,7 @@ use borrow.Author.Tests.{eqb-true, eq-eqb}
 use Rattle.grammar.specs.Turns.{inMode, ourBlock, blockLimit, announcedLimit}
 use Rattle.grammar.specs.Answers.{Sign, accept, decline, defer}
 use Rattle.grammar.proofs.Basics.{and2}
-use Rattle.phase.specs.Phase.{stateForwarded, stateDeclined}
+use Rattle.phase.specs.Phase.{stateForwarded, stateDeclined, stateWaiting, notDeferred, wasDeferred}
 use Rattle.mail.specs.Mail.{Record, accepted, marked, declined}
 use Rattle.mail.specs.Tally.{declinedOnes, deferredOnes}
 use Rattle.session.specs.Choices.{wanted, candidates, sizeAt, chosen}
@@ -25,12 +25,12 @@ use Rattle.session.specs.Session.{deferring}
 abbrev pub openPlaces : List ℕ → List ℕ → ℕ
 openPlaces [] fl = 0
 openPlaces (x ∷ st) [] = 0
-openPlaces (x ∷ st) (y ∷ fl) = cond (eqb x 0 && eqb y 0) (suc (openPlaces st fl)) (openPlaces st fl)
+openPlaces (x ∷ st) (y ∷ fl) = cond (eqb x stateWaiting && eqb y notDeferred) (suc (openPlaces st fl)) (openPlaces st fl)
 
 pub open-most : (st fl : List ℕ) → openPlaces st fl ≤ length st
 open-most [] fl = omega arith
 open-most (x ∷ st) [] = omega arith
-open-most (x ∷ st) (y ∷ fl) = go (eqb x 0 && eqb y 0) (open-most st fl)
+open-most (x ∷ st) (y ∷ fl) = go (eqb x stateWaiting && eqb y notDeferred) (open-most st fl)
   where
     go : (c : Bool) → openPlaces st fl ≤ length st → cond c (suc (openPlaces st fl)) (openPlaces st fl) ≤ suc (length st)
     go true h = omega arith
@@ -39,16 +39,16 @@ open-most (x ∷ st) (y ∷ fl) = go (eqb x 0 && eqb y 0) (open-most st fl)
 -- place i is open
 pub record Open (st fl : List ℕ) (i : ℕ) : Type 0 where
   pub inTable : i < length st
-  pub waits : getD st i 0 ≡ 0
-  pub flag : getD fl i 0 ≡ 0
+  pub waits : getD st i 0 ≡ stateWaiting
+  pub flag : getD fl i 0 ≡ notDeferred
 
 -- a state set there takes it
-state-takes : (st fl : List ℕ) (i v : ℕ) → eqb v 0 ≡ false → i < length fl → Open st fl i → suc (openPlaces (set st i v) fl) ≡ openPlaces st fl
+state-takes : (st fl : List ℕ) (i v : ℕ) → eqb v stateWaiting ≡ false → i < length fl → Open st fl i → suc (openPlaces (set st i v) fl) ≡ openPlaces st fl
 state-takes [] fl i v n l o = absurd (not-suc-le-zero (o .inTable))
 state-takes (x ∷ st) [] i v n l o = absurd (not-suc-le-zero l)
-state-takes (x ∷ st) (y ∷ fl) zero v n l o = rw (n, eq-eqb x 0 (o .waits), eq-eqb y 0 (o .flag))
+state-takes (x ∷ st) (y ∷ fl) zero v n l o = rw (n, eq-eqb x stateWaiting (o .waits), eq-eqb y notDeferred (o .flag))
 state-takes (x ∷ st) (y ∷ fl) (suc i) v n l o =
-    go (eqb x 0 && eqb y 0)
+    go (eqb x stateWaiting && eqb y notDeferred)
     (state-takes st fl i v n (le-of-suc-le-suc l) (record { inTable = le-of-suc-le-suc (o .inTable); waits = o .waits; flag = o .flag }))
   where
     go : (c : Bool) → suc (openPlaces (set st i v) fl) ≡ openPlaces st fl
@@ -57,16 +57,16 @@ state-takes (x ∷ st) (y ∷ fl) (suc i) v n l o =
     go false h = h
 
 -- and so does a flag
-flag-takes : (st fl : List ℕ) (i : ℕ) → i < length fl → Open st fl i → suc (openPlaces st (set fl i 1)) ≡ openPlaces st fl
+flag-takes : (st fl : List ℕ) (i : ℕ) → i < length fl → Open st fl i → suc (openPlaces st (set fl i wasDeferred)) ≡ openPlaces st fl
 flag-takes [] fl i l o = absurd (not-suc-le-zero (o .inTable))
 flag-takes (x ∷ st) [] i l o = absurd (not-suc-le-zero l)
-flag-takes (x ∷ st) (y ∷ fl) zero l o = rw (eq-eqb x 0 (o .waits), eq-eqb y 0 (o .flag))
+flag-takes (x ∷ st) (y ∷ fl) zero l o = rw (eq-eqb x stateWaiting (o .waits), eq-eqb y notDeferred (o .flag))
 flag-takes (x ∷ st) (y ∷ fl) (suc i) l o =
-    go (eqb x 0 && eqb y 0)
+    go (eqb x stateWaiting && eqb y notDeferred)
     (flag-takes st fl i (le-of-suc-le-suc l) (record { inTable = le-of-suc-le-suc (o .inTable); waits = o .waits; flag = o .flag }))
   where
-    go : (c : Bool) → suc (openPlaces st (set fl i 1)) ≡ openPlaces st fl
-        → suc (cond c (suc (openPlaces st (set fl i 1))) (openPlaces st (set fl i 1))) ≡ cond c (suc (openPlaces st fl)) (openPlaces st fl)
+    go : (c : Bool) → suc (openPlaces st (set fl i wasDeferred)) ≡ openPlaces st fl
+        → suc (cond c (suc (openPlaces st (set fl i wasDeferred))) (openPlaces st (set fl i wasDeferred))) ≡ cond c (suc (openPlaces st fl)) (openPlaces st fl)
     go true h = ap suc h
     go false h = h
 
@@ -114,7 +114,7 @@ deferring-length [] ss fl = refl
 deferring-length (i ∷ is) [] fl = refl
 deferring-length (i ∷ is) (accept ∷ ss) fl = deferring-length is ss fl
 deferring-length (i ∷ is) (decline ∷ ss) fl = deferring-length is ss fl
-deferring-length (i ∷ is) (defer ∷ ss) fl = deferring-length is ss (set fl i 1) ∙ length-set fl i 1
+deferring-length (i ∷ is) (defer ∷ ss) fl = deferring-length is ss (set fl i wasDeferred) ∙ length-set fl i wasDeferred
 
 -- places in table order, from lo on
 abbrev Above : ℕ → List ℕ → Type 0
@@ -142,7 +142,7 @@ deferring-other (i ∷ is) (accept ∷ ss) fl k lo h a = let l = a .0 in deferri
 deferring-other (i ∷ is) (decline ∷ ss) fl k lo h a = let l = a .0 in deferring-other is ss fl k (suc i) (omega arith) (a .1)
 deferring-other (i ∷ is) (defer ∷ ss) fl k lo h a =
     let l = a .0 in
-    deferring-other is ss (set fl i 1) k (suc i) (omega arith) (a .1) ∙ getD-set-other fl i k 1 0 (λ z. omega arith)
+    deferring-other is ss (set fl i wasDeferred) k (suc i) (omega arith) (a .1) ∙ getD-set-other fl i k wasDeferred 0 (λ z. omega arith)
 
 -- THE PARTNER'S TURN takes the places of all that were being sent
 pub turn-takes : (is st fl : List ℕ) (lo : ℕ) → length st ≤ length fl → Rise st fl lo is → length is + openPlaces (marked is st) fl ≡ openPlaces st fl
@@ -190,9 +190,9 @@ answer-takes (i ∷ is) (decline ∷ ss) st fl lo h r =
     record { taken = omega arith; stillOpen = from-lower _ _ lo (suc i) (accepted ss is) (omega arith) (k .stillOpen) }
 answer-takes (i ∷ is) (defer ∷ ss) st fl lo h r =
     let p = r .1 .inTable in
-    let e = length-set fl i 1 in
+    let e = length-set fl i wasDeferred in
     let t = flag-takes st fl i (omega arith) (r .1) in
-    let k = answer-takes is ss st (set fl i 1) (suc i) (omega arith) (after-flag st fl i 1 (suc i) is (omega arith) (r .2)) in
+    let k = answer-takes is ss st (set fl i wasDeferred) (suc i) (omega arith) (after-flag st fl i wasDeferred (suc i) is (omega arith) (r .2)) in
     let q = k .taken in
     let l = r .0 in
     record { taken = omega arith; stillOpen = from-lower _ _ lo (suc i) (accepted ss is) (omega arith) (k .stillOpen) }

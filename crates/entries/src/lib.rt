@@ -4,7 +4,7 @@ ghost use Prim.Native.Nat.{min};
 ghost use Rattle.entries.specs.Decoded.{recordCount, knownCount, placeCount};
 
 // 01, "Lent memory": the most records of a table, the most known BIDs, and the most messages of an inbox.
-pub const RECORDS_MAX: u16 = 64;
+pub const RECORDS_MAX: u16 = places::DEFERRED_LENGTH as u16;
 
 pub const KNOWN_MAX: u16 = 1024;
 

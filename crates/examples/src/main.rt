@@ -4,13 +4,26 @@ use give::Reply;
 ghost use mathlib.Core.Path.{_≡_};
 ghost use Prim.Native.Nat.{_≤_};
 ghost use lib.ListN.{length};
+ghost use Rattle.places.specs.Places.{lineLen, sessionLen};
 
 // The role of a called station, and its first partner.
 const CALLED: u8 = 0;
 
 const FIRST_PARTNER: u8 = 0;
 
-const CR: u8 = 13;
+const CR: u8 = b'\r';
+
+const SESSION: usize = places::SESSION;
+
+// Room for the longest of what waits here.
+const ROOM: usize = 64;
+
+// The bytes of the proposal that spaces follow, and how many of them make the longest line.
+const PROPOSAL: usize = 41;
+
+const LINE_LIMIT: usize = places::LINE_ROOM;
+
+const MOST_SPACES: usize = LINE_LIMIT - PROPOSAL;
 
 // A text for the reader of this program.
 fn say(text: &[u8]) {
@@ -54,10 +67,10 @@ fn tell(call: &[u8], reply: Reply) {
 }
 
 // Session memory, as a host that does not clear it might lend it.
-fn session_memory() -> [u8; 1024]
-    ensures { λ r. ⌜ 1024 ≡ length r ⌝ }
+fn session_memory() -> [u8; SESSION]
+    ensures { λ r. ⌜ sessionLen ≡ length r ⌝ }
 {
-    [255u8; 1024]
+    [u8::MAX; SESSION]
 }
 
 // Opens the session.
@@ -79,10 +92,10 @@ fn opened(session: &mut [u8]) {
 
 // Takes all that waits.
 fn given(session: &mut [u8]) {
-    let mut buf = [0u8; 64];
+    let mut buf = [0u8; ROOM];
     let reply = give::give(session, b"", b"", b"", b"", b"", b"", b"", &mut buf, 0);
     let n = reply.count;
-    if n <= 64 {
+    if n <= ROOM {
         show(b"out: ", &buf[0..n]);
     }
 }
@@ -118,18 +131,18 @@ fn whole_session(input: &[u8]) {
     received(&mut session, b"");
 }
 
-// Spaces.
-fn spaces() -> [u8; 216]
-    ensures { λ r. ⌜ 216 ≡ length r ⌝ }
+// As many spaces as a line has bytes.
+fn spaces() -> [u8; LINE_LIMIT]
+    ensures { λ r. ⌜ lineLen ≡ length r ⌝ }
 {
-    [b' '; 216]
+    [b' '; LINE_LIMIT]
 }
 
-// 01: "256 bytes then CR: judged; 257: refusal 2." A proposal of 41 bytes, n spaces, and CR, each received by itself.
+// 01: "256 bytes then CR: judged; 257: refusal 2." A proposal, n spaces, and CR, each received by itself.
 fn long_line(n: usize)
-    requires { ⌜ n ≤ 216 ⌝ }
+    requires { ⌜ n ≤ lineLen ⌝ }
 {
-    say_number(41 + n);
+    say_number(PROPOSAL + n);
     say(b" bytes, then CR\n");
     let mut session = session_memory();
     opened(&mut session);
@@ -143,6 +156,6 @@ fn long_line(n: usize)
 
 fn main() {
     whole_session(b"[TST-1-F$]\rFF\r");
-    long_line(215);
-    long_line(216);
+    long_line(MOST_SPACES);
+    long_line(MOST_SPACES + 1);
 }

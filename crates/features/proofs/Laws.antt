@@ -10,7 +10,7 @@ use lib.ListN.{length, List·getD-eq-default}
 use lib.Seq.{set-out}
 use borrow.Author.Tests.{lt-ltb, le-ltb}
 use Rattle.grammar.specs.Bytes.{Bytes}
-use Rattle.grammar.specs.Sid.{letterB, letterF, noFeatures, hasFeature, withFeature, levelOf, ourLevel, levelInForce, readSid, dollarPlace, featurePlaces}
+use Rattle.grammar.specs.Sid.{letterB, letterF, noFeatures, hasFeature, withFeature, levelOf, ourLevel, levelInForce, readSid, dollarPlace, featurePlaces, levelValues}
 use Rattle.grammar.specs.Turns.{ourSid, fixedText}
 use Rattle.features.specs.Letters.{letterH}
 
@@ -29,7 +29,7 @@ module _ (i : ℕ) (fs : Bytes) (n : length fs ≡ featurePlaces) (h : featurePl
   level-outside = rw (List·getD-eq-default fs 0 {n = i} (omega arith))
 
   pub with-outside : (level : ℕ) → fs ≡ withFeature i level fs
-  with-outside level = rw (set-out fs i (level + 1) (omega arith)) (go (ltb level 10))
+  with-outside level = rw (set-out fs i (level + 1) (omega arith)) (go (ltb level levelValues))
     where
       go : (t : Bool) → fs ≡ cond t fs fs
       go true = refl

@@ -10,7 +10,7 @@ use lib.ListN.{length, getD, take, drop, length-drop, drop-of-length-le}
 use lib.Seq.{drop-cons, drop-drop, take-all}
 use borrow.Author.Tests.{eq-eqb, ne-eqb, lt-ltb, le-ltb, ltb-true, ltb-false, le-leb, lt-leb, leb-true, leb-false, not-true, not-false}
 use Rattle.grammar.specs.Bytes.{Bytes, every, same}
-use Rattle.grammar.specs.Fields.{parts, toFirst, afterDot, allCalls, isCall, isAt, isBody, formIs, bodyLimit}
+use Rattle.grammar.specs.Fields.{parts, toFirst, afterDot, allCalls, isCall, isAt, isBody, formIs, bodyLimit, formNumber, message, file}
 use Rattle.grammar.proofs.Basics.{suc-ltb}
 use Rattle.grammar.specs.Ascii.{char}
 use Rattle.byte.specs.Classes.{classOf}
@@ -101,12 +101,12 @@ pub body-long : (n : ℕ) (x : Bytes) → bodyLimit < length x → false ≡ isB
 body-long n x h = rw (lt-leb _ _ h)
 
 module _ (n : ℕ) (x : Bytes) (h : length x ≤ bodyLimit) where
-  pub body-message : n ≡ 1 → true ≡ isBody (formIs n) x
+  pub body-message : n ≡ formNumber message → true ≡ isBody (formIs n) x
   body-message e = rw (eq-eqb _ _ e, le-leb _ _ h)
 
-  pub body-file : (n ≡ 1 → ⊥) → n ≡ 2 → true ≡ isBody (formIs n) x
+  pub body-file : (n ≡ formNumber message → ⊥) → n ≡ formNumber file → true ≡ isBody (formIs n) x
   body-file i e = rw (ne-eqb _ _ i, eq-eqb _ _ e, le-leb _ _ h)
 
-  pub body-plain : (r : Bool) → (n ≡ 1 → ⊥) → (n ≡ 2 → ⊥) → r ≡ every (classOf Class.PlainBody) x → r ≡ isBody (formIs n) x
+  pub body-plain : (r : Bool) → (n ≡ formNumber message → ⊥) → (n ≡ formNumber file → ⊥) → r ≡ every (classOf Class.PlainBody) x → r ≡ isBody (formIs n) x
   unfolding classOf
   body-plain r i j e = rw (ne-eqb _ _ i, ne-eqb _ _ j, le-leb _ _ h) e

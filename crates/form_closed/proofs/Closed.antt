@@ -37,7 +37,7 @@ use Rattle.form_closed.proofs.Tallied.{open-counted}
 use Rattle.session_memory.specs.declared.Tally.{Tally}
 use Rattle.sheet.specs.Sheet.{noSheet}
 use Rattle.tally.specs.Tally.{counted}
-use Rattle.phase.specs.Phase.{phaseTransfer, phaseLeaving, pieceNone, pieceSidAndPrompt}
+use Rattle.phase.specs.Phase.{phaseTransfer, phaseLeaving, pieceNone, pieceSidAndPrompt, notDeferred}
 use Rattle.form_closed.proofs.Laws.{octets-append, octets-put, octets-le8, octets-zeros, octets-nil}
 use Rattle.form_closed.proofs.Waiting.{waiting-some}
 use Rattle.form_closed.proofs.Judged.{session-ok, good-by, ok-say, none-ok, still-awaited}
@@ -161,7 +161,7 @@ fresh-good F caller partner column t tallied table inbox store ot oi os fits few
     record {
       now = record { phase = phase caller; current = omega arith; proposals = omega arith; ours = none-ok; sum = omega arith; block = length-replicate {A = ℕ} blockLen 0; octets = octets-zeros blockLen };
       say = record { first = first caller; then = omega arith; pos = omega arith; signs = none-ok };
-      keep = record { terms = let z : 0 < byteValues = omega arith in search (z, column); sending = none-ok; flags = length-replicate {A = ℕ} deferredLen 0; octets = octets-zeros deferredLen };
+      keep = record { terms = let z : 0 < byteValues = omega arith in search (z, column); sending = none-ok; flags = length-replicate {A = ℕ} deferredLen notDeferred; octets = octets-zeros deferredLen };
       reader = record { place = omega arith; len = omega arith; head = omega arith; off = omega arith; left = omega arith; sum = omega arith; body = omega arith };
       heading = record { size = length-replicate {A = ℕ} headingLen 0; octets = octets-zeros headingLen };
       line = record { len = omega arith; size = length-replicate {A = ℕ} lineLen 0; octets = octets-zeros lineLen };

@@ -25,7 +25,7 @@ use Rattle.session_memory.proofs.Laws.{five-length}
 use Rattle.line_effect.specs.Judge.{plusFrom, nextAccepted, picked, flagged}
 use Rattle.form_test.specs.Form.{usedFrom, usedBy, pluses}
 use Rattle.marking.specs.States.{setState, markAll}
-use Rattle.phase.specs.Phase.{noProposal}
+use Rattle.phase.specs.Phase.{noProposal, wasDeferred}
 use Rattle.marking.proofs.States.{state-all}
 use Rattle.form_closed.specs.Facts.{Octets, FiveOk}
 
@@ -99,7 +99,7 @@ mark-octets p (i ∷ is) v table h o = mark-octets p is v (setState p table i v)
 
 pub flag-octets : (is : List ℕ) (flags : Bytes) → Octets flags → Octets (flagged is flags)
 flag-octets [] flags o = o
-flag-octets (i ∷ is) flags o = flag-octets is (set flags i 1) (octets-set flags i 1 (omega arith) o)
+flag-octets (i ∷ is) flags o = flag-octets is (set flags i wasDeferred) (octets-set flags i wasDeferred (omega arith) o)
 
 pub picked-octets : (c : ℕ) (xs ss : List ℕ) → Octets xs → Octets (picked c xs ss)
 picked-octets c [] ss o = octets-nil
@@ -112,7 +112,7 @@ picked-octets c (x ∷ xs) (s ∷ ss) o = go (eqb s c) (picked-octets c xs ss (o
 
 pub length-flagged : (is : List ℕ) (fl : List ℕ) → length (flagged is fl) ≡ length fl
 length-flagged [] fl = refl
-length-flagged (i ∷ is) fl = length-flagged is (set fl i 1) ∙ length-set fl i 1
+length-flagged (i ∷ is) fl = length-flagged is (set fl i wasDeferred) ∙ length-set fl i wasDeferred
 
 pub picked-few : (c : ℕ) (is ss : List ℕ) → length (picked c is ss) ≤ length is
 picked-few c [] ss = omega arith

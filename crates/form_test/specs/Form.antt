@@ -7,7 +7,7 @@ use Prim.Native.Nat.{ℕ, zero, suc, _+_}
 use lib.Dec.{eqb, ltb, leb}
 use lib.ListN.{length, getD, drop}
 use Rattle.grammar.specs.Bytes.{Bytes}
-use Rattle.layout.specs.Layout.{byteAt, entryAt, bodyLength}
+use Rattle.layout.specs.Layout.{byteAt, entryAt, bodyLength, le4At}
 use Rattle.session_memory.specs.State.{held, loadOf, loadSizes}
 use Rattle.session_memory.specs.Session.{Session}
 use Rattle.session_memory.specs.declared.Sizes.{Sizes}
@@ -25,12 +25,12 @@ use Rattle.grammar.specs.Fields.{bodyLimit}
 use Rattle.grammar.specs.Ascii.{text}
 use Rattle.mail.specs.Mail.{placeLimit}
 
--- The mark that open leaves, and the number that it makes, little end first.
+-- The mark that open leaves, and the number that its letters make, the first the lowest byte.
 abbrev pub mark : Bytes
 mark = text "FM01"
 
 abbrev pub markNumber : ℕ
-markNumber = 825249094
+markNumber = le4At mark 0
 
 abbrev pub markOk : Bytes → Bool
 markOk sm = eqb (byteAt sm 0) (byteAt mark 0) && (eqb (byteAt sm 1) (byteAt mark 1) && (eqb (byteAt sm 2) (byteAt mark 2) && eqb (byteAt sm 3) (byteAt mark 3)))

@@ -18,8 +18,11 @@ ghost use Rattle.grammar.specs.Bytes.{byteValues};
 ghost use Rattle.grammar.specs.Fields.{bodyLimit};
 ghost use Rattle.grammar.specs.Answers.{plusSign};
 
-// The mark FM01 as a number, little end first.
-const FM01: u32 = 825249094;
+// The mark FM01 as a number, the first letter the lowest byte.
+const VALUES: u32 = layout::BYTE_VALUES as u32;
+
+const FM01: u32 = b'F' as u32
+    + VALUES * (b'M' as u32 + VALUES * (b'0' as u32 + VALUES * b'1' as u32));
 
 // A message of the inbox, and where in it its body's length stands.
 const ENTRY: usize = places::ENTRY as usize;

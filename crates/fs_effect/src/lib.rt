@@ -18,6 +18,7 @@ ghost use Rattle.session_memory.specs.State.{held, fiveOf};
 ghost use Rattle.fs_effect.specs.Signs.{Room, answeredBy};
 ghost use Rattle.line_effect.specs.Judge.{picked, flagged, transfersAfter, answerTaken, answerLine};
 ghost use Rattle.line_effect.specs.Verdict.{judgedOf};
+ghost use Rattle.phase.specs.Phase.{wasDeferred};
 
 // The most proposals of a block, as a length.
 const BLOCK_LIMIT: usize = phase::BLOCK_LIMIT as usize;
@@ -79,13 +80,13 @@ fn by_signs(ours: Five, signs: [u8; BLOCK_LIMIT]) -> Answered
 
 // A record is flagged as deferred; a place past the flags has none.
 fn flag_at(deferred: &mut [u8], place: u8)
-    ensures { λ _. ⌜ now (deferred .exit) ≡ set (now (deferred .entry)) place 1 ⌝ }
+    ensures { λ _. ⌜ now (deferred .exit) ≡ set (now (deferred .entry)) place wasDeferred ⌝ }
 {
     let p = place as usize;
     if deferred.len() <= p {
         return;
     }
-    deferred[p] = 1;
+    deferred[p] = phase::WAS_DEFERRED;
 }
 
 // The records at these places are flagged as deferred.

@@ -13,14 +13,14 @@ use lib.Seq.{take-at, append-snoc, set-at, drop-cons, drop-drop}
 use borrow.Author.Tests.{eq-eqb, ne-eqb, lt-ltb, le-ltb, lt-leb, le-leb, ltb-false, eqb-true}
 use Rattle.grammar.specs.Bytes.{Bytes, SP, every, isSome}
 use Rattle.grammar.specs.Ascii.{text, char}
-use Rattle.grammar.specs.Fields.{upper, after, digit, readFrom}
+use Rattle.grammar.specs.Fields.{upper, after, digit, readFrom, smallEnd}
 use Rattle.grammar.specs.Refusals.{badAnswer, lineNotAllowed}
 use Rattle.grammar.specs.Turns.{blockLimit}
 use Rattle.grammar.specs.Answers.{Sign, accept, decline, defer, signOf, orElse, letterSign, signByte, isOffset, offsetDigits, digitCount, offsetSign, followed, offsetRead, orOffset, signAt, consO, consNext, readSigns, signsRead, readFs, writeSign, fsNumber, level0, level1, plusSign, minusSign, equalSign}
 use Rattle.grammar.proofs.Basics.{to-end}
 use Rattle.grammar.proofs.OurLines.{signs-back}
 use Rattle.byte.proofs.Laws.{any2, none2, all-get, digit-is}
-use Rattle.fs_line.specs.Answers.{answered, answerNumber, answerSigns, signBytes, zeroed, signsBy, fsLength}
+use Rattle.fs_line.specs.Answers.{answered, answerNumber, answerSigns, signBytes, zeroed, signsBy, fsLength, fsLetters}
 use Rattle.fs_line.specs.declared.Answers.{Answers}
 use Rattle.grammar.specs.Bids.{toSmall}
 
@@ -29,7 +29,7 @@ true-false e = let z : _≡_ {A = ℕ} 1 0 = ap (λ (c : Bool). cond {A = ℕ} c
 
 -- ---------------------------------------------------------------- FS
 
-pub fs-short : (l : Bytes) → length l < 2 → false ≡ isSome (after (text "FS") l)
+pub fs-short : (l : Bytes) → length l < fsLetters → false ≡ isSome (after (text "FS") l)
 fs-short [] h = refl
 fs-short (a ∷ []) h = go (eqb (upper a) (char "F"))
   where
@@ -39,7 +39,7 @@ fs-short (a ∷ []) h = go (eqb (upper a) (char "F"))
 fs-short (a ∷ b ∷ l) h = let z : ⊥ = omega arith in absurd z
 
 -- where there are two bytes, they decide
-pub fs-two : (l : Bytes) → 2 ≤ length l → isSome (after (text "FS") l) ≡ (eqb (upper (getD l 0 0)) (char "F") && eqb (upper (getD l 1 0)) (char "S"))
+pub fs-two : (l : Bytes) → fsLetters ≤ length l → isSome (after (text "FS") l) ≡ (eqb (upper (getD l 0 0)) (char "F") && eqb (upper (getD l 1 0)) (char "S"))
 fs-two [] h = let z : ⊥ = omega arith in absurd z
 fs-two (a ∷ []) h = let z : ⊥ = omega arith in absurd z
 fs-two (a ∷ b ∷ l) h = go (eqb (upper a) (char "F")) (eqb (upper b) (char "S"))
@@ -357,7 +357,7 @@ module _ (v n : ℕ) (s signs : Bytes) (at i : ℕ) (p : Read v n s signs at i) 
 
 -- a capital is no space
 upper-sp : (b : ℕ) → eqb (upper b) SP ≡ eqb b SP
-upper-sp b = go (ltb b (char "a")) (ltb b (char "z" + 1)) refl
+upper-sp b = go (ltb b (char "a")) (ltb b smallEnd) refl
   where
     go : (p q : Bool) → ltb b (char "a") ≡ p → eqb (cond p b (cond q (b - toSmall) b)) SP ≡ eqb b SP
     go true q e = refl
@@ -366,7 +366,7 @@ upper-sp b = go (ltb b (char "a")) (ltb b (char "z" + 1)) refl
 
 -- FS, a space and the signs, by places
 pub fs-after : (v n : ℕ) (l : Bytes)
-    → readFs v n l ≡ cond (ltb (length l) fsLength) none (cond (isSome (after (text "FS") l)) (cond (eqb (getD l 2 0) SP) (readSigns v n (drop fsLength l)) none) none)
+    → readFs v n l ≡ cond (ltb (length l) fsLength) none (cond (isSome (after (text "FS") l)) (cond (eqb (getD l fsLetters 0) SP) (readSigns v n (drop fsLength l)) none) none)
 unfolding readFs
 fs-after v n [] = refl
 fs-after v n (a ∷ []) = go (eqb (upper a) (char "F"))
@@ -425,12 +425,12 @@ module _ (v n : ℕ) (l : Bytes) where
     too-short h = rw (le-ltb blockLimit n k, fs-after v n l, lt-ltb _ _ h)
 
     module _ (h : fsLength ≤ length l) (e : isSome (after (text "FS") l) ≡ true) where
-      pub no-space : (getD l 2 0 ≡ SP → ⊥) → answered v n l ≡ none
+      pub no-space : (getD l fsLetters 0 ≡ SP → ⊥) → answered v n l ≡ none
       unfolding answered
       no-space q = rw (le-ltb blockLimit n k, fs-after v n l, le-ltb _ _ h, e, ne-eqb _ _ q)
 
       -- FS and a space: the signs decide
-      pub fs-signs : getD l 2 0 ≡ SP
+      pub fs-signs : getD l fsLetters 0 ≡ SP
           → (answerNumber v n l ≡ cond (isSome (readSigns v n (drop fsLength l))) 0 badAnswer) × (answerSigns v n l ≡ zeroed (signBytes (readSigns v n (drop fsLength l))))
       unfolding answerNumber answerSigns answered
       fs-signs q =

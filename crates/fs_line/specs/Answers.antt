@@ -3,7 +3,7 @@ use mathlib.Core.Path.{_≡_, refl}
 use mathlib.Core.Bool.{cond}
 use mathlib.Core.Option.{Option, none, some}
 use mathlib.Core.List.{List, [], _∷_, _++_, map}
-use Prim.Native.Nat.{ℕ, _-_}
+use Prim.Native.Nat.{ℕ, _+_, _-_}
 use lib.Dec.{eqb, ltb}
 use lib.ListN.{length, replicate, take}
 use Rattle.grammar.specs.Bytes.{Bytes, isSome}
@@ -16,8 +16,11 @@ use Rattle.fs_line.specs.declared.Answers.{Answers}
 use Rattle.fs_line.specs.declared.Sign as code
 
 -- "FS, one space"
+abbrev pub fsLetters : ℕ
+fsLetters = length (text "FS")
+
 abbrev pub fsLength : ℕ
-fsLength = 3
+fsLength = fsLetters + 1
 
 -- "`+` accept, `-` decline, `=` defer": the grammar's name for each case; any other byte is no sign
 abbrev pub signIs : code.Sign → Option Sign

@@ -24,8 +24,10 @@ const BAD_ANSWER: u8 = refusal::BAD_ANSWER;
 // The most proposals of a block.
 const BLOCK_LIMIT: usize = phase::BLOCK_LIMIT as usize;
 
-// `FS` and the space after it.
-const FS_LENGTH: usize = 3;
+// `FS`, and with the space after it.
+const FS_LETTERS: usize = 2;
+
+const FS_LENGTH: usize = FS_LETTERS + 1;
 
 // The signs that session memory keeps, whatever stood on the line, and no sign.
 const ACCEPT: u8 = b'+';
@@ -217,7 +219,7 @@ fn is_letter(b: u8, capital: u8) -> bool
 fn begins_fs(line: &[u8]) -> bool
     ensures { λ r. ⌜ r ≡ isSome (after (text "FS") (now (line .entry))) ⌝ }
 {
-    if line.len() < 2 {
+    if line.len() < FS_LETTERS {
         return false;
     }
     if !is_letter(line[0], b'F') {
@@ -275,7 +277,7 @@ pub fn read_fs(line: &[u8], n: usize, level: u8) -> Answers
     if line.len() < FS_LENGTH {
         return refused(BAD_ANSWER);
     }
-    if line[2] != b' ' {
+    if line[FS_LETTERS] != b' ' {
         return refused(BAD_ANSWER);
     }
     read_signs(&line[FS_LENGTH..], n, level)

@@ -13,6 +13,7 @@ use Rattle.grammar.specs.Bytes.{Bytes}
 use Rattle.grammar.specs.Transfers.{partOf}
 use Rattle.buffer.specs.Put.{putBytes}
 use Rattle.buffer.proofs.Laws.{cursor}
+use Rattle.places.specs.Places.{fourBytes, eightBytes}
 use Rattle.layout.specs.Layout.{byteAt, le2At, le4At, le8At, fieldIn, entryAt}
 
 -- ---------------------------------------------------------------- behind a piece l of k bytes
@@ -66,10 +67,10 @@ module _ (p r : Bytes) where
   pub byte-front : (b : ℕ) → b < length p → byteAt (p ++ r) b ≡ byteAt p b
   byte-front b h = List·getD-append p r 0 b h
 
-  pub le4-front : (b : ℕ) → b + 4 ≤ length p → le4At (p ++ r) b ≡ le4At p b
+  pub le4-front : (b : ℕ) → b + fourBytes ≤ length p → le4At (p ++ r) b ≡ le4At p b
   le4-front b h = rw (byte-front b (omega arith), byte-front (b + 1) (omega arith), byte-front (b + 2) (omega arith), byte-front (b + 3) (omega arith))
 
-  pub le8-front : (b : ℕ) → b + 8 ≤ length p → le8At (p ++ r) b ≡ le8At p b
+  pub le8-front : (b : ℕ) → b + eightBytes ≤ length p → le8At (p ++ r) b ≡ le8At p b
   le8-front b h = rw (le4-front b (omega arith), le4-front (b + 4) (omega arith))
 
   pub part-front : (start len : ℕ) → start + len ≤ length p → partOf (p ++ r) start len ≡ partOf p start len
@@ -97,7 +98,7 @@ module _ (k : ℕ) (s r : Bytes) (h : k ≤ length s) where
   pub byte-kept : (b : ℕ) → b < k → byteAt (take k s ++ r) b ≡ byteAt s b
   byte-kept b g = taken (λ (l : Bytes). byteAt l b) (λ t. byte-front (take k s) t b (omega (arith, within)))
 
-  pub le8-kept : (b : ℕ) → b + 8 ≤ k → le8At (take k s ++ r) b ≡ le8At s b
+  pub le8-kept : (b : ℕ) → b + eightBytes ≤ k → le8At (take k s ++ r) b ≡ le8At s b
   le8-kept b g = taken (λ (l : Bytes). le8At l b) (λ t. le8-front (take k s) t b (omega (arith, within)))
 
   pub part-kept : (start len : ℕ) → start + len ≤ k → partOf (take k s ++ r) start len ≡ partOf s start len

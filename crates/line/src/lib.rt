@@ -12,7 +12,7 @@ pub const CR: u8 = 13;
 pub const LF: u8 = 10;
 
 // The most bytes of a line before its CR.
-pub const LINE_LIMIT: usize = 256;
+pub const LINE_LIMIT: usize = places::LINE_ROOM;
 
 // What a byte does to the line under way: it is dropped, ends the line, makes it longer, or is one too many.
 pub enum LineByte {

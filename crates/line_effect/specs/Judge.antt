@@ -26,7 +26,7 @@ use Rattle.session_memory.specs.Session.{Await}
 use Rattle.session_memory.specs.declared.Say.{Say}
 use Rattle.session_memory.specs.Session.{Keep}
 use Rattle.session_memory.specs.Session.{Session}
-use Rattle.phase.specs.Phase.{phaseCalledSid, phaseCallerSid, phasePrompt, phaseTurn, phaseFs, phaseTransfer, phaseOver, pieceSid, pieceSigns, pieceTransfers, notOurTurn, ourTurn, ourTurnAfterFF, stateWaiting, stateForwarded, stateDeclined, blockLimit, noProposal}
+use Rattle.phase.specs.Phase.{phaseCalledSid, phaseCallerSid, phasePrompt, phaseTurn, phaseFs, phaseTransfer, phaseOver, pieceSid, pieceSigns, pieceTransfers, notOurTurn, ourTurn, ourTurnAfterFF, stateWaiting, stateForwarded, stateDeclined, blockLimit, noProposal, wasDeferred}
 use Rattle.places.specs.Places.{formAt, proposalLen}
 use Rattle.our_answer.specs.Answers.{answersOf}
 use Rattle.line_effect.specs.declared.Marks.{Marks}
@@ -176,10 +176,10 @@ picked c [] ss = []
 picked c (x ∷ xs) [] = []
 picked c (x ∷ xs) (s ∷ ss) = cond (eqb s c) (x ∷ picked c xs ss) (picked c xs ss)
 
--- The flags with a 1 at each of these places.
+-- The flags once the records at these places are deferred.
 abbrev pub flagged : List ℕ → Bytes → Bytes
 flagged [] flags = flags
-flagged (i ∷ is) flags = flagged is (set flags i 1)
+flagged (i ∷ is) flags = flagged is (set flags i wasDeferred)
 
 abbrev pub transfersAfter : Five → Say → Say
 transfersAfter f y = cond (ltb 0 (f .count)) (saysThen pieceTransfers y) y

@@ -18,7 +18,7 @@ use Rattle.grammar.specs.Fields.{Form, formIs}
 use Rattle.grammar.specs.Transfers.{partOf}
 use Rattle.grammar.proofs.Basics.{and2}
 use Rattle.mail.specs.Mail.{Record, marked, recordLimit}
-use Rattle.places.specs.Places.{recordLen, partners, callMax, atMax, bidMax, recordForm, recordType, recordFrom, recordAtField, recordTo, recordBid, recordSizeAt, recordTitle, recordTitleLength, recordName, recordNameLength, recordBody, recordBodyLength}
+use Rattle.places.specs.Places.{recordLen, partners, callMax, atMax, bidMax, recordForm, recordType, recordFrom, recordAtField, recordTo, recordBid, recordSizeAt, recordTitle, recordTitleLength, recordName, recordNameLength, recordBody, recordBodyLength, twoBytes, fourBytes}
 use Rattle.phase.specs.Phase.{stateForwarded}
 use Rattle.layout.specs.Layout.{byteAt, le2At, le4At, fieldIn, textIn, entryAt, recordOf, statePlace, stateFor, stateOf}
 use Rattle.layout.proofs.Places.{part-in}
@@ -53,10 +53,10 @@ module _ (c : Bytes) (s v : ℕ) where
       part-beside (a + 1) (min n (byteAt (set c s v) a)) (λ k. omega (arith, h (omega arith)))
       ∙ ap (λ (x : ℕ). partOf c (a + 1) (min n x)) (byte-beside a (λ k. omega (arith, h k)))
 
-  two-beside : (a : ℕ) → Beside s a 2 → le2At (set c s v) a ≡ le2At c a
+  two-beside : (a : ℕ) → Beside s a twoBytes → le2At (set c s v) a ≡ le2At c a
   two-beside a h = rw (byte-beside a (λ k. omega (arith, h k)), byte-beside (a + 1) (λ k. omega (arith, h (omega arith))))
 
-  four-beside : (a : ℕ) → Beside s a 4 → le4At (set c s v) a ≡ le4At c a
+  four-beside : (a : ℕ) → Beside s a fourBytes → le4At (set c s v) a ≡ le4At c a
   four-beside a h =
       rw (byte-beside a (λ k. omega (arith, h k)), byte-beside (a + 1) (λ k. omega (arith, h (omega arith))), byte-beside (a + 2) (λ k. omega (arith, h (omega arith))), byte-beside (a + 3) (λ k. omega (arith, h (omega arith))))
 

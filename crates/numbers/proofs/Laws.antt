@@ -10,7 +10,7 @@ use lib.Seq.{drop-append-le, drop-at, drop-drop, take-add, take-all, length-take
 use Rattle.grammar.specs.Bytes.{Bytes}
 use Rattle.grammar.specs.Turns.{blockLimit}
 use Rattle.buffer.specs.Put.{wrote, putBytes}
-use Rattle.places.specs.Places.{numbersStart, lineLengthAt, tailAt, numbersEnd, numbersLen, arraysAt, freeLen, deferredLen, headingLen, lineLen, blockLen, deferredAt, headingAt, lineAt, blockAt, arraysLen, arraysEnd, sessionLen}
+use Rattle.places.specs.Places.{numbersStart, lineLengthAt, tailAt, numbersEnd, numbersLen, arraysAt, freeLen, deferredLen, headingLen, lineLen, blockLen, deferredAt, headingAt, lineAt, blockAt, arraysLen, arraysEnd, sessionLen, fiveLen}
 use Rattle.layout.specs.Layout.{byteAt, le2, le4, le8}
 use Rattle.layout.proofs.Places.{put-fits}
 use Rattle.session_memory.specs.State.{at, flag, fiveOut, arrayAt, fiveAt, loadOf, loadAwait, loadSay, loadKeep, loadReading, loadLine, smallOut, numbersOut, tailOut, loadTally, arraysOut, numberPart, saveOf}
@@ -43,7 +43,7 @@ list5 : {a b c d e f g h i j : ℕ} → a ≡ b → c ≡ d → e ≡ f → g �
 list5 e₁ e₂ e₃ e₄ e₅ = rw (e₁, e₂, e₃, e₄, e₅)
 
 -- six bytes by plain indexing are up to five numbers
-pub five-read : (s : Bytes) (i : ℕ) → i + (1 + blockLimit) ≤ length s → {x a b c d e : ℕ} → x ≡ byteAt s i → a ≡ byteAt s (i + 1) → b ≡ byteAt s (i + 2) → c ≡ byteAt s (i + 3)
+pub five-read : (s : Bytes) (i : ℕ) → i + fiveLen ≤ length s → {x a b c d e : ℕ} → x ≡ byteAt s i → a ≡ byteAt s (i + 1) → b ≡ byteAt s (i + 2) → c ≡ byteAt s (i + 3)
     → d ≡ byteAt s (i + 4) → e ≡ byteAt s (i + 5) → _≡_ {A = Five} (record { count = x; items = a ∷ b ∷ c ∷ d ∷ e ∷ [] }) (fiveAt s i)
 five-read s i h f₀ f₁ f₂ f₃ f₄ f₅ =
     let n : length (drop (i + 1) s) ≡ length s - (i + 1) = length-drop (i + 1) s in

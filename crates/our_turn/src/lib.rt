@@ -45,7 +45,7 @@ fn wanted(partner: u8, framed: bool, bytes: &[u8], flag: u8) -> bool
     if state_for(partner, bytes) != phase::STATE_WAITING {
         return false;
     }
-    flag == 0
+    flag == phase::NOT_DEFERRED
 }
 
 // The places of the records that we propose to this partner now.

@@ -19,7 +19,7 @@ use Rattle.size.specs.declared.Size.{Size}
 use Rattle.pages.specs.Fields as fields
 use Rattle.pages.specs.Fields.{noRecord, badVersion, memberOf}
 use Rattle.pages.specs.Pages as pages
-use Rattle.pages.specs.Pages.{isHex, leads, flagLength, hasFlag, versionOf, versionBy, memberBy, byLetter, readPage, flagV, flagM, flagPlace, flagLimit, dataPlace, versionDigits}
+use Rattle.pages.specs.Pages.{isHex, leads, flagLength, hasFlag, versionOf, versionBy, memberBy, byLetter, readPage, flagV, flagM, flagPlace, flagLimit, dataPlace, versionDigits, leadDigits}
 use Rattle.page_member.specs.Meaning.{memberIn, memberSaid, MemberLies, MemberIs, FieldsLie}
 use Rattle.page_member.specs.declared.Member.{Member}
 use Rattle.page_member.specs.declared.ReadMember.{ReadMember}
@@ -49,7 +49,7 @@ module _ (l : Bytes) (x : ℕ) (e : x ≡ getD l 0 0) (a : Bool) (i : a ≡ isHe
     pub no-second : not b ≡ true → false ≡ leads l
     no-second m = rw (told first-is k, told-not second-is m)
 
-    pub two-digits : not b ≡ false → (z : ℕ) → z ≡ getD l 2 0 → eqb z SP ≡ leads l
+    pub two-digits : not b ≡ false → (z : ℕ) → z ≡ getD l leadDigits 0 → eqb z SP ≡ leads l
     two-digits m z g = rw (told first-is k, told second-is m, g)
 
 -- ---------------------------------------------------------------- the flag

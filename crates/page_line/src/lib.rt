@@ -17,16 +17,22 @@ ghost use Rattle.pages.specs.Fields.{memberOf};
 ghost use Rattle.page_line.specs.Meaning.{PageIs};
 
 // Two hexadecimal digits and a space stand before the flag.
-const FLAG_PLACE: usize = 3;
+const LEAD_DIGITS: usize = 2;
+
+const FLAG_PLACE: usize = LEAD_DIGITS + 1;
 
 // A flag has at most ten bytes, so it ends here at the latest.
-const FLAG_END: usize = FLAG_PLACE + 10;
+const FLAG_LIMIT: usize = 10;
 
-// The data of a flag of one byte begin here.
-const DATA_PLACE: usize = FLAG_PLACE + 2;
+const FLAG_END: usize = FLAG_PLACE + FLAG_LIMIT;
 
-// The line of a version ends here: its data are two bytes.
-const VERSION_END: usize = DATA_PLACE + 2;
+// The data of a flag of one byte begin here, behind a space.
+const DATA_PLACE: usize = FLAG_PLACE + 1 + 1;
+
+// The line of a version ends here: its data are two digits.
+const VERSION_DIGITS: usize = 2;
+
+const VERSION_END: usize = DATA_PLACE + VERSION_DIGITS;
 
 // Why a line is dropped: the numbers of include/fringemole_pages.h.
 const NO_RECORD: u8 = 1;
@@ -61,7 +67,7 @@ fn leads_on(line: &[u8]) -> bool
     if !is_hex(byte_at(line, 1)) {
         return false;
     }
-    byte_at(line, 2) == b' '
+    byte_at(line, LEAD_DIGITS) == b' '
 }
 
 // A flag from its place up to end, and a space behind it.

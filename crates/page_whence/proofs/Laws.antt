@@ -14,7 +14,7 @@ use Rattle.span.specs.Places.{part, upto}
 use Rattle.span.specs.declared.Span.{Span}
 use Rattle.span.proofs.Laws.{found-within}
 use Rattle.pages.specs.Fields as pages
-use Rattle.pages.specs.Fields.{QUOTE, word, past, quoted, pastQuote, begins, isName, isTown, whenceOf, badName, badZip, badTown}
+use Rattle.pages.specs.Fields.{QUOTE, word, past, quoted, pastQuote, begins, isName, isTown, whenceOf, badName, badZip, badTown, twoQuotes}
 use Rattle.page_cut.specs.Pieces.{Lies, behindOf, pieceTo, wordAt, quotedAt}
 use Rattle.page_cut.specs.declared.Piece.{Piece}
 use Rattle.page_cut.proofs.Laws.{Cut, word-cut, word-part, word-past, quoted-cut, quoted-part, quoted-past, quoted-end, behind-byte}
@@ -90,7 +90,7 @@ module _ (l : Bytes) (at : ℕ) (h : at ≤ length l) (name : Span) (p : Piece) 
       town-more n =
           let y = town-end in
           let d = length-drop (p .next) l in
-          let x = ne-eqb (upto QUOTE (drop 1 (drop (p .next) l)) + 2) (length (drop (p .next) l)) (λ z. n (omega (arith, y, d, z))) in
+          let x = ne-eqb (upto QUOTE (drop 1 (drop (p .next) l)) + twoQuotes) (length (drop (p .next) l)) (λ z. n (omega (arith, y, d, z))) in
           rw (zip-there, ← word-past l at p e, a-begin l (p .next) b QUOTE f m, x)
 
       pub zip-says : length l - q .span .end ≡ 1 → pages.says (whenceIn l (record { name = name; zip = p .span; town = q .span })) ≡ pages.zipped (part l name) (drop at l)
@@ -98,7 +98,7 @@ module _ (l : Bytes) (at : ℕ) (h : at ≤ length l) (name : Span) (p : Piece) 
           let y = town-end in
           let d = length-drop (p .next) l in
           let w = byte-there l (p .next) b f (omega (arith, m)) in
-          let x = eq-eqb (upto QUOTE (drop 1 (drop (p .next) l)) + 2) (length (drop (p .next) l)) (omega (arith, y, d, n, w)) in
+          let x = eq-eqb (upto QUOTE (drop 1 (drop (p .next) l)) + twoQuotes) (length (drop (p .next) l)) (omega (arith, y, d, n, w)) in
           rw (zip-there, ← word-past l at p e, a-begin l (p .next) b QUOTE f m, x, word-part l at p e, quoted-part l (p .next) q g)
 
       pub zip-lies : ZipLies l at name (ReadWhence.Says (record { name = name; zip = p .span; town = q .span }))

@@ -16,8 +16,8 @@ use Rattle.grammar.proofs.Fields.{at-field, atByte}
 use Rattle.span.specs.Places.{upto}
 use Rattle.text_line.specs.TextLines.{bodyLines}
 use Rattle.text_line.proofs.Laws.{upto-mid, take-front, drop-front}
-use Rattle.pages.specs.Fields.{Read, says, breaks, Member, Who, When, Whence, word, past, QUOTE, quoted, pastQuote, isLong, readLong, whoOf, hopped, stamped, whenOf, isName, isTown, zipped, whenceOf, memberFrom, memberAfter, memberWith, memberOf, badVersion, longDigits}
-use Rattle.pages.specs.Pages.{Page, version, member, skipped, dropped, isHex, leads, flagPlace, flagLength, hasFlag, versionBy, versionOf, memberBy, flagV, flagM, dataPlace, byLetter, readPage, Line, lineOf, pagesOf, anyNewer, isRecord, isDropped, kept, Mail, mailOf, handed, surveyOf}
+use Rattle.pages.specs.Fields.{Read, says, breaks, Member, Who, When, Whence, word, past, QUOTE, quoted, pastQuote, isLong, readLong, whoOf, hopped, stamped, whenOf, isName, isTown, zipped, whenceOf, memberFrom, memberAfter, memberWith, memberOf, badVersion, longDigits, twoQuotes}
+use Rattle.pages.specs.Pages.{Page, version, member, skipped, dropped, isHex, leads, flagPlace, flagLength, hasFlag, versionBy, versionOf, memberBy, flagV, flagM, dataPlace, byLetter, readPage, Line, lineOf, pagesOf, anyNewer, isRecord, isDropped, kept, Mail, mailOf, handed, surveyOf, versionDigits}
 
 -- ---------------------------------------------------------------- what is given obeys its rules
 
@@ -135,8 +135,8 @@ page-good l =
     by-number none = tt
     by-number (some n) = tt
 
-    a-version : (d : Bytes) → PageGood (cond (eqb (length d) 2) (versionBy (readSize d)) (dropped badVersion))
-    a-version d = by-test PageGood (eqb (length d) 2) (λ e. by-number (readSize d)) (λ e. tt)
+    a-version : (d : Bytes) → PageGood (cond (eqb (length d) versionDigits) (versionBy (readSize d)) (dropped badVersion))
+    a-version d = by-test PageGood (eqb (length d) versionDigits) (λ e. by-number (readSize d)) (λ e. tt)
 
     a-member : (r : Read Member) → MemberGood r → PageGood (memberBy r)
     a-member (breaks n) g = tt
@@ -296,7 +296,7 @@ when-back a b c r ha hb hc =
 town-end : (w : Bytes) → Lacks QUOTE w → isTown (inQuotes w []) ≡ true
 town-end w h =
     let n = length-append w (QUOTE ∷ []) in
-    eq-eqb (upto QUOTE (w ++ QUOTE ∷ []) + 2) (length (inQuotes w [])) (let k = upto-mid QUOTE w [] h in omega (arith, k, n))
+    eq-eqb (upto QUOTE (w ++ QUOTE ∷ []) + twoQuotes) (length (inQuotes w [])) (let k = upto-mid QUOTE w [] h in omega (arith, k, n))
 
 whence-back : (a b c : Bytes) → Lacks QUOTE a → 1 ≤ length b → Lacks SP b → Lacks QUOTE c
     → whenceOf (inQuotes a (SP ∷ then b (inQuotes c []))) ≡ says (record { name = a; zip = b; town = c })

@@ -134,9 +134,13 @@ pub record Whence : Type 0 where
 abbrev pub isName : Bytes → Bool
 isName r = begins QUOTE r && begins SP (pastQuote r)
 
+-- A text's two quotes.
+abbrev pub twoQuotes : ℕ
+twoQuotes = 2
+
 -- A town and nothing behind it.
 abbrev pub isTown : Bytes → Bool
-isTown r = begins QUOTE r && eqb (upto QUOTE (drop 1 r) + 2) (length r)
+isTown r = begins QUOTE r && eqb (upto QUOTE (drop 1 r) + twoQuotes) (length r)
 
 abbrev pub zipped : Bytes → Bytes → Read Whence
 zipped name r =

@@ -21,16 +21,20 @@ pub data Page : Type 0 where
   skipped : Page
   dropped : ℕ → Page
 
+-- "two hexadecimal digits in either case"
+abbrev pub leadDigits : ℕ
+leadDigits = 2
+
 -- "two hexadecimal digits in either case", and the space behind them; "The two leading digits are shown and not judged."
 abbrev pub isHex : ℕ → Bool
 isHex b = isSome (hexDigit b)
 
 abbrev pub leads : Bytes → Bool
-leads l = isHex (getD l 0 0) && (isHex (getD l 1 0) && eqb (getD l 2 0) SP)
+leads l = isHex (getD l 0 0) && (isHex (getD l 1 0) && eqb (getD l leadDigits 0) SP)
 
--- What stands before the flag, and the most bytes that a flag has.
+-- The flag's place, behind the digits and the space, and the most bytes that a flag has.
 abbrev pub flagPlace : ℕ
-flagPlace = 3
+flagPlace = leadDigits + 1
 
 abbrev pub flagLimit : ℕ
 flagLimit = 10
@@ -64,9 +68,9 @@ flagV = char "V"
 abbrev pub flagM : ℕ
 flagM = char "M"
 
--- A record by its flag. Its data begin behind a flag of one byte and two spaces.
+-- A record by its flag. Its data begin behind a flag of one byte and a space.
 abbrev pub dataPlace : ℕ
-dataPlace = flagPlace + 2
+dataPlace = flagPlace + 1 + 1
 
 unfoldable pub byLetter : ℕ → Bytes → Page
 byLetter b d = cond (eqb b flagV) (versionOf d) (cond (eqb b flagM) (memberBy (memberOf d)) skipped)

@@ -92,6 +92,14 @@ stateForwarded = 1
 abbrev pub stateDeclined : ℕ
 stateDeclined = 2
 
+-- ---------------------------------------------------------------- a record's flag in session memory: not deferred in this session, or deferred by the partner's FS line
+
+abbrev pub notDeferred : ℕ
+notDeferred = 0
+
+abbrev pub wasDeferred : ℕ
+wasDeferred = 1
+
 -- ---------------------------------------------------------------- a block
 
 -- "up to five messages before the direction turns": the grammar's number, by this name for what session memory holds
@@ -100,4 +108,4 @@ blockLimit = turns.blockLimit
 
 -- No proposal of a block: the place after its last.
 abbrev pub noProposal : ℕ
-noProposal = 5
+noProposal = blockLimit

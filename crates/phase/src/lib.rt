@@ -62,11 +62,16 @@ pub const STATE_FORWARDED: u8 = 1;
 
 pub const STATE_DECLINED: u8 = 2;
 
+// A record's flag in session memory: not deferred in this session, or deferred by the partner's FS line.
+pub const NOT_DEFERRED: u8 = 0;
+
+pub const WAS_DEFERRED: u8 = 1;
+
 // "up to five messages before the direction turns"
 pub const BLOCK_LIMIT: u8 = 5;
 
 // No proposal of a block: the place after its last.
-pub const NO_PROPOSAL: u8 = 5;
+pub const NO_PROPOSAL: u8 = BLOCK_LIMIT;
 
 // The session is closed, whatever waits: every number from OVER on.
 pub fn is_closed(awaited: u8) -> bool

@@ -1,6 +1,9 @@
 -- Where each thing lies in lent memory, and how long it is (docs/MEMORY.md has the same as tables).
-use Prim.Native.Nat.{ℕ, _+_, _-_}
+use Prim.Native.Nat.{ℕ, _+_, _-_, _*_}
 use Rattle.grammar.specs.Fields as fields
+use Rattle.grammar.specs.Lines as lines
+use Rattle.grammar.specs.Turns as turns
+use Rattle.mail.specs.Mail as mail
 
 -- ---------------------------------------------------------------- The longest field of each kind; 01, "Fields"
 
@@ -22,6 +25,17 @@ headingMax = fields.headingMax
 
 abbrev pub bodyMax : ℕ
 bodyMax = fields.bodyLimit
+
+-- ---------------------------------------------------------------- A number that is no byte lies in two, four or eight, the lowest first
+
+abbrev pub twoBytes : ℕ
+twoBytes = 2
+
+abbrev pub fourBytes : ℕ
+fourBytes = 4
+
+abbrev pub eightBytes : ℕ
+eightBytes = 8
 
 -- ---------------------------------------------------------------- The fields of a message, from where they begin; a proposal and an inbox entry begin with them, a record after its states. A field is a byte for its length, then room for the longest
 
@@ -52,7 +66,7 @@ abbrev pub proposalSizeAt : ℕ
 proposalSizeAt = fieldsSize
 
 abbrev pub proposalLen : ℕ
-proposalLen = proposalSizeAt + 4
+proposalLen = proposalSizeAt + fourBytes
 
 -- ---------------------------------------------------------------- A record of the table: its states, a byte a partner, then a proposal's parts, then where title, name and body lie, each a start of 4 bytes and a length
 
@@ -95,22 +109,22 @@ abbrev pub recordTitle : ℕ
 recordTitle = recordFields + proposalLen
 
 abbrev pub recordTitleLength : ℕ
-recordTitleLength = recordTitle + 4
+recordTitleLength = recordTitle + fourBytes
 
 abbrev pub recordName : ℕ
 recordName = recordTitleLength + 1
 
 abbrev pub recordNameLength : ℕ
-recordNameLength = recordName + 4
+recordNameLength = recordName + fourBytes
 
 abbrev pub recordBody : ℕ
 recordBody = recordNameLength + 1
 
 abbrev pub recordBodyLength : ℕ
-recordBodyLength = recordBody + 4
+recordBodyLength = recordBody + fourBytes
 
 abbrev pub recordLen : ℕ
-recordLen = recordBodyLength + 2
+recordLen = recordBodyLength + twoBytes
 
 -- ---------------------------------------------------------------- A known BID: a field
 
@@ -126,111 +140,115 @@ abbrev pub entryBody : ℕ
 entryBody = entryHeading + 1 + headingMax
 
 abbrev pub entryBodyLength : ℕ
-entryBodyLength = entryBody + 4
+entryBodyLength = entryBody + fourBytes
 
 abbrev pub entryLen : ℕ
-entryLen = entryBodyLength + 2
+entryLen = entryBodyLength + twoBytes
 
--- ---------------------------------------------------------------- Session memory: the mark, the sizes that open kept
+-- ---------------------------------------------------------------- Session memory: the mark's four letters, the sizes that open kept
 
 abbrev pub markAt : ℕ
 markAt = 0
 
 abbrev pub sizeTable : ℕ
-sizeTable = 4
+sizeTable = markAt + fourBytes
 
 abbrev pub sizeTitles : ℕ
-sizeTitles = 12
+sizeTitles = sizeTable + eightBytes
 
 abbrev pub sizeNames : ℕ
-sizeNames = 20
+sizeNames = sizeTitles + eightBytes
 
 abbrev pub sizeBodies : ℕ
-sizeBodies = 28
+sizeBodies = sizeNames + eightBytes
 
 abbrev pub sizeKnown : ℕ
-sizeKnown = 36
+sizeKnown = sizeBodies + eightBytes
 
 abbrev pub sizeInbox : ℕ
-sizeInbox = 44
+sizeInbox = sizeKnown + eightBytes
 
 abbrev pub sizeStore : ℕ
-sizeStore = 52
+sizeStore = sizeInbox + eightBytes
 
 -- ---------------------------------------------------------------- Session memory: the numbers of the state. Bytes between numbersEnd and arraysAt are free: no call reads or writes them
 
+-- a list of up to five: a byte for how many, then room for five
+abbrev pub fiveLen : ℕ
+fiveLen = 1 + turns.blockLimit
+
 abbrev pub numbersStart : ℕ
-numbersStart = 60
+numbersStart = sizeStore + eightBytes
 
 abbrev pub phaseAt : ℕ
-phaseAt = 60
+phaseAt = numbersStart
 
 abbrev pub ffAt : ℕ
-ffAt = 61
+ffAt = phaseAt + 1
 
 abbrev pub framedAt : ℕ
-framedAt = 62
+framedAt = ffAt + 1
 
 abbrev pub afterCrAt : ℕ
-afterCrAt = 63
+afterCrAt = framedAt + 1
 
 abbrev pub firstAt : ℕ
-firstAt = 64
+firstAt = afterCrAt + 1
 
 abbrev pub thenAt : ℕ
-thenAt = 65
+thenAt = firstAt + 1
 
 abbrev pub keptAt : ℕ
-keptAt = 66
+keptAt = thenAt + 1
 
 abbrev pub currentAt : ℕ
-currentAt = 67
+currentAt = keptAt + 1
 
 abbrev pub proposalsAt : ℕ
-proposalsAt = 68
+proposalsAt = currentAt + 1
 
 abbrev pub oursAt : ℕ
-oursAt = 69
+oursAt = proposalsAt + 1
 
 abbrev pub sendingAt : ℕ
-sendingAt = 75
+sendingAt = oursAt + fiveLen
 
 abbrev pub signsAt : ℕ
-signsAt = 81
+signsAt = sendingAt + fiveLen
 
 abbrev pub placeAt : ℕ
-placeAt = 87
+placeAt = signsAt + fiveLen
 
 abbrev pub lengthAt : ℕ
-lengthAt = 88
+lengthAt = placeAt + 1
 
 abbrev pub headAt : ℕ
-headAt = 89
+headAt = lengthAt + 1
 
 abbrev pub offsetAt : ℕ
-offsetAt = 90
+offsetAt = headAt + 1
 
 abbrev pub sumAt : ℕ
-sumAt = 91
+sumAt = offsetAt + 1
 
 abbrev pub lineLengthAt : ℕ
-lineLengthAt = 92
+lineLengthAt = sumAt + 1
 
 abbrev pub leftAt : ℕ
-leftAt = 94
+leftAt = lineLengthAt + twoBytes
 
 abbrev pub bodyAt : ℕ
-bodyAt = 96
+bodyAt = leftAt + twoBytes
 
 abbrev pub posAt : ℕ
-posAt = 100
+posAt = bodyAt + fourBytes
 
 abbrev pub usedAt : ℕ
-usedAt = 108
+usedAt = posAt + eightBytes
 
 -- the tail of the numbers: a number that comes later takes the next bytes here, and none of those before it moves
 abbrev pub tailAt : ℕ
-tailAt = 116
+tailAt = usedAt + eightBytes
 
 abbrev pub blockSumAt : ℕ
 blockSumAt = tailAt
@@ -249,7 +267,7 @@ abbrev pub tallySizesAt : ℕ
 tallySizesAt = tallyWaitingAt + 1
 
 abbrev pub tallyProposedAt : ℕ
-tallyProposedAt = tallySizesAt + 4
+tallyProposedAt = tallySizesAt + fourBytes
 
 abbrev pub tallyForwardedAt : ℕ
 tallyForwardedAt = tallyProposedAt + 1
@@ -280,17 +298,19 @@ arraysAt = 160
 abbrev pub freeLen : ℕ
 freeLen = arraysAt - numbersEnd
 
+-- a flag for each record that a table may have
 abbrev pub deferredLen : ℕ
-deferredLen = 64
+deferredLen = mail.recordLimit
 
 abbrev pub headingLen : ℕ
-headingLen = 80
+headingLen = headingMax
 
 abbrev pub lineLen : ℕ
-lineLen = 256
+lineLen = lines.lineLimit
 
+-- the partner's proposals
 abbrev pub blockLen : ℕ
-blockLen = 360
+blockLen = turns.blockLimit * proposalLen
 
 abbrev pub deferredAt : ℕ
 deferredAt = 0

@@ -14,6 +14,13 @@ pub const HEADING_MAX: u8 = 80;
 
 pub const BODY_MAX: u16 = 65535;
 
+// A number that is no byte lies in two, four or eight, the lowest first.
+pub const TWO_BYTES: u8 = 2;
+
+pub const FOUR_BYTES: u8 = 4;
+
+pub const EIGHT_BYTES: u8 = 8;
+
 // The fields of a message, from where they begin; a proposal and an inbox entry begin with them, a record after its states. A field is a byte for its length, then room for the longest.
 pub const FORM: u8 = 0;
 
@@ -32,7 +39,7 @@ pub const FIELDS: u8 = BID + 1 + BID_MAX;
 // A proposal in session memory: the fields, the announced size.
 pub const PROPOSAL_SIZE: u8 = FIELDS;
 
-pub const PROPOSAL: u8 = PROPOSAL_SIZE + 4;
+pub const PROPOSAL: u8 = PROPOSAL_SIZE + FOUR_BYTES;
 
 // "one state a partner, 0 to 7"
 pub const PARTNERS: u8 = 8;
@@ -61,17 +68,17 @@ pub const RECORD_SIZE_FIELD: u8 = RECORD_FIELDS + PROPOSAL_SIZE;
 
 pub const RECORD_TITLE: u8 = RECORD_FIELDS + PROPOSAL;
 
-pub const RECORD_TITLE_LEN: u8 = RECORD_TITLE + 4;
+pub const RECORD_TITLE_LEN: u8 = RECORD_TITLE + FOUR_BYTES;
 
 pub const RECORD_NAME: u8 = RECORD_TITLE_LEN + 1;
 
-pub const RECORD_NAME_LEN: u8 = RECORD_NAME + 4;
+pub const RECORD_NAME_LEN: u8 = RECORD_NAME + FOUR_BYTES;
 
 pub const RECORD_BODY: u8 = RECORD_NAME_LEN + 1;
 
-pub const RECORD_BODY_LEN: u8 = RECORD_BODY + 4;
+pub const RECORD_BODY_LEN: u8 = RECORD_BODY + FOUR_BYTES;
 
-pub const RECORD: u8 = RECORD_BODY_LEN + 2;
+pub const RECORD: u8 = RECORD_BODY_LEN + TWO_BYTES;
 
 // A known BID: a field.
 pub const KNOWN: u8 = 1 + BID_MAX;
@@ -81,76 +88,79 @@ pub const ENTRY_HEADING: u8 = FIELDS;
 
 pub const ENTRY_BODY: u8 = ENTRY_HEADING + 1 + HEADING_MAX;
 
-pub const ENTRY_BODY_LEN: u8 = ENTRY_BODY + 4;
+pub const ENTRY_BODY_LEN: u8 = ENTRY_BODY + FOUR_BYTES;
 
-pub const ENTRY: u8 = ENTRY_BODY_LEN + 2;
+pub const ENTRY: u8 = ENTRY_BODY_LEN + TWO_BYTES;
 
-// Session memory: the mark, the sizes that open kept.
+// Session memory: the mark's four letters, the sizes that open kept.
 pub const MARK: usize = 0;
 
-pub const SIZE_TABLE: usize = 4;
+pub const SIZE_TABLE: usize = MARK + FOUR_BYTES as usize;
 
-pub const SIZE_TITLES: usize = 12;
+pub const SIZE_TITLES: usize = SIZE_TABLE + EIGHT_BYTES as usize;
 
-pub const SIZE_NAMES: usize = 20;
+pub const SIZE_NAMES: usize = SIZE_TITLES + EIGHT_BYTES as usize;
 
-pub const SIZE_BODIES: usize = 28;
+pub const SIZE_BODIES: usize = SIZE_NAMES + EIGHT_BYTES as usize;
 
-pub const SIZE_KNOWN: usize = 36;
+pub const SIZE_KNOWN: usize = SIZE_BODIES + EIGHT_BYTES as usize;
 
-pub const SIZE_INBOX: usize = 44;
+pub const SIZE_INBOX: usize = SIZE_KNOWN + EIGHT_BYTES as usize;
 
-pub const SIZE_STORE: usize = 52;
+pub const SIZE_STORE: usize = SIZE_INBOX + EIGHT_BYTES as usize;
+
+// A list of up to five: a byte for how many, then room for five.
+pub const FIVE: usize = 1 + phase::BLOCK_LIMIT as usize;
 
 // Session memory: the numbers of the state. Bytes between NUMBERS_END and ARRAYS are free: no call reads or writes them.
-pub const NUMBERS: usize = 60;
+pub const NUMBERS: usize = SIZE_STORE + EIGHT_BYTES as usize;
 
-pub const PHASE: usize = 60;
+pub const PHASE: usize = NUMBERS;
 
-pub const FF: usize = 61;
+pub const FF: usize = PHASE + 1;
 
-pub const FRAMED: usize = 62;
+pub const FRAMED: usize = FF + 1;
 
-pub const AFTER_CR: usize = 63;
+pub const AFTER_CR: usize = FRAMED + 1;
 
-pub const FIRST: usize = 64;
+pub const FIRST: usize = AFTER_CR + 1;
 
-pub const THEN: usize = 65;
+pub const THEN: usize = FIRST + 1;
 
-pub const KEPT: usize = 66;
+pub const KEPT: usize = THEN + 1;
 
-pub const CURRENT: usize = 67;
+pub const CURRENT: usize = KEPT + 1;
 
-pub const PROPOSALS: usize = 68;
+pub const PROPOSALS: usize = CURRENT + 1;
 
-pub const OURS: usize = 69;
+pub const OURS: usize = PROPOSALS + 1;
 
-pub const SENDING: usize = 75;
+pub const SENDING: usize = OURS + FIVE;
 
-pub const SIGNS: usize = 81;
+pub const SIGNS: usize = SENDING + FIVE;
 
-pub const PLACE: usize = 87;
+pub const PLACE: usize = SIGNS + FIVE;
 
-pub const LENGTH: usize = 88;
+pub const LENGTH: usize = PLACE + 1;
 
-pub const HEAD: usize = 89;
+pub const HEAD: usize = LENGTH + 1;
 
-pub const OFFSET: usize = 90;
+pub const OFFSET: usize = HEAD + 1;
 
-pub const SUM: usize = 91;
+pub const SUM: usize = OFFSET + 1;
 
-pub const LINE_LENGTH: usize = 92;
+pub const LINE_LENGTH: usize = SUM + 1;
 
-pub const LEFT: usize = 94;
+pub const LEFT: usize = LINE_LENGTH + TWO_BYTES as usize;
 
-pub const BODY: usize = 96;
+pub const BODY: usize = LEFT + TWO_BYTES as usize;
 
-pub const POS: usize = 100;
+pub const POS: usize = BODY + FOUR_BYTES as usize;
 
-pub const USED: usize = 108;
+pub const USED: usize = POS + EIGHT_BYTES as usize;
 
 // The tail of the numbers: a number that comes later takes the next bytes here, and none of those before it moves.
-pub const TAIL: usize = 116;
+pub const TAIL: usize = USED + EIGHT_BYTES as usize;
 
 pub const BLOCK_SUM: usize = TAIL;
 
@@ -163,7 +173,7 @@ pub const TALLY_WAITING: usize = PARTNER + 1;
 
 pub const TALLY_SIZES: usize = TALLY_WAITING + 1;
 
-pub const TALLY_PROPOSED: usize = TALLY_SIZES + 4;
+pub const TALLY_PROPOSED: usize = TALLY_SIZES + FOUR_BYTES as usize;
 
 pub const TALLY_FORWARDED: usize = TALLY_PROPOSED + 1;
 
@@ -182,13 +192,16 @@ pub const ARRAYS: usize = 160;
 
 pub const FREE: usize = ARRAYS - NUMBERS_END;
 
+// A flag for each record that a table may have.
 pub const DEFERRED_LENGTH: usize = 64;
 
-pub const HEADING_LENGTH: usize = 80;
+pub const HEADING_LENGTH: usize = HEADING_MAX as usize;
 
+// The longest line.
 pub const LINE_ROOM: usize = 256;
 
-pub const BLOCK_LENGTH: usize = 360;
+// The partner's proposals.
+pub const BLOCK_LENGTH: usize = phase::BLOCK_LIMIT as usize * PROPOSAL as usize;
 
 pub const DEFERRED: usize = 0;
 

@@ -8,6 +8,23 @@ const CAPTURE: i32 = 0;
 
 const LINK: i32 = 1;
 
+// A read takes so many bytes at most.
+const PORTION: usize = 256;
+
+// "an inbox of 64 places and 32 KiB": so many entries, and their store.
+const SESSION: usize = places::SESSION;
+
+const LENT_PLACES: usize = 64;
+
+const INBOX: usize = LENT_PLACES * places::ENTRY as usize;
+
+const LENT_BYTES: usize = 32768;
+
+// After open or a byte never more bytes than these wait, and the last line is no longer (crates/replayed).
+const MOST_WAITING: usize = 32;
+
+const OUT: usize = MOST_WAITING * PORTION;
+
 // The first n bytes of out, to standard output.
 fn send(out: &[u8], n: usize) {
     io::write_all(LINK, part::part(out, 0, n));
@@ -15,7 +32,7 @@ fn send(out: &[u8], n: usize) {
 
 // One read of standard input, played, and what our node sends, written. At the end of the input it is over for us.
 fn turn(session: &mut [u8], inbox: &mut [u8], store: &mut [u8], out: &mut [u8]) -> Played {
-    let mut portion = [0u8; 256];
+    let mut portion = [0u8; PORTION];
     let got = libc::read(CAPTURE, &mut portion);
     if got <= 0 {
         return Played {
@@ -56,18 +73,17 @@ fn replay(session: &mut [u8], inbox: &mut [u8], store: &mut [u8], out: &mut [u8]
 
 // The last line.
 fn tell(n: u8) {
-    let mut line = [0u8; 32];
+    let mut line = [0u8; MOST_WAITING];
     let c = refusal_line::write_refusal(n, &mut line, Cursor { at: 0, skip: 0 });
     send(&line, c.at);
 }
 
-// "an inbox of 64 places and 32 KiB": 64 entries of places::ENTRY bytes, and their store. The buffer has 32 bytes for each byte of a portion:
-// after one byte never more wait (crates/replayed).
+// The memory that is lent, and a buffer with room for what each byte of a portion brings.
 fn main() {
-    let mut session = [0u8; 1024];
-    let mut inbox = [0u8; 9920];
-    let mut store = [0u8; 32768];
-    let mut out = [0u8; 8192];
+    let mut session = [0u8; SESSION];
+    let mut inbox = [0u8; INBOX];
+    let mut store = [0u8; LENT_BYTES];
+    let mut out = [0u8; OUT];
     let n = replay(&mut session, &mut inbox, &mut store, &mut out);
     tell(n);
 }

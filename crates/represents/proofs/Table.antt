@@ -21,7 +21,7 @@ use Rattle.marking.proofs.States.{whole-set, states-set}
 use Rattle.entries.proofs.Laws.{entries-length, entries-at}
 use Rattle.line_effect.specs.Judge.{picked, flagged}
 use Rattle.session.specs.Session.{deferring}
-use Rattle.phase.specs.Phase.{stateDeclined}
+use Rattle.phase.specs.Phase.{stateDeclined, wasDeferred}
 
 -- ---------------------------------------------------------------- the partner's signs
 
@@ -82,7 +82,7 @@ flags-deferred [] ss k fl = refl
 flags-deferred (i ∷ is) [] k fl = ap (λ (l : List ℕ). flagged l fl) (picked-none equalSign (i ∷ is) k refl)
 flags-deferred (i ∷ is) (accept ∷ ss) k fl = flags-deferred is ss k fl
 flags-deferred (i ∷ is) (decline ∷ ss) k fl = flags-deferred is ss k fl
-flags-deferred (i ∷ is) (defer ∷ ss) k fl = flags-deferred is ss k (set fl i 1)
+flags-deferred (i ∷ is) (defer ∷ ss) k fl = flags-deferred is ss k (set fl i wasDeferred)
 
 -- ---------------------------------------------------------------- the record at a place
 

@@ -7,7 +7,8 @@ use Prim.Native.Nat.{ℕ, suc, _+_}
 use lib.Dec.{eqb, ltb, leb}
 use lib.ListN.{length, getD, take, drop}
 use Rattle.grammar.specs.Bytes.{Bytes, SP}
-use Rattle.grammar.specs.Fields.{isAt, readSize}
+use Rattle.grammar.specs.Fields.{isAt, readSize, smallEnd}
+use Rattle.grammar.specs.Sid.{capitalsEnd}
 use Rattle.grammar.specs.Ascii.{char}
 use Rattle.span.specs.Places.{upto}
 use Rattle.text_line.specs.TextLines.{bodyLines}
@@ -41,7 +42,7 @@ whites [] = 0
 whites (x ∷ xs) = cond (isWhite x) (suc (whites xs)) 0
 
 abbrev pub isLetter : ℕ → Bool
-isLetter b = cond (ltb b (char "A")) false (cond (ltb b (char "Z" + 1)) true (cond (ltb b (char "a")) false (ltb b (char "z" + 1))))
+isLetter b = cond (ltb b (char "A")) false (cond (ltb b capitalsEnd) true (cond (ltb b (char "a")) false (ltb b smallEnd)))
 
 -- "A `z` or `Z` after the time is GMT"
 abbrev pub isGmt : ℕ → Bool
@@ -55,7 +56,7 @@ begins a b (x ∷ y ∷ l) = eqb x a && eqb y b
 
 -- ---------------------------------------------------------------- number and mailbox
 
--- `@:` and `#:` have so many bytes.
+-- `R:`, `@:` and `#:` have so many bytes.
 abbrev pub markLength : ℕ
 markLength = 2
 
@@ -91,7 +92,7 @@ stationOf r = cond (begins (char "@") (char ":") r) (secondForm (drop markLength
 
 -- 003: STAMP is "R:" YEAR MONTH DAY "/" HOUR MINUTE, 13 bytes; a zone letter may follow.
 abbrev pub datePlace : ℕ
-datePlace = 2
+datePlace = markLength
 
 abbrev pub slashPlace : ℕ
 slashPlace = datePlace + dateLength

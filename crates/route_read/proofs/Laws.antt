@@ -26,7 +26,7 @@ use Rattle.calendar.specs.declared.Time.{Time}
 use Rattle.date_digits.specs.Meaning.{readDateIs, readTimeIs}
 use Rattle.date_digits.specs.declared.ReadDate.{ReadDate}
 use Rattle.date_digits.specs.declared.ReadTime.{ReadTime}
-use Rattle.route.specs.Routes.{begins, isWhite, whites, markEnd, station, firstForm, secondForm, stationOf, isGmt, zoneByte, pastZone, headerOf, behindTime, isStamp, readHeader, datePlace, slashPlace, timePlace, stampLength}
+use Rattle.route.specs.Routes.{begins, isWhite, whites, markEnd, station, firstForm, secondForm, stationOf, isGmt, zoneByte, pastZone, headerOf, behindTime, isStamp, readHeader, datePlace, slashPlace, timePlace, stampLength, markLength}
 use Rattle.route_scan.proofs.Laws.{begins-fits}
 use Rattle.route_read.specs.Meaning.{Lies, stationSaid, StationLies, StationIs}
 use Rattle.route_read.specs.declared.Stated.{Stated}
@@ -56,7 +56,7 @@ mark-most [] = omega arith
 mark-most (x ∷ []) = omega arith
 mark-most (x ∷ y ∷ l) = go (begins (char "#") (char ":") (x ∷ y ∷ l)) (mark-most (y ∷ l))
   where
-    go : (b : Bool) → markEnd (y ∷ l) ≤ length (y ∷ l) → cond b 2 (suc (markEnd (y ∷ l))) ≤ length (x ∷ y ∷ l)
+    go : (b : Bool) → markEnd (y ∷ l) ≤ length (y ∷ l) → cond b markLength (suc (markEnd (y ∷ l))) ≤ length (x ∷ y ∷ l)
     go true h = omega arith
     go false h = omega arith
 
@@ -120,9 +120,9 @@ module _ (l : Bytes) (at end number stop : ℕ) (h : at ≤ length l) (e : end �
 -- ---------------------------------------------------------------- either form
 
 module _ (l : Bytes) (at : ℕ) (r : Bool) (e : r ≡ begins (char "@") (char ":") (drop at l)) where
-  pub as-second : r ≡ true → secondForm (drop (at + 2) l) ≡ stationOf (drop at l)
+  pub as-second : r ≡ true → secondForm (drop (at + markLength) l) ≡ stationOf (drop at l)
   unfolding stationOf
-  as-second f = rw (sym e ∙ f, drop-to l 2 at (at + 2) refl)
+  as-second f = rw (sym e ∙ f, drop-to l markLength at (at + markLength) refl)
 
   pub as-first : r ≡ false → firstForm (drop at l) ≡ stationOf (drop at l)
   unfolding stationOf

@@ -6,6 +6,7 @@ use date_digits::ReadTime;
 use date_digits::read_date;
 use date_digits::read_time;
 use field::is_at;
+use route_scan::MARK_LENGTH;
 use route_scan::begins_at;
 use route_scan::behind_mark;
 use route_scan::byte_at;
@@ -26,16 +27,13 @@ ghost use Rattle.route.specs.Routes.{station, firstForm, secondForm, stationOf,
 ghost use Rattle.route_read.specs.Meaning.{Lies, StationIs, RouteIs};
 
 // A time stamp without its zone, 003's STAMP: `R:`, the date, a slash, the time.
-const DATE: usize = 2;
+const DATE: usize = MARK_LENGTH;
 
 const SLASH: usize = DATE + date_digits::DATE_LENGTH;
 
 const TIME: usize = SLASH + 1;
 
 const STAMP_LENGTH: usize = TIME + date_digits::TIME_LENGTH;
-
-// `@:`, with which the second form begins.
-const MARK_LENGTH: usize = 2;
 
 // What a header says, its mailbox by the place in the line. gmt: the zone is known, and is GMT.
 pub struct Header {

@@ -12,7 +12,7 @@ use borrow.Author.Tests.{eq-eqb, ne-eqb}
 use Rattle.grammar.specs.Bytes.{Bytes}
 use Rattle.grammar.proofs.Basics.{told, told-not}
 use Rattle.grammar.specs.Ascii.{char}
-use Rattle.route.specs.Routes.{isWhite, whites, isLetter, begins, markEnd, pastZone, stampLength}
+use Rattle.route.specs.Routes.{isWhite, whites, isLetter, begins, markEnd, pastZone, stampLength, markLength}
 
 pub past-byte : (l : Bytes) (i : ℕ) → length l ≤ i → 0 ≡ getD l i 0
 past-byte [] i h = refl
@@ -36,26 +36,26 @@ white-end l i h = rw (drop-of-length-le l {i = i} h) (omega arith)
 
 -- ---------------------------------------------------------------- two bytes
 
-two-there : (a b : ℕ) (l : Bytes) → begins a b l ≡ true → 2 ≤ length l
+two-there : (a b : ℕ) (l : Bytes) → begins a b l ≡ true → markLength ≤ length l
 two-there a b [] e = let z : _≡_ {A = ℕ} 0 1 = cc in omega arith
 two-there a b (x ∷ []) e = let z : _≡_ {A = ℕ} 0 1 = cc in omega arith
 two-there a b (x ∷ y ∷ l) e = omega arith
 
 -- two bytes lie in the line
-pub begins-fits : (l : Bytes) (i a b : ℕ) (r : Bool) → r ≡ begins a b (drop i l) → r ≡ true → i + 2 ≤ length l
+pub begins-fits : (l : Bytes) (i a b : ℕ) (r : Bool) → r ≡ begins a b (drop i l) → r ≡ true → i + markLength ≤ length l
 begins-fits l i a b r e f = let t = two-there a b (drop i l) (sym e ∙ f) in let n = length-drop i l in omega (arith, t, n)
 
 module _ (l : Bytes) (i a b : ℕ) where
   pub begins-past : length l ≤ i → false ≡ begins a b (drop i l)
   begins-past h = rw (drop-of-length-le l {i = i} h)
 
-  pub begins-short : i < length l → length l - i < 2 → false ≡ begins a b (drop i l)
+  pub begins-short : i < length l → length l - i < markLength → false ≡ begins a b (drop i l)
   begins-short h k = rw (drop-cons l i 0 h, drop-of-length-le l {i = suc i} (omega arith))
 
-  pub begins-not : i < length l → 2 ≤ length l - i → (getD l i 0 ≡ a → ⊥) → false ≡ begins a b (drop i l)
+  pub begins-not : i < length l → markLength ≤ length l - i → (getD l i 0 ≡ a → ⊥) → false ≡ begins a b (drop i l)
   begins-not h k n = rw (drop-cons l i 0 h, drop-cons l (suc i) 0 (omega arith), ne-eqb _ _ n)
 
-  pub begins-so : i < length l → 2 ≤ length l - i → getD l i 0 ≡ a → eqb (getD l (i + 1) 0) b ≡ begins a b (drop i l)
+  pub begins-so : i < length l → markLength ≤ length l - i → getD l i 0 ≡ a → eqb (getD l (i + 1) 0) b ≡ begins a b (drop i l)
   begins-so h k e = rw (drop-cons l i 0 h, drop-cons l (suc i) 0 (omega arith), eq-eqb _ _ e, add-one i)
 
 -- ---------------------------------------------------------------- the mark
@@ -68,7 +68,7 @@ module _ (l : Bytes) (i : ℕ) (h : i < length l) (r : Bool) (e : r ≡ begins (
   unfolding markEnd
   mark-more f = rw (drop-cons l i 0 h, there ∙ f, add-one i) (omega arith)
 
-  pub mark-stop : r ≡ true → i + 2 ≡ i + markEnd (drop i l)
+  pub mark-stop : r ≡ true → i + markLength ≡ i + markEnd (drop i l)
   unfolding markEnd
   mark-stop f = rw (drop-cons l i 0 h, there ∙ f)
 

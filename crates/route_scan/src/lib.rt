@@ -4,6 +4,9 @@ ghost use Prim.Native.Nat.{_+_};
 ghost use lib.ListN.{drop, getD};
 ghost use Rattle.route.specs.Routes.{isWhite, whites, isLetter, isGmt, begins, markEnd, pastZone};
 
+// `R:`, `@:` and `#:` have so many bytes.
+pub const MARK_LENGTH: usize = 2;
+
 // A time stamp without its zone: 003's STAMP.
 const STAMP_LENGTH: usize = 13;
 
@@ -68,7 +71,7 @@ pub fn begins_at(line: &[u8], at: usize, a: u8, b: u8) -> bool
     if line.len() <= at {
         return false;
     }
-    if line.len() - at < 2 {
+    if line.len() - at < MARK_LENGTH {
         return false;
     }
     if line[at] != a {
@@ -84,7 +87,7 @@ pub fn behind_mark(line: &[u8], at: usize) -> usize
     let mut i = at;
     while i < line.len() {
         if begins_at(line, i, b'#', b':') {
-            return i + 2;
+            return i + MARK_LENGTH;
         }
         i += 1;
     }

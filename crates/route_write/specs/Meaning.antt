@@ -3,6 +3,7 @@ use Prim.Native.Nat.{ℕ, _+_}
 use lib.ListN.{length}
 use Rattle.grammar.specs.Bytes.{Bytes}
 use Rattle.grammar.specs.Fields.{writeNum}
+use Rattle.grammar.specs.Ascii.{text}
 use Rattle.calendar.specs.Meaning.{dateIs, timeIs}
 use Rattle.calendar.specs.declared.Date.{Date}
 use Rattle.calendar.specs.declared.Time.{Time}
@@ -12,7 +13,7 @@ use Rattle.route.specs.Routes.{stampLength}
 
 -- What our line has beside its number and mailbox: the stamp with `z` and a space, `@`, CR.
 abbrev pub fixedLength : ℕ
-fixedLength = stampLength + 2 + 2
+fixedLength = stampLength + length (text "z ") + length (text "@\r")
 
 -- The bytes of our line, its CR included.
 abbrev pub lineLength : ℕ → Bytes → ℕ

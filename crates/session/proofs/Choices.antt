@@ -10,6 +10,7 @@ use lib.ListN.{length, getD}
 use Rattle.grammar.specs.Turns.{Proposal, inMode, ourBlock, blockLimit, announcedLimit}
 use Rattle.grammar.proofs.Basics.{and2}
 use Rattle.grammar.proofs.OurLines.{block-at-most-five}
+use Rattle.phase.specs.Phase.{stateWaiting, notDeferred}
 use Rattle.mail.specs.Mail.{Record, Message, recordAt}
 use Rattle.session.specs.Choices.{Shelf, wanted, candidates, sizeAt, chosen, signFor, withAccepted, answersAfter, answersTo}
 
@@ -54,7 +55,7 @@ candidate-places md states flags T (r ∷ R) i h = go (wanted md r (getD states 
         → Places md T (cond c (i ∷ candidates md states flags (suc i) R) (candidates md states flags (suc i) R))
     go true e k = (
       (tail-here T r R i h) .0,
-      ap (λ (x : Record). inMode md (x .form)) ((tail-here T r R i h) .1) ∙ (and2 (inMode md (r .form)) (eqb (getD states i 0) 0 && eqb (getD flags i 0) 0) e) .0,
+      ap (λ (x : Record). inMode md (x .form)) ((tail-here T r R i h) .1) ∙ (and2 (inMode md (r .form)) (eqb (getD states i 0) stateWaiting && eqb (getD flags i 0) notDeferred) e) .0,
       k,
     )
     go false e k = k

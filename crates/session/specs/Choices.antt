@@ -9,7 +9,7 @@ use Rattle.grammar.specs.Fields.{sameBid, bodyLimit}
 use Rattle.grammar.specs.Turns.{Proposal, inMode, ourBlock}
 use Rattle.grammar.specs.Answers.{Sign, accept, decline, defer}
 use Rattle.mail.specs.Mail.{Record, Message, recordAt}
-use Rattle.phase.specs.Phase.{stateWaiting}
+use Rattle.phase.specs.Phase.{stateWaiting, notDeferred}
 
 -- What a session is opened with beside its role: the table's records, the known BIDs, how many inbox places and store bytes there are.
 pub record Shelf : Type 0 where
@@ -23,9 +23,9 @@ shelfWith table known places bytes = record { table = table; known = known; plac
 
 -- ---------------------------------------------------------------- our block
 
--- "waiting records .. form 0 in plain mode, 1 and 2 in framed mode, none deferred in this session"; flags: 1 where deferred
+-- "waiting records .. form 0 in plain mode, 1 and 2 in framed mode, none deferred in this session"
 abbrev pub wanted : Bool → Record → ℕ → ℕ → Bool
-wanted framed r state flag = inMode framed (r .form) && (eqb state stateWaiting && eqb flag 0)
+wanted framed r state flag = inMode framed (r .form) && (eqb state stateWaiting && eqb flag notDeferred)
 
 -- "in table order": the places of the wanted records, from place i on
 abbrev pub candidates : Bool → List ℕ → List ℕ → ℕ → List Record → List ℕ

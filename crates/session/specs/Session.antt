@@ -18,6 +18,7 @@ use Rattle.grammar.specs.Errors.{errorText}
 use Rattle.grammar.specs.Answers.{Sign, accept, decline, defer, readFs, fsNumber, fsLine, Level, level0}
 use Rattle.grammar.specs.Scan.{Scan, Scanned, goes, got, malformed, wrongSum, noRoom, scanFrom, scanByte, scannedNumber}
 use Rattle.grammar.specs.Transfers.{TransferKind, plainKind, framedKind, kindOf, sumRight}
+use Rattle.phase.specs.Phase.{notDeferred, wasDeferred}
 use Rattle.mail.specs.Mail.{Message, messageOf, proposalOf, recordAt, turnText, transfersText, accepted, marked, declined, recordLimit}
 use Rattle.mail.specs.Tally.{Counts, noCounts, moreProposed, moreForwarded, moreDeclined, moreDeferred, declinedOnes, deferredOnes}
 use Rattle.session.specs.Choices.{Shelf, chosen, answersTo, bodyBytes}
@@ -50,7 +51,7 @@ pub record Terms : Type 0 where
   pub level : Level
 
 -- The mode; what else is settled; each record's state; the places of the records that the partner accepted and whose state is not set yet; the messages kept;
--- a flag for each record that a table may have, 1 where a record was deferred in this session; the tally sheet.
+-- a flag for each record that a table may have, `wasDeferred` where it was deferred in this session; the tally sheet.
 pub record Memory : Type 0 where
   pub framed : Bool
   pub terms : Terms
@@ -174,7 +175,7 @@ deferring [] ss fl = fl
 deferring (i ∷ is) [] fl = fl
 deferring (i ∷ is) (accept ∷ ss) fl = deferring is ss fl
 deferring (i ∷ is) (decline ∷ ss) fl = deferring is ss fl
-deferring (i ∷ is) (defer ∷ ss) fl = deferring is ss (set fl i 1)
+deferring (i ∷ is) (defer ∷ ss) fl = deferring is ss (set fl i wasDeferred)
 
 -- "deferred at the FS line" (02, Q-3), and declined too: the records at these places, by the answers to them
 abbrev pub answerCounts : List ℕ → List Sign → Counts → Counts
@@ -316,4 +317,4 @@ greeting false = withCr (fixedText ourSid) ++ withCr (fixedText ourPrompt)
 abbrev pub opened : Bool → List ℕ → Session
 opened caller states =
     between (aLine (awaitsSid caller)) false (greeting caller)
-    (record { framed = false; terms = record { level = level0 }; states = states; sending = []; inbox = []; deferred = replicate recordLimit 0; counts = noCounts })
+    (record { framed = false; terms = record { level = level0 }; states = states; sending = []; inbox = []; deferred = replicate recordLimit notDeferred; counts = noCounts })

@@ -15,7 +15,7 @@ use Rattle.grammar.proofs.Basics.{octet}
 use Rattle.grammar.specs.Turns.{blockLimit}
 use Rattle.buffer.specs.Put.{putBytes}
 use Rattle.buffer.proofs.Laws.{put-length}
-use Rattle.places.specs.Places.{markAt, sizeTable, sizeTitles, sizeNames, sizeBodies, sizeKnown, sizeInbox, sizeStore, numbersStart, oursAt, sendingAt, signsAt, lineLengthAt, leftAt, bodyAt, posAt, usedAt, tallySizesAt, numbersEnd, numbersLen, arraysAt, freeLen, deferredLen, headingLen, lineLen, blockLen, deferredAt, headingAt, lineAt, blockAt, arraysLen, arraysEnd, sessionLen, phaseAt, ffAt, currentAt, proposalsAt, blockSumAt, firstAt, thenAt, framedAt, levelAt, partnerAt, keptAt, placeAt, lengthAt, headAt, offsetAt, sumAt, afterCrAt, tallyWaitingAt, tallyProposedAt, tallyForwardedAt, tallyDeclinedAt, tallyDeferredAt, tallyUnsettledAt}
+use Rattle.places.specs.Places.{markAt, sizeTable, sizeTitles, sizeNames, sizeBodies, sizeKnown, sizeInbox, sizeStore, numbersStart, oursAt, sendingAt, signsAt, lineLengthAt, leftAt, bodyAt, posAt, usedAt, tallySizesAt, numbersEnd, numbersLen, arraysAt, freeLen, deferredLen, headingLen, lineLen, blockLen, deferredAt, headingAt, lineAt, blockAt, arraysLen, arraysEnd, sessionLen, phaseAt, ffAt, currentAt, proposalsAt, blockSumAt, firstAt, thenAt, framedAt, levelAt, partnerAt, keptAt, placeAt, lengthAt, headAt, offsetAt, sumAt, afterCrAt, tallyWaitingAt, tallyProposedAt, tallyForwardedAt, tallyDeclinedAt, tallyDeferredAt, tallyUnsettledAt, eightBytes}
 use Rattle.layout.specs.Layout.{byteAt, le8At}
 use Rattle.layout.proofs.Places.{byte-skip, le2-skip, le4-skip, le8-skip, part-skip, part-in, part-front, part-here, part-before, part-after, put-fits, le8-kept}
 use Rattle.layout.proofs.Laws.{le2-here, le4-here, le8-here, le2-small, le4-small, le8-small, octets}
@@ -293,7 +293,7 @@ pub save-sizes-kept : (sm : Bytes) (s : Session) → numbersStart ≤ length sm 
 unfolding loadSizes
 save-sizes-kept sm s h =
     let p = save-front sm s h in
-    let e : (b : ℕ) → b + 8 ≤ numbersStart → le8At (saveOf sm s) b ≡ le8At sm b =
+    let e : (b : ℕ) → b + eightBytes ≤ numbersStart → le8At (saveOf sm s) b ≡ le8At sm b =
     λ b k. ap (λ (l : Bytes). le8At l b) (p .1) ∙ le8-kept numbersStart sm (p .0) h b k in
     same-sizes (e sizeTable (omega arith)) (e sizeTitles (omega arith)) (e sizeNames (omega arith)) (e sizeBodies (omega arith)) (e sizeKnown (omega arith)) (e sizeInbox (omega arith)) (e sizeStore (omega arith))
 

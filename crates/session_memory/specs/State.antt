@@ -13,7 +13,7 @@ use Rattle.grammar.specs.Answers.{level0}
 use Rattle.buffer.specs.Put.{putBytes}
 use Rattle.buffer.specs.declared.Cursor.{Cursor}
 use Rattle.places.specs.Places.{markAt, sizeTable, sizeTitles, sizeNames, sizeBodies, sizeKnown, sizeInbox, sizeStore, numbersStart, phaseAt, ffAt, framedAt, afterCrAt, firstAt, thenAt, keptAt, currentAt, proposalsAt, oursAt, sendingAt, signsAt, placeAt, lengthAt, headAt, offsetAt, sumAt, lineLengthAt, leftAt, bodyAt, posAt, usedAt, blockSumAt, levelAt, partnerAt, tallyWaitingAt, tallySizesAt, tallyProposedAt, tallyForwardedAt, tallyDeclinedAt, tallyDeferredAt, tallyUnsettledAt, arraysAt, deferredLen, headingLen, lineLen, blockLen, deferredAt, headingAt, lineAt, blockAt, sessionLen}
-use Rattle.phase.specs.Phase.{pieceNone, pieceSidAndPrompt}
+use Rattle.phase.specs.Phase.{pieceNone, pieceSidAndPrompt, notDeferred}
 use Rattle.layout.specs.Layout.{byteAt, le2At, le4At, le8At, le2, le4, le8}
 use Rattle.transfer_step.specs.Step.{startOf}
 use Rattle.session_memory.specs.declared.Five.{Five}
@@ -183,7 +183,7 @@ freshOf caller partner tally =
     record {
       now = record { phase = flag caller; ff = false; current = 0; proposals = 0; ours = noFive; sum = 0; block = replicate blockLen 0 };
       say = record { first = cond caller pieceNone pieceSidAndPrompt; then = pieceNone; pos = 0; signs = noFive };
-      keep = record { framed = false; terms = termsWith partner; kept = 0; used = 0; sending = noFive; deferred = replicate deferredLen 0 };
+      keep = record { framed = false; terms = termsWith partner; kept = 0; used = 0; sending = noFive; deferred = replicate deferredLen notDeferred };
       reading = record { reader = startOf 0; heading = replicate headingLen 0 };
       line = record { «after_cr» = false; len = 0; bytes = replicate lineLen 0 };
       tally = tally;

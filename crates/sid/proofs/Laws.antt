@@ -11,8 +11,8 @@ use lib.ListN.{length, getD, take, drop, length-drop, drop-of-length-le}
 use lib.Seq.{drop-cons}
 use borrow.Author.Tests.{eq-eqb, ne-eqb, lt-ltb, le-ltb, ltb-true, ltb-false, not-true, not-false}
 use Rattle.grammar.specs.Bytes.{Bytes, null, every, splitAt}
-use Rattle.grammar.specs.Fields.{upper, digit}
-use Rattle.grammar.specs.Sid.{isLetter, letterPlace, noFeatures, hasFeature, withFeature, sidEnd, readLevels, readFeatures, splitLast, dataRead, authorRead, sidRead, readSid, dollarPlace}
+use Rattle.grammar.specs.Fields.{upper, digit, smallEnd}
+use Rattle.grammar.specs.Sid.{isLetter, letterPlace, noFeatures, hasFeature, withFeature, sidEnd, readLevels, readFeatures, splitLast, dataRead, authorRead, sidRead, readSid, dollarPlace, capitalsEnd}
 use Rattle.grammar.proofs.Basics.{to-end}
 use Rattle.byte.specs.declared.Class.{Class}
 use Rattle.byte.specs.Classes.{classOf}
@@ -20,21 +20,21 @@ use Rattle.span.specs.Places.{upto}
 use Rattle.span.proofs.Laws.{split-upto}
 use Rattle.sid.specs.Meaning.{lastBy}
 use Rattle.grammar.specs.Bids.{toSmall}
-use Rattle.grammar.specs.Ascii.{char}
+use Rattle.grammar.specs.Ascii.{char, text}
 
 -- ---------------------------------------------------------------- the features
 
-pub letter-is : (x : ℕ) → isLetter x ≡ true → (char "A" ≤ upper x) × (upper x < char "Z" + 1)
+pub letter-is : (x : ℕ) → isLetter x ≡ true → (char "A" ≤ upper x) × (upper x < capitalsEnd)
 letter-is x e = go (ltb (upper x) (char "A")) refl e
   where
-    go : (c : Bool) → ltb (upper x) (char "A") ≡ c → cond c false (ltb (upper x) (char "Z" + 1)) ≡ true → (char "A" ≤ upper x) × (upper x < char "Z" + 1)
+    go : (c : Bool) → ltb (upper x) (char "A") ≡ c → cond c false (ltb (upper x) capitalsEnd) ≡ true → (char "A" ≤ upper x) × (upper x < capitalsEnd)
     go true q k = let z : _≡_ {A = ℕ} 0 1 = cc in (omega arith, omega arith)
-    go false q k = (ltb-false (upper x) (char "A") q, ltb-true (upper x) (char "Z" + 1) k)
+    go false q k = (ltb-false (upper x) (char "A") q, ltb-true (upper x) capitalsEnd k)
 
 -- the end of a SID, by its length and then its bytes
 pub end-by : (fs l : Bytes) → sidEnd fs l
     ≡ cond (eqb (length l) 1) (cond (eqb (getD l 0 0) (char "]")) (some fs) none)
-    (cond (eqb (length l) 2) (cond (eqb (getD l 0 0) (char "$")) (cond (eqb (getD l 1 0) (char "]")) (some (withFeature dollarPlace 0 fs)) none) none) none)
+    (cond (eqb (length l) (length (text "$]"))) (cond (eqb (getD l 0 0) (char "$")) (cond (eqb (getD l 1 0) (char "]")) (some (withFeature dollarPlace 0 fs)) none) none) none)
 end-by fs [] = refl
 end-by fs (x ∷ []) = go (eqb x (char "]")) (eqb x (char "$"))
   where
@@ -51,7 +51,7 @@ end-by fs (x ∷ y ∷ []) = go (eqb x (char "]")) (eqb x (char "$")) (eqb y (ch
     go false true true = refl
     go false true false = refl
     go false false v = refl
-end-by fs (x ∷ y ∷ z ∷ l) = rw (ne-eqb (length (x ∷ y ∷ z ∷ l)) 1 (λ e. omega arith), ne-eqb (length (x ∷ y ∷ z ∷ l)) 2 (λ e. omega arith)) (go (eqb x (char "]")) (eqb x (char "$")) (eqb y (char "]")))
+end-by fs (x ∷ y ∷ z ∷ l) = rw (ne-eqb (length (x ∷ y ∷ z ∷ l)) 1 (λ e. omega arith), ne-eqb (length (x ∷ y ∷ z ∷ l)) (length (text "$]")) (λ e. omega arith)) (go (eqb x (char "]")) (eqb x (char "$")) (eqb y (char "]")))
   where
     go : (t u v : Bool) → _≡_ {A = Option (List ℕ)} (cond (t && false) (some fs) (cond (u && (v && false)) (some (withFeature dollarPlace 0 fs)) none)) none
     go true true true = refl
@@ -70,12 +70,15 @@ levels-end fs s i h = rw (to-end s i) (go (drop i s) (length-drop i s))
     go (x ∷ []) e = refl
     go (x ∷ y ∷ t) e = let z : ⊥ = omega (arith, e) in absurd z
 
+abbrev letterAndDigit : ℕ
+letterAndDigit = 2
+
 -- a letter or the end, two bytes or more left
 module _ (fs s : Bytes) (i : ℕ) (h : i + 1 < length s) (r : Bool) (l : r ≡ isLetter (getD s i 0)) where
-  next : drop (i + 1) s ≡ getD s (i + 1) 0 ∷ drop (i + 2) s
+  next : drop (i + 1) s ≡ getD s (i + 1) 0 ∷ drop (i + letterAndDigit) s
   next = rw (add-one i, add-two i) (drop-cons s (suc i) 0 (omega arith))
 
-  pair : drop i s ≡ getD s i 0 ∷ getD s (i + 1) 0 ∷ drop (i + 2) s
+  pair : drop i s ≡ getD s i 0 ∷ getD s (i + 1) 0 ∷ drop (i + letterAndDigit) s
   pair = drop-cons s i 0 (omega arith) ∙ ap (λ (t : Bytes). getD s i 0 ∷ t) (rw (← add-one i) next)
 
   pub levels-stop : not r ≡ true → sidEnd fs (take (length s - i) (drop i s)) ≡ readLevels fs (drop i s)
@@ -86,7 +89,7 @@ module _ (fs s : Bytes) (i : ℕ) (h : i + 1 < length s) (r : Bool) (l : r ≡ i
     levels-twice k = rw (pair, sym l ∙ not-false r e, ← q, sym g ∙ k)
 
     module _ (k : f ≡ false) (d : Bool) (m : d ≡ digit (getD s (i + 1) 0)) (more : Bytes) where
-      pub with-digit : d ≡ true → more ≡ withFeature p (getD s (i + 1) 0 - char "0") fs → readLevels fs (drop i s) ≡ readLevels more (drop (i + 2) s)
+      pub with-digit : d ≡ true → more ≡ withFeature p (getD s (i + 1) 0 - char "0") fs → readLevels fs (drop i s) ≡ readLevels more (drop (i + letterAndDigit) s)
       with-digit n w = rw (w, pair, sym l ∙ not-false r e, ← q, sym g ∙ k, sym m ∙ n)
 
       pub no-digit : d ≡ false → more ≡ withFeature p 0 fs → readLevels fs (drop i s) ≡ readLevels more (drop (i + 1) s)
@@ -162,14 +165,14 @@ module _ (l : Bytes) (h : ℕ) (f : h ≡ upto (char "-") l) where
 
 -- the bracket has no small letter
 bracket : (x : ℕ) → eqb (upper x) (char "[") ≡ eqb x (char "[")
-bracket x = go (ltb x (char "a")) refl (ltb x (char "z" + 1)) refl
+bracket x = go (ltb x (char "a")) refl (ltb x smallEnd) refl
   where
-    go : (t : Bool) → ltb x (char "a") ≡ t → (u : Bool) → ltb x (char "z" + 1) ≡ u → eqb (cond t x (cond u (x - toSmall) x)) (char "[") ≡ eqb x (char "[")
+    go : (t : Bool) → ltb x (char "a") ≡ t → (u : Bool) → ltb x smallEnd ≡ u → eqb (cond t x (cond u (x - toSmall) x)) (char "[") ≡ eqb x (char "[")
     go true e u k = refl
     go false e false k = refl
     go false e true k =
         let a = ltb-false x (char "a") e in
-        let b = ltb-true x (char "z" + 1) k in
+        let b = ltb-true x smallEnd k in
         rw (ne-eqb (x - toSmall) (char "[") (λ z. omega arith), ne-eqb x (char "[") (λ z. omega arith))
 
 pub sid-empty : (l : Bytes) → length l < 1 → none ≡ readSid l

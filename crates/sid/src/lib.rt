@@ -21,6 +21,13 @@ const NOT_SID: u8 = refusal::NOT_SID;
 
 const NO_FORWARDING: u8 = refusal::NO_FORWARDING;
 
+// The end of a SID, `]` or `$]`; a letter with its level.
+const END: usize = 1;
+
+const DOLLAR_END: usize = END + 1;
+
+const LETTER_AND_DIGIT: usize = 2;
+
 // What a line says as a SID: 01's number, 0 where it goes on, and the features, none where it isn't a SID.
 pub struct Sid {
     pub number: u8,
@@ -77,13 +84,13 @@ fn place_of(b: u8) -> u8
 fn read_end(s: &[u8], fs: FeatureSet) -> Sid
     ensures { λ r. ⌜ r ≡ sidOf (sidEnd (fs .levels) (now (s .entry))) ⌝ }
 {
-    if s.len() == 1 {
+    if s.len() == END {
         if s[0] == b']' {
             return valid_sid(fs);
         }
         return not_sid();
     }
-    if s.len() != 2 {
+    if s.len() != DOLLAR_END {
         return not_sid();
     }
     if s[0] != b'$' {
@@ -113,7 +120,7 @@ fn read_levels(s: &[u8]) -> Sid
         let d = s[i + 1];
         if digit_byte(d) {
             fs = fs.with(p, d - b'0');
-            i += 2;
+            i += LETTER_AND_DIGIT;
             continue;
         }
         fs = fs.with(p, 0);

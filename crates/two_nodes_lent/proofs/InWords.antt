@@ -19,7 +19,7 @@ use Rattle.demand2.proofs.OurAnswers.{among-in}
 use Rattle.two_nodes.specs.Fates.{messageFor, Has}
 use Rattle.two_nodes.specs.Once.{hasBid, EachNew, KeptOnce}
 use Rattle.two_nodes.specs.Series.{copies}
-use Rattle.phase.specs.Phase.{stateWaiting}
+use Rattle.phase.specs.Phase.{stateWaiting, notDeferred}
 use Rattle.two_nodes.proofs.Series.{among-same, at-most-one}
 use Rattle.two_nodes_lent.specs.Boxes.{Box, records, statesAfter, Visit, NoneLeft, Parted, AllParted, Settled}
 use Rattle.two_nodes_lent.specs.InWords.{messageAt, Arrived, HasIt, inTable, inKnown, inKept, Means, flagOf, WhyWaiting, plainText, deferredNow, Waiting, Farewell, AllFarewells, NeverTwice, ClaimInWords}
@@ -76,13 +76,13 @@ has-it b E ms h = go (among b (recordBids (E .table))) (among b (E .known)) (amo
 
 waiting : (x : Box) → NoneLeft x → Waiting x
 waiting x h i k e =
-    go (recordAt (records x) i .form) (eqb (flagOf x i) 0) refl refl
+    go (recordAt (records x) i .form) (eqb (flagOf x i) notDeferred) refl refl
     (sym
-    (ap (λ (c : Bool). c && (inMode true (recordAt (records x) i .form) && (eqb (getD (statesAfter x) i 0) stateWaiting && eqb (flagOf x i) 0))) (lt-ltb i (length (records x)) k)
-    ∙ ap (λ (n : ℕ). inMode true (recordAt (records x) i .form) && (eqb n 0 && eqb (flagOf x i) 0)) e)
+    (ap (λ (c : Bool). c && (inMode true (recordAt (records x) i .form) && (eqb (getD (statesAfter x) i 0) stateWaiting && eqb (flagOf x i) notDeferred))) (lt-ltb i (length (records x)) k)
+    ∙ ap (λ (n : ℕ). inMode true (recordAt (records x) i .form) && (eqb n stateWaiting && eqb (flagOf x i) notDeferred)) e)
     ∙ h i)
   where
-    go : (f : Form) (c : Bool) → recordAt (records x) i .form ≡ f → eqb (flagOf x i) 0 ≡ c → inMode true f && c ≡ false → WhyWaiting x i
+    go : (f : Form) (c : Bool) → recordAt (records x) i .form ≡ f → eqb (flagOf x i) notDeferred ≡ c → inMode true f && c ≡ false → WhyWaiting x i
     go plain c a b n = plainText a
     go message true a b n = absurd (no-both true refl n)
     go message false a b n = deferredNow b

@@ -17,7 +17,7 @@ use Rattle.main_theorem.specs.Demand2.{shelfIn}
 use Rattle.main_theorem.specs.Demand3.{finally}
 use Rattle.two_nodes.specs.Once.{hasBid}
 use Rattle.two_nodes.specs.Series.{copies}
-use Rattle.phase.specs.Phase.{stateWaiting, stateForwarded, stateDeclined}
+use Rattle.phase.specs.Phase.{stateWaiting, stateForwarded, stateDeclined, notDeferred}
 use Rattle.two_nodes_lent.specs.Boxes.{Box, records, states, statesAfter, Visit, Chain, last, keptHere, keptThere, FqComes}
 
 abbrev pub noMessage : Message
@@ -67,7 +67,7 @@ flagOf x i = getD (loadOf (finally (x .opening) (x .calls) .sm) .keep .deferred)
 -- STILL WAITING after FQ: a plain text, which never goes between two of these nodes, or deferred by the other in this very session.
 pub data WhyWaiting (x : Box) (i : ℕ) : Type 0 where
   plainText : recordAt (records x) i .form ≡ plain → WhyWaiting x i
-  deferredNow : eqb (flagOf x i) 0 ≡ false → WhyWaiting x i
+  deferredNow : eqb (flagOf x i) notDeferred ≡ false → WhyWaiting x i
 
 abbrev pub Waiting : Box → Type 0
 Waiting x = (i : ℕ) → i < length (records x) → getD (statesAfter x) i 0 ≡ stateWaiting → WhyWaiting x i

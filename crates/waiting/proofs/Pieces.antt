@@ -18,7 +18,7 @@ use Rattle.session_memory.specs.declared.Five.{Five}
 use Rattle.session_memory.specs.Session.{Session}
 use Rattle.session_memory.proofs.Laws.{array-in, array-length}
 use Rattle.waiting.specs.Waiting.{proposalAt, firstText, blockText, sendingText, thenText, waitingOf}
-use Rattle.waiting.specs.Pieces.{joined, blockPieces, sendingPieces, thenPieces, piecesOf}
+use Rattle.waiting.specs.Pieces.{joined, blockPieces, sendingPieces, thenPieces, piecesOf, firstPiece, firstAndLine}
 use Rattle.phase.specs.Phase.{blockLimit, pieceNone, pieceFF, pieceFQ, pieceBlock}
 use Rattle.places.specs.Places.{recordLen}
 
@@ -131,21 +131,21 @@ module _ (s : Session) (table titles names bodies : Bytes) where
   after-sending n g m = rw (ne-eqb n pieceNone (λ e. omega arith), ne-eqb n pieceFF (λ e. omega arith), ne-eqb n pieceFQ (λ e. omega arith), ne-eqb n pieceBlock m)
 
 module _ (s : Session) (table titles names bodies : Bytes) where
-  pub count-none : s .say .then ≡ pieceNone → 1 ≡ length (piecesOf s table titles names bodies)
+  pub count-none : s .say .then ≡ pieceNone → firstPiece ≡ length (piecesOf s table titles names bodies)
   unfolding piecesOf thenPieces
   count-none e = rw (eq-eqb (s .say .then) pieceNone e)
 
-  pub count-fixed : (s .say .then ≡ pieceNone → ⊥) → s .say .then < pieceBlock → 2 ≡ length (piecesOf s table titles names bodies)
+  pub count-fixed : (s .say .then ≡ pieceNone → ⊥) → s .say .then < pieceBlock → firstAndLine ≡ length (piecesOf s table titles names bodies)
   unfolding piecesOf
   count-fixed n h = omega (arith, after-fixed s table titles names bodies (s .say .then) n h)
 
-  pub count-block : s .say .then ≡ pieceBlock → {n : ℕ} → n ≡ min blockLimit (s .now .ours .count) → length (s .now .ours .items) ≡ blockLimit → n + 2 ≡ length (piecesOf s table titles names bodies)
+  pub count-block : s .say .then ≡ pieceBlock → {n : ℕ} → n ≡ min blockLimit (s .now .ours .count) → length (s .now .ours .items) ≡ blockLimit → n + firstAndLine ≡ length (piecesOf s table titles names bodies)
   unfolding piecesOf
   count-block e {n} q h =
       omega (arith, ap length (after-block s table titles names bodies (s .say .then) e), block-count table (held (s .now .ours)), held-length (s .now .ours) n q h)
 
   pub count-sending : pieceBlock ≤ s .say .then → (s .say .then ≡ pieceBlock → ⊥) → {n : ℕ} → n ≡ min blockLimit (s .keep .sending .count) → length (s .keep .sending .items) ≡ blockLimit
-      → n + 1 ≡ length (piecesOf s table titles names bodies)
+      → n + firstPiece ≡ length (piecesOf s table titles names bodies)
   unfolding piecesOf
   count-sending g m {n} q h =
       omega (arith, ap length (after-sending s table titles names bodies (s .say .then) g m), sending-count table titles names bodies (held (s .keep .sending)), held-length (s .keep .sending) n q h)
@@ -218,11 +218,11 @@ module _ (s : Session) (table titles names bodies : Bytes) where
 
     pub piece-FF : s .say .then ≡ pieceFF → withCr (fixedText ourFF) ≡ getD (piecesOf s table titles names bodies) k []
     unfolding thenPieces
-    piece-FF e = sym (piece-fixed 1 (λ z. omega arith) (omega arith) e)
+    piece-FF e = sym (piece-fixed pieceFF (λ z. omega arith) (omega arith) e)
 
     pub piece-FQ : s .say .then ≡ pieceFQ → withCr (fixedText ourFQ) ≡ getD (piecesOf s table titles names bodies) k []
     unfolding thenPieces
-    piece-FQ e = sym (piece-fixed 2 (λ z. omega arith) (omega arith) e)
+    piece-FQ e = sym (piece-fixed pieceFQ (λ z. omega arith) (omega arith) e)
 
     -- a piece of our block
     pub piece-block : s .say .then ≡ pieceBlock → getD (blockPieces table (held (s .now .ours))) (k - 1) [] ≡ getD (piecesOf s table titles names bodies) k []

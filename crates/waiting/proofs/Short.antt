@@ -10,7 +10,7 @@ use lib.ListN.{length, take, drop, length-append, length-take, length-drop, List
 use lib.Seq.{getD-take, getD-drop}
 use borrow.Author.Tests.{ltb-true, ltb-false}
 use Rattle.grammar.specs.Bytes.{Bytes, byteValues}
-use Rattle.grammar.specs.Fields.{Form, plain, message, file, bodyLimit}
+use Rattle.grammar.specs.Fields.{Form, plain, message, file, bodyLimit, decimalDigits}
 use Rattle.grammar.specs.Turns.{proposalLine, withCr}
 use Rattle.grammar.specs.Transfers.{TransferKind, plainKind, framedKind, kindOf, partOf, writeTransfer, blocksOut, dataMax}
 use Rattle.grammar.proofs.Basics.{by-cond}
@@ -18,6 +18,7 @@ use Rattle.grammar.proofs.Fields.{num-field}
 use Rattle.mail.specs.Mail.{Record, headingFor, transferOf, proposalLines, turnText}
 use Rattle.layout.specs.Layout.{byteAt, fieldIn, entryAt, titleExtent, nameExtent, bodyExtent, recordOf}
 use Rattle.layout.proofs.Laws.{title-fits, name-fits, body-fits}
+use Rattle.transfer_step.specs.Names.{blockHead}
 use Rattle.record_text.proofs.Laws.{part-short, part-octets}
 use Rattle.our_line.specs.Lines.{fsText}
 use Rattle.session_memory.specs.State.{held}
@@ -57,7 +58,7 @@ line-short : (table : Bytes) (i : ℕ) → length (withCr (proposalLine (proposa
 unfolding proposalLine
 line-short table i =
     let c = entryAt recordLen table i in
-    let d = num-field 9 (proposalAt table i .size) .most in
+    let d = num-field (decimalDigits - 1) (proposalAt table i .size) .most in
     simp length-append (omega (arith, field-short callMax recordFrom c, field-short atMax recordAtField c, field-short callMax recordTo c, field-short bidMax recordBid c))
 
 lines-short : (table : Bytes) (is : List ℕ) → length (proposalLines (map (proposalAt table) is)) ≤ lineBound * length is
@@ -65,7 +66,7 @@ lines-short table [] = omega arith
 lines-short table (i ∷ is) =
     omega (arith, length-append (withCr (proposalLine (proposalAt table i))) (proposalLines (map (proposalAt table) is)), lines-short table is, line-short table i)
 
-blocks-short : (f : ℕ) (x : Bytes) → length (blocksOut f x) ≤ 3 * length x
+blocks-short : (f : ℕ) (x : Bytes) → length (blocksOut f x) ≤ (blockHead + 1) * length x
 blocks-short zero x = omega arith
 blocks-short (suc f) [] = omega arith
 blocks-short (suc f) (b ∷ x) =

@@ -2,7 +2,7 @@
 -- `waitingOf` (proofs/Pieces).
 use mathlib.Core.Bool.{cond}
 use mathlib.Core.List.{List, [], _∷_, _++_}
-use Prim.Native.Nat.{ℕ}
+use Prim.Native.Nat.{ℕ, _+_}
 use lib.Dec.{eqb}
 use Rattle.grammar.specs.Bytes.{Bytes}
 use Rattle.grammar.specs.Turns.{fixedText, withCr, proposalLine, ourFF, ourFQ, ourEnd}
@@ -37,6 +37,13 @@ thenPieces n s table titles names bodies =
     (cond (eqb n pieceFQ) (withCr (fixedText ourFQ) ∷ [])
     (cond (eqb n pieceBlock) (blockPieces table (held (s .now .ours)))
     (sendingPieces table titles names bodies (held (s .keep .sending))))))
+
+-- The first piece is always there; so many pieces are it and `FF`, `FQ` or `F>`.
+abbrev pub firstPiece : ℕ
+firstPiece = 1
+
+abbrev pub firstAndLine : ℕ
+firstAndLine = firstPiece + 1
 
 -- ALL PIECES THAT WAIT
 unfoldable pub piecesOf : Session → Bytes → Bytes → Bytes → Bytes → List Bytes

@@ -8,6 +8,11 @@ ghost use Rattle.waiting.specs.Pieces.{piecesOf};
 ghost use Rattle.phase.specs.Phase.{blockLimit};
 ghost use Rattle.places.specs.Places.{sessionLen};
 
+// The first piece, which may be empty, is always there; and with it `FF`, `FQ` or `F>`.
+const FIRST: u8 = 1;
+
+const FIRST_AND_LINE: u8 = FIRST + 1;
+
 // How many of up to five numbers are in use.
 pub fn in_use(count: u8) -> u8
     ensures { λ r. ⌜ r ≡ min blockLimit count ⌝ }
@@ -25,13 +30,13 @@ pub fn piece_count(sm: &[u8]) -> u8
 {
     let then = sm[places::THEN];
     if then == phase::PIECE_NONE {
-        return 1;
+        return FIRST;
     }
     if then < phase::PIECE_BLOCK {
-        return 2;
+        return FIRST_AND_LINE;
     }
     if then == phase::PIECE_BLOCK {
-        return in_use(sm[places::OURS]) + 2;
+        return in_use(sm[places::OURS]) + FIRST_AND_LINE;
     }
-    in_use(sm[places::SENDING]) + 1
+    in_use(sm[places::SENDING]) + FIRST
 }

@@ -34,7 +34,7 @@ sid-numbers o e = (ap (λ (s : Sid). s .number) e, ap (λ (s : Sid). s .features
 -- ---------------------------------------------------------------- a line of a turn
 
 -- 01's number of a form that has one
-form-number : (n : ℕ) → n ≤ 2 → n ≡ formNumber (formIs n)
+form-number : (n : ℕ) → n ≤ formNumber file → n ≡ formNumber (formIs n)
 form-number zero h = refl
 form-number (suc zero) h = refl
 form-number (suc (suc zero)) h = refl

@@ -2,11 +2,12 @@
 use mathlib.Core.Path.{sym}
 use lib.Seq.{set-out}
 use borrow.Author.Needs.{needs}
+use Rattle.phase.specs.Phase.{wasDeferred}
 use Rattle.fs_effect.proofs.flag_at.Statement.{statement}
 use Rattle.fs_effect.proofs.flag_at.Tie as tie
 
 returns : tie.Need-returns
-returns c = let a = c .before .args in sym (set-out (a .deferred .now) (a .place) 1 (c .if1 .taken))
+returns c = let a = c .before .args in sym (set-out (a .deferred .now) (a .place) wasDeferred (c .if1 .taken))
 
 slice-write-deferred : tie.Need-slice-write-deferred
 slice-write-deferred c = search needs
