@@ -7,7 +7,7 @@ use native.Mathlib.Omega.{arith}
 use lib.ListN.{length, take}
 use lib.Seq.{length-take-le}
 use Rattle.grammar.specs.Bytes.{Bytes}
-use Rattle.grammar.specs.Fields.{formIs, formNumber}
+use Rattle.grammar.specs.Fields.{file, formIs, formNumber}
 use Rattle.grammar.specs.Lines.{trim}
 use Rattle.grammar.specs.Sid.{sidNumber}
 use Rattle.grammar.specs.Turns.{TurnLine}
