@@ -31,10 +31,10 @@ pub record Stays (k l : Log) : Type 0 where
 
 -- the unit that has begun with u can never be whole
 abbrev pub Hopeless : List Record → Log → Bytes → Type 0
-Hopeless T l u = (r : Bytes) (b : ℕ) → whole T (l .course .next) (u ++ r) b ≡ false
+Hopeless T l u = (r : Bytes) (b : ℕ) → whole T (l .book) (l .course .next) (u ++ r) b ≡ false
 
 longer-hopeless : (T : List Record) (l : Log) (u : Bytes) (b : ℕ) → Hopeless T l u → Hopeless T l (u ++ (b ∷ []))
-longer-hopeless T l u b h r c = ap (λ (v : Bytes). whole T (l .course .next) v c) (snoc-cons u r b) ∙ h (b ∷ r) c
+longer-hopeless T l u b h r c = ap (λ (v : Bytes). whole T (l .book) (l .course .next) v c) (snoc-cons u r b) ∙ h (b ∷ r) c
 
 -- one event; more: those after it
 hopeless-at : (T : List Record) (es : List Event) (l : Log) (a : Bool) (u : Bytes) → Hopeless T l u
@@ -47,7 +47,7 @@ hopeless-at T es l a u h more e = at e
     -- a byte of the unit
     one : (b : ℕ) (c : Bool) → Stays (fedAll T (unitByte T (withAfterCr l a) u b c) es .log) l
     one b c =
-        let w : whole T (l .course .next) u b ≡ false = ap (λ (v : Bytes). whole T (l .course .next) v b) (sym (append-nil u)) ∙ h [] b in
+        let w : whole T (l .book) (l .course .next) u b ≡ false = ap (λ (v : Bytes). whole T (l .book) (l .course .next) v b) (sym (append-nil u)) ∙ h [] b in
         rw w (more c (u ++ (b ∷ [])) (longer-hopeless T l u b h))
 
     took-at : (b : ℕ) (d o : Bool)

@@ -28,7 +28,7 @@ abbrev pub spokenByte : List Record → Book → Option (Course × Bytes) → �
 spokenByte T k none b = none
 spokenByte T k (some p) b =
     cond (isOurs (p .0 .next))
-    (cond (whole T (p .0 .next) (p .1) b) (some (ourUnit T k (p .0 .next) (p .0 .account) (p .1), [])) (some (p .0, p .1 ++ (b ∷ []))))
+    (cond (whole T k (p .0 .next) (p .1) b) (some (ourUnit T k (p .0 .next) (p .0 .account) (p .1), [])) (some (p .0, p .1 ++ (b ∷ []))))
     none
 
 unfoldable pub spoken : List Record → Book → Option (Course × Bytes) → Bytes → Option (Course × Bytes)
@@ -62,7 +62,7 @@ pub spoken-ours : (T : List Record) (k : Book) (p q : Course × Bytes) (b : ℕ)
 spoken-ours T k p q b bs e = go (isOurs (p .0 .next)) (sym (spoken-cons T k (some p) b bs) ∙ e)
   where
     go : (c : Bool)
-        → spoken T k (cond c (cond (whole T (p .0 .next) (p .1) b) (some (ourUnit T k (p .0 .next) (p .0 .account) (p .1), [])) (some (p .0, p .1 ++ (b ∷ [])))) none) bs ≡ some q
+        → spoken T k (cond c (cond (whole T k (p .0 .next) (p .1) b) (some (ourUnit T k (p .0 .next) (p .0 .account) (p .1), [])) (some (p .0, p .1 ++ (b ∷ [])))) none) bs ≡ some q
         → c ≡ true
     go true h = refl
     go false h = let z = sym (spoken-none T k bs) ∙ h in cc
@@ -252,7 +252,7 @@ pub gave-spoken : (T : List Record) (xs : Bytes) (f : Fed) (p : Course × Bytes)
     → fedAll T f (map gave xs) ≡ withSpoken f p
 gave-spoken T [] f p e = ap (withSpoken f) (spoken-alone T (f .log .book) (f .log .course, f .raw) p e)
 gave-spoken T (b ∷ xs) f p e =
-    go (isOurs n) refl (whole T n u b) (λ g. gave-spoken T xs g p) (sym (spoken-cons T (f .log .book) (some (f .log .course, u)) b xs) ∙ e)
+    go (isOurs n) refl (whole T (f .log .book) n u b) (λ g. gave-spoken T xs g p) (sym (spoken-cons T (f .log .book) (some (f .log .course, u)) b xs) ∙ e)
   where
     n : Next
     n = f .log .course .next

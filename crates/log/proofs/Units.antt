@@ -10,7 +10,7 @@ use lib.Dec.{eqb}
 use lib.ListN.{length}
 use Rattle.grammar.specs.Bytes.{Bytes, CR, LF, null, isSome}
 use Rattle.grammar.specs.Turns.{Proposal, withCr}
-use Rattle.grammar.specs.Transfers.{TransferKind, kindOf, Content, Parsed, parse, valid, readTransfer}
+use Rattle.grammar.specs.Transfers.{TransferKind, Content, Parsed, parse, valid, readTransfer}
 use Rattle.grammar.proofs.Basics.{Lacks, snoc-cons, and-false}
 use Rattle.grammar.proofs.Refusal.{no-longer}
 use Rattle.mail.specs.Mail.{Record, Message, recordAt, transferOf}
@@ -52,16 +52,16 @@ one-more T l g n outOfTurn h = h
 one-more T l g n (unit u b a rest) h = let k = h .1 in (h .0, omega arith)
 
 cut-fed : (T : List Record) (l : Log) (es : List Event) (a : Bool) (u : Bytes)
-    → CutFed T l (fedAll T (within l a u) es) (length es) (cutUnit T (l .course .next) a u es)
+    → CutFed T l (fedAll T (within l a u) es) (length es) (cutUnit T (l .book) (l .course .next) a u es)
 cut-fed T l [] a u = (refl, refl)
 cut-fed T l (took b ∷ es) a u =
-    go (a && eqb b LF) (isOurs n) (whole T n u b) (cut-fed T l es false u) (cut-fed T l es false (u ++ (b ∷ [])))
+    go (a && eqb b LF) (isOurs n) (whole T (l .book) n u b) (cut-fed T l es false u) (cut-fed T l es false (u ++ (b ∷ [])))
   where
     n : Next
     n = l .course .next
 
-    go : (c d w : Bool) → CutFed T l (fedAll T (within l false u) es) (length es) (cutUnit T n false u es)
-        → CutFed T l (fedAll T (within l false (u ++ (b ∷ []))) es) (length es) (cutUnit T n false (u ++ (b ∷ [])) es)
+    go : (c d w : Bool) → CutFed T l (fedAll T (within l false u) es) (length es) (cutUnit T (l .book) n false u es)
+        → CutFed T l (fedAll T (within l false (u ++ (b ∷ []))) es) (length es) (cutUnit T (l .book) n false (u ++ (b ∷ [])) es)
         → CutFed T l
         (fedAll T
         (cond c (within l false u)
@@ -69,25 +69,25 @@ cut-fed T l (took b ∷ es) a u =
         (cond w (record { log = applied T (withAfterCr l a) u b; raw = [] }) (within l false (u ++ (b ∷ []))))))
         es)
         (suc (length es))
-        (cond c (cutUnit T n false u es) (cond d outOfTurn (cond w (unit u b a es) (cutUnit T n false (u ++ (b ∷ [])) es))))
-    go true d w h k = one-more T l (fedAll T (within l false u) es) (length es) (cutUnit T n false u es) h
+        (cond c (cutUnit T (l .book) n false u es) (cond d outOfTurn (cond w (unit u b a es) (cutUnit T (l .book) n false (u ++ (b ∷ [])) es))))
+    go true d w h k = one-more T l (fedAll T (within l false u) es) (length es) (cutUnit T (l .book) n false u es) h
     go false true w h k = ended-stays T es l a []
     go false false true h k = (refl, omega arith)
-    go false false false h k = one-more T l (fedAll T (within l false (u ++ (b ∷ []))) es) (length es) (cutUnit T n false (u ++ (b ∷ [])) es) k
-cut-fed T l (gave b ∷ es) a u = go (isOurs n) (whole T n u b) (cut-fed T l es a (u ++ (b ∷ [])))
+    go false false false h k = one-more T l (fedAll T (within l false (u ++ (b ∷ []))) es) (length es) (cutUnit T (l .book) n false (u ++ (b ∷ [])) es) k
+cut-fed T l (gave b ∷ es) a u = go (isOurs n) (whole T (l .book) n u b) (cut-fed T l es a (u ++ (b ∷ [])))
   where
     n : Next
     n = l .course .next
 
-    go : (d w : Bool) → CutFed T l (fedAll T (within l a (u ++ (b ∷ []))) es) (length es) (cutUnit T n a (u ++ (b ∷ [])) es)
+    go : (d w : Bool) → CutFed T l (fedAll T (within l a (u ++ (b ∷ []))) es) (length es) (cutUnit T (l .book) n a (u ++ (b ∷ [])) es)
         → CutFed T l
         (fedAll T
         (cond d (cond w (record { log = applied T (withAfterCr l a) u b; raw = [] }) (within l a (u ++ (b ∷ [])))) (outOfOrder (within l a u)))
         es)
         (suc (length es))
-        (cond d (cond w (unit u b a es) (cutUnit T n a (u ++ (b ∷ [])) es)) outOfTurn)
+        (cond d (cond w (unit u b a es) (cutUnit T (l .book) n a (u ++ (b ∷ [])) es)) outOfTurn)
     go true true h = (refl, omega arith)
-    go true false h = one-more T l (fedAll T (within l a (u ++ (b ∷ []))) es) (length es) (cutUnit T n a (u ++ (b ∷ [])) es) h
+    go true false h = one-more T l (fedAll T (within l a (u ++ (b ∷ []))) es) (length es) (cutUnit T (l .book) n a (u ++ (b ∷ [])) es) h
     go false w h = ended-stays T es l a []
 
 -- so many units as there are events are enough
@@ -95,7 +95,7 @@ units-fed : (T : List Record) (n : ℕ) (es : List Event) (l : Log) → length e
 units-fed T zero [] l h = (refl, refl)
 units-fed T zero (e ∷ es) l h = absurd (omega arith)
 units-fed T (suc n) es l h =
-    go (cutUnit T (l .course .next) (l .afterCr) [] es) (cut-fed T l es (l .afterCr) []) (λ rest m. units-fed T n rest m)
+    go (cutUnit T (l .book) (l .course .next) (l .afterCr) [] es) (cut-fed T l es (l .afterCr) []) (λ rest m. units-fed T n rest m)
   where
     g : Fed
     g = fedAll T (record { log = l; raw = [] }) es
@@ -140,9 +140,9 @@ abbrev pub NoLf : Log → Type 0
 NoLf l = l .afterCr && not (isOurs (l .course .next)) ≡ false
 
 -- no byte of these, after u, makes the unit whole
-abbrev pub NotYet : List Record → Next → Bytes → Bytes → Type 0
-NotYet T n u [] = Unit {0}
-NotYet T n u (b ∷ bs) = (whole T n u b ≡ false) × NotYet T n (u ++ (b ∷ [])) bs
+abbrev pub NotYet : List Record → Book → Next → Bytes → Bytes → Type 0
+NotYet T k n u [] = Unit {0}
+NotYet T k n u (b ∷ bs) = (whole T k n u b ≡ false) × NotYet T k n (u ++ (b ∷ [])) bs
 
 -- one byte of the side whose unit is next
 unit-byte : (T : List Record) (l : Log) (u : Bytes) (b : ℕ) → NoLf l
@@ -156,7 +156,7 @@ unit-byte T l u b h = go (isOurs (l .course .next)) refl (l .afterCr) refl h
     go false o false e k = rw e (rw o)
 
 -- NOTHING HAS AN EFFECT BEFORE ITS LAST BYTE
-pub grows : (T : List Record) (l : Log) (v u : Bytes) → NoLf l → NotYet T (l .course .next) u v
+pub grows : (T : List Record) (l : Log) (v u : Bytes) → NoLf l → NotYet T (l .book) (l .course .next) u v
     → fedAll T (record { log = l; raw = u }) (bytesOf (l .course .next) v) ≡ record { log = l; raw = u ++ v }
 grows T l [] u h k = rw (append-nil u)
 grows T l (b ∷ v) u h k =
@@ -165,7 +165,7 @@ grows T l (b ∷ v) u h k =
     ∙ rw (snoc-cons u v b)
 
 -- A WHOLE UNIT HAS EXACTLY ITS EFFECT
-pub unit-fed : (T : List Record) (l : Log) (u : Bytes) (b : ℕ) → NoLf l → NotYet T (l .course .next) [] u → whole T (l .course .next) u b ≡ true
+pub unit-fed : (T : List Record) (l : Log) (u : Bytes) (b : ℕ) → NoLf l → NotYet T (l .book) (l .course .next) [] u → whole T (l .book) (l .course .next) u b ≡ true
     → fedAll T (record { log = l; raw = [] }) (bytesOf (l .course .next) (u ++ (b ∷ []))) ≡ record { log = applied T l u b; raw = [] }
 unit-fed T l u b h k w =
     ap (fedAll T (record { log = l; raw = [] })) (map-append (λ (c : ℕ). cond (isOurs (l .course .next)) (gave c) (took c)) u (b ∷ []))
@@ -179,23 +179,23 @@ pub data Lined : Next → Type 0 where
   ours : (n : Ours) → Lined (weSay n)
   theirs : (n : Theirs) → Lined (theySay n)
 
-line-whole : (T : List Record) (n : Next) (u : Bytes) (b : ℕ) → Lined n → whole T n u b ≡ eqb b CR
-line-whole T n u b (ours x) = refl
-line-whole T n u b (theirs x) = refl
+line-whole : (T : List Record) (k : Book) (n : Next) (u : Bytes) (b : ℕ) → Lined n → whole T k n u b ≡ eqb b CR
+line-whole T k n u b (ours x) = refl
+line-whole T k n u b (theirs x) = refl
 
-line-yet : (T : List Record) (n : Next) (ln u : Bytes) → Lined n → Lacks CR ln → NotYet T n u ln
-line-yet T n [] u h k = tt
-line-yet T n (x ∷ ln) u h k = (line-whole T n u x h ∙ k .0, line-yet T n ln (u ++ (x ∷ [])) h (k .1))
+line-yet : (T : List Record) (k : Book) (n : Next) (ln u : Bytes) → Lined n → Lacks CR ln → NotYet T k n u ln
+line-yet T k n [] u h c = tt
+line-yet T k n (x ∷ ln) u h c = (line-whole T k n u x h ∙ c .0, line-yet T k n ln (u ++ (x ∷ [])) h (c .1))
 
 -- before a line's CR, nothing
 pub line-part-fed : (T : List Record) (l : Log) (ln : Bytes) → NoLf l → Lined (l .course .next) → Lacks CR ln
     → fedAll T (record { log = l; raw = [] }) (bytesOf (l .course .next) ln) ≡ record { log = l; raw = ln }
-line-part-fed T l ln h k c = grows T l ln [] h (line-yet T (l .course .next) ln [] k c)
+line-part-fed T l ln h k c = grows T l ln [] h (line-yet T (l .book) (l .course .next) ln [] k c)
 
 -- a whole line, of either side
 pub line-fed : (T : List Record) (l : Log) (ln : Bytes) → NoLf l → Lined (l .course .next) → Lacks CR ln
     → fedAll T (record { log = l; raw = [] }) (bytesOf (l .course .next) (withCr ln)) ≡ record { log = applied T l ln CR; raw = [] }
-line-fed T l ln h k c = unit-fed T l ln CR h (line-yet T (l .course .next) ln [] k c) (line-whole T (l .course .next) ln CR k)
+line-fed T l ln h k c = unit-fed T l ln CR h (line-yet T (l .book) (l .course .next) ln [] k c) (line-whole T (l .book) (l .course .next) ln CR k)
 
 -- ---------------------------------------------------------------- no whole transfer begins another
 
@@ -211,24 +211,24 @@ no-longer-read kind q c e b r = go (parse kind q) refl e
     go (some x) p k = rw (no-longer kind q x p b r)
 
 -- of a transfer that the partner owes, no part is whole
-their-yet : (T : List Record) (p : Proposal) (ps : List Proposal) (v u : Bytes) (b : ℕ) (r : Bytes) (c : Content) → readTransfer (kindOf (p .form)) (u ++ (v ++ b ∷ r)) ≡ some c
-    → NotYet T (theirTransfer p ps) u v
-their-yet T p ps [] u b r c e = tt
-their-yet T p ps (x ∷ v) u b r c e =
-    (go (readTransfer (kindOf (p .form)) (u ++ (x ∷ []))) refl, their-yet T p ps v (u ++ (x ∷ [])) b r c (rw (snoc-cons u (v ++ b ∷ r) x) e))
+their-yet : (T : List Record) (k : Book) (p : Proposal) (ps : List Proposal) (v u : Bytes) (b : ℕ) (r : Bytes) (c : Content) → readTransfer (kindOwed k p) (u ++ (v ++ b ∷ r)) ≡ some c
+    → NotYet T k (theirTransfer p ps) u v
+their-yet T k p ps [] u b r c e = tt
+their-yet T k p ps (x ∷ v) u b r c e =
+    (go (readTransfer (kindOwed k p) (u ++ (x ∷ []))) refl, their-yet T k p ps v (u ++ (x ∷ [])) b r c (rw (snoc-cons u (v ++ b ∷ r) x) e))
   where
-    more : (d : Content) → readTransfer (kindOf (p .form)) (u ++ (x ∷ [])) ≡ some d → (w : Bytes) → readTransfer (kindOf (p .form)) (u ++ x ∷ (w ++ b ∷ r)) ≡ none
-    more d k [] = ap (readTransfer (kindOf (p .form))) (sym (snoc-cons u (b ∷ r) x)) ∙ no-longer-read (kindOf (p .form)) (u ++ (x ∷ [])) d k b r
-    more d k (y ∷ w) = ap (readTransfer (kindOf (p .form))) (sym (snoc-cons u (y ∷ (w ++ b ∷ r)) x)) ∙ no-longer-read (kindOf (p .form)) (u ++ (x ∷ [])) d k y (w ++ b ∷ r)
+    more : (d : Content) → readTransfer (kindOwed k p) (u ++ (x ∷ [])) ≡ some d → (w : Bytes) → readTransfer (kindOwed k p) (u ++ x ∷ (w ++ b ∷ r)) ≡ none
+    more d g [] = ap (readTransfer (kindOwed k p)) (sym (snoc-cons u (b ∷ r) x)) ∙ no-longer-read (kindOwed k p) (u ++ (x ∷ [])) d g b r
+    more d g (y ∷ w) = ap (readTransfer (kindOwed k p)) (sym (snoc-cons u (y ∷ (w ++ b ∷ r)) x)) ∙ no-longer-read (kindOwed k p) (u ++ (x ∷ [])) d g y (w ++ b ∷ r)
 
-    go : (o : Option Content) → readTransfer (kindOf (p .form)) (u ++ (x ∷ [])) ≡ o → isSome o ≡ false
-    go none k = refl
-    go (some d) k = absurd (never c (sym (more d k v) ∙ e))
+    go : (o : Option Content) → readTransfer (kindOwed k p) (u ++ (x ∷ [])) ≡ o → isSome o ≡ false
+    go none g = refl
+    go (some d) g = absurd (never c (sym (more d g v) ∙ e))
 
 -- nor of one that we owe
-our-yet : (T : List Record) (i : ℕ) (is : List ℕ) (v u : Bytes) (b : ℕ) (r : Bytes) → transferOf (recordAt T i) ≡ u ++ (v ++ b ∷ r) → NotYet T (ourTransfer i is) u v
-our-yet T i is [] u b r e = tt
-our-yet T i is (x ∷ v) u b r e = (rw e (same-prefix u (v ++ b ∷ r) x ∙ null-mid v), our-yet T i is v (u ++ (x ∷ [])) b r (rw (snoc-cons u (v ++ b ∷ r) x) e))
+our-yet : (T : List Record) (k : Book) (i : ℕ) (is : List ℕ) (v u : Bytes) (b : ℕ) (r : Bytes) → transferOf (recordAt T i) ≡ u ++ (v ++ b ∷ r) → NotYet T k (ourTransfer i is) u v
+our-yet T k i is [] u b r e = tt
+our-yet T k i is (x ∷ v) u b r e = (rw e (same-prefix u (v ++ b ∷ r) x ∙ null-mid v), our-yet T k i is v (u ++ (x ∷ [])) b r (rw (snoc-cons u (v ++ b ∷ r) x) e))
   where
     null-mid : (w : Bytes) → null (w ++ b ∷ r) ≡ false
     null-mid [] = refl
@@ -248,14 +248,14 @@ pub their-transfer-fed : (T : List Record) (p : Proposal) (ps : List Proposal) (
     → fedAll T (record { log = owing false (theirTransfer p ps) account k; raw = [] }) (map took (u ++ (b ∷ [])))
     ≡ record { log = owing (isPlain (kindOwed k p)) (theirsOwed ps) account (keeping k (keptAs p c)); raw = [] }
 their-transfer-fed T p ps account k u b c e =
-    unit-fed T (owing false (theirTransfer p ps) account k) u b refl (their-yet T p ps u [] b [] c e) (rw e) ∙ rw e
+    unit-fed T (owing false (theirTransfer p ps) account k) u b refl (their-yet T k p ps u [] b [] c e) (rw e) ∙ rw e
 
 -- before that, nothing
 pub their-part-fed : (T : List Record) (p : Proposal) (ps : List Proposal) (account : Account) (k : Book) (u : Bytes) (b : ℕ) (r : Bytes) (c : Content)
     → readTransfer (kindOwed k p) (u ++ b ∷ r) ≡ some c
     → fedAll T (record { log = owing false (theirTransfer p ps) account k; raw = [] }) (map took u)
     ≡ record { log = owing false (theirTransfer p ps) account k; raw = u }
-their-part-fed T p ps account k u b r c e = grows T (owing false (theirTransfer p ps) account k) u [] refl (their-yet T p ps u [] b r c e)
+their-part-fed T p ps account k u b r c e = grows T (owing false (theirTransfer p ps) account k) u [] refl (their-yet T k p ps u [] b r c e)
 
 -- ours: its record is sent, at its last byte
 pub our-transfer-fed : (T : List Record) (a : Bool) (i : ℕ) (is : List ℕ) (account : Account) (k : Book)
@@ -269,4 +269,4 @@ our-transfer-fed T a i is account k =
 -- before that, nothing
 pub our-part-fed : (T : List Record) (a : Bool) (i : ℕ) (is : List ℕ) (account : Account) (k : Book) (u : Bytes) (b : ℕ) (r : Bytes) → transferOf (recordAt T i) ≡ u ++ b ∷ r
     → fedAll T (record { log = owing a (ourTransfer i is) account k; raw = [] }) (map gave u) ≡ record { log = owing a (ourTransfer i is) account k; raw = u }
-our-part-fed T a i is account k u b r e = grows T (owing a (ourTransfer i is) account k) u [] (and-false a false refl) (our-yet T i is u [] b r e)
+our-part-fed T a i is account k u b r e = grows T (owing a (ourTransfer i is) account k) u [] (and-false a false refl) (our-yet T k i is u [] b r e)

@@ -15,7 +15,7 @@ pub record Fed : Type 0 where
 -- a byte of the side whose unit is next
 abbrev pub unitByte : List Record → Log → Bytes → ℕ → Bool → Fed
 unitByte T l u b afterCr =
-    cond (whole T (l .course .next) u b)
+    cond (whole T (l .book) (l .course .next) u b)
     (record { log = applied T l u b; raw = [] })
     (record { log = withAfterCr l afterCr; raw = u ++ (b ∷ []) })
 

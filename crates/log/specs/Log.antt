@@ -350,13 +350,13 @@ theirTransferred p ps k account (some c) = effect (withKept k (k .kept ++ (keptA
 -- ---------------------------------------------------------------- units
 
 -- The bytes u with b after them are a whole unit of what is next: "Bytes are a transfer while their side owes one, else lines". Once the
--- log has ended no unit is.
-abbrev pub whole : List Record → Next → Bytes → ℕ → Bool
-whole T (theirTransfer p ps) u b = isSome (readTransfer (kindOf (p .form)) (u ++ (b ∷ [])))
-whole T (ourTransfer i is) u b = same (u ++ (b ∷ [])) (transferOf (recordAt T i))
-whole T over u b = false
-whole T (weSay n) u b = eqb b CR
-whole T (theySay n) u b = eqb b CR
+-- log has ended no unit is. k: the book, by which a transfer is read.
+abbrev pub whole : List Record → Book → Next → Bytes → ℕ → Bool
+whole T k (theirTransfer p ps) u b = isSome (readTransfer (kindOwed k p) (u ++ (b ∷ [])))
+whole T k (ourTransfer i is) u b = same (u ++ (b ∷ [])) (transferOf (recordAt T i))
+whole T k over u b = false
+whole T k (weSay n) u b = eqb b CR
+whole T k (theySay n) u b = eqb b CR
 
 -- A transfer is a "plain transfer", which ends with a CR.
 abbrev pub isPlain : TransferKind → Bool
@@ -397,15 +397,15 @@ pub data Cut : Type 0 where
   unit : Bytes → ℕ → Bool → List Event → Cut
 
 -- u: the unit's bytes so far; "an LF that Lines drops is neither"
-abbrev pub cutUnit : List Record → Next → Bool → Bytes → List Event → Cut
-cutUnit T n afterCr u [] = notWhole
-cutUnit T n afterCr u (took b ∷ es) =
-    cond (afterCr && eqb b LF) (cutUnit T n false u es)
+abbrev pub cutUnit : List Record → Book → Next → Bool → Bytes → List Event → Cut
+cutUnit T k n afterCr u [] = notWhole
+cutUnit T k n afterCr u (took b ∷ es) =
+    cond (afterCr && eqb b LF) (cutUnit T k n false u es)
     (cond (isOurs n) outOfTurn
-    (cond (whole T n u b) (unit u b afterCr es) (cutUnit T n false (u ++ (b ∷ [])) es)))
-cutUnit T n afterCr u (gave b ∷ es) =
+    (cond (whole T k n u b) (unit u b afterCr es) (cutUnit T k n false (u ++ (b ∷ [])) es)))
+cutUnit T k n afterCr u (gave b ∷ es) =
     cond (isOurs n)
-    (cond (whole T n u b) (unit u b afterCr es) (cutUnit T n afterCr (u ++ (b ∷ [])) es))
+    (cond (whole T k n u b) (unit u b afterCr es) (cutUnit T k n afterCr (u ++ (b ∷ [])) es))
     outOfTurn
 
 -- on: the log of the rest
@@ -417,7 +417,7 @@ afterCut T l on (unit u b a rest) = on (applied T (withAfterCr l a) u b) rest
 -- unit by unit; every unit has a byte, so a trace of n bytes has at most n units
 abbrev pub logUnits : ℕ → List Record → Log → List Event → Log
 logUnits zero T l es = l
-logUnits (suc n) T l es = afterCut T l (λ m rest. logUnits n T m rest) (cutUnit T (l .course .next) (l .afterCr) [] es)
+logUnits (suc n) T l es = afterCut T l (λ m rest. logUnits n T m rest) (cutUnit T (l .book) (l .course .next) (l .afterCr) [] es)
 
 -- "open's role and table": at open every record's state is as open found it, and all else is empty
 abbrev pub logOpened : Bool → List ℕ → Log

@@ -32,7 +32,7 @@ KeepsCut T l on (unit u b a rest) = Keeps (l .book .states) (applied T (withAfte
 
 abbrev pub KeepsUnits : ℕ → List Record → Log → List Event → Type 0
 KeepsUnits zero T l es = Unit {0}
-KeepsUnits (suc n) T l es = KeepsCut T l (λ m rest. KeepsUnits n T m rest) (cutUnit T (l .course .next) (l .afterCr) [] es)
+KeepsUnits (suc n) T l es = KeepsCut T l (λ m rest. KeepsUnits n T m rest) (cutUnit T (l .book) (l .course .next) (l .afterCr) [] es)
 
 -- what holds of the deeds to come, the book at the end, and course and book now: from unit to unit, from the end
 module _ (T : List Record) (P : List Deed → Book → Course → Book → Type 0)
@@ -40,7 +40,7 @@ module _ (T : List Record) (P : List Deed → Book → Course → Book → Type 
     (more : (d : Deed) (ds : List Deed) (e : Book) (c : Course) (k : Book) (c′ : Course) (k′ : Book) → Does d c k c′ k′ → Keeps (k .states) (k′ .states) → P ds e c′ k′ → P (d ∷ ds) e c k) where
   pub by-units : (n : ℕ) (es : List Event) (l : Log) → KeepsUnits n T l es → P (deedsFrom n T l es) (logUnits n T l es .book) (l .course) (l .book)
   by-units zero es l k = stop (l .course) (l .book)
-  by-units (suc n) es l k = go (cutUnit T (l .course .next) (l .afterCr) [] es) k (λ m rest. by-units n rest m)
+  by-units (suc n) es l k = go (cutUnit T (l .book) (l .course .next) (l .afterCr) [] es) k (λ m rest. by-units n rest m)
     where
       go : (c : Cut) → KeepsCut T l (λ m rest. KeepsUnits n T m rest) c
           → ((m : Log) (rest : List Event) → KeepsUnits n T m rest → P (deedsFrom n T m rest) (logUnits n T m rest .book) (m .course) (m .book))

@@ -78,7 +78,7 @@ Idle n = (owes n ≡ []) × Rests (stand n)
 data Comes (T : List Record) (st : Account) (k : Book) (u : Bytes) (b : ℕ) : Next → Deed → Course → Book → Type 0 where
   idles : (n m : Next) (d : Account) (l : Book) → Lull (stand n) → Idle m → d .sent ≡ st .sent → l .states ≡ k .states → l .kept ≡ k .kept
       → Comes T st k u b n nothing (courseWith m d) l
-  isPart : (n : Next) → whole T n u b ≡ false → Comes T st k u b n nothing (courseWith over st) k
+  isPart : (n : Next) → whole T k n u b ≡ false → Comes T st k u b n nothing (courseWith over st) k
   isAnswered : (n : Theirs) (is : List ℕ) (ss : List Sign)
       → Comes T st k u b (theySay n) (answered is ss) (courseWith (oursOwed (acceptedBy ss is)) (withAnswers ss is st)) (withStates k (declinedBy ss is (k .states)))
   isSent : (i : ℕ) (is : List ℕ) → Comes T st k u b (ourTransfer i is) (sent i) (courseWith (oursOwed is) (withSent i st)) k
@@ -206,19 +206,19 @@ unit-does T l a u b = does T a (l .course .account) (l .book) u b (l .course .ne
 
 -- ---------------------------------------------------------------- a unit cut off is whole
 
-abbrev WholeCut : List Record → Next → Cut → Type 0
-WholeCut T n notWhole = Unit {0}
-WholeCut T n outOfTurn = Unit {0}
-WholeCut T n (unit u b a rest) = whole T n u b ≡ true
+abbrev WholeCut : List Record → Book → Next → Cut → Type 0
+WholeCut T k n notWhole = Unit {0}
+WholeCut T k n outOfTurn = Unit {0}
+WholeCut T k n (unit u b a rest) = whole T k n u b ≡ true
 
-cut-whole : (T : List Record) (n : Next) (es : List Event) (a : Bool) (u : Bytes) → WholeCut T n (cutUnit T n a u es)
-cut-whole T n [] a u = tt
-cut-whole T n (took b ∷ es) a u =
-    by-cond (WholeCut T n) (a && eqb b LF) (cut-whole T n es false u)
-    (by-cond (WholeCut T n) (isOurs n) tt
-    (by-test (WholeCut T n) (whole T n u b) (λ w. w) (λ w. cut-whole T n es false (u ++ (b ∷ [])))))
-cut-whole T n (gave b ∷ es) a u =
-    by-cond (WholeCut T n) (isOurs n) (by-test (WholeCut T n) (whole T n u b) (λ w. w) (λ w. cut-whole T n es a (u ++ (b ∷ [])))) tt
+cut-whole : (T : List Record) (k : Book) (n : Next) (es : List Event) (a : Bool) (u : Bytes) → WholeCut T k n (cutUnit T k n a u es)
+cut-whole T k n [] a u = tt
+cut-whole T k n (took b ∷ es) a u =
+    by-cond (WholeCut T k n) (a && eqb b LF) (cut-whole T k n es false u)
+    (by-cond (WholeCut T k n) (isOurs n) tt
+    (by-test (WholeCut T k n) (whole T k n u b) (λ w. w) (λ w. cut-whole T k n es false (u ++ (b ∷ [])))))
+cut-whole T k n (gave b ∷ es) a u =
+    by-cond (WholeCut T k n) (isOurs n) (by-test (WholeCut T k n) (whole T k n u b) (λ w. w) (λ w. cut-whole T k n es a (u ++ (b ∷ [])))) tt
 
 -- ---------------------------------------------------------------- the messages accepted
 
@@ -268,9 +268,9 @@ module _ (ds : List Deed) where
 
   -- a whole unit of any kind
   unit-brings : (T : List Record) (st : Account) (k : Book) (u : Bytes) (b : ℕ) (n : Next) (d : Deed) (c : Course) (l : Book) → Comes T st k u b n d c l
-      → whole T n u b ≡ true → Brings (stand (c .next)) ds → Brings (stand n) (d ∷ ds)
+      → whole T k n u b ≡ true → Brings (stand (c .next)) ds → Brings (stand n) (d ∷ ds)
   unit-brings T st k u b n d c l (idles x m y z q i e f g) w h = idle (stand x) q (rests (stand m) (i .1) h)
-  unit-brings T st k u b n d c l (isPart x e) w h = absurd (no-both (whole T x u b) w e)
+  unit-brings T st k u b n d c l (isPart x e) w h = absurd (no-both (whole T k x u b) w e)
   unit-brings T st k u b n d c l (isAnswered x is ss) w h = λ last. (refl, at-stand _ _ (ours-stand (acceptedBy ss is)) ds h last)
   unit-brings T st k u b n d c l (isSent i is) w h = λ last. (refl, at-stand _ _ (ours-stand is) ds h last)
   unit-brings T st k u b n d c l (isTurned x []) w h = λ last. (refl, h [])
@@ -286,9 +286,9 @@ module _ (ds : List Deed) where
 -- and all units to come
 units-bring : (T : List Record) (n : ℕ) (es : List Event) (l : Log) → Brings (stand (l .course .next)) (deedsFrom n T l es)
 units-bring T zero es l = no-deeds (stand (l .course .next))
-units-bring T (suc n) es l = go (cutUnit T (l .course .next) (l .afterCr) [] es) (cut-whole T (l .course .next) es (l .afterCr) []) (λ rest m. units-bring T n rest m)
+units-bring T (suc n) es l = go (cutUnit T (l .book) (l .course .next) (l .afterCr) [] es) (cut-whole T (l .book) (l .course .next) es (l .afterCr) []) (λ rest m. units-bring T n rest m)
   where
-    go : (c : Cut) → WholeCut T (l .course .next) c → ((rest : List Event) (m : Log) → Brings (stand (m .course .next)) (deedsFrom n T m rest))
+    go : (c : Cut) → WholeCut T (l .book) (l .course .next) c → ((rest : List Event) (m : Log) → Brings (stand (m .course .next)) (deedsFrom n T m rest))
         → Brings (stand (l .course .next)) (deedsCut T l (λ m rest. deedsFrom n T m rest) c)
     go notWhole w ih = no-deeds (stand (l .course .next))
     go outOfTurn w ih = no-deeds (stand (l .course .next))

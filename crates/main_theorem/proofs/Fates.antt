@@ -52,7 +52,7 @@ gave-book T f b = go (isOurs (f .log .course .next)) refl
         e
 
     go : (d : Bool) → isOurs (f .log .course .next) ≡ d → (cond d (unitByte T (f .log) (f .raw) b (f .log .afterCr)) (outOfOrder f)) .log .book ≡ f .log .book
-    go true e = by-cond (λ (g : Fed). g .log .book ≡ f .log .book) (whole T (f .log .course .next) (f .raw) b) (ours e) refl
+    go true e = by-cond (λ (g : Fed). g .log .book ≡ f .log .book) (whole T (f .log .book) (f .log .course .next) (f .raw) b) (ours e) refl
     go false e = refl
 
 gave-keep : (T : List Record) (o : Bytes) (f : Fed) → KeepsAll T f (map gave o)
@@ -142,10 +142,10 @@ KeepsAfter T l outOfTurn = Unit {0}
 KeepsAfter T l (unit u b a rest) =
     Keeps (l .book .states) (applied T (withAfterCr l a) u b .book .states) × KeepsAll T (record { log = applied T (withAfterCr l a) u b; raw = [] }) rest
 
-cut-keeps : (T : List Record) (l : Log) (es : List Event) (a : Bool) (u : Bytes) → KeepsAll T (within l a u) es → KeepsAfter T l (cutUnit T (l .course .next) a u es)
+cut-keeps : (T : List Record) (l : Log) (es : List Event) (a : Bool) (u : Bytes) → KeepsAll T (within l a u) es → KeepsAfter T l (cutUnit T (l .book) (l .course .next) a u es)
 cut-keeps T l [] a u h = tt
 cut-keeps T l (took b ∷ es) a u h =
-    go (a && eqb b LF) (isOurs n) (whole T n u b) h (cut-keeps T l es false u) (cut-keeps T l es false (u ++ (b ∷ [])))
+    go (a && eqb b LF) (isOurs n) (whole T (l .book) n u b) h (cut-keeps T l es false u) (cut-keeps T l es false (u ++ (b ∷ [])))
   where
     n : Next
     n = l .course .next
@@ -156,14 +156,14 @@ cut-keeps T l (took b ∷ es) a u h =
         (cond d (outOfOrder (within l a u)) (cond w (record { log = applied T (withAfterCr l a) u b; raw = [] }) (within l false (u ++ (b ∷ [])))))
 
     go : (c d w : Bool) → Keeps (l .book .states) (statesIn (fed c d w)) × KeepsAll T (fed c d w) es
-        → (KeepsAll T (within l false u) es → KeepsAfter T l (cutUnit T n false u es))
-        → (KeepsAll T (within l false (u ++ (b ∷ []))) es → KeepsAfter T l (cutUnit T n false (u ++ (b ∷ [])) es))
-        → KeepsAfter T l (cond c (cutUnit T n false u es) (cond d outOfTurn (cond w (unit u b a es) (cutUnit T n false (u ++ (b ∷ [])) es))))
+        → (KeepsAll T (within l false u) es → KeepsAfter T l (cutUnit T (l .book) n false u es))
+        → (KeepsAll T (within l false (u ++ (b ∷ []))) es → KeepsAfter T l (cutUnit T (l .book) n false (u ++ (b ∷ [])) es))
+        → KeepsAfter T l (cond c (cutUnit T (l .book) n false u es) (cond d outOfTurn (cond w (unit u b a es) (cutUnit T (l .book) n false (u ++ (b ∷ [])) es))))
     go true d w h i j = i (h .1)
     go false true w h i j = tt
     go false false true h i j = h
     go false false false h i j = j (h .1)
-cut-keeps T l (gave b ∷ es) a u h = go (isOurs n) (whole T n u b) h (cut-keeps T l es a (u ++ (b ∷ [])))
+cut-keeps T l (gave b ∷ es) a u h = go (isOurs n) (whole T (l .book) n u b) h (cut-keeps T l es a (u ++ (b ∷ [])))
   where
     n : Next
     n = l .course .next
@@ -172,15 +172,15 @@ cut-keeps T l (gave b ∷ es) a u h = go (isOurs n) (whole T n u b) h (cut-keeps
     fed d w = cond d (cond w (record { log = applied T (withAfterCr l a) u b; raw = [] }) (within l a (u ++ (b ∷ [])))) (outOfOrder (within l a u))
 
     go : (d w : Bool) → Keeps (l .book .states) (statesIn (fed d w)) × KeepsAll T (fed d w) es
-        → (KeepsAll T (within l a (u ++ (b ∷ []))) es → KeepsAfter T l (cutUnit T n a (u ++ (b ∷ [])) es))
-        → KeepsAfter T l (cond d (cond w (unit u b a es) (cutUnit T n a (u ++ (b ∷ [])) es)) outOfTurn)
+        → (KeepsAll T (within l a (u ++ (b ∷ []))) es → KeepsAfter T l (cutUnit T (l .book) n a (u ++ (b ∷ [])) es))
+        → KeepsAfter T l (cond d (cond w (unit u b a es) (cutUnit T (l .book) n a (u ++ (b ∷ [])) es)) outOfTurn)
     go true true h j = h
     go true false h j = j (h .1)
     go false w h j = tt
 
 units-keep : (T : List Record) (n : ℕ) (es : List Event) (l : Log) → KeepsAll T (record { log = l; raw = [] }) es → KeepsUnits n T l es
 units-keep T zero es l h = tt
-units-keep T (suc n) es l h = go (cutUnit T (l .course .next) (l .afterCr) [] es) (cut-keeps T l es (l .afterCr) [] h) (λ m rest. units-keep T n rest m)
+units-keep T (suc n) es l h = go (cutUnit T (l .book) (l .course .next) (l .afterCr) [] es) (cut-keeps T l es (l .afterCr) [] h) (λ m rest. units-keep T n rest m)
   where
     go : (c : Cut) → KeepsAfter T l c → ((m : Log) (rest : List Event) → KeepsAll T (record { log = m; raw = [] }) rest → KeepsUnits n T m rest)
         → KeepsCut T l (λ m rest. KeepsUnits n T m rest) c

@@ -85,7 +85,7 @@ deedsCut T l on (unit u b a rest) = deedOf (l .course .next) (l .book) u b ∷ o
 -- Unit by unit, as the log does it.
 abbrev pub deedsFrom : ℕ → List Record → Log → List Event → List Deed
 deedsFrom zero T l es = []
-deedsFrom (suc n) T l es = deedsCut T l (λ m rest. deedsFrom n T m rest) (cutUnit T (l .course .next) (l .afterCr) [] es)
+deedsFrom (suc n) T l es = deedsCut T l (λ m rest. deedsFrom n T m rest) (cutUnit T (l .book) (l .course .next) (l .afterCr) [] es)
 
 -- What the bytes consumed and given did, unit by unit, as the log cuts them.
 unfoldable pub deeds : List Record → Bool → List ℕ → List Event → List Deed
