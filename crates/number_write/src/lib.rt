@@ -1,18 +1,18 @@
 // Numbers as bytes, little end first, as they are written to lent memory.
+use layout::BYTE_VALUES;
 use layout::FOUR_BYTE_VALUES;
 use layout::THREE_BYTE_VALUES;
 use layout::TWO_BYTE_VALUES;
 ghost use mathlib.Core.Path.{_≡_};
 ghost use Rattle.layout.specs.Layout.{le2, le4, le8};
 
-// A byte is a digit of this base.
-const BASE: usize = layout::BYTE_VALUES;
-
 // A number in two bytes.
 pub fn bytes2(x: usize) -> [u8; 2]
     ensures { λ r. ⌜ r ≡ le2 x ⌝ }
 {
-    [(x % BASE) as u8, (x / BASE % BASE) as u8]
+    let low = x % BYTE_VALUES;
+    let high = x / BYTE_VALUES % BYTE_VALUES;
+    [low as u8, high as u8]
 }
 
 // A number in four bytes.
@@ -20,10 +20,10 @@ pub fn bytes4(x: usize) -> [u8; 4]
     ensures { λ r. ⌜ r ≡ le4 x ⌝ }
 {
     [
-        (x % BASE) as u8,
-        (x / BASE % BASE) as u8,
-        (x / TWO_BYTE_VALUES % BASE) as u8,
-        (x / THREE_BYTE_VALUES % BASE) as u8,
+        (x % BYTE_VALUES) as u8,
+        (x / BYTE_VALUES % BYTE_VALUES) as u8,
+        (x / TWO_BYTE_VALUES % BYTE_VALUES) as u8,
+        (x / THREE_BYTE_VALUES % BYTE_VALUES) as u8,
     ]
 }
 
