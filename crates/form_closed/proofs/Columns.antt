@@ -22,8 +22,8 @@ use Rattle.marking.proofs.States.{only-same, only-then, only-mark}
 use Rattle.line_effect.specs.Judge.{nextAccepted, judgeOf}
 use Rattle.line_effect.specs.Judged.{Judged}
 use Rattle.line_effect.proofs.Kept.{judge-kept}
-use Rattle.our_turn.specs.Turn.{chooseOf, speakOf}
-use Rattle.phase.specs.Phase.{noProposal, phaseTransfer, notOurTurn, ourTurnAfterFF}
+use Rattle.our_turn.proofs.Ways.{speak-keep}
+use Rattle.phase.specs.Phase.{noProposal, phaseTransfer}
 use Rattle.pending.specs.Pending.{waits}
 use Rattle.receive_defined.specs.Receiving.{Cs, cs, Moved, refusedOf, spokenOf, markedBy, Settled, settled, settleOf, longer, lineMoved, lineStepOf, nextJudged, isPlainAt, keepOf, transferMoved, transferStep, transferStepOf, byteOf, stops, Run, receiveFrom}
 use Rattle.form_closed.specs.Columns.{partnerOf, OneColumn}
@@ -51,11 +51,7 @@ module _ (p : ℕ) (column : p < partners) (t : Bytes) where
 
   module _ (j : Judged) (a : Bool) where
     spoken-keep : (u : Bytes) → spokenOf j a u .keep ≡ j .next .keep
-    unfolding speakOf
-    spoken-keep u =
-        let P : Session → Type 0 = λ s. s .keep ≡ j .next .keep in
-        let places = chooseOf (j .next .keep .terms .partner) u (j .next .keep .framed) (j .next .keep .deferred) in
-        by-cond P (eqb (j .speaks) notOurTurn) refl (by-cond P (eqb (places .count) 0) (by-cond P (eqb (j .speaks) ourTurnAfterFF) refl refl) refl)
+    spoken-keep u = speak-keep (j .speaks) (j .next) u
 
     settle-one : partnerOf (j .next) ≡ p → InOne p t (settleOf j a t)
     unfolding settleOf refusedOf

@@ -9,21 +9,22 @@ use lib.Dec.{eqb}
 use Rattle.grammar.specs.Bytes.{Bytes, byteValues}
 use Rattle.grammar.specs.Errors.{isSilent}
 use Rattle.grammar.specs.Refusals.{badChecksum}
-use Rattle.grammar.proofs.Basics.{by-cond, by-test}
+use Rattle.grammar.proofs.Basics.{by-cond}
 use Rattle.session_memory.specs.State.{held}
-use Rattle.session_memory.specs.Session.{Await}
+use Rattle.session_memory.specs.Session.{Await, Keep}
 use Rattle.session_memory.specs.declared.Five.{Five}
 use Rattle.session_memory.specs.Session.{Session}
 use Rattle.session_memory.specs.Setters.{withNow, withSay}
 use Rattle.line_effect.specs.Judge.{inPhase, toTurn, toAnswer, saysThen}
 use Rattle.our_turn.specs.Turn.{chooseOf, speakOf}
+use Rattle.our_turn.proofs.Ways.{by-ways}
 use Rattle.line_effect.specs.Judged.{Judged}
 use Rattle.pending.specs.Pending.{errorPiece}
 use Rattle.receive_defined.specs.Receiving.{cs, refusedOf, afterLine, spokenOf, Settled, markedBy, settleOf}
 use Rattle.form_closed.proofs.Tallied.{tallied-ok, with-tally}
 use Rattle.form_test.specs.Form.{isLast}
 use Rattle.marking.specs.States.{markAll}
-use Rattle.phase.specs.Phase.{phaseTransfer, phaseLeaving, phaseOver, pieceNone, pieceProtocolError, pieceChecksumError, pieceFF, pieceFQ, pieceBlock, notOurTurn, ourTurnAfterFF}
+use Rattle.phase.specs.Phase.{phaseTransfer, phaseLeaving, phaseOver, pieceNone, pieceProtocolError, pieceChecksumError, pieceFF, pieceFQ, pieceBlock, notOurTurn}
 use Rattle.form_closed.specs.Fixed.{Fixed}
 use Rattle.form_closed.proofs.Laws.{mark-octets}
 use Rattle.marking.proofs.States.{length-mark}
@@ -40,26 +41,32 @@ record Settles (inbox store : Bytes) (s : Session) : Type 0 where
   pub sent : pieceBlock < s .say .then → 0 < s .keep .sending .count
   pub awaited : AwaitedIn inbox store s
 
-speak-ok : (s : Session) (table inbox store : Bytes) (ff : Bool) → SessionOk inbox store s → s .keep .sending .count ≡ 0 → Settles inbox store (speakOf s table ff)
-unfolding speakOf
-speak-ok s table inbox store ff g z =
-    by-cond (Settles inbox store) (eqb (places .count) 0)
-    (by-cond (Settles inbox store) ff (said (inPhase phaseLeaving w) pieceFQ (in-phase phaseLeaving w (omega arith) (g .now)) (omega arith) (λ e. omega arith) (omega arith))
-    (said (toTurn true w) pieceFF (to-turn true w (g .now)) (omega arith) (λ e. omega arith) (omega arith)))
-    (said (toAnswer places w) pieceBlock (to-answer places w (choose-ok (s .keep .terms .partner) table (s .keep .framed) (s .keep .deferred)) (g .now)) (omega arith) (λ e. omega arith) (omega arith))
+speak-ok : (j : Judged) (table inbox store : Bytes) → JudgedOk inbox store j → Settles inbox store (speakOf (j .speaks) (j .next) table)
+speak-ok j table inbox store J =
+    by-ways (j .speaks) (j .next) table (Settles inbox store)
+    (record {
+      quiet = λ e. record { ok = J .next; sent = J .sent; awaited = J .awaited e };
+      proposes = λ e. said e (toAnswer places w) pieceBlock (to-answer places w (choose-ok (k .terms .partner) table (k .framed) (k .deferred)) (J .next .now)) (omega arith) (λ f. omega arith) (omega arith);
+      passes = λ e. said e (toTurn true w) pieceFF (to-turn true w (J .next .now)) (omega arith) (λ f. omega arith) (omega arith);
+      leaves = λ e. said e (inPhase phaseLeaving w) pieceFQ (in-phase phaseLeaving w (omega arith) (J .next .now)) (omega arith) (λ f. omega arith) (omega arith);
+    })
   where
     w : Await
-    w = s .now
+    w = j .next .now
+
+    k : Keep
+    k = j .next .keep
 
     places : Five
-    places = chooseOf (s .keep .terms .partner) table (s .keep .framed) (s .keep .deferred)
+    places = chooseOf (k .terms .partner) table (k .framed) (k .deferred)
 
-    said : (v : Await) (n : ℕ) → AwaitOk v → n ≤ pieceBlock → (v .phase ≡ phaseTransfer → ⊥) → v .phase ≤ phaseLeaving → Settles inbox store (withNow v (withSay (saysThen n (s .say)) s))
-    said v n h l p q =
+    said : eqb (j .speaks) notOurTurn ≡ false → (v : Await) (n : ℕ) → AwaitOk v → n ≤ pieceBlock → (v .phase ≡ phaseTransfer → ⊥) → v .phase ≤ phaseLeaving
+        → Settles inbox store (withNow v (withSay (saysThen n (j .next .say)) (j .next)))
+    said e v n h l p q =
         record {
-          ok = ok-now (ok-say g (says-then n (s .say) (omega arith) (g .say))) h;
+          ok = ok-now (ok-say (J .next) (says-then n (j .next .say) (omega arith) (J .next .say))) h;
           sent = λ u. absurd (omega arith);
-          awaited = calm (withNow v (withSay (saysThen n (s .say)) s)) inbox store z p q;
+          awaited = calm (withNow v (withSay (saysThen n (j .next .say)) (j .next))) inbox store (J .quiet e) p q;
         }
 
 -- ---------------------------------------------------------------- the session after it
@@ -95,10 +102,7 @@ module _ (F : Fixed) (nt ni ns : ℕ) (j : Judged) (afterCr : Bool) (inbox store
       (λ e. waiting-some (afterLine afterCr s) table (F .titles) (F .names) (F .bodies) (g .keep .sending) (h .sent) e) M
 
   spoken-good : (table : Bytes) → Lent nt ni ns table inbox store → JudgedOk inbox store j → Good F nt ni ns (cs (spokenOf j afterCr table) table inbox store)
-  spoken-good table M J =
-      by-test (λ (s : Session). Good F nt ni ns (cs s table inbox store)) (eqb (j .speaks) notOurTurn)
-      (λ e. settled-good (j .next) table M (record { ok = J .next; sent = J .sent; awaited = J .awaited e }))
-      (λ e. settled-good (speakOf (j .next) table (eqb (j .speaks) ourTurnAfterFF)) table M (speak-ok (j .next) table inbox store (eqb (j .speaks) ourTurnAfterFF) (J .next) (J .quiet e)))
+  spoken-good table M J = settled-good (speakOf (j .speaks) (j .next) table) table M (speak-ok j table inbox store J)
 
   marked-lent : (p : ℕ) (is : List ℕ) (v : ℕ) (table : Bytes) → v < byteValues → Lent nt ni ns table inbox store → Lent nt ni ns (markAll p is v table) inbox store
   marked-lent p is v table h M =

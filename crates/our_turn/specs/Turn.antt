@@ -5,7 +5,7 @@ use lib.Dec.{eqb}
 use Prim.Native.Nat.{ℕ}
 use Rattle.grammar.specs.Bytes.{Bytes}
 use Rattle.session.specs.Choices.{chosen}
-use Rattle.phase.specs.Phase.{phaseLeaving, pieceFF, pieceFQ, pieceBlock}
+use Rattle.phase.specs.Phase.{phaseLeaving, pieceFF, pieceFQ, pieceBlock, notOurTurn, ourTurnAfterFF}
 use Rattle.session_memory.specs.State.{fiveOf}
 use Rattle.session_memory.specs.declared.Five.{Five}
 use Rattle.session_memory.specs.Session.{Session}
@@ -18,12 +18,14 @@ use Rattle.line_effect.specs.Judge.{inPhase, toTurn, toAnswer, saysThen}
 unfoldable pub chooseOf : ℕ → Bytes → Bool → Bytes → Five
 chooseOf partner table framed deferred = fiveOf (chosen (recordsOf [] [] [] table) framed (statesOf partner table) deferred)
 
--- Our turn with these records: what we await after it, and what we say in it. ff: the partner's turn just now was FF
-abbrev pub speaking : Five → Bool → Session → Session
-speaking places ff s =
+-- Our turn with these records: what we await after it, and what we say in it. speaks: which turn it is (crates/phase, `ourTurn` and so on)
+abbrev pub speaking : Five → ℕ → Session → Session
+speaking places speaks s =
     cond (eqb (places .count) 0)
-    (cond ff (withNow (inPhase phaseLeaving (s .now)) (withSay (saysThen pieceFQ (s .say)) s)) (withNow (toTurn true (s .now)) (withSay (saysThen pieceFF (s .say)) s)))
+    (cond (eqb speaks ourTurnAfterFF) (withNow (inPhase phaseLeaving (s .now)) (withSay (saysThen pieceFQ (s .say)) s)) (withNow (toTurn true (s .now)) (withSay (saysThen pieceFF (s .say)) s)))
     (withNow (toAnswer places (s .now)) (withSay (saysThen pieceBlock (s .say)) s))
 
-unfoldable pub speakOf : Session → Bytes → Bool → Session
-speakOf s table ff = speaking (chooseOf (s .keep .terms .partner) table (s .keep .framed) (s .keep .deferred)) ff s
+-- What was judged says whether it is our turn, and which; where it isn't, we say nothing more.
+unfoldable pub speakOf : ℕ → Session → Bytes → Session
+speakOf speaks s table =
+    cond (eqb speaks notOurTurn) s (speaking (chooseOf (s .keep .terms .partner) table (s .keep .framed) (s .keep .deferred)) speaks s)

@@ -87,15 +87,18 @@ fn with_turn(s: Numbers, awaited: AwaitNumbers, say: Say) -> Numbers
     t
 }
 
-// Our turn: what we propose, or FF, or FQ where the partner's turn just now was FF.
-pub fn speak(s: Numbers, deferred: &[u8], table: &[u8], ff: bool) -> Numbers
-    ensures { λ r. ⌜ ((a : Arrays) → sessionOf r (withDeferred (now (deferred .entry)) a) ≡ speakOf (sessionOf s (withDeferred (now (deferred .entry)) a)) (now (table .entry)) ff) ⌝ }
+// Our turn, if it is: what we propose, or FF, or FQ where the partner's turn just now was FF. speaks: which turn it is, phase::OUR_TURN and so on.
+pub fn speak(s: Numbers, deferred: &[u8], table: &[u8], speaks: u8) -> Numbers
+    ensures { λ r. ⌜ ((a : Arrays) → sessionOf r (withDeferred (now (deferred .entry)) a) ≡ speakOf speaks (sessionOf s (withDeferred (now (deferred .entry)) a)) (now (table .entry))) ⌝ }
 {
+    if speaks == phase::NOT_OUR_TURN {
+        return s;
+    }
     let chosen = choose(s.keep.terms.partner, table, s.keep.framed, deferred);
     let mut awaited = s.now;
     let mut say = s.say;
     if chosen.count == 0 {
-        if ff {
+        if speaks == phase::OUR_TURN_AFTER_FF {
             awaited.phase = phase::LEAVING;
             say.then = phase::PIECE_FQ;
             return with_turn(s, awaited, say);

@@ -1,7 +1,6 @@
 -- What the form test gives, of a portion: its numbers have room, and it still holds after it.
-use mathlib.Core.Path.{_≡_}
 use mathlib.Core.List.{[], _∷_}
-use Prim.Native.Nat.{ℕ, _<_, _≤_}
+use Prim.Native.Nat.{ℕ, _<_}
 use native.Mathlib.Omega.{arith}
 use lib.ListN.{length}
 use Rattle.grammar.specs.Bytes.{Bytes, byteValues}

@@ -11,7 +11,7 @@ use Rattle.grammar.specs.Lines.{LineByte, dropped, ends, grows, overruns, lineB
 use Rattle.grammar.specs.Fields.{plain, formNumber}
 use Rattle.buffer.specs.Put.{putBytes}
 use Rattle.layout.specs.Layout.{byteAt, entryAt, entryOut}
-use Rattle.phase.specs.Phase.{phaseTransfer, phaseOver, pieceNone, notOurTurn, ourTurn, ourTurnAfterFF, noProposal}
+use Rattle.phase.specs.Phase.{phaseTransfer, phaseOver, pieceNone, notOurTurn, ourTurn, noProposal}
 use Rattle.places.specs.Places.{formAt, entryLen, proposalLen}
 use Rattle.transfer_step.specs.declared.Reader.{Reader}
 use Rattle.transfer_step.specs.declared.Stepped.{Stepped}
@@ -68,8 +68,7 @@ afterLine afterCr s = withSay (unsaid (s .say)) (withLine (withAfterCr afterCr (
 
 -- our turn, if it is
 abbrev pub spokenOf : Judged → Bool → Bytes → Session
-spokenOf j afterCr table =
-    cond (eqb (j .speaks) notOurTurn) (afterLine afterCr (j .next)) (afterLine afterCr (speakOf (j .next) table (eqb (j .speaks) ourTurnAfterFF)))
+spokenOf j afterCr table = afterLine afterCr (speakOf (j .speaks) (j .next) table)
 
 pub record Settled : Type 0 where
   pub answer : ℕ

@@ -29,6 +29,7 @@ use Rattle.session_memory.specs.Session.{Session}
 use Rattle.session_memory.specs.Setters.{withNow, withSay, withKeep}
 use Rattle.session_memory.proofs.Laws.{held-five}
 use Rattle.line_effect.specs.Judge.{refusal, toTurn, picked, flagged, sends, transfersAfter, answerTaken, answerLine}
+use Rattle.our_turn.specs.Turn.{speakOf}
 use Rattle.line_effect.specs.Judged.{Judged}
 use Rattle.waiting.specs.Waiting.{waitingOf, firstText, thenBy, thenText, sendingText}
 use Rattle.receive_defined.specs.Receiving.{Cs, cs, afterLine}
@@ -100,6 +101,7 @@ module _ (F : Fixed) (E : Shelf) (c : Cs) (m : Memory) (ready : Ready F E c m) w
   taken-law : (ss : List Sign) (z : ℕ) → k .sending .count ≡ 0
       → Lead (answerTaken (zerosAfter ss z) s)
       (goesOn (on-lists.newTurn false) (on-lists.answerMarks (held (w .ours)) ss m) (transfersText (E .table) (accepted ss (held (w .ours)))))
+  unfolding speakOf
   taken-law ss z idle =
       let is = held (w .ours) in
       let zs = zerosAfter ss z in

@@ -6,7 +6,6 @@ use mathlib.Core.List.{_++_, append-nil}
 use Prim.Native.Nat.{ℕ, _≤_}
 use lib.Dec.{eqb}
 use Rattle.grammar.specs.Bytes.{Bytes}
-use Rattle.grammar.proofs.Basics.{by-cond}
 use Rattle.mail.specs.Tally.{Counts}
 use Rattle.session.specs.Choices.{Shelf}
 use Rattle.session.specs.Session as on-lists
@@ -15,7 +14,8 @@ use Rattle.session_memory.specs.State.{held}
 use Rattle.session_memory.specs.Session.{Keep}
 use Rattle.session_memory.specs.Session.{Session}
 use Rattle.line_effect.specs.Judge.{judged}
-use Rattle.our_turn.specs.Turn.{chooseOf, speakOf}
+use Rattle.our_turn.specs.Turn.{speakOf}
+use Rattle.our_turn.proofs.Ways.{speak-keep}
 use Rattle.line_effect.specs.Judged.{Judged}
 use Rattle.line_effect.specs.declared.Marks.{Marks}
 use Rattle.receive_defined.specs.Receiving.{Cs, cs, afterLine, spokenOf, Settled, settled, markedBy, countedOf, settleOf, refusedOf}
@@ -26,11 +26,11 @@ use Rattle.session_memory.specs.declared.Tally.{Tally}
 use Rattle.session_memory.specs.Setters.{withTally}
 use Rattle.marking.specs.States.{statesOf, markAll}
 use Rattle.form_closed.specs.Fixed.{Fixed}
-use Rattle.phase.specs.Phase.{pieceNone, notOurTurn, ourTurn, ourTurnAfterFF}
+use Rattle.phase.specs.Phase.{pieceNone, notOurTurn}
 use Rattle.represents.specs.Represents.{Entries, Holds, Awaits, Standing, Represents}
 use Rattle.represents.specs.Tallies.{Tallies, countsMarked}
 use Rattle.represents.proofs.Parts.{refuse-law}
-use Rattle.represents.proofs.Settle.{Settles, our-turn-law}
+use Rattle.represents.proofs.Settle.{turnAfter, Settles, our-turn-law}
 use Rattle.represents.proofs.Says.{then-nothing}
 use Rattle.represents.proofs.Tallied.{none-more, Counting, tallied-law}
 
@@ -60,13 +60,7 @@ awaits-tally on-lists.over s t i st k h = h
 
 -- our turn leaves what is kept
 keep-spoken : (j : Judged) (a : Bool) (u : Bytes) → spokenOf j a u .keep ≡ j .next .keep
-unfolding speakOf
-keep-spoken j a u =
-    by-cond Same (eqb (j .speaks) notOurTurn) refl
-    (by-cond Same (eqb (chooseOf (j .next .keep .terms .partner) u (j .next .keep .framed) (j .next .keep .deferred) .count) 0) (by-cond Same (eqb (j .speaks) ourTurnAfterFF) refl refl) refl)
-  where
-    Same : Session → Type 0
-    Same n = n .keep ≡ j .next .keep
+keep-spoken j a u = speak-keep (j .speaks) (j .next) u
 
 -- the marks in the partner's column
 abbrev pub marking : Keep → Marks → Bytes → Bytes
@@ -106,7 +100,7 @@ module _ (F : Fixed) (E : Shelf) (c : Cs) (a : Bool) (m₀ : Memory) where
 
     -- it isn't our turn, and it says no more
     pub goes-quiet : (p : Phase) → s .say .then ≡ pieceNone → Awaits (cs (afterLine a s) u (c .inbox) (c .store)) p → Goes (judged 0 notOurTurn mk s) (goesOn p m o)
-    unfolding waitingOf firstText thenText
+    unfolding waitingOf firstText thenText speakOf
     goes-quiet p e await = (
       refl,
       same,
@@ -125,14 +119,14 @@ module _ (F : Fixed) (E : Shelf) (c : Cs) (a : Bool) (m₀ : Memory) where
     )
 
     -- it is our turn; ff: the partner's was FF
-    pub goes-speaking : (ff : Bool) → Goes (judged 0 (cond ff ourTurnAfterFF ourTurn) mk s) (on-lists.ourTurn E o ff m)
+    pub goes-speaking : (ff : Bool) → Goes (judged 0 (turnAfter ff) mk s) (on-lists.ourTurn E o ff m)
     goes-speaking ff =
         go ff (on-lists.ourTurn E o ff m)
-        (subst (λ (x : Counts). Settles F E a (c .inbox) (c .store) x (speakOf s u ff) u (on-lists.ourTurn E o ff m)) counts
-        (subst (λ (x : Bytes). Settles F E a (c .inbox) (c .store) (m .counts) (speakOf s u ff) u (on-lists.ourTurn E x ff m)) said
+        (subst (λ (x : Counts). Settles F E a (c .inbox) (c .store) x (speakOf (turnAfter ff) s u) u (on-lists.ourTurn E o ff m)) counts
+        (subst (λ (x : Bytes). Settles F E a (c .inbox) (c .store) (m .counts) (speakOf (turnAfter ff) s u) u (on-lists.ourTurn E x ff m)) said
         (our-turn-law F E a (c .inbox) (c .store) s u m b h ff)))
       where
-        go : (ff : Bool) (r : Outcome) → Settles F E a (c .inbox) (c .store) (countsMarked mk (m₀ .counts)) (speakOf s u ff) u r → Goes (judged 0 (cond ff ourTurnAfterFF ourTurn) mk s) r
+        go : (ff : Bool) (r : Outcome) → Settles F E a (c .inbox) (c .store) (countsMarked mk (m₀ .counts)) (speakOf (turnAfter ff) s u) u r → Goes (judged 0 (turnAfter ff) mk s) r
         go ff (refuses n) x = absurd x
         go true (goesOn p m′ o′) x = (refl, same, (x .0, record { counts = x .1; few = few; less = less }))
         go false (goesOn p m′ o′) x = (refl, same, (x .0, record { counts = x .1; few = few; less = less }))

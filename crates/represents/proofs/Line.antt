@@ -53,7 +53,7 @@ use Rattle.represents.proofs.Choices.{answers-law}
 use Rattle.represents.proofs.Proposals.{no-proposals, proposals-length, proposals-more, entries-more, written-form, signs-back, Found, Owing, owing, owed-now, next-found, start-law, stands-fresh, proper-fits}
 use Rattle.represents.proofs.Says.{first-nothing}
 use Rattle.represents.proofs.Parts.{Ready, no-entries}
-use Rattle.represents.proofs.Settle.{holds-turn, holds-sid}
+use Rattle.represents.proofs.Settle.{holds-turn, holds-sid, turnAfter}
 use Rattle.represents.proofs.Leads.{carried, marking, Leads, goes-leads, goes-quiet, goes-speaking}
 use Rattle.form_closed.specs.Facts.{FiveOk}
 use Rattle.form_closed.proofs.Laws.{five-of, signs-octets, held-length}
@@ -132,10 +132,10 @@ module _ (F : Fixed) (E : Shelf) (c : Cs) (m : Memory) (ready : Ready F E c m) w
   -- our turn, after o
   speaks : (ff : Bool) (mk : Marks) (y′ : Say) (k′ : Keep) (m′ : Memory) (o : Bytes) → Holds F E k′ (marking k′ mk t) i st m′
       → carried (withKeep k′ s) ≡ carried s → m′ .counts ≡ countsMarked mk (m .counts) → mk .places .count ≤ byteRange → mk .deferred ≤ byteRange
-      → firstText (withSay y′ (withKeep k′ s)) ≡ o → Lead (judged 0 (cond ff ourTurnAfterFF ourTurn) mk (withSay y′ (withKeep k′ s))) (on-lists.ourTurn E o ff m′)
+      → firstText (withSay y′ (withKeep k′ s)) ≡ o → Lead (judged 0 (turnAfter ff) mk (withSay y′ (withKeep k′ s))) (on-lists.ourTurn E o ff m′)
   speaks ff mk y′ k′ m′ o h′ same counts few less said =
       let s′ = withSay y′ (withKeep k′ s) in
-      goes-leads F E c true m (judged 0 (cond ff ourTurnAfterFF ourTurn) mk s′) (on-lists.ourTurn E o ff m′) (goes-speaking F E c true m mk s′ m′ o b h′ same counts few less said ff)
+      goes-leads F E c true m (judged 0 (turnAfter ff) mk s′) (on-lists.ourTurn E o ff m′) (goes-speaking F E c true m mk s′ m′ o b h′ same counts few less said ff)
 
   -- what was being sent is counted as forwarded
   few : k .sending .count ≤ byteRange

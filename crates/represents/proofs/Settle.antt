@@ -4,6 +4,7 @@ use mathlib.Core.Bool.{Bool, true, false, cond}
 use mathlib.Core.List.{List, [], _∷_, _++_, map}
 use Prim.Native.Nat.{ℕ, suc, _<_}
 use native.Mathlib.Omega.{arith}
+use lib.Dec.{eqb}
 use lib.ListN.{length, take}
 use borrow.Author.Tests.{ne-eqb}
 use Rattle.grammar.specs.Bytes.{Bytes}
@@ -25,6 +26,7 @@ use Rattle.marking.specs.States.{statesOf}
 use Rattle.entries.specs.Decoded.{proposalsOf}
 use Rattle.line_effect.specs.Judge.{picked, flagged, settledKeep, sends, toAnswer, saysThen}
 use Rattle.our_turn.specs.Turn.{chooseOf, speaking, speakOf}
+use Rattle.our_turn.proofs.Ways.{speak-turn}
 use Rattle.line_effect.specs.Judge as judge
 use Rattle.waiting.specs.Waiting.{waitingOf, firstText, thenText, blockText}
 use Rattle.receive_defined.specs.Receiving.{cs, afterLine}
@@ -35,7 +37,7 @@ use Rattle.marking.proofs.States.{records-mark, whole-mark, states-marked}
 use Rattle.represents.proofs.Table.{states-declined, picked-accepted, flags-deferred, zerosAfter}
 use Rattle.represents.proofs.Choices.{choose-law}
 use Rattle.represents.proofs.Says.{block-text}
-use Rattle.phase.specs.Phase.{ourTurn, pieceBlock, stateForwarded, stateDeclined}
+use Rattle.phase.specs.Phase.{notOurTurn, ourTurn, ourTurnAfterFF, pieceBlock, stateForwarded, stateDeclined}
 use Rattle.receive_defined.specs.Tallied.{proposesOf}
 use Rattle.represents.proofs.Tallied.{none-more}
 use Rattle.represents.proofs.Parts.{no-entries}
@@ -98,6 +100,14 @@ module _ (F : Fixed) (E : Shelf) (k : Keep) (t i st : Bytes) (m : Memory) (h : H
 
 -- ---------------------------------------------------------------- our turn
 
+-- Our turn; ff: the partner's was FF.
+abbrev pub turnAfter : Bool → ℕ
+turnAfter ff = cond ff ourTurnAfterFF ourTurn
+
+is-ours : (ff : Bool) → eqb (turnAfter ff) notOurTurn ≡ false
+is-ours true = refl
+is-ours false = refl
+
 module _ (F : Fixed) (E : Shelf) (a : Bool) (i st : Bytes) where
   -- what is left stands for the outcome, which is no refusal; x: the counts before our turn
   abbrev pub Settles : Counts → Session → Bytes → Outcome → Type 0
@@ -111,14 +121,14 @@ module _ (F : Fixed) (E : Shelf) (a : Bool) (i st : Bytes) where
     abbrev SpeaksAs : Session → Outcome → Type 0
     SpeaksAs n o = Settles (m .counts) n t o
 
-    speak-law : (ff : Bool) (is : List ℕ) → SpeaksAs (speaking (fiveOf is) ff s) (on-lists.speaking E first ff is m)
+    speak-law : (ff : Bool) (is : List ℕ) → SpeaksAs (speaking (fiveOf is) (turnAfter ff) s) (on-lists.speaking E first ff is m)
     unfolding waitingOf firstText thenText proposalsOf
     speak-law true [] = (record { entries = b; holds = h; says = refl; awaits = refl; part = refl; afterCr = refl }, none-more (m .counts))
     speak-law false [] =
         (record { entries = no-entries (s .now .block); holds = h; says = refl; awaits = (refl, (refl, refl, refl)); part = refl; afterCr = refl }, none-more (m .counts))
     speak-law ff (j ∷ is) =
         subst
-        (λ (c : Bool). SpeaksAs (cond c (speaking (fiveOf []) ff s) (withNow (toAnswer (fiveOf (j ∷ is)) (s .now)) (withSay (saysThen pieceBlock (s .say)) s))) (on-lists.speaking E first ff (j ∷ is) m))
+        (λ (c : Bool). SpeaksAs (cond c (speaking (fiveOf []) (turnAfter ff) s) (withNow (toAnswer (fiveOf (j ∷ is)) (s .now)) (withSay (saysThen pieceBlock (s .say)) s))) (on-lists.speaking E first ff (j ∷ is) m))
         (sym (ne-eqb (suc (length is)) 0 (λ e. omega arith))) (
           record {
             entries = b;
@@ -137,11 +147,11 @@ module _ (F : Fixed) (E : Shelf) (a : Bool) (i st : Bytes) where
             ∙ ap (λ (T : List Record). turnText (map (λ (n : ℕ). proposalOf (recordAt T n)) (j ∷ is))) (h .shelved .records)
 
     -- the same with the records that we choose
-    pub our-turn-law : (ff : Bool) → SpeaksAs (speakOf s t ff) (on-lists.ourTurn E first ff m)
-    unfolding speakOf
+    pub our-turn-law : (ff : Bool) → SpeaksAs (speakOf (turnAfter ff) s t) (on-lists.ourTurn E first ff m)
     our-turn-law ff =
-        subst (λ (f : Five). SpeaksAs (speaking f ff s) (on-lists.ourTurn E first ff m)) (sym choice)
-        (speak-law ff (chosen (E .table) (m .framed) (m .states) (m .deferred)))
+        subst (λ (n : Session). SpeaksAs n (on-lists.ourTurn E first ff m)) (sym (speak-turn (turnAfter ff) s t (is-ours ff)))
+        (subst (λ (f : Five). SpeaksAs (speaking f (turnAfter ff) s) (on-lists.ourTurn E first ff m)) (sym choice)
+        (speak-law ff (chosen (E .table) (m .framed) (m .states) (m .deferred))))
       where
         choice : chooseOf (s .keep .terms .partner) t (s .keep .framed) (s .keep .deferred) ≡ fiveOf (chosen (E .table) (m .framed) (m .states) (m .deferred))
         choice =

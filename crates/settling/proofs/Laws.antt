@@ -2,7 +2,6 @@
 use mathlib.Core.Path.{_≡_, refl, sym, ap, _∙_}
 use mathlib.Core.Bool.{Bool, true, false}
 use Prim.Native.Nat.{ℕ}
-use lib.Dec.{eqb}
 use lib.ListN.{take}
 use borrow.Author.Tests.{eq-eqb, ne-eqb}
 use Rattle.grammar.specs.Bytes.{Bytes}
@@ -11,7 +10,7 @@ use Rattle.sheet.specs.Sheet.{proposedBy, forwardedBy, declinedBy, deferredBy}
 use Rattle.session_memory.specs.declared.Tally.{Tally}
 use Rattle.session_memory.specs.Session.{Await, Session}
 use Rattle.session_memory.specs.Setters.{withTally}
-use Rattle.phase.specs.Phase.{notOurTurn, ourTurnAfterFF, stateForwarded, stateDeclined}
+use Rattle.phase.specs.Phase.{stateForwarded, stateDeclined}
 use Rattle.places.specs.Places.{headingAt}
 use Rattle.region.specs.Region.{region}
 use Rattle.numbers.specs.declared.Numbers.{Numbers}
@@ -29,15 +28,10 @@ use Rattle.settling.specs.After.{afterLine}
 -- ---------------------------------------------------------------- our turn
 
 module _ (v : Verdict) (a : Bool) (m table : Bytes) {r : Numbers} where
-  pub spoken-no : v .speaks ≡ notOurTurn → r ≡ afterLine (v .next) a → wholeOf r m ≡ spokenOf (judgedIn v m) a table
-  unfolding wholeOf
-  spoken-no n e = rw (eq-eqb _ _ n) (ap (λ (x : Numbers). wholeOf x m) e)
-
-  pub spoken-yes : {t : Numbers} → (v .speaks ≡ notOurTurn → ⊥)
-      → ((x : Arrays) → sessionOf t (withDeferred (take headingAt m) x) ≡ speakOf (sessionOf (v .next) (withDeferred (take headingAt m) x)) table (eqb (v .speaks) ourTurnAfterFF))
+  pub spoken-by : {t : Numbers} → ((x : Arrays) → sessionOf t (withDeferred (take headingAt m) x) ≡ speakOf (v .speaks) (sessionOf (v .next) (withDeferred (take headingAt m) x)) table)
       → r ≡ afterLine t a → wholeOf r m ≡ spokenOf (judgedIn v m) a table
   unfolding wholeOf region
-  spoken-yes {t} n h e = rw (ne-eqb _ _ n) (ap (λ (x : Numbers). wholeOf x m) e ∙ ap (whole.afterLine a) (h (arraysIn m)))
+  spoken-by {t} h e = ap (λ (x : Numbers). wholeOf x m) e ∙ ap (whole.afterLine a) (h (arraysIn m))
 
 -- ---------------------------------------------------------------- what a judged line leaves
 
