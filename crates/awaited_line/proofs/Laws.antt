@@ -26,7 +26,7 @@ use Rattle.numbers_in_place.proofs.Arrays.{deferred-lent, block-lent}
 use Rattle.line_effect.specs.declared.Verdict.{Verdict}
 use Rattle.line_effect.specs.Judged.{Judged}
 use Rattle.line_effect.specs.Verdict.{judgedOf, judgedIn}
-use Rattle.line_effect.specs.Judge.{refusal, wentOn, inPhase, toTurn, withMode, afterSid, sidRead, sidLine, lineBy, judgeOf}
+use Rattle.line_effect.specs.Judge.{refusal, wentOn, inPhase, toTurn, withMode, afterSid, sidRead, sidLine, lineBy, commentLine, judgeOf}
 
 module _ (s : Session) where
   -- a SID
@@ -59,8 +59,12 @@ module _ (s : Session) where
         let q : toTurn false (s .now) ≡ afterSid (s .now) = rw (ne-eqb _ _ h) in
         rw (q, f, g) (sid-yes o r e n)
 
-  -- any line by the phase
+  -- a comment, and any other line by the phase
   module _ (ln : Bytes) (table known inbox : Bytes) (store : ℕ) (j : Judged) where
+    pub comment-in : isComment (trim ln) ≡ true → j ≡ wentOn s → j ≡ judgeOf ln s table known inbox store
+    unfolding judgeOf commentLine
+    comment-in z f = rw z f
+
     pub line-in : (p : ℕ) → s .now .phase ≡ p → isComment (trim ln) ≡ false → j ≡ lineBy p ln s table known inbox store → j ≡ judgeOf ln s table known inbox store
     unfolding judgeOf
     line-in p e z f = rw z (f ∙ ap (λ (q : ℕ). lineBy q ln s table known inbox store) (sym e))

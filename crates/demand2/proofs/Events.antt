@@ -19,7 +19,8 @@ use Rattle.grammar.specs.Scan.{Scan, Scanned, goes, got, scanByte}
 use Rattle.grammar.proofs.Refusal.{whole-got}
 use Rattle.mail.specs.Mail.{Record, messageOf, proposalOf, transferOf, recordAt, proposalLines, turnText, transfersText, accepted}
 use Rattle.session.specs.Choices.{Shelf, answersTo}
-use Rattle.session.specs.Session.{kindDue, awaitsSid, awaitsPrompt, awaitsAnswer, Phase, aLine, newTurn, leaving, Memory, Session, withLevel, withFramed, withTerms, withCounts, withSid, withPart, withAfterCr, between, goesOn, speaking, turnMarks, answering, answered, turnJudged, answerMarks, awaitedJudged, Stepped, moved, settled, lineMoved, isPlain, keptIn, nextTransfer, transferMoved, freeStep, step, levelInForce}
+use Rattle.session.specs.Session.{kindDue, awaitsSid, awaitsPrompt, awaitsAnswer, Phase, aLine, newTurn, leaving, Memory, Session, withLevel, withFramed, withTerms, withCounts, withSid, withPart, withAfterCr, between, speaking, turnMarks, answering, answered, turnJudged, answerMarks, Stepped, moved, settled, lineMoved, isPlain, keptIn, nextTransfer, transferMoved, freeStep, step, levelInForce}
+use Rattle.session.proofs.Ways.{comment-line}
 use Rattle.demand2.specs.Limits.{lineLimit, blockLimit}
 use Rattle.demand2.specs.Room.{room}
 use Rattle.demand2.specs.Marks.{withSign, AnswerLeaves, TurnLeaves}
@@ -100,7 +101,7 @@ module _ (E : Shelf) (q : Bytes) (s : Session) (b : ℕ) where
       let a = which-line (s .phase) w in
       line-step E s b (a .0) h (a .1)
       ∙ ap (λ (d : Bool). lineMoved E (a .0) s b (cond d ends (cond (ltb (length (s .part)) lineLimit) grows overruns))) (eq-eqb b CR e)
-      ∙ ap (λ (d : Bool). settled s true (cond d (goesOn (aLine (a .0)) (s .memory) []) (awaitedJudged E (a .0) (s .memory) (s .part)))) c
+      ∙ ap (settled s true) (comment-line E (a .0) (s .memory) (s .part) c)
       ∙ ap (λ (p : Phase). moved (between p true [] (s .memory))) (sym (a .1))
 
   goes-answer : (ln : Bytes) (is : List ℕ) (ss : List Sign) → WholeLine s b ln → s .phase ≡ aLine (awaitsAnswer is) → readFs (levelInForce (s .memory)) (length is) ln ≡ some ss

@@ -13,7 +13,8 @@ use Rattle.grammar.specs.Scan.{Scan, Scanned, goes, scan, scanByte, scanFrom, o
 use Rattle.grammar.proofs.Basics.{no-both}
 use Rattle.grammar.proofs.Portions.{scan-append}
 use Rattle.session.specs.Choices.{Shelf}
-use Rattle.session.specs.Session.{kindDue, Awaited, awaitsTurn, Phase, aLine, awaitsTransfer, leaving, over, Session, withAfterCr, goesOn, turnJudged, awaitedJudged, moved, settled, lineMoved, transferMoved, lineStep, phaseStep, freeStep, step}
+use Rattle.session.specs.Session.{kindDue, Awaited, awaitsTurn, Phase, aLine, awaitsTransfer, leaving, over, Session, withAfterCr, turnJudged, awaitedJudged, moved, settled, lineMoved, transferMoved, lineStep, phaseStep, freeStep, step}
+use Rattle.session.proofs.Ways.{heard-line}
 use Rattle.demand2.specs.Limits.{lineLimit}
 use Rattle.demand2.specs.Room.{room}
 use Rattle.demand2.specs.Refusals.{Heeded, awaitsLine, WholeLine, TurnSaid, SoFar, TransferByte}
@@ -42,7 +43,7 @@ module _ (E : Shelf) (s : Session) (b : ℕ) where
   whole-step a ln w e =
       line-step a (w .heeded) e
       ∙ ap (λ (c : Bool). lineMoved E a s b (cond c ends (cond (ltb (length (s .part)) lineLimit) grows overruns))) (eq-eqb b CR (w .end))
-      ∙ ap (λ (c : Bool). settled s true (cond c (goesOn (aLine a) (s .memory) []) (awaitedJudged E a (s .memory) (s .part)))) (ap isComment (w .bytes) ∙ w .judged)
+      ∙ ap (settled s true) (heard-line E a (s .memory) (s .part) (ap isComment (w .bytes) ∙ w .judged))
 
   pub transfer-step : (p : Proposal) (sc : Scan) (t : TransferByte s b p sc)
       → step E s b ≡ transferMoved E p (t .others) s (scanByte (room E (s .memory .inbox)) sc b)

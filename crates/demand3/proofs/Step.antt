@@ -22,7 +22,7 @@ use Rattle.grammar.proofs.Basics.{no-both}
 use Rattle.grammar.proofs.Refusal.{Reach, reach-step, from, contentOf, read-as}
 use Rattle.mail.specs.Mail.{Record, messageOf, turnText, transfersText, accepted}
 use Rattle.session.specs.Choices.{Shelf, answersTo}
-use Rattle.session.specs.Session.{kindDue, Awaited, awaitsSid, awaitsPrompt, awaitsTurn, awaitsAnswer, Phase, aLine, newTurn, awaitsTransfer, leaving, Memory, Session, withCounts, withSid, withPart, withAfterCr, between, Outcome, refuses, goesOn, proposing, speaking, ourTurn as speakNow, turnMarks, answering, answered, turnJudged, answerMarks, answerJudged, afterSid, sidJudged, textJudged, awaitedJudged, lineJudged, refused, settled, lineMoved, keptIn, nextTransfer, transferMoved, roomFor, lineStep, phaseStep, freeStep, step, ended, endedIn}
+use Rattle.session.specs.Session.{kindDue, Awaited, awaitsSid, awaitsPrompt, awaitsTurn, awaitsAnswer, Phase, aLine, newTurn, awaitsTransfer, leaving, Memory, Session, withCounts, withSid, withPart, withAfterCr, between, Outcome, refuses, goesOn, proposing, speaking, ourTurn as speakNow, turnMarks, answering, answered, turnJudged, answerMarks, answerJudged, afterSid, sidJudged, textJudged, awaitedJudged, lineJudged, refused, settled, lineMoved, keptIn, nextTransfer, transferMoved, roomFor, lineStep, phaseStep, freeStep, step, ended, endedIn, commentJudged}
 use Rattle.session.specs.Session
 use Rattle.log.specs.Log.{kindOwed, ourNewTurn, weOpen, courseWith, logWith, afterTheirs, took, ourSidLine, ourAnswer, theirText, Next, weSay, theySay, theirTransfer, Course, Book, Log, isOurs, saidOn, inOrder, said, theirsOwed, placesOf, ourProposed, Effect, effect, summedEnd, checked, rawWith, theirSaid, theirTurnLine, theirAnswered, theirSidRead, theirRead, theirLine, judgedLine}
 use Rattle.log.specs.Log
@@ -253,14 +253,18 @@ module _ (E : Shelf) (S : Sound E) (part : Bytes) (a : Bool) (m : Memory) where
   read-line (awaitsAnswer is) f =
       answer-line is (fsNumber (m .terms .level) (length is) (trim part)) (readFs (m .terms .level) (length is) (trim part)) (numbered (m .terms .level) (length is) (trim part))
 
+  -- a comment, which the log ignores
+  comment-heard : (p : Awaited) → Few p → AfterLine p (commentJudged E p m part) (effect (bookOf m) (accountOf m) (theySay (lineOf p)))
+  comment-heard p f = quiet p (aLine p) m (no-line, f)
+
   -- a comment, or the line
   heard : (p : Awaited) → Few p → AfterLine p (lineJudged E p m part) (theirLine (lineOf p) (bookOf m) (accountOf m) part)
   heard p f = go (isComment (trim part))
     where
       go : (c : Bool)
-          → AfterLine p (cond c (goesOn (aLine p) m []) (awaitedJudged E p m part))
+          → AfterLine p (cond c (commentJudged E p m part) (awaitedJudged E p m part))
           (cond c (effect (bookOf m) (accountOf m) (theySay (lineOf p))) (theirRead (lineOf p) (bookOf m) (accountOf m) part))
-      go true = quiet p (aLine p) m (no-line, f)
+      go true = comment-heard p f
       go false = read-line p f
 
   -- a byte of a line: it ends, it goes on, or it is too long

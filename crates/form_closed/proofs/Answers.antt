@@ -26,7 +26,7 @@ use Rattle.transfer_read.specs.Feed.{roomOf}
 use Rattle.session_memory.specs.State.{loadOf}
 use Rattle.session_memory.specs.Session.{Session}
 use Rattle.our_answer.specs.Answers.{answersOf}
-use Rattle.line_effect.specs.Judge.{sidRead, sidLine, textLine, nextAccepted, endLine, summedLine, proposalLine, ffLine, fqLine, lineSum, turnRead, turnLine, answerLine, judgeOf}
+use Rattle.line_effect.specs.Judge.{sidRead, sidLine, textLine, nextAccepted, endLine, summedLine, proposalLine, ffLine, fqLine, lineSum, turnRead, turnLine, answerLine, commentLine, judgeOf}
 use Rattle.line_effect.specs.Judged.{Judged}
 use Rattle.waiting.specs.Waiting.{waitingOf}
 use Rattle.pending.specs.Pending.{waits, overOf}
@@ -72,7 +72,7 @@ module _ (s : Session) (table known inbox : Bytes) (store : ℕ) where
   turn-other n (endsSummed h) = by-cond OtherJ (eqb (s .now .proposals) 0) refl (by-cond OtherJ (eqb ((s .now .sum + h) % byteValues) 0) end-other refl)
 
   judge-other : (ln : Bytes) → OtherJ (judgeOf ln s table known inbox store)
-  unfolding judgeOf sidLine textLine turnLine answerLine
+  unfolding judgeOf commentLine sidLine textLine turnLine answerLine
   judge-other ln =
       by-cond OtherJ (isComment (trim ln)) refl
       (by-cond OtherJ (eqb (s .now .phase) phaseCalledSid) (sid-other (readSid (trim ln)))

@@ -33,7 +33,7 @@ use Rattle.session_memory.specs.Session.{Session}
 use Rattle.session_memory.specs.Setters.{withReader, withNow, withSay, withKeep, withReading}
 use Rattle.our_answer.specs.Answers.{answersOf}
 use Rattle.entries.specs.Decoded.{placeCount}
-use Rattle.line_effect.specs.Judge.{noMarks, judged, refusal, wentOn, inPhase, toTurn, toTransfer, saysFirst, saysThen, saysSigns, withMode, sends, sidRead, sidLine, textLine, turnMarks, settledKeep, wholeTurn, nextAccepted, readerFor, answered, endLine, summedLine, withProposal, proposalLine, ffLine, fqLine, lineSum, turnRead, turnLine, picked, flagged, transfersAfter, answerTaken, answerLine, judgeOf}
+use Rattle.line_effect.specs.Judge.{noMarks, judged, refusal, wentOn, inPhase, toTurn, toTransfer, saysFirst, saysThen, saysSigns, withMode, sends, sidRead, sidLine, textLine, turnMarks, settledKeep, wholeTurn, nextAccepted, readerFor, answered, endLine, summedLine, withProposal, proposalLine, ffLine, fqLine, lineSum, turnRead, turnLine, picked, flagged, transfersAfter, answerTaken, answerLine, commentLine, judgeOf}
 use Rattle.line_effect.specs.Judged.{Judged}
 use Rattle.line_effect.specs.declared.Marks.{Marks}
 use Rattle.form_test.specs.Form.{pluses, isLast}
@@ -213,10 +213,14 @@ module _ (table known inbox store : Bytes) (s : Session) (G : SessionOk inbox st
   unfolding answerLine
   answer-ok ln = by-cond Ok (eqb (answerNumber (k .terms .level) (w .ours .count) ln) 0) (taken-ok (answerSigns (k .terms .level) (w .ours .count) ln)) (same _)
 
+  comment-ok : (ln : Bytes) → Ok (commentLine ln s)
+  unfolding commentLine
+  comment-ok ln = same 0
+
   pub judge-ok : (ln : Bytes) → Ok (judgeOf ln s table known inbox (length store))
   unfolding judgeOf
   judge-ok ln =
-      by-cond Ok (isComment (trim ln)) (same 0)
+      by-cond Ok (isComment (trim ln)) (comment-ok (trim ln))
       (by-test Ok (eqb (w .phase) phaseCalledSid) (λ e. let z = eqb-true (w .phase) phaseCalledSid e in sid-ok (trim ln) (A .quiet (λ u. omega arith) (omega arith)))
       (λ p. by-test Ok (eqb (w .phase) phaseCallerSid) (λ e. let z = eqb-true (w .phase) phaseCallerSid e in sid-ok (trim ln) (A .quiet (λ u. omega arith) (omega arith)))
       (λ p. by-test Ok (eqb (w .phase) phasePrompt) (λ e. let z = eqb-true (w .phase) phasePrompt e in text-ok (trim ln) (A .quiet (λ u. omega arith) (omega arith)))

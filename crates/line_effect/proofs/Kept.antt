@@ -14,7 +14,7 @@ use Rattle.session_memory.specs.Session.{Session}
 use Rattle.phase.specs.Phase.{phaseCalledSid, phaseCallerSid, phasePrompt, phaseTurn, phaseFs, blockLimit, noProposal}
 use Rattle.our_answer.specs.Answers.{answersOf}
 use Rattle.line_effect.specs.Judged.{Judged}
-use Rattle.line_effect.specs.Judge.{refusal, sidRead, sidLine, textLine, nextAccepted, endLine, summedLine, proposalLine, ffLine, fqLine, lineSum, turnRead, turnLine, answerLine, judgeOf}
+use Rattle.line_effect.specs.Judge.{refusal, sidRead, sidLine, textLine, nextAccepted, endLine, summedLine, proposalLine, ffLine, fqLine, lineSum, turnRead, turnLine, answerLine, commentLine, judgeOf}
 
 -- taken, or as it was
 pub record Kept (s : Session) (j : Judged) : Type 0 where
@@ -44,6 +44,10 @@ module _ (s : Session) where
   unfolding textLine
   text-kept ln = by (isPrompt ln) (taken _ refl refl) (taken _ refl refl)
 
+  comment-kept : (ln : Bytes) → Kept s (commentLine ln s)
+  unfolding commentLine
+  comment-kept ln = taken _ refl refl
+
   module _ (table known inbox : Bytes) (store : ℕ) where
     end-kept : Kept s (endLine s table known inbox store)
     unfolding endLine
@@ -71,7 +75,7 @@ module _ (s : Session) where
     pub judge-kept : (ln : Bytes) → Kept s (judgeOf ln s table known inbox store)
     unfolding judgeOf
     judge-kept ln =
-        by (isComment (trim ln)) (taken _ refl refl)
+        by (isComment (trim ln)) (comment-kept (trim ln))
         (by (eqb (s .now .phase) phaseCalledSid) (sid-kept (trim ln))
         (by (eqb (s .now .phase) phaseCallerSid) (sid-kept (trim ln))
         (by (eqb (s .now .phase) phasePrompt) (text-kept (trim ln))

@@ -210,7 +210,11 @@ lineBy p ln s table known inbox store =
     (cond (eqb p phaseFs) (answerLine (trim ln) s)
     (refusal lineNotAllowed s)))))
 
+-- "A line that begins with `;` is ignored wherever a line is awaited"
+unfoldable pub commentLine : Bytes → Session → Judged
+commentLine ln s = wentOn s
+
 -- A line as it came, without its CR; the slices are the table, the known BIDs and the inbox, store is the inbox store's size.
 unfoldable pub judgeOf : Bytes → Session → Bytes → Bytes → Bytes → ℕ → Judged
 judgeOf ln s table known inbox store =
-    cond (isComment (trim ln)) (wentOn s) (lineBy (s .now .phase) ln s table known inbox store)
+    cond (isComment (trim ln)) (commentLine (trim ln) s) (lineBy (s .now .phase) ln s table known inbox store)

@@ -18,12 +18,12 @@ use Rattle.grammar.specs.Answers.{readFs, fsNumber}
 use Rattle.grammar.proofs.AsRead.{turn-read-ok}
 use Rattle.session.specs.Choices.{Shelf}
 use Rattle.session.specs.Session as on-lists
-use Rattle.session.specs.Session.{Memory, Phase, Outcome, goesOn}
+use Rattle.session.specs.Session.{Memory, Phase, Outcome}
 use Rattle.session_memory.specs.State.{held}
 use Rattle.session_memory.specs.Session.{Line}
 use Rattle.session_memory.specs.Session.{Session}
 use Rattle.session_memory.specs.Setters.{withLine}
-use Rattle.line_effect.specs.Judge.{wentOn, judgeOf, lineBy, sidLine, textLine, turnLine}
+use Rattle.line_effect.specs.Judge.{commentLine, judgeOf, lineBy, sidLine, textLine, turnLine}
 use Rattle.line_effect.specs.Judged.{Judged}
 use Rattle.waiting.specs.Waiting.{waitingOf, firstText, thenText}
 use Rattle.pending.specs.Pending.{waits}
@@ -116,13 +116,17 @@ module _ (F : Fixed) (E : Shelf) {nt ni ns : ℕ} (c : Cs) (g : Good F nt ni ns 
         (fs-law F E c m ready ln (g .awaited .quiet (λ e. omega (arith, e, a .0)) (omega (arith, a .0)))))
 
     -- "A line that begins with `;` is ignored wherever a line is awaited"
+    comment-law : (a : on-lists.Awaited) → Awaits c (on-lists.aLine a) → Lead (commentLine ln s) (on-lists.commentJudged E a m raw)
+    unfolding commentLine
+    comment-law a w = went-on F E c m ready (s .now) (s .keep) (on-lists.aLine a) m (h .standing .entries) (h .standing .holds) refl refl w
+
     judge-law : (a : on-lists.Awaited) → Awaits c (on-lists.aLine a)
         → Lead (judgeOf raw s (c .table) (F .known) (c .inbox) (length (c .store))) (on-lists.lineJudged E a m raw)
     unfolding judgeOf
     judge-law a w = go (isComment ln)
       where
-        go : (x : Bool) → Lead (cond x (wentOn s) (judgedIn (s .now .phase))) (cond x (goesOn (on-lists.aLine a) m []) (on-lists.awaitedJudged E a m raw))
-        go true = went-on F E c m ready (s .now) (s .keep) (on-lists.aLine a) m (h .standing .entries) (h .standing .holds) refl refl w
+        go : (x : Bool) → Lead (cond x (commentLine ln s) (judgedIn (s .now .phase))) (cond x (on-lists.commentJudged E a m raw) (on-lists.awaitedJudged E a m raw))
+        go true = comment-law a w
         go false = subst (λ (q : ℕ). Lead (judgedIn q) (on-lists.awaitedJudged E a m raw)) (sym (w .0)) (read-law a w)
 
   -- ---------------------------------------------------------------- a byte

@@ -18,7 +18,7 @@ use Rattle.grammar.specs.Scan.{Scan, Scanned, goes, got, malformed, wrongSum, n
 use Rattle.grammar.specs.Transfers.{sumRight}
 use Rattle.mail.specs.Mail.{messageOf, transfersText, accepted}
 use Rattle.session.specs.Choices.{Shelf, chosen, answersTo}
-use Rattle.session.specs.Session.{kindDue, Awaited, awaitsSid, awaitsPrompt, awaitsTurn, awaitsAnswer, Phase, aLine, newTurn, awaitsTransfer, leaving, over, Terms, Memory, Session, withTerms, withSid, withPhase, withPart, withAfterCr, between, Outcome, refuses, goesOn, proposing, speaking, ourTurn, turnMarks, answering, answered, turnJudged, answerMarks, answerJudged, afterSid, sidJudged, textJudged, awaitedJudged, lineJudged, Stepped, refused, moved, settled, lineMoved, isPlain, keptIn, nextTransfer, transferMoved, roomFor, phaseStep, freeStep, step, levelInForce}
+use Rattle.session.specs.Session.{kindDue, Awaited, awaitsSid, awaitsPrompt, awaitsTurn, awaitsAnswer, Phase, aLine, newTurn, awaitsTransfer, leaving, over, Terms, Memory, Session, withTerms, withSid, withPhase, withPart, withAfterCr, between, Outcome, refuses, goesOn, proposing, speaking, ourTurn, turnMarks, answering, answered, turnJudged, answerMarks, answerJudged, afterSid, sidJudged, textJudged, awaitedJudged, lineJudged, Stepped, refused, moved, settled, lineMoved, isPlain, keptIn, nextTransfer, transferMoved, roomFor, phaseStep, freeStep, step, levelInForce, commentJudged}
 
 -- ---------------------------------------------------------------- what we say
 
@@ -141,6 +141,14 @@ module _ (E : Shelf) (m : Memory) (ln : Bytes) where
   judged (awaitsTurn ff ps raw) = turn-way (readTurnLine (m .framed) (trim ln)) ff ps raw refl
   judged (awaitsAnswer is) = answer-way is (readFs (levelInForce m) (length is) (trim ln)) refl
 
+module _ (E : Shelf) (a : Awaited) (m : Memory) (ln : Bytes) where
+  -- a line that begins with `;`, and one that does not
+  pub comment-line : isComment (trim ln) ≡ true → lineJudged E a m ln ≡ commentJudged E a m ln
+  comment-line z = ap (λ (c : Bool). cond c (commentJudged E a m ln) (awaitedJudged E a m ln)) z
+
+  pub heard-line : isComment (trim ln) ≡ false → lineJudged E a m ln ≡ awaitedJudged E a m ln
+  heard-line z = ap (λ (c : Bool). cond c (commentJudged E a m ln) (awaitedJudged E a m ln)) z
+
 -- ---------------------------------------------------------------- a byte
 
 -- The rule of the phase decides: the byte is not dropped, and nothing waits for give.
@@ -169,7 +177,7 @@ why-number E s b n (unread p ps sc w x) e = omega arith
 why-number E s b n (unsummed p ps sc w x) e = omega arith
 why-number E s b n (unkept p ps sc w x) e = omega arith
 
--- What a line that is ignored leaves of the terms: all of them. What a request has such a line tell joins here.
+-- What a line that begins with `;` leaves of the terms: all of them. What a request has such a line tell joins here.
 pub data Noted (E : Shelf) (a : Awaited) (m : Memory) (ln : Bytes) : Terms → Type 0 where
   asBefore : Noted E a m ln (m .terms)
 
@@ -189,13 +197,18 @@ pub data Way (E : Shelf) (s : Session) (b : ℕ) : Stepped → Type 0 where
       → Way E s b (settled s (isPlain (kindDue (s .memory) p)) (nextTransfer E ps (keptIn (s .memory) (messageOf p (record { heading = h; body = x })))))
 
 module _ (E : Shelf) (s : Session) (b : ℕ) where
+  -- ALL THAT A LINE THAT BEGINS WITH `;` COMES TO
+  comment-way : (a : Awaited) → At s b (aLine a) → eqb b CR ≡ true → isComment (trim (s .part)) ≡ true
+      → Way E s b (settled s true (commentJudged E a (s .memory) (s .part)))
+  comment-way a w x z = ignoresLine a w x z _ asBefore
+
   line-way : (a : Awaited) → At s b (aLine a) → (c d e : Bool) → eqb b CR ≡ c → ltb (length (s .part)) lineLimit ≡ d → isComment (trim (s .part)) ≡ e
       → Way E s b
       (lineMoved E a s b (cond c ends (cond d grows overruns)))
   line-way a w true d e x y z = go e z
     where
       go : (e : Bool) → isComment (trim (s .part)) ≡ e → Way E s b (settled s true (lineJudged E a (s .memory) (s .part)))
-      go true z = rw z (ignoresLine a w x z _ asBefore)
+      go true z = rw z (comment-way a w x z)
       go false z = rw z (hearsLine a w x z _ (judged E (s .memory) (s .part) a))
   line-way a w false true e x y z = growsLine a w x y
   line-way a w false false e x y z = isRefused lineTooLong (w .kept) (tooLong a w x y)

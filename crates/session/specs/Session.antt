@@ -223,9 +223,12 @@ awaitedJudged E awaitsPrompt m ln = textJudged E (isPrompt (trim ln)) m
 awaitedJudged E (awaitsTurn ff ps raw) m ln = turnJudged E (readTurnLine (m .framed) (trim ln)) ff ps raw ln m
 awaitedJudged E (awaitsAnswer is) m ln = answerJudged E is m (fsNumber (levelInForce m) (length is) (trim ln)) (readFs (levelInForce m) (length is) (trim ln))
 
--- "A line that begins with `;` is ignored wherever a line is awaited"
+-- "A line that begins with `;` is ignored wherever a line is awaited": what such a line comes to
+abbrev pub commentJudged : Shelf → Awaited → Memory → Bytes → Outcome
+commentJudged E a m ln = goesOn (aLine a) m []
+
 abbrev pub lineJudged : Shelf → Awaited → Memory → Bytes → Outcome
-lineJudged E a m ln = cond (isComment (trim ln)) (goesOn (aLine a) m []) (awaitedJudged E a m ln)
+lineJudged E a m ln = cond (isComment (trim ln)) (commentJudged E a m ln) (awaitedJudged E a m ln)
 
 -- ---------------------------------------------------------------- a byte
 

@@ -8,8 +8,8 @@ use borrow.Author.Tests.{ne-eqb}
 use Rattle.phase.specs.Phase.{phaseCalledSid, phaseCallerSid, phasePrompt, phaseTurn, phaseFs}
 use Rattle.places.specs.Places.{headingAt}
 use Rattle.numbers.specs.Whole.{withDeferred, withBlock, sessionOf}
-use Rattle.line_effect.specs.Judge.{sidLine, textLine, answerLine, judgeOf}
-use Rattle.awaited_line.proofs.Laws.{line-in, sid-in, past-sid, judging, told, trimmed-by, as-it-was, on-deferred, on-block}
+use Rattle.line_effect.specs.Judge.{sidLine, textLine, answerLine}
+use Rattle.awaited_line.proofs.Laws.{comment-in, line-in, sid-in, past-sid, judging, told, trimmed-by, as-it-was, on-deferred, on-block}
 use borrow.Author.Needs.{needs}
 use Rattle.awaited_line.proofs.judge.Statement.{statement}
 use Rattle.awaited_line.proofs.judge.Tie as tie
@@ -27,11 +27,11 @@ went-requires : tie.Need-went-requires
 went-requires c κs = search needs
 
 returns : tie.Need-returns
-unfolding judgeOf
 returns c =
     let a = c .before .before .before .before .before .before .before .before .before .before .args in
     let f = judging (a .line .now) (a .table .now) (a .known .now) (a .inbox .now) (a .store) in
-    as-it-was (a .s) (a .mem .now) (c .before .before .before .before .before .before .before .before .before .before .pre) (c .went .result) f (λ x. rw (told _ _ _ _ (c .before .before .before .before .trimmed .ensures .0) (c .before .before .is-comment .ensures) (c .before .if1 .taken)) (c .went .ensures x))
+    as-it-was (a .s) (a .mem .now) (c .before .before .before .before .before .before .before .before .before .before .pre) (c .went .result) f
+    (λ x. comment-in (sessionOf (a .s) x) (a .line .now) (a .table .now) (a .known .now) (a .inbox .now) (a .store) _ (told _ _ _ _ (c .before .before .before .before .trimmed .ensures .0) (c .before .before .is-comment .ensures) (c .before .if1 .taken)) (c .went .ensures x))
 
 slice-aggregate-sid-line : tie.Need-slice-aggregate-sid-line
 slice-aggregate-sid-line c = sym (length-take-le (c .before .before .before .before .before .trimmed .result) (c .before .before .before .before .before .before .before .before .before .before .before .args .line .now) (c .before .before .before .before .before .trimmed .ensures .1))
