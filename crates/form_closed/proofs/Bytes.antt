@@ -72,16 +72,9 @@ module _ (F : Fixed) (nt ni ns : ℕ) (c : Cs) (b : ℕ) (G : Good F nt ni ns c)
 
         S : SessionOk (c .inbox) st s
         S =
-            record {
-              now = G .now;
-              say = G .say;
-              keep = G .keep;
-              reader = h .0;
-              heading = heading-ok (t .put) (c .session .reading .reader) b (c .session .reading .heading) O (G .heading);
-              line = record { len = G .line .len; size = G .line .size; octets = G .line .octets };
-              tally = G .tally;
-              box = record { limit = G .box .limit; placed = G .box .placed; used = G .box .used; within = omega (arith, size, G .box .within) };
-            }
+            let q = heading-ok (t .put) (c .session .reading .reader) b (c .session .reading .heading) O (G .heading) in
+            let w : c .session .keep .used ≤ length st = omega (arith, size, G .box .within) in
+            search (h .0, q, w, session-ok G)
 
         U′ : Under (c .session .now) (c .session .say) (c .session .keep) (t .reader) (c .inbox) st
         U′ =
@@ -96,15 +89,9 @@ module _ (F : Fixed) (nt ni ns : ℕ) (c : Cs) (b : ℕ) (G : Good F nt ni ns c)
 
         M : Lent nt ni ns (c .table) (c .inbox) st
         M =
-            record {
-              table = G .lent .table;
-              inbox = G .lent .inbox;
-              store = size ∙ G .lent .store;
-              fits = G .lent .fits;
-              tableOctets = G .lent .tableOctets;
-              inboxOctets = G .lent .inboxOctets;
-              storeOctets = stored-octets (c .session .keep .used) (t .put) (c .session .reading .reader) b (c .store) O (G .lent .storeOctets);
-            }
+            let n = size ∙ G .lent .store in
+            let o = stored-octets (c .session .keep .used) (t .put) (c .session .reading .reader) b (c .store) O (G .lent .storeOctets) in
+            search (n, o, G .lent)
 
         ended : (n : ℕ) → Good F nt ni ns (cs (refusedOf n s) (c .table) (c .inbox) st)
         ended n = refused-good F nt ni ns n s (c .table) (c .inbox) st S M
@@ -153,7 +140,7 @@ module _ (F : Fixed) (nt ni ns : ℕ) (c : Cs) (b : ℕ) (G : Good F nt ni ns c)
 
   lf-ok : Good F nt ni ns (cs (lfDropped (c .session)) (c .table) (c .inbox) (c .store))
   unfolding waitingOf firstText thenText
-  lf-ok = good-by (ok-line (session-ok G) (record { len = G .line .len; size = G .line .size; octets = G .line .octets })) (G .awaited) (G .waiting) (G .lent)
+  lf-ok = good-by (ok-line (session-ok G) (search (G .line))) (G .awaited) (G .waiting) (G .lent)
 
   pub byte-ok : (known : Bytes) → Good F nt ni ns (byteOf known c b .cs)
   unfolding byteOf

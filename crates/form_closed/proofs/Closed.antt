@@ -17,6 +17,7 @@ use Rattle.mail.specs.Mail.{recordLimit, placeLimit}
 use Rattle.places.specs.Places.{entryLen, knownLen, numbersStart, partners, recordLen, sessionLen, deferredLen, headingLen, lineLen, blockLen}
 use Rattle.layout.specs.Layout.{le8}
 use Rattle.layout.proofs.Laws.{octets}
+use Rattle.transfer_step.specs.Names.{titlePlace}
 use Rattle.session_memory.specs.State.{at, flag, loadOf, loadSizes, sizesOut, saveSizes, freshOf}
 use Rattle.session_memory.specs.Session.{Session}
 use Rattle.session_memory.specs.declared.Sizes.{Sizes}
@@ -40,7 +41,7 @@ use Rattle.tally.specs.Tally.{counted}
 use Rattle.phase.specs.Phase.{phaseTransfer, phaseLeaving, pieceNone, pieceSidAndPrompt, notDeferred}
 use Rattle.form_closed.proofs.Laws.{octets-append, octets-put, octets-le8, octets-zeros, octets-nil}
 use Rattle.form_closed.proofs.Waiting.{waiting-some}
-use Rattle.form_closed.proofs.Judged.{session-ok, good-by, ok-say, none-ok, still-awaited}
+use Rattle.form_closed.proofs.Judged.{session-ok, good-by, ok-say, none-ok, reader-begins, still-awaited}
 use Rattle.form_closed.proofs.Bytes.{receive-ok}
 use Rattle.form_closed.proofs.Saved.{same-itself, parted, good, saved-form}
 use Rattle.form_closed.specs.InForm.{InForm}
@@ -89,9 +90,10 @@ module _ (F : Fixed) (nt ni ns : ℕ) (c : Cs) (g : Good F nt ni ns c) (n : ℕ)
   handed-ok =
       by-test (λ (t : Session). Good F nt ni ns (cs t (c .table) (c .inbox) (c .store))) (ltb (s .say .pos + n) (length waiting))
       (λ e. let l = ltb-true (s .say .pos + n) (length waiting) e in
-      good-by (ok-say (session-ok g) (record { first = g .say .first; then = g .say .then; pos = omega (arith, short); signs = g .say .signs }))
+      good-by (let p : s .say .pos + n < wordValues = omega (arith, short) in ok-say (session-ok g) (search (p, g .say)))
       (still-awaited s (c .inbox) (c .store) (s .say .first) (s .say .then) (s .say .pos + n) (g .awaited .closed) (g .awaited)) (λ w. l) (g .lent))
-      (λ e. good-by (ok-say (session-ok g) (record { first = omega arith; then = omega arith; pos = omega arith; signs = g .say .signs }))
+      (λ e. let z : pieceNone < byteValues = omega arith in let w : 0 < wordValues = omega arith in
+      good-by (ok-say (session-ok g) (search (z, w, g .say)))
       (still-awaited s (c .inbox) (c .store) pieceNone pieceNone 0 (λ l. (refl, refl)) (g .awaited)) (λ w. absurd (no-both false w refl)) (g .lent))
     where
       s : Session
@@ -162,7 +164,7 @@ fresh-good F caller partner column t tallied table inbox store ot oi os fits few
       now = record { phase = phase caller; current = omega arith; proposals = omega arith; ours = none-ok; sum = omega arith; block = length-replicate {A = ℕ} blockLen 0; octets = octets-zeros blockLen };
       say = record { first = first caller; then = omega arith; pos = omega arith; signs = none-ok };
       keep = record { terms = let z : 0 < byteValues = omega arith in search (z, column); sending = none-ok; flags = length-replicate {A = ℕ} deferredLen notDeferred; octets = octets-zeros deferredLen };
-      reader = record { place = omega arith; len = omega arith; head = omega arith; off = omega arith; left = omega arith; sum = omega arith; body = omega arith };
+      reader = reader-begins titlePlace (omega arith);
       heading = record { size = length-replicate {A = ℕ} headingLen 0; octets = octets-zeros headingLen };
       line = record { len = omega arith; size = length-replicate {A = ℕ} lineLen 0; octets = octets-zeros lineLen };
       tally = tallied;

@@ -1,14 +1,16 @@
 -- The facts of a session that hold whatever is awaited (`SessionOk`), part by part after the change that a line makes: what we await, what we say,
 -- what we send, the reader of the next transfer. What a whole line is judged to come to, as facts of the form test (`JudgedOk`). Idea: a change
--- that touches one number keeps every other fact.
+-- that touches one number keeps every other fact, so the facts after it are found by `search` among the new one and those before it: a fact that
+-- the records of specs/Facts gain is written where bytes are loaded (Test) and where a session begins (Closed), and at no change that leaves it.
 use mathlib.Core.Path.{_≡_, refl, sym, ap, _∙_, subst}
-use mathlib.Core.Bool.{Bool, true, false, cond}
+use mathlib.Core.Bool.{Bool, true, false}
 use Prim.Native.Nat.{ℕ, _≤_, _<_}
 use native.Mathlib.Omega.{arith}
 use lib.Dec.{eqb}
 use lib.ListN.{length}
 use Rattle.grammar.specs.Bytes.{Bytes, byteValues}
 use Rattle.grammar.specs.Turns.{blockLimit}
+use Rattle.grammar.proofs.Basics.{by-cond}
 use Rattle.layout.specs.Layout.{byteAt, entryAt}
 use Rattle.transfer_step.specs.declared.Reader.{Reader}
 use Rattle.transfer_step.specs.Step.{reader}
@@ -17,18 +19,19 @@ use Rattle.session_memory.specs.State.{noFive}
 use Rattle.session_memory.specs.declared.Five.{Five}
 use Rattle.session_memory.specs.Session.{Await}
 use Rattle.session_memory.specs.declared.Say.{Say}
+use Rattle.session_memory.specs.declared.Tally.{Tally}
 use Rattle.session_memory.specs.Session.{Keep}
 use Rattle.session_memory.specs.Session.{Line}
 use Rattle.session_memory.specs.Session.{Session}
-use Rattle.session_memory.specs.Setters.{withReader, withNow, withSay, withKeep, withReading, withLine}
+use Rattle.session_memory.specs.Setters.{withReader, withNow, withSay, withKeep, withReading, withLine, withTally}
 use Rattle.entries.specs.Decoded.{placeCount}
 use Rattle.waiting.specs.Waiting.{waitingOf}
 use Rattle.pending.specs.Pending.{waits}
-use Rattle.line_effect.specs.Judge.{inPhase, toTurn, toAnswer, toTransfer, saysThen, sends, settledKeep, readerFor}
+use Rattle.line_effect.specs.Judge.{inPhase, toTurn, toAnswer, toTransfer, saysFirst, saysThen, sends, settledKeep, readerFor}
 use Rattle.line_effect.specs.Judged.{Judged}
 use Rattle.receive_defined.specs.Receiving.{Cs}
 use Rattle.form_test.specs.Form.{usedBy}
-use Rattle.phase.specs.Phase.{phaseTurn, phaseTransfer, phaseLeaving, pieceBlock, notOurTurn}
+use Rattle.phase.specs.Phase.{phaseTurn, phaseFs, phaseTransfer, phaseLeaving, pieceBlock, notOurTurn}
 use Rattle.places.specs.Places.{deferredLen, proposalLen}
 use Rattle.form_closed.specs.Fixed.{Fixed}
 use Rattle.form_closed.specs.Facts.{Octets, FiveOk, AwaitOk, SayOk, KeepOk, ReaderOk, HeadingOk, LineOk, TallyOk, Box, Last, Awaited, Lent, Good}
@@ -52,29 +55,31 @@ AwaitedIn inbox store s = Awaited (s .now) (s .say) (s .keep) (s .reading .reade
 -- what the test says of a state, taken apart and put together
 module _ {F : Fixed} {nt ni ns : ℕ} {c : Cs} where
   pub session-ok : Good F nt ni ns c → SessionOk (c .inbox) (c .store) (c .session)
-  session-ok g = record { now = g .now; say = g .say; keep = g .keep; reader = g .reader; heading = g .heading; line = g .line; tally = g .tally; box = g .box }
+  session-ok g = search g
 
   pub good-by : SessionOk (c .inbox) (c .store) (c .session) → AwaitedIn (c .inbox) (c .store) (c .session)
       → (waits (c .session .say) ≡ true → c .session .say .pos < length (waitingOf (c .session) (c .table) (F .titles) (F .names) (F .bodies)))
       → Lent nt ni ns (c .table) (c .inbox) (c .store) → Good F nt ni ns c
-  good-by h a w l =
-      record { now = h .now; say = h .say; keep = h .keep; reader = h .reader; heading = h .heading; line = h .line; tally = h .tally; box = h .box; awaited = a; waiting = w; lent = l }
+  good-by h a w l = search (h, a, w, l)
 
 module _ {inbox store : Bytes} {s : Session} (g : SessionOk inbox store s) where
   pub ok-now : {w : Await} → AwaitOk w → SessionOk inbox store (withNow w s)
-  ok-now h = record { now = h; say = g .say; keep = g .keep; reader = g .reader; heading = g .heading; line = g .line; tally = g .tally; box = g .box }
+  ok-now h = search (h, g)
 
   pub ok-say : {y : Say} → SayOk y → SessionOk inbox store (withSay y s)
-  ok-say h = record { now = g .now; say = h; keep = g .keep; reader = g .reader; heading = g .heading; line = g .line; tally = g .tally; box = g .box }
+  ok-say h = search (h, g)
 
   pub ok-keep : {k : Keep} {i t : Bytes} → KeepOk k → Box k i t → SessionOk i t (withKeep k s)
-  ok-keep h b = record { now = g .now; say = g .say; keep = h; reader = g .reader; heading = g .heading; line = g .line; tally = g .tally; box = b }
+  ok-keep h b = search (h, b, g)
 
   pub ok-reader : {r : Reader} → ReaderOk r → SessionOk inbox store (withReading (withReader r (s .reading)) s)
-  ok-reader h = record { now = g .now; say = g .say; keep = g .keep; reader = h; heading = g .heading; line = g .line; tally = g .tally; box = g .box }
+  ok-reader h = search (h, g)
 
   pub ok-line : {l : Line} → LineOk l → SessionOk inbox store (withLine l s)
-  ok-line h = record { now = g .now; say = g .say; keep = g .keep; reader = g .reader; heading = g .heading; line = h; tally = g .tally; box = g .box }
+  ok-line h = search (h, g)
+
+  pub ok-tally : {t : Tally} → TallyOk t → SessionOk inbox store (withTally t s)
+  ok-tally h = search (h, g)
 
 -- ---------------------------------------------------------------- what a line comes to
 
@@ -102,30 +107,37 @@ pub none-ok : FiveOk noFive
 none-ok = record { few = omega arith; size = refl; octets = octets-zeros blockLimit }
 
 pub in-phase : (p : ℕ) (w : Await) → p < byteValues → AwaitOk w → AwaitOk (inPhase p w)
-in-phase p w h g = record { phase = h; current = g .current; proposals = g .proposals; ours = g .ours; sum = g .sum; block = g .block; octets = g .octets }
+in-phase p w h g = search (h, g)
 
 pub to-turn : (ff : Bool) (w : Await) → AwaitOk w → AwaitOk (toTurn ff w)
-to-turn ff w g = record { phase = omega arith; current = g .current; proposals = omega arith; ours = g .ours; sum = omega arith; block = g .block; octets = g .octets }
+to-turn ff w g =
+    let p : phaseTurn < byteValues = omega arith in
+    let n : 0 ≤ blockLimit = omega arith in
+    let z : 0 < byteValues = omega arith in
+    search (p, n, z, g)
 
 pub to-answer : (f : Five) (w : Await) → FiveOk f → AwaitOk w → AwaitOk (toAnswer f w)
-to-answer f w h g = record { phase = omega arith; current = g .current; proposals = g .proposals; ours = h; sum = g .sum; block = g .block; octets = g .octets }
+to-answer f w h g = let p : phaseFs < byteValues = omega arith in search (p, h, g)
 
 pub to-transfer : (i : ℕ) (w : Await) → i < byteValues → AwaitOk w → AwaitOk (toTransfer i w)
-to-transfer i w h g = record { phase = omega arith; current = h; proposals = g .proposals; ours = g .ours; sum = g .sum; block = g .block; octets = g .octets }
+to-transfer i w h g = let p : phaseTransfer < byteValues = omega arith in search (p, h, g)
 
 pub says-then : (n : ℕ) (y : Say) → n < byteValues → SayOk y → SayOk (saysThen n y)
-says-then n y h g = record { first = g .first; then = h; pos = g .pos; signs = g .signs }
+says-then n y h g = search (h, g)
+
+pub says-first : (n : ℕ) (y : Say) → n < byteValues → SayOk y → SayOk (saysFirst n y)
+says-first n y h g = search (h, g)
 
 pub sends-ok : (f : Five) (flags : Bytes) (k : Keep) → KeepOk k → FiveOk f → length flags ≡ deferredLen → Octets flags → KeepOk (sends f flags k)
-sends-ok f flags k g h l o = record { terms = g .terms; sending = h; flags = l; octets = o }
+sends-ok f flags k g h l o = search (h, l, o, g)
+
+-- before the first byte of a transfer
+pub reader-begins : (p : ℕ) → p < byteValues → ReaderOk (reader p 0 0 0 0 0 0)
+reader-begins p h = record { place = h; len = omega arith; head = omega arith; off = omega arith; left = omega arith; sum = omega arith; body = omega arith }
 
 pub reader-ok : (w : Await) (i : ℕ) → ReaderOk (readerFor w i)
 unfolding readerFor
-reader-ok w i = go (eqb (byteAt (entryAt proposalLen (w .block) i) 0) 0)
-  where
-    go : (c : Bool) → ReaderOk (reader (cond c titlePlace startPlace) 0 0 0 0 0 0)
-    go true = record { place = omega arith; len = omega arith; head = omega arith; off = omega arith; left = omega arith; sum = omega arith; body = omega arith }
-    go false = record { place = omega arith; len = omega arith; head = omega arith; off = omega arith; left = omega arith; sum = omega arith; body = omega arith }
+reader-ok w i = by-cond (λ (p : ℕ). ReaderOk (reader p 0 0 0 0 0 0)) (eqb (byteAt (entryAt proposalLen (w .block) i) 0) 0) (reader-begins titlePlace (omega arith)) (reader-begins startPlace (omega arith))
 
 pub reader-body : (w : Await) (i : ℕ) → readerFor w i .body ≡ 0
 unfolding readerFor
@@ -151,6 +163,6 @@ module _ (s : Session) (inbox store : Bytes) where
   still-awaited first then pos l h =
       record {
         quiet = h .quiet;
-        under = λ e. let u = h .under e in record { current = u .current; signs = u .signs; plus = u .plus; places = u .places; short = u .short; room = u .room };
+        under = λ e. let u = h .under e in search u;
         closed = l;
       }

@@ -24,7 +24,7 @@ use Rattle.form_test.specs.Form.{usedBy, pluses}
 use Rattle.receive_defined.specs.Receiving.{cs, nextJudged, keptKeep, keptInbox, isPlainAt, keepOf}
 use Rattle.phase.specs.Phase.{pieceNone, notOurTurn, ourTurn, noProposal}
 use Rattle.form_closed.specs.Fixed.{Fixed}
-use Rattle.form_closed.specs.Facts.{Octets, Box, Under, Lent, Good}
+use Rattle.form_closed.specs.Facts.{Octets, KeepOk, Box, Under, Lent, Good}
 use Rattle.form_closed.proofs.Laws.{octets-append, octets-take, octets-part, octets-put, octets-le2, octets-le4, octets-field, held-length, next-found, plus-here, used-more}
 use Rattle.form_closed.proofs.Judged.{SessionOk, JudgedOk, ok-now, ok-keep, ok-reader, to-transfer, reader-ok, reader-body}
 use Rattle.form_closed.proofs.Settled.{settle-ok}
@@ -88,20 +88,14 @@ module _ (F : Fixed) (nt ni ns : ℕ) (s : Session) (table inbox st : Bytes)
       }
 
   kept-ok : SessionOk (keptInbox s inbox) st (withKeep (keptKeep s) s)
-  kept-ok = ok-keep G (record { terms = G .keep .terms; sending = G .keep .sending; flags = G .keep .flags; octets = G .keep .octets }) kept-box
+  kept-ok = let k : KeepOk (keptKeep s) = search (G .keep) in ok-keep G k kept-box
 
   kept-lent : Lent nt ni ns table (keptInbox s inbox) st
   unfolding keptInbox
   kept-lent =
-      record {
-        table = M .table;
-        inbox = kept-length ∙ M .inbox;
-        store = M .store;
-        fits = M .fits;
-        tableOctets = M .tableOctets;
-        inboxOctets = octets-put inbox (at (s .keep .kept * entryLen)) entry (M .inboxOctets) entry-octets;
-        storeOctets = M .storeOctets;
-      }
+      let n = kept-length ∙ M .inbox in
+      let o = octets-put inbox (at (s .keep .kept * entryLen)) entry (M .inboxOctets) entry-octets in
+      search (n, o, M)
 
   abbrev next : ℕ
   next = nextAccepted (s .say .signs) (s .now .current + 1)

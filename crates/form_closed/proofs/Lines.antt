@@ -37,12 +37,12 @@ use Rattle.line_effect.specs.Judge.{noMarks, judged, refusal, wentOn, inPhase, 
 use Rattle.line_effect.specs.Judged.{Judged}
 use Rattle.line_effect.specs.declared.Marks.{Marks}
 use Rattle.form_test.specs.Form.{pluses, isLast}
-use Rattle.phase.specs.Phase.{phaseCalledSid, phaseCallerSid, phasePrompt, phaseTurn, phaseFs, phaseOver, pieceNone, pieceSid, pieceBlock, pieceTransfers, notOurTurn, ourTurn, ourTurnAfterFF, noProposal}
+use Rattle.phase.specs.Phase.{phaseCalledSid, phaseCallerSid, phasePrompt, phaseTurn, phaseFs, phaseOver, pieceNone, pieceSid, pieceSigns, pieceBlock, pieceTransfers, notOurTurn, ourTurn, ourTurnAfterFF, noProposal}
 use Rattle.form_closed.proofs.Laws.{octets-put, flag-octets, picked-octets, five-of, held-length, held-octets, next-found, length-flagged, picked-few}
-use Rattle.form_closed.specs.Facts.{AwaitOk, SayOk, Last}
+use Rattle.form_closed.specs.Facts.{AwaitOk, SayOk, KeepOk, Last}
 use Rattle.form_closed.proofs.Proposals.{proposal-octets}
 use Rattle.form_closed.proofs.Choices.{AnswersOk, answers-ok}
-use Rattle.form_closed.proofs.Judged.{SessionOk, AwaitedIn, JudgedOk, ok-now, ok-say, ok-keep, ok-reader, box-as, in-phase, to-turn, to-transfer, says-then, sends-ok, reader-ok, reader-body, settled-ok, free, calm}
+use Rattle.form_closed.proofs.Judged.{SessionOk, AwaitedIn, JudgedOk, ok-now, ok-say, ok-keep, ok-reader, box-as, in-phase, to-turn, to-transfer, says-first, says-then, sends-ok, reader-ok, reader-body, settled-ok, free, calm}
 
 -- s: what a line is judged in; nothing waits
 module _ (table known inbox store : Bytes) (s : Session) (G : SessionOk inbox store s) (A : AwaitedIn inbox store s) (N : s .say .first ≡ pieceNone) (T : s .say .then ≡ pieceNone) where
@@ -86,8 +86,8 @@ module _ (table known inbox store : Bytes) (s : Session) (G : SessionOk inbox st
     where
       kept : (md : Bool) (v : ℕ) → v < byteValues → SessionOk inbox store (withKeep (withMode md v k) s)
       kept md v l =
-          ok-keep G (record { terms = search (l, G .keep .terms); sending = G .keep .sending; flags = G .keep .flags; octets = G .keep .octets })
-          (box-as k (withMode md v k) inbox store refl refl (G .box))
+          let h : KeepOk (withMode md v k) = search (l, G .keep) in
+          ok-keep G h (box-as k (withMode md v k) inbox store refl refl (G .box))
 
       heard : (md : Bool) (v : ℕ) → v < byteValues → (c : Bool) → Ok (wentOn (withNow (cond c (inPhase phasePrompt w) (toTurn false w)) (withKeep (withMode md v k) s)))
       heard md v l true =
@@ -106,8 +106,7 @@ module _ (table known inbox store : Bytes) (s : Session) (G : SessionOk inbox st
   text-ok : (ln : Bytes) → k .sending .count ≡ 0 → Ok (textLine ln s)
   unfolding textLine
   text-ok ln z =
-      let g : SayOk (saysFirst pieceSid y) = record { first = omega arith; then = G .say .then; pos = G .say .pos; signs = G .say .signs } in
-      by-cond Ok (isPrompt ln) (turn ourTurn refl (withSay (saysFirst pieceSid y) s) noMarks (ok-say G g) (omega arith) T z) (same 0)
+      by-cond Ok (isPrompt ln) (turn ourTurn refl (withSay (saysFirst pieceSid y) s) noMarks (ok-say G (says-first pieceSid y (omega arith) (G .say))) (omega arith) T z) (same 0)
 
   ff-ok : Ok (ffLine s)
   unfolding ffLine
@@ -129,15 +128,11 @@ module _ (table known inbox store : Bytes) (s : Session) (G : SessionOk inbox st
 
       more : w .proposals < blockLimit → AwaitOk (withProposal q n w)
       more l =
-          record {
-            phase = G .now .phase;
-            current = G .now .current;
-            proposals = omega arith;
-            ours = G .now .ours;
-            sum = omega arith;
-            block = put-length (w .block) (at (w .proposals * proposalLen)) c ∙ G .now .block;
-            octets = octets-put (w .block) (at (w .proposals * proposalLen)) c (G .now .octets) (proposal-octets md q h);
-          }
+          let m : withProposal q n w .proposals ≤ blockLimit = omega arith in
+          let z : withProposal q n w .sum < byteValues = omega arith in
+          let b = put-length (w .block) (at (w .proposals * proposalLen)) c ∙ G .now .block in
+          let o = octets-put (w .block) (at (w .proposals * proposalLen)) c (G .now .octets) (proposal-octets md q h) in
+          search (m, z, b, o, G .now)
 
       taken : AwaitOk (withProposal q n w) → Ok (wentOn (withNow (withProposal q n w) s))
       taken g =
@@ -151,7 +146,7 @@ module _ (table known inbox store : Bytes) (s : Session) (G : SessionOk inbox st
       i = nextAccepted f 0
 
       said : SayOk (saysSigns f y)
-      said = record { first = omega arith; then = G .say .then; pos = G .say .pos; signs = h .five }
+      said = let p : pieceSigns < byteValues = omega arith in search (p, h .five, G .say)
 
       t : Session
       t = withNow (toTransfer i w) (withSay (saysSigns f y) (withReading (withReader (readerFor w i) (s .reading)) s))

@@ -2,20 +2,21 @@
 -- hold bytes. Idea: each step that counts a byte tests its limit first. Assumes nothing.
 use mathlib.Core.Path.{_≡_, refl, _∙_}
 use mathlib.Core.List.{_++_}
-use Prim.Native.Nat.{ℕ, _≤_, _<_}
+use Prim.Native.Nat.{ℕ, _+_, _-_, _%_, _≤_, _<_}
 use native.Mathlib.Omega.{arith}
 use lib.Dec.{eqb}
 use lib.ListN.{length, take, drop, length-append, length-take, length-drop, length-set}
-use Rattle.grammar.specs.Bytes.{Bytes, byteValues, twoByteValues}
+use Rattle.grammar.specs.Bytes.{Bytes, byteValues, twoByteValues, fourByteValues}
 use Rattle.grammar.specs.Transfers.{blockSize}
 use Rattle.grammar.specs.Fields.{bodyLimit}
 use Rattle.grammar.proofs.Basics.{by-cond}
 use Rattle.transfer_step.specs.declared.Reader.{Reader}
 use Rattle.transfer_step.specs.declared.Stepped.{Stepped}
 use Rattle.transfer_step.specs.Step.{stepOf}
-use Rattle.transfer_step.specs.Names.{toHeading, toBody}
+use Rattle.transfer_step.specs.Names.{headingPlace, dataPlace, toHeading, toBody}
 use Rattle.transfer_step.proofs.Ways.{by-ways}
 use Rattle.transfer_read.specs.Feed.{headingPut, storePut}
+use Rattle.places.specs.Places.{headingLen}
 use Rattle.form_closed.specs.Facts.{Octets, ReaderOk, HeadingOk}
 use Rattle.form_closed.proofs.Laws.{octets-append, octets-take, octets-drop, octets-set}
 
@@ -31,14 +32,14 @@ module _ (room : ℕ) (r : Reader) (b : ℕ) (R : ReaderOk r) (M : room ≤ body
       (record {
         ends = λ o. R;
         skips = R;
-        goes = λ p h. record { place = omega arith; len = R .len; head = R .head; off = R .off; left = R .left; sum = R .sum; body = R .body };
-        length = record { place = omega arith; len = O; head = R .head; off = R .off; left = R .left; sum = R .sum; body = R .body };
-        heading = λ h. record { place = R .place; len = R .len; head = omega arith; off = R .off; left = R .left; sum = R .sum; body = R .body };
-        digit = λ h. record { place = R .place; len = R .len; head = R .head; off = omega (arith, R .len); left = R .left; sum = R .sum; body = R .body };
-        header = record { place = omega arith; len = omega arith; head = R .head; off = omega arith; left = R .left; sum = R .sum; body = R .body };
-        size = record { place = omega arith; len = R .len; head = R .head; off = R .off; left = block-size; sum = R .sum; body = R .body };
-        body = λ h. record { place = R .place; len = R .len; head = R .head; off = R .off; left = R .left; sum = R .sum; body = omega arith };
-        block = λ h. record { place = R .place; len = R .len; head = R .head; off = R .off; left = omega (arith, R .left); sum = omega arith; body = omega arith };
+        goes = λ p h. let z : p < byteValues = omega arith in search (z, R);
+        length = let z : headingPlace < byteValues = omega arith in search (z, O, R);
+        heading = λ h. let z : r .head + 1 ≤ headingLen = omega arith in search (z, R);
+        digit = λ h. let z : r .off + 1 < byteValues = omega (arith, R .len) in search (z, R);
+        header = let p : dataPlace < byteValues = omega arith in let z : 0 < byteValues = omega arith in search (p, z, R);
+        size = let p : dataPlace < byteValues = omega arith in search (p, block-size, R);
+        body = λ h. let z : r .body + 1 < fourByteValues = omega arith in search (z, R);
+        block = λ h. let l : r .left - 1 < twoByteValues = omega (arith, R .left) in let s : (r .sum + b) % byteValues < byteValues = omega arith in let z : r .body + 1 < fourByteValues = omega arith in search (l, s, z, R);
       })
 
 -- ---------------------------------------------------------------- heading and store after a byte of a transfer

@@ -6,15 +6,16 @@ use mathlib.Core.List.{List}
 use Prim.Native.Nat.{ℕ, _≤_, _<_}
 use native.Mathlib.Omega.{arith}
 use lib.Dec.{eqb}
-use Rattle.grammar.specs.Bytes.{Bytes, byteValues}
+use Rattle.grammar.specs.Bytes.{Bytes, byteValues, wordValues}
 use Rattle.grammar.specs.Errors.{isSilent}
 use Rattle.grammar.specs.Refusals.{badChecksum}
 use Rattle.grammar.proofs.Basics.{by-cond}
 use Rattle.session_memory.specs.State.{held}
-use Rattle.session_memory.specs.Session.{Await, Keep}
+use Rattle.session_memory.specs.Session.{Await, Keep, Line}
+use Rattle.session_memory.specs.declared.Say.{Say}
 use Rattle.session_memory.specs.declared.Five.{Five}
 use Rattle.session_memory.specs.Session.{Session}
-use Rattle.session_memory.specs.Setters.{withNow, withSay}
+use Rattle.session_memory.specs.Setters.{withFirst, withThen, withPos, withBytes, withAfterCr, withNow, withSay}
 use Rattle.line_effect.specs.Judge.{inPhase, toTurn, toAnswer, saysThen}
 use Rattle.our_turn.specs.Turn.{chooseOf, speakOf}
 use Rattle.our_turn.proofs.Ways.{by-ways}
@@ -29,7 +30,8 @@ use Rattle.form_closed.specs.Fixed.{Fixed}
 use Rattle.form_closed.proofs.Laws.{mark-octets}
 use Rattle.marking.proofs.States.{length-mark}
 use Rattle.form_closed.proofs.Waiting.{waiting-some}
-use Rattle.form_closed.specs.Facts.{AwaitOk, Lent, Good}
+use Rattle.places.specs.Places.{lineLen}
+use Rattle.form_closed.specs.Facts.{AwaitOk, SayOk, LineOk, Lent, Good}
 use Rattle.form_closed.proofs.Choices.{choose-ok}
 use Rattle.form_closed.proofs.Judged.{SessionOk, AwaitedIn, good-by, JudgedOk, ok-now, ok-say, ok-line, in-phase, to-turn, to-answer, says-then, free, calm, still-awaited}
 
@@ -71,6 +73,14 @@ speak-ok j table inbox store J =
 
 -- ---------------------------------------------------------------- the session after it
 
+-- no byte of a new line yet
+no-line : {l : Line} {cr : Bool} → LineOk l → LineOk (withAfterCr cr (withBytes 0 (l .bytes) l))
+no-line h = let z : 0 ≤ lineLen = omega arith in search (z, h)
+
+-- these two pieces, and none of their bytes given
+unsaid-ok : {y : Say} {first then : ℕ} → SayOk y → first < byteValues → then < byteValues → SayOk (withPos 0 (withThen then (withFirst first y)))
+unsaid-ok g h k = let z : 0 < wordValues = omega arith in search (z, h, k, g)
+
 -- the line that says why is one of the two, or none
 error-last : (n : ℕ) → (errorPiece n < byteValues) × (isLast (errorPiece n) ≡ true)
 unfolding errorPiece
@@ -87,8 +97,7 @@ pub refused-good : (F : Fixed) (nt ni ns : ℕ) (n : ℕ) (s : Session) (table i
 unfolding refusedOf
 refused-good F nt ni ns n s table inbox store g M =
     good-by
-    (ok-now (ok-say (ok-line g (record { len = omega arith; size = g .line .size; octets = g .line .octets }))
-    (record { first = error-last n .0; then = omega arith; pos = omega arith; signs = g .say .signs })) (in-phase phaseOver (s .now) (omega arith) (g .now)))
+    (ok-now (ok-say (ok-line g (no-line (g .line))) (unsaid-ok (g .say) (error-last n .0) (omega arith))) (in-phase phaseOver (s .now) (omega arith) (g .now)))
     (free (refusedOf n s) inbox store (λ a b. omega arith) (λ e. omega arith) (λ l. (refl, error-last n .1)))
     (λ e. waiting-some (refusedOf n s) table (F .titles) (F .names) (F .bodies) (g .keep .sending) (λ l. absurd (omega arith)) e) M
 
@@ -97,7 +106,7 @@ module _ (F : Fixed) (nt ni ns : ℕ) (j : Judged) (afterCr : Bool) (inbox store
   settled-good s table M h =
       let g : SessionOk inbox store s = h .ok in
       good-by
-      (ok-say (ok-line g (record { len = omega arith; size = g .line .size; octets = g .line .octets })) (record { first = g .say .first; then = g .say .then; pos = omega arith; signs = g .say .signs }))
+      (ok-say (ok-line g (no-line (g .line))) (unsaid-ok (g .say) (g .say .first) (g .say .then)))
       (still-awaited s inbox store (s .say .first) (s .say .then) pieceNone (h .awaited .closed) (h .awaited))
       (λ e. waiting-some (afterLine afterCr s) table (F .titles) (F .names) (F .bodies) (g .keep .sending) (h .sent) e) M
 
@@ -106,15 +115,9 @@ module _ (F : Fixed) (nt ni ns : ℕ) (j : Judged) (afterCr : Bool) (inbox store
 
   marked-lent : (p : ℕ) (is : List ℕ) (v : ℕ) (table : Bytes) → v < byteValues → Lent nt ni ns table inbox store → Lent nt ni ns (markAll p is v table) inbox store
   marked-lent p is v table h M =
-      record {
-        table = length-mark p is v table ∙ M .table;
-        inbox = M .inbox;
-        store = M .store;
-        fits = M .fits;
-        tableOctets = mark-octets p is v table h (M .tableOctets);
-        inboxOctets = M .inboxOctets;
-        storeOctets = M .storeOctets;
-      }
+      let n = length-mark p is v table ∙ M .table in
+      let o = mark-octets p is v table h (M .tableOctets) in
+      search (n, o, M)
 
   pub settle-ok : (table : Bytes) → Lent nt ni ns table inbox store → JudgedOk inbox store j
       → Good F nt ni ns (cs (settleOf j afterCr table .session) (settleOf j afterCr table .table) inbox store)

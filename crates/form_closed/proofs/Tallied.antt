@@ -20,6 +20,7 @@ use Rattle.receive_defined.specs.Receiving.{cs}
 use Rattle.phase.specs.Phase.{stateForwarded, stateDeclined}
 use Rattle.form_closed.specs.Fixed.{Fixed}
 use Rattle.form_closed.specs.Facts.{SheetOk, TallyOk, Good}
+use Rattle.form_closed.proofs.Judged.{session-ok, good-by, ok-tally}
 
 -- ---------------------------------------------------------------- the sheet
 
@@ -28,16 +29,16 @@ byte n = mod-lt n (omega arith)
 
 module _ (h : Sheet) (n : ℕ) (o : SheetOk h) where
   proposed-ok : SheetOk (proposedBy h n)
-  proposed-ok = record { proposed = byte _; forwarded = o .forwarded; declined = o .declined; deferred = o .deferred; unsettled = byte _ }
+  proposed-ok = search (byte, o)
 
   forwarded-ok : SheetOk (forwardedBy h n)
-  forwarded-ok = record { proposed = o .proposed; forwarded = byte _; declined = o .declined; deferred = o .deferred; unsettled = byte _ }
+  forwarded-ok = search (byte, o)
 
   declined-ok : SheetOk (declinedBy h n)
-  declined-ok = record { proposed = o .proposed; forwarded = o .forwarded; declined = byte _; deferred = o .deferred; unsettled = byte _ }
+  declined-ok = search (byte, o)
 
   deferred-ok : SheetOk (deferredBy h n)
-  deferred-ok = record { proposed = o .proposed; forwarded = o .forwarded; declined = o .declined; deferred = byte _; unsettled = byte _ }
+  deferred-ok = search (byte, o)
 
 marked-ok : (h : Sheet) (m : Marks) → SheetOk h → SheetOk (sheetMarked h m)
 marked-ok h m o =
@@ -52,11 +53,11 @@ counted-ok p table h o = record { waiting = omega (arith, waiting-few p table); 
 
 -- what open counts
 pub open-counted : (p : ℕ) (table : Bytes) → TallyOk (counted p table noSheet)
-open-counted p table = counted-ok p table noSheet (record { proposed = omega arith; forwarded = omega arith; declined = omega arith; deferred = omega arith; unsettled = omega arith })
+open-counted p table = let z : 0 < byteValues = omega arith in counted-ok p table noSheet (search z)
 
 pub tallied-ok : (j : Judged) (w : Await) (table : Bytes) → TallyOk (j .next .tally) → TallyOk (talliedOf j w table)
 unfolding talliedOf
-tallied-ok j w table o = by-cond TallyOk (eqb (j .marks .places .count) 0) (record { waiting = o .waiting; sizes = o .sizes; sheet = good }) (counted-ok (j .next .keep .terms .partner) table _ good)
+tallied-ok j w table o = by-cond TallyOk (eqb (j .marks .places .count) 0) (search (o, good)) (counted-ok (j .next .keep .terms .partner) table _ good)
   where
     good : SheetOk (proposedBy (sheetMarked (j .next .tally .sheet) (j .marks)) (proposesOf (j .speaks) w))
     good = proposed-ok (sheetMarked (j .next .tally .sheet) (j .marks)) (proposesOf (j .speaks) w) (marked-ok (j .next .tally .sheet) (j .marks) (o .sheet))
@@ -64,17 +65,4 @@ tallied-ok j w table o = by-cond TallyOk (eqb (j .marks .places .count) 0) (reco
 -- no other fact looks at what is counted
 pub with-tally : (F : Fixed) (nt ni ns : ℕ) (s : Session) (table inbox store : Bytes) {t : Tally} → TallyOk t → Good F nt ni ns (cs s table inbox store) → Good F nt ni ns (cs (withTally t s) table inbox store)
 unfolding waitingOf firstText thenText
-with-tally F nt ni ns s table inbox store o g =
-    record {
-      now = g .now;
-      say = g .say;
-      keep = g .keep;
-      reader = g .reader;
-      heading = g .heading;
-      line = g .line;
-      tally = o;
-      box = g .box;
-      awaited = g .awaited;
-      waiting = g .waiting;
-      lent = g .lent;
-    }
+with-tally F nt ni ns s table inbox store o g = good-by (ok-tally (session-ok g) o) (g .awaited) (g .waiting) (g .lent)

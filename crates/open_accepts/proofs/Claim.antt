@@ -78,12 +78,14 @@ module _ (L : Lending) where
 
 -- ---------------------------------------------------------------- what an accepted open leaves
 
-numbers-out : (r p w z : ℕ) → IsRole r → numberPart (freshOf (eqb r roleCaller) p (freshTally w z)) ≡ numbersAtFirst r p ++ (w ∷ (le4 z ++ replicate (numbersEnd - tallyProposedAt) 0))
+-- the numbers at first, with this tally
+abbrev numbersWith : ℕ → ℕ → ℕ → ℕ → Bytes
+numbersWith r p w z = numbersAtFirst r p ++ (w ∷ (le4 z ++ replicate (numbersEnd - tallyProposedAt) 0))
+
+numbers-out : (r p w z : ℕ) → IsRole r → numberPart (freshOf (eqb r roleCaller) p (freshTally w z)) ≡ numbersWith r p w z
 unfolding freshOf smallOut numbersOut tailOut
-numbers-out r p w z (inl e) =
-    subst (λ (x : ℕ). numberPart (freshOf (eqb x roleCaller) p (freshTally w z)) ≡ numbersAtFirst x p ++ (w ∷ (le4 z ++ replicate (numbersEnd - tallyProposedAt) 0))) (sym e) refl
-numbers-out r p w z (inr e) =
-    subst (λ (x : ℕ). numberPart (freshOf (eqb x roleCaller) p (freshTally w z)) ≡ numbersAtFirst x p ++ (w ∷ (le4 z ++ replicate (numbersEnd - tallyProposedAt) 0))) (sym e) refl
+numbers-out r p w z (inl e) = subst (λ (x : ℕ). numberPart (freshOf (eqb x roleCaller) p (freshTally w z)) ≡ numbersWith x p w z) (sym e) refl
+numbers-out r p w z (inr e) = subst (λ (x : ℕ). numberPart (freshOf (eqb x roleCaller) p (freshTally w z)) ≡ numbersWith x p w z) (sym e) refl
 
 -- four bytes hold a number modulo 2^32
 le4-low : (n : ℕ) → le4 (n % fourByteValues) ≡ le4 n
@@ -102,6 +104,13 @@ arrays-are : (caller : Bool) (p : ℕ) (t : Tally) → arraysOut (freshOf caller
 unfolding freshOf arraysOut
 arrays-are caller p t = refl
 
+-- session memory of its parts, from its first byte to its last: the mark and the sizes, the numbers, the free bytes, the arrays and the bytes behind them
+abbrev laid : Bytes → Bytes → Bytes → Bytes → Bytes → Bytes
+laid sizes numbers free arrays end = sizes ++ (numbers ++ (free ++ (arrays ++ end)))
+
+same-laid : (sizes : Bytes) {numbers n free f arrays a end e : Bytes} → numbers ≡ n → free ≡ f → arrays ≡ a → end ≡ e → laid sizes numbers free arrays end ≡ laid sizes n f a e
+same-laid sizes h i j k = rw (h, i, j, k)
+
 module _ (L : Lending) where
   abbrev marked : Bytes
   marked = sizesKept L ++ drop numbersStart (L .session)
@@ -113,14 +122,12 @@ module _ (L : Lending) where
   left-is : IsRole (L .role) → length (L .session) ≡ sessionLen → begunIn L ≡ sessionAtFirst L
   left-is r n =
       let s = begun L in
-      let f : Bytes = numbersAtFirst (L .role) (L .partner) ++ tallyAtFirst (L .partner) (L .table) in
       let m = saveSizes (L .session) (sizesLent L) in
-      saved m s (sizes-length (L .session) (sizesLent L) ∙ n) (ap length (arrays-are (eqb (L .role) roleCaller) (L .partner) (counted (L .partner) (L .table) noSheet)))
-      ∙ ap (λ (x : Bytes). take numbersStart x ++ (numberPart s ++ (take freeLen (drop numbersEnd x) ++ (arraysOut s ++ drop arraysEnd x)))) (marked-is (omega arith))
-      ∙ ap (λ (x : Bytes). sizesKept L ++ (x ++ (take freeLen (drop numbersEnd marked) ++ (arraysOut s ++ drop arraysEnd marked)))) (numbers-are (L .role) (L .partner) (L .table) r)
-      ∙ ap (λ (x : Bytes). sizesKept L ++ (f ++ (take freeLen x ++ (arraysOut s ++ drop arraysEnd marked)))) (drop-drop (numbersEnd - numbersStart) numbersStart (L .session))
-      ∙ ap (λ (x : Bytes). sizesKept L ++ (f ++ (take freeLen (drop numbersEnd (L .session)) ++ (x ++ drop arraysEnd marked)))) (arrays-are (eqb (L .role) roleCaller) (L .partner) (counted (L .partner) (L .table) noSheet))
-      ∙ ap (λ (x : Bytes). sizesKept L ++ (f ++ (take freeLen (drop numbersEnd (L .session)) ++ (replicate arraysLen 0 ++ x)))) (drop-drop (arraysEnd - numbersStart) numbersStart (L .session))
+      let a = arrays-are (eqb (L .role) roleCaller) (L .partner) (counted (L .partner) (L .table) noSheet) in
+      saved m s (sizes-length (L .session) (sizesLent L) ∙ n) (ap length a)
+      ∙ ap (λ (x : Bytes). laid (take numbersStart x) (numberPart s) (take freeLen (drop numbersEnd x)) (arraysOut s) (drop arraysEnd x)) (marked-is (omega arith))
+      ∙ same-laid (sizesKept L) (numbers-are (L .role) (L .partner) (L .table) r)
+      (ap (take freeLen) (drop-drop (numbersEnd - numbersStart) numbersStart (L .session))) a (drop-drop (arraysEnd - numbersStart) numbersStart (L .session))
 
 -- ---------------------------------------------------------------- the three situations
 
