@@ -3,34 +3,33 @@
 -- Idea: FormSaved takes the test apart and puts it together, FormBytes keeps its facts over a portion; a fresh session has every one of them.
 use mathlib.Core.Path.{_≡_, refl, sym, ap, _∙_, subst}
 use mathlib.Core.Bool.{Bool, true, false, cond}
-use mathlib.Core.List.{[]}
-use Prim.Native.Nat.{ℕ, _+_, _-_, _/_, _%_, _≤_, _<_}
+use Prim.Native.Nat.{ℕ, _+_, _-_, _≤_, _<_}
 use native.Mathlib.Omega.{arith}
 use lib.Dec.{eqb, ltb}
 use lib.ListN.{length-replicate, length}
-use borrow.Author.Tests.{eqb-true, ltb-true, leb-true}
+use borrow.Author.Tests.{ltb-true}
 use Rattle.grammar.specs.Bytes.{Bytes, byteValues, wordValues}
 use Rattle.grammar.specs.Refusals.{badMemory, sessionEnded, noPlace}
-use Rattle.grammar.proofs.Basics.{and2, no-both, by-test}
+use Rattle.grammar.proofs.Basics.{no-both, by-test}
 use Rattle.buffer.specs.Put.{cut}
-use Rattle.mail.specs.Mail.{recordLimit, placeLimit}
-use Rattle.places.specs.Places.{entryLen, knownLen, numbersStart, partners, recordLen, sessionLen, deferredLen, headingLen, lineLen, blockLen}
+use Rattle.mail.specs.Mail.{placeLimit}
+use Rattle.places.specs.Places.{numbersStart, partners, deferredLen, headingLen, lineLen, blockLen}
 use Rattle.layout.specs.Layout.{le8}
 use Rattle.layout.proofs.Laws.{octets}
 use Rattle.transfer_step.specs.Names.{titlePlace}
 use Rattle.session_memory.specs.State.{at, flag, loadOf, loadSizes, sizesOut, saveSizes, freshOf}
 use Rattle.session_memory.specs.Session.{Session}
 use Rattle.session_memory.specs.declared.Sizes.{Sizes}
-use Rattle.session_memory.proofs.Laws.{sizes-length, Sized, sizes-saved, load-sizes, Shaped}
-use Rattle.entries.specs.Decoded.{placeCount, knownLimit}
+use Rattle.session_memory.proofs.Laws.{sizes-length, Sized, sizes-saved, load-sizes}
+use Rattle.entries.specs.Decoded.{placeCount}
 use Rattle.waiting.specs.Waiting.{waitingOf, firstText, thenText}
 use Rattle.pending.specs.Pending.{waits, silentOf, overOf}
 use Rattle.waiting.proofs.Short.{record-short, waiting-short}
 use Rattle.form_test.specs.Form.{usedBy, markOk, sameSizes, formOf, mark}
 use Rattle.give.specs.Giving.{Given, reply, handedOf, handing, giveOf}
 use Rattle.open.specs.Lending.{Lending, roleCaller}
-use Rattle.open.specs.Opening.{entriesOk, sizesOk, sizesLent, begun, openOf}
-use Rattle.open.proofs.Accepted.{open-passed}
+use Rattle.open.specs.Opening.{sizesLent, begun, openOf}
+use Rattle.open.proofs.Accepted.{open-passed, sizes-told}
 use Rattle.receive_defined.specs.Receiving.{Cs, cs, receiveFrom, Received, unchanged, saved, receiveOf}
 use Rattle.form_closed.specs.Fixed.{Fixed, fixedOf}
 use Rattle.form_closed.specs.Facts.{Octets, Good, TallyOk}
@@ -39,13 +38,12 @@ use Rattle.session_memory.specs.declared.Tally.{Tally}
 use Rattle.sheet.specs.Sheet.{noSheet}
 use Rattle.tally.specs.Tally.{counted}
 use Rattle.phase.specs.Phase.{phaseTransfer, phaseLeaving, pieceNone, pieceSidAndPrompt, notDeferred}
-use Rattle.form_closed.proofs.Laws.{octets-append, octets-put, octets-le8, octets-zeros, octets-nil}
+use Rattle.form_closed.proofs.Laws.{octets-append, octets-put, octets-le8, octets-zeros}
 use Rattle.form_closed.proofs.Waiting.{waiting-some}
 use Rattle.form_closed.proofs.Judged.{session-ok, good-by, ok-say, none-ok, reader-begins, still-awaited}
 use Rattle.form_closed.proofs.Bytes.{receive-ok}
 use Rattle.form_closed.proofs.Saved.{same-itself, parted, good, saved-form}
 use Rattle.form_closed.specs.InForm.{InForm}
-use Rattle.form_closed.proofs.Test.{shaped}
 
 -- ---------------------------------------------------------------- receive
 
@@ -190,31 +188,21 @@ fresh-good F caller partner column t tallied table inbox store ot oi os fits few
     five true e = omega arith
     five false e = omega arith
 
--- so it can be saved, whatever is lent
-pub fresh-shaped : (F : Fixed) (caller : Bool) (partner : ℕ) → partner < partners → (t : Tally) → TallyOk t → Shaped (freshOf caller partner t)
-fresh-shaped F caller partner column t o =
-    shaped F 0 0 0 (cs (freshOf caller partner t) [] [] []) (fresh-good F caller partner column t o [] [] [] octets-nil octets-nil octets-nil (omega arith) (omega arith))
+module _ (L : Lending) (o : Octets (L .session)) (ot : Octets (L .table)) (oi : Octets (L .inbox)) (os : Octets (L .store)) (h : Sized (sizesLent L)) (e : openOf L .reply .answer ≡ 0) where
+  -- right after an accepted open
+  pub begun-good : Good (fixedOf L) (length (L .table)) (length (L .inbox)) (length (L .store)) (cs (begun L) (L .table) (L .inbox) (L .store))
+  begun-good =
+      let b = open-passed L e .before in
+      fresh-good (fixedOf L) (eqb (L .role) roleCaller) (L .partner) (b .partner) (counted (L .partner) (L .table) noSheet) (open-counted (L .partner) (L .table)) (L .table) (L .inbox) (L .store) ot oi os (h .store) (sizes-told L b .inbox .1)
 
-sizes-in : (sm table known inbox : Bytes) → sizesOk sm table known inbox ≡ true → (length sm ≡ sessionLen) × (placeCount inbox ≤ placeLimit)
-unfolding sizesOk
-sizes-in sm table known inbox e =
-    let e₁ = and2 (eqb (length sm) sessionLen) _ e in
-    let e₂ = and2 (entriesOk (length table) recordLen recordLimit) _ (e₁ .1) in
-    let e₃ = and2 (entriesOk (length known) knownLen knownLimit) _ (e₂ .1) in
-    let e₄ = and2 (eqb (length inbox % entryLen) 0) _ (e₃ .1) in
-    (eqb-true (length sm) sessionLen (e₁ .0), leb-true (length inbox / entryLen) placeLimit (e₄ .1))
-
--- OPEN: what an accepted one leaves passes the test; the sizes are those of memory, below 2 ^ 64
-pub open-closed : (L : Lending) → Octets (L .session) → Octets (L .table) → Octets (L .inbox) → Octets (L .store) → Sized (sizesLent L) → openOf L .reply .answer ≡ 0
-    → InForm (fixedOf L) (openOf L .sm) (L .table) (L .inbox) (L .store)
-open-closed L o ot oi os h e =
-    let p = open-passed L e in
-    let q = sizes-in (L .session) (L .table) (L .known) (L .inbox) (p .before .sizes) in
-    let n = q .0 in
-    let sm = L .session in
-    let z = sizesLent L in
-    let g = fresh-good (fixedOf L) (eqb (L .role) roleCaller) (L .partner) (p .before .partner) (counted (L .partner) (L .table) noSheet) (open-counted (L .partner) (L .table)) (L .table) (L .inbox) (L .store) ot oi os (h .store) (q .1) in
-    let y : sameSizes (loadSizes (saveSizes sm z)) z ≡ true = rw (load-sizes sm z (omega arith) h) (same-itself z) in
-    subst (λ (l : Bytes). InForm (fixedOf L) l (L .table) (L .inbox) (L .store)) (sym (p .left))
-    (saved-form (fixedOf L) (saveSizes sm z) (length (L .table)) (length (L .inbox)) (length (L .store)) (cs (begun L) (L .table) (L .inbox) (L .store)) g
-    (octets-written sm z o) (sizes-length sm z ∙ n) (mark-written sm z (omega arith)) y)
+  -- OPEN: what an accepted one leaves passes the test; the sizes are those of memory, below 2 ^ 64
+  pub open-closed : InForm (fixedOf L) (openOf L .sm) (L .table) (L .inbox) (L .store)
+  open-closed =
+      let p = open-passed L e in
+      let n = sizes-told L (p .before) .session in
+      let sm = L .session in
+      let z = sizesLent L in
+      let y : sameSizes (loadSizes (saveSizes sm z)) z ≡ true = rw (load-sizes sm z (omega arith) h) (same-itself z) in
+      subst (λ (l : Bytes). InForm (fixedOf L) l (L .table) (L .inbox) (L .store)) (sym (p .left))
+      (saved-form (fixedOf L) (saveSizes sm z) (length (L .table)) (length (L .inbox)) (length (L .store)) (cs (begun L) (L .table) (L .inbox) (L .store)) begun-good
+      (octets-written sm z o) (sizes-length sm z ∙ n) (mark-written sm z (omega arith)) y)

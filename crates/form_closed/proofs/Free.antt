@@ -6,10 +6,8 @@ use Prim.Native.Nat.{ℕ, _-_}
 use native.Mathlib.Omega.{arith}
 use lib.Dec.{eqb, ltb}
 use lib.ListN.{length}
-use borrow.Author.Tests.{eqb-true}
 use Rattle.grammar.specs.Bytes.{Bytes}
 use Rattle.grammar.specs.Refusals.{badMemory, noPlace, sessionEnded}
-use Rattle.grammar.proofs.Basics.{and2}
 use Rattle.buffer.specs.Put.{cut}
 use Rattle.places.specs.Places.{markAt, sessionLen}
 use Rattle.layout.proofs.Places.{part-after}
@@ -21,21 +19,19 @@ use Rattle.waiting.specs.Waiting.{waitingOf}
 use Rattle.pending.specs.Pending.{waits, overOf}
 use Rattle.form_test.specs.Form.{formOf}
 use Rattle.give.specs.Giving.{Given, reply, handedOf, handing, giveOf}
-use Rattle.open.specs.Lending.{Lending, roleCaller}
-use Rattle.open.specs.Opening.{sizesOk, sizesLent, faultIn, begun, beforeOk, openBy, openOf}
-use Rattle.open.proofs.Accepted.{Before, before-told}
+use Rattle.open.specs.Lending.{Lending}
+use Rattle.open.specs.Opening.{sizesLent, faultIn, begun, beforeOk, openBy, openOf}
+use Rattle.open.proofs.Accepted.{before-told, sizes-told}
+use Rattle.open.proofs.Begun.{begun-left}
 use Rattle.receive_defined.specs.Receiving.{cs, receiveFrom, Received, unchanged, saved, receiveOf}
-use Rattle.form_closed.specs.Fixed.{Fixed, fixedOf}
+use Rattle.form_closed.specs.Fixed.{Fixed}
 use Rattle.form_closed.specs.Facts.{Octets}
 use Rattle.form_closed.specs.InForm.{InForm}
 use Rattle.form_closed.specs.Free.{FreeStays}
-use Rattle.sheet.specs.Sheet.{noSheet}
-use Rattle.tally.specs.Tally.{counted}
-use Rattle.form_closed.proofs.Tallied.{open-counted}
 use Rattle.form_closed.proofs.Test.{shaped}
 use Rattle.form_closed.proofs.Bytes.{receive-ok}
 use Rattle.form_closed.proofs.Saved.{parted, good}
-use Rattle.form_closed.proofs.Closed.{handed-ok, fresh-shaped}
+use Rattle.form_closed.proofs.Closed.{handed-ok}
 
 same-free : (sm : Bytes) → FreeStays sm sm
 same-free sm = record { numbers = λ start len h k. refl; arrays = λ start len h. refl }
@@ -117,10 +113,6 @@ module _ (F : Fixed) (sm table inbox store : Bytes) (o : Octets sm) (ot : Octets
 -- ---------------------------------------------------------------- open
 
 module _ (L : Lending) where
-  long : Before L → length (L .session) ≡ sessionLen
-  unfolding sizesOk
-  long p = eqb-true (length (L .session)) sessionLen (and2 (eqb (length (L .session)) sessionLen) _ (p .sizes) .0)
-
   -- OPEN
   pub open-free : FreeStays (L .session) (openOf L .sm)
   unfolding openOf
@@ -129,9 +121,9 @@ module _ (L : Lending) where
       go : (a : Bool) → beforeOk L ≡ a → (b : Bool) → FreeStays (L .session) (openBy L a b .sm)
       go true e true =
           let p = before-told L e in
-          let n = long p in
+          let n = sizes-told L p .session in
           let sm = L .session in
           let z = sizesLent L in
-          then-free (sizes-free sm z n) (saved-free (saveSizes sm z) (begun L) (sizes-length sm z ∙ n) (fresh-shaped (fixedOf L) (eqb (L .role) roleCaller) (L .partner) (p .partner) (counted (L .partner) (L .table) noSheet) (open-counted (L .partner) (L .table))))
+          then-free (sizes-free sm z n) (saved-free (saveSizes sm z) (begun L) (sizes-length sm z ∙ n) (begun-left L p .shaped))
       go true e false = same-free (L .session)
       go false e b = same-free (L .session)

@@ -116,7 +116,7 @@ module _ (M : OpenCall) (e : openedBy M .reply .answer ≡ 0) (cs : CallsOn M) w
 
   table-logged : finally M cs .table ≡ withStates (M .partner) (logged M cs .book .states) (m .table)
   table-logged =
-      with-law (M .partner) (m .table) (finally M cs .table) (accepted M e .partner) (accepted M e .table .0) column-only
+      with-law (M .partner) (m .table) (finally M cs .table) (accepted M e .before .partner) (accepted M e .table .0) column-only
       ∙ ap (λ (x : List ℕ). withStates (M .partner) x (m .table)) states-logged
 
 -- THE THEOREM

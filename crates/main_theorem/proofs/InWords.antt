@@ -58,7 +58,7 @@ in-words M e cs =
     events = ran M e cs .events
 
     column : M .partner < partners
-    column = accepted M e .partner
+    column = accepted M e .before .partner
 
     whole : Whole (m .table)
     whole = accepted M e .table .0

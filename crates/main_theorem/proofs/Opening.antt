@@ -1,28 +1,26 @@
 -- THE LAW OF OPEN: the session memory that an accepted open leaves, with the lent buffers, represents the session that is opened on lists.
-use mathlib.Core.Path.{_≡_, refl, sym, ap, _∙_, subst}
+use mathlib.Core.Path.{_≡_, refl, sym, ap, subst}
 use mathlib.Core.Bool.{Bool, true, false}
-use Prim.Native.Nat.{ℕ, _*_, _/_, _%_, _≤_, _<_}
+use Prim.Native.Nat.{ℕ, _*_, _%_, _≤_}
 use native.Mathlib.Omega.{arith}
-use lib.Dec.{eqb, leb}
 use lib.ListN.{length}
-use borrow.Author.Tests.{eqb-true, leb-true}
 use Rattle.grammar.specs.Bytes.{Bytes}
 use Rattle.grammar.specs.Refusals.{noPlace}
-use Rattle.grammar.proofs.Basics.{and2}
 use Rattle.mail.specs.Mail.{recordLimit, placeLimit}
 use Rattle.session.specs.Session as on-lists
 use Rattle.demand3.specs.Demand.{GoodTable}
-use Rattle.places.specs.Places.{entryLen, knownLen, partners, recordLen, sessionLen}
-use Rattle.session_memory.specs.State.{loadOf, saveSizes, freshOf}
+use Rattle.places.specs.Places.{entryLen, knownLen, recordLen}
+use Rattle.session_memory.specs.State.{loadOf, freshOf}
 use Rattle.session_memory.specs.Session.{Session}
-use Rattle.session_memory.proofs.Laws.{Sized, load-save, load-sizes, sizes-length, save-sizes-kept}
+use Rattle.session_memory.proofs.Laws.{Sized}
 use Rattle.entries.specs.Decoded.{placeCount, recordCount, knownLimit}
 use Rattle.waiting.specs.Waiting.{waitingOf, firstText, thenText}
 use Rattle.pending.specs.Pending.{waits}
 use Rattle.form_test.specs.Form.{usedBy}
 use Rattle.give.specs.Giving.{reply}
-use Rattle.open.specs.Opening.{entriesOk, sizesOk, faultIn, begun, begunIn}
-use Rattle.open.proofs.Accepted.{open-passed}
+use Rattle.open.specs.Opening.{faultIn, begun, begunIn}
+use Rattle.open.proofs.Accepted.{Before, open-passed, sizes-told}
+use Rattle.open.proofs.Begun.{Begun, begun-left}
 use Rattle.receive_defined.specs.Receiving.{Cs, cs}
 use Rattle.form_closed.specs.Fixed.{Fixed}
 use Rattle.represents.specs.Represents.{Says, Awaits, Represents, messagesOf}
@@ -32,10 +30,8 @@ use Rattle.main_theorem.specs.Demand2.{shelfIn}
 use Rattle.represents.proofs.Byte.{spared-same}
 use Rattle.main_theorem.proofs.Held.{Held}
 use Rattle.main_theorem.proofs.Accepted.{table-good}
-use Rattle.form_closed.proofs.Closed.{open-closed, fresh-shaped}
-use Rattle.form_closed.proofs.Tallied.{open-counted}
+use Rattle.form_closed.proofs.Closed.{open-closed}
 use Rattle.sheet.specs.Sheet.{noSheet}
-use Rattle.session_memory.specs.declared.Tally.{Tally}
 use Rattle.tally.specs.Tally.{sizesRange, waitingIn, sizesIn, counted}
 use Rattle.represents.proofs.Tallied.{sizes-law}
 use Rattle.form_closed.specs.InForm.{InForm}
@@ -45,21 +41,13 @@ use Rattle.form_closed.specs.Facts.{Octets}
 
 -- ---------------------------------------------------------------- what open has looked at
 
--- what it counts
-abbrev pub countedIn : OpenCall → Tally
-countedIn M = counted (M .partner) (M .table .bytes) noSheet
-
 pub record Accepted (M : OpenCall) : Type 0 where
-  pub partner : M .partner < partners
-  pub session : length (M .session .bytes) ≡ sessionLen
+  pub before : Before (lendingOf M)
   pub table : (length (M .table .bytes) ≡ recordCount (M .table .bytes) * recordLen) × (length (M .table .bytes) ≤ recordLimit * recordLen)
   pub known : length (M .known .bytes) ≤ knownLimit * knownLen
   pub inbox : (length (M .inbox .bytes) ≡ placeCount (M .inbox .bytes) * entryLen) × (placeCount (M .inbox .bytes) ≤ placeLimit)
   pub fault : faultIn (lendingOf M) ≡ noPlace
   pub left : openedBy M .sm ≡ begunIn (lendingOf M)
-
-entries-are : (n size most : ℕ) → entriesOk n size most ≡ true → (n % size ≡ 0) × (n / size ≤ most)
-entries-are n size most e = let p = and2 (eqb (n % size) 0) (leb (n / size) most) e in (eqb-true (n % size) 0 (p .0), leb-true (n / size) most (p .1))
 
 module _ (M : OpenCall) where
   abbrev F : Fixed
@@ -70,21 +58,17 @@ module _ (M : OpenCall) where
 
   -- the session that begins, by who calls
   abbrev begins : Bool → Session
-  begins caller = freshOf caller (M .partner) (countedIn M)
+  begins caller = freshOf caller (M .partner) (counted (M .partner) (M .table .bytes) noSheet)
 
   pub accepted : openedBy M .reply .answer ≡ 0 → Accepted M
-  unfolding sizesOk
   accepted e =
       let p = open-passed (lendingOf M) e in
-      let q₁ = and2 (eqb (length (m .sm)) sessionLen) _ (p .before .sizes) in
-      let q₂ = and2 (entriesOk (length (m .table)) recordLen recordLimit) _ (q₁ .1) in
-      let q₃ = and2 (entriesOk (length (F .known)) knownLen knownLimit) (entriesOk (length (m .inbox)) entryLen placeLimit) (q₂ .1) in
-      let t = entries-are (length (m .table)) recordLen recordLimit (q₂ .0) in
-      let w = entries-are (length (F .known)) knownLen knownLimit (q₃ .0) in
-      let i = entries-are (length (m .inbox)) entryLen placeLimit (q₃ .1) in
+      let q = sizes-told (lendingOf M) (p .before) in
+      let t = q .table in
+      let w = q .known in
+      let i = q .inbox in
       record {
-        partner = p .before .partner;
-        session = eqb-true (length (m .sm)) sessionLen (q₁ .0);
+        before = p .before;
         table = (omega arith, omega arith);
         known = omega arith;
         inbox = (omega arith, i .1);
@@ -171,18 +155,18 @@ open-law M e =
         let i = a .inbox in
         record { table = omega arith; titles = M .titles .short; names = M .names .short; bodies = M .bodies .short; known = omega arith; inbox = omega arith; store = M .store .short }
 
-    n : length (saveSizes (m M .sm) (sizesOf (F M) (m M))) ≡ sessionLen
-    n = sizes-length (m M .sm) (sizesOf (F M) (m M)) ∙ a .session
+    left : Begun (lendingOf M)
+    left = begun-left (lendingOf M) (a .before)
 
     back : loadOf (begunIn (lendingOf M)) ≡ begins M caller
-    back = load-save (saveSizes (m M .sm) (sizesOf (F M) (m M))) (begins M caller) n (fresh-shaped (F M) caller (M .partner) (a .partner) (countedIn M) (open-counted (M .partner) (m M .table)))
+    back = left .state
 
     held : Held (F M) (shelfIn M) (freshCs M) (sizesOf (F M) (m M)) (withSession (m M) (begunIn (lendingOf M))) (on-lists.opened caller (statesIn M))
     held =
         record {
           inForm = subst (λ (x : Bytes). InForm (F M) x (m M .table) (m M .inbox) (m M .store)) (a .left)
               (open-closed (lendingOf M) (octets (M .session)) (octets (M .table)) (octets (M .inbox)) (octets (M .store)) sized e);
-          sizes = save-sizes-kept (saveSizes (m M .sm) (sizesOf (F M) (m M))) (begins M caller) (let k = n in omega arith) ∙ load-sizes (m M .sm) (sizesOf (F M) (m M)) (omega (arith, a .session)) sized;
+          sizes = left .sizes sized;
           represents = subst (λ (x : Session). Represents (F M) (shelfIn M) (cs x (m M .table) (m M .inbox) (m M .store)) (on-lists.opened caller (statesIn M))) (sym back) (fresh-represents M a caller);
           spared = subst (λ (x : Session). Spared (freshCs M) (cs x (m M .table) (m M .inbox) (m M .store))) (sym back) (spared-same (freshCs M));
           column = subst (λ (x : Session). OneColumn (freshCs M) (cs x (m M .table) (m M .inbox) (m M .store))) (sym back) (column-same (freshCs M));

@@ -6,11 +6,11 @@ use native.Mathlib.Omega.{arith}
 use native.Mathlib.Numerals.{add-one}
 use lib.Dec.{eqb, leb}
 use lib.ListN.{length}
-use borrow.Author.Tests.{le-leb, lt-leb, eq-eqb, ne-eqb, eqb-true}
+use borrow.Author.Tests.{le-leb, lt-leb, eq-eqb, ne-eqb}
 use Rattle.grammar.specs.Bytes.{Bytes}
 use Rattle.grammar.specs.Fields.{Form, isBid, isBody}
 use Rattle.grammar.specs.Refusals.{badMemory, noPlace}
-use Rattle.grammar.proofs.Basics.{and2, told, told-not}
+use Rattle.grammar.proofs.Basics.{told, told-not}
 use Rattle.session.specs.Choices.{among}
 use Rattle.phase.specs.Phase.{stateDeclined}
 use Rattle.layout.specs.Layout.{Extent, extent, textIn, fieldIn, entryAt, stateFor}
@@ -25,8 +25,8 @@ use Rattle.give.specs.Giving.{reply}
 use Rattle.give.specs.declared.Reply.{Reply}
 use Rattle.places.specs.Places.{bidMax, recordBid, knownLen, recordLen, sessionLen}
 use Rattle.open.specs.Lending.{Lending, roleCaller}
-use Rattle.open.specs.Opening.{lengthOk, statesFrom, within, bodyOk, recordOk, placeOk, faultFrom, bidsOk, sizesOk, Opened, opened, sizesLent, faultIn, beforeOk, openBy, openOf}
-use Rattle.open.proofs.Accepted.{before-told}
+use Rattle.open.specs.Opening.{lengthOk, statesFrom, within, bodyOk, recordOk, placeOk, faultFrom, bidsOk, Opened, opened, sizesLent, faultIn, beforeOk, openBy, openOf}
+use Rattle.open.proofs.Accepted.{before-told, sizes-told}
 
 -- ---------------------------------------------------------------- the body
 
@@ -165,6 +165,5 @@ module _ (L : Lending) where
 
 -- the size that was tested, after the sizes are saved
 pub size-told : (L : Lending) {b : Bool} → b ≡ beforeOk L → not b ≡ false → (z : Sizes) {m : Bytes} → m ≡ saveSizes (L .session) z → length m ≡ sessionLen
-unfolding sizesOk
 size-told L e h z f =
-    ap length f ∙ sizes-length (L .session) z ∙ eqb-true (length (L .session)) sessionLen (and2 (eqb (length (L .session)) sessionLen) _ (before-told L (told e h) .sizes) .0)
+    ap length f ∙ sizes-length (L .session) z ∙ sizes-told L (before-told L (told e h)) .session
