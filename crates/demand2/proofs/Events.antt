@@ -13,19 +13,19 @@ use Rattle.grammar.specs.Bytes.{Bytes, CR}
 use Rattle.grammar.specs.Transfers.{TransferKind, plainKind, framedKind}
 use Rattle.grammar.specs.Lines.{ends, grows, overruns, trim, isComment}
 use Rattle.grammar.specs.Sid.{framed}
-use Rattle.grammar.specs.Turns.{Proposal, TurnLine, saysFF, readTurnLine, proposalLine, fixedText, ourSid, ourEnd, withCr}
+use Rattle.grammar.specs.Turns.{Proposal, TurnLine, saysFF, readTurnLine, proposalLine, fixedText, ourEnd, withCr}
 use Rattle.grammar.specs.Answers.{Sign, accept, readFs, fsLine, Level}
 use Rattle.grammar.specs.Scan.{Scan, Scanned, goes, got, scanByte}
 use Rattle.grammar.proofs.Refusal.{whole-got}
 use Rattle.mail.specs.Mail.{Record, messageOf, proposalOf, transferOf, recordAt, proposalLines, turnText, transfersText, accepted}
 use Rattle.session.specs.Choices.{Shelf, answersTo}
-use Rattle.session.specs.Session.{kindDue, awaitsSid, awaitsPrompt, awaitsAnswer, Phase, aLine, newTurn, leaving, Memory, Session, withLevel, withFramed, withTerms, withCounts, withSid, withPart, withAfterCr, between, speaking, turnMarks, answering, answered, turnJudged, answerMarks, Stepped, moved, settled, lineMoved, isPlain, keptIn, nextTransfer, transferMoved, freeStep, step, levelInForce}
+use Rattle.session.specs.Session.{kindDue, awaitsSid, awaitsPrompt, awaitsAnswer, Phase, aLine, newTurn, leaving, Memory, Session, withLevel, withFramed, withTerms, withCounts, withSid, withPart, withAfterCr, between, speaking, turnMarks, answering, answered, turnJudged, answerMarks, Stepped, moved, settled, lineMoved, isPlain, keptIn, nextTransfer, transferMoved, freeStep, step, levelInForce, ourSignOn}
 use Rattle.session.proofs.Ways.{comment-line}
 use Rattle.demand2.specs.Limits.{lineLimit, blockLimit}
 use Rattle.demand2.specs.Room.{room}
 use Rattle.demand2.specs.Marks.{withSign, AnswerLeaves, TurnLeaves}
 use Rattle.demand2.specs.Refusals.{isDropped, Heeded, awaitsLine, WholeLine, TurnSaid, SoFar, TransferByte}
-use Rattle.demand2.specs.Events.{messageFrom, withMessage, metBy, endsWithCr, proposed, blockText, transfersSaid, turnSaid, turnAwaits, countsProposed, weSpeak, transfersOr, EndsBlock, bare, summed, Event, lfGoes, lineGrows, ignored, sidOfCaller, sidOfCalled, textLine, prompt, proposal, ffTurn, fqTurn, blockEnd, fsLineComes, transferGrows, transferWhole}
+use Rattle.demand2.specs.Events.{messageFrom, withMessage, metBy, endsWithCr, proposed, blockText, transfersSaid, turnSaid, turnAwaits, countsProposed, weSpeak, transfersOr, signOnSaid, EndsBlock, bare, summed, Event, lfGoes, lineGrows, ignored, sidOfCaller, sidOfCalled, textLine, prompt, proposal, ffTurn, fqTurn, blockEnd, fsLineComes, transferGrows, transferWhole}
 use Rattle.demand2.proofs.Limits.{level-between}
 use Rattle.demand2.proofs.Room.{fits-within}
 use Rattle.demand2.proofs.Marks.{accepted-is, answer-marks, turn-marks, answer-only, turn-only}
@@ -53,6 +53,10 @@ none-counted m =
     let c = m .counts in
     let z : c .proposed ≡ c .proposed + 0 = omega arith in
     ap (λ (n : ℕ). withCounts (record { proposed = n; forwarded = c .forwarded; declined = c .declined; deferred = c .deferred }) m) z
+
+-- what the session says at the prompt is that
+sign-on-is : (m : Memory) → ourSignOn m ≡ signOnSaid m
+sign-on-is m = refl
 
 speaks : (E : Shelf) (s : Session) (cr : Bool) (o : Bytes) (ff : Bool) (is : List ℕ) (m : Memory)
     → settled s cr (speaking E o ff is m) ≡ moved (between (turnAwaits ff is) cr (o ++ turnSaid E ff is) (countsProposed is m))
@@ -142,7 +146,10 @@ module _ (E : Shelf) (q : Bytes) (s : Session) (b : ℕ) where
         whole-step E s b (awaitsSid true) ln w p ∙ rw (w .bytes, r, f) (ap (λ (m : Memory). moved (between (aLine awaitsPrompt) true [] m)) (sid-met fs (s .memory)))
     happens t (textLine ln w p r) = whole-step E s b awaitsPrompt ln w p ∙ rw (w .bytes, r)
     happens t (prompt ln w p r) =
-        whole-step E s b awaitsPrompt ln w p ∙ rw (w .bytes, r) (speaks E s true (withCr (fixedText ourSid)) false (proposed E (s .memory)) (s .memory))
+        whole-step E s b awaitsPrompt ln w p
+        ∙ rw (w .bytes, r)
+        (speaks E s true (ourSignOn (s .memory)) false (proposed E (s .memory)) (s .memory)
+        ∙ ap (λ (o : Bytes). moved (weSpeak E true false o (s .memory))) (sign-on-is (s .memory)))
     happens t (proposal ln ff ps w p r l) = turn-step E s b ff ps ln w ∙ rw (r, lt-ltb (length ps) blockLimit l)
     happens t (ffTurn ln w r m l) = goes-ff ln w r ∙ ap (λ (n : Memory). moved (weSpeak E true true [] n)) (sym (turn-only (s .memory) m l))
     happens t (fqTurn ln w r) = turn-step E s b true [] ln w ∙ rw r

@@ -7,7 +7,7 @@ use Prim.Native.Nat.{ℕ}
 use lib.ListN.{take, drop, take-append-drop}
 use lib.Seq.{take-nil, drop-nil}
 use Rattle.grammar.specs.Bytes.{Bytes, null}
-use Rattle.grammar.specs.Turns.{Proposal, fixedText, ourSid, withCr}
+use Rattle.grammar.specs.Turns.{Proposal, withCr}
 use Rattle.grammar.specs.Answers.{accept, fsLine}
 use Rattle.grammar.proofs.Basics.{no-both}
 use Rattle.session.specs.Choices.{Shelf, answersTo}
@@ -15,7 +15,7 @@ use Rattle.session.specs.Session.{kindDue, over, Memory, Session, step, ended, 
 use Rattle.session.specs.Calls.{give}
 use Rattle.demand2.specs.Refusals.{SoFar, Refusal, Situation, Live, Over, closed}
 use Rattle.demand2.specs.Marks.{withSign}
-use Rattle.demand2.specs.Events.{messageFrom, withMessage, endsWithCr, weSpeak, transfersOr, turnAwaits, turnSaid, proposed, Event, lfGoes, lineGrows, ignored, sidOfCaller, sidOfCalled, textLine, prompt, proposal, ffTurn, fqTurn, blockEnd, fsLineComes, transferGrows, transferWhole}
+use Rattle.demand2.specs.Events.{messageFrom, withMessage, endsWithCr, weSpeak, transfersOr, signOnSaid, turnAwaits, turnSaid, proposed, Event, lfGoes, lineGrows, ignored, sidOfCaller, sidOfCalled, textLine, prompt, proposal, ffTurn, fqTurn, blockEnd, fsLineComes, transferGrows, transferWhole}
 use Rattle.demand2.specs.Reasons.{givenInto, handedInto, SaysWhy}
 use Rattle.demand2.proofs.Refusals.{exact, complete}
 use Rattle.demand2.proofs.Ended.{over-ended, twelve}
@@ -77,7 +77,7 @@ event-hush E q s b L t (ignored h a c x) = λ e. refl
 event-hush E q s b L t (sidOfCaller ln w p fs r f) = λ e. refl
 event-hush E q s b L t (sidOfCalled ln w p fs r f) = λ e. refl
 event-hush E q s b L t (textLine ln w p r) = λ e. refl
-event-hush E q s b L t (prompt ln w p r) = speaks-hush E true false (withCr (fixedText ourSid)) (s .memory)
+event-hush E q s b L t (prompt ln w p r) = speaks-hush E true false (signOnSaid (s .memory)) (s .memory)
 event-hush E q s b L t (proposal ln ff ps w p r l) = λ e. refl
 event-hush E q s b L t (ffTurn ln w r m k) = speaks-hush E true true [] m
 event-hush E q s b L t (fqTurn ln w r) = λ e. refl

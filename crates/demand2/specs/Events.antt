@@ -97,6 +97,10 @@ pub data EndsBlock (raw : Bytes) : TurnLine → Type 0 where
   bare : EndsBlock raw endsBlock
   summed : (h : ℕ) → (byteSum raw + h) % byteValues ≡ 0 → EndsBlock raw (endsSummed h)
 
+-- "then send SID and first turn": what the caller says at the prompt, before its turn
+abbrev pub signOnSaid : Memory → Bytes
+signOnSaid m = withCr (fixedText ourSid)
+
 -- ---------------------------------------------------------------- THE EVENTS
 
 -- The byte b comes to the session s, and then the session is the one named; q: the bytes so far of the transfer under way
@@ -119,7 +123,7 @@ pub data Event (E : Shelf) (q : Bytes) (s : Session) (b : ℕ) : Session → Typ
       → Event E q s b (between (aLine awaitsPrompt) true [] (s .memory))
   -- "then send SID and first turn"
   prompt : (line : Bytes) → WholeLine s b line → s .phase ≡ aLine awaitsPrompt → isPrompt line ≡ true
-      → Event E q s b (weSpeak E true false (withCr (fixedText ourSid)) (s .memory))
+      → Event E q s b (weSpeak E true false (signOnSaid (s .memory)) (s .memory))
   -- a proposal of the partner's; its line as received, and its CR, are among those that a checksum sums
   proposal : (line : Bytes) (ff : Bool) (ps : List Proposal) {raw : Bytes} → TurnSaid s b ff ps raw line → (p : Proposal)
       → readTurnLine (s .memory .framed) line ≡ proposes p → length ps < blockLimit

@@ -14,7 +14,7 @@ use Rattle.grammar.specs.Ascii.{text}
 use Rattle.grammar.specs.Fields
 use Rattle.grammar.specs.Lines.{ends, grows, overruns, trim, isComment, isPrompt, lineLimit}
 use Rattle.grammar.specs.Sid.{readSid, hasFeature, framed, letterF}
-use Rattle.grammar.specs.Turns.{Proposal, TurnLine, saysFF, saysFQ, endsBlock, notAllowed, proposes, endsSummed, readTurnLine, fixedText, ourSid, ourFF, ourFQ, withCr, blockLimit}
+use Rattle.grammar.specs.Turns.{Proposal, TurnLine, saysFF, saysFQ, endsBlock, notAllowed, proposes, endsSummed, readTurnLine, fixedText, ourFF, ourFQ, withCr, blockLimit}
 use Rattle.grammar.specs.Answers.{Sign, readFs, fsNumber, fsLine, Level}
 use Rattle.grammar.specs.Transfers.{TransferKind, plainKind, framedKind, readTransfer, sumRight}
 use Rattle.grammar.specs.Scan.{Scan, Scanned, goes, got, malformed, wrongSum, noRoom, scanByte, scanFrom}
@@ -22,7 +22,7 @@ use Rattle.grammar.proofs.Basics.{no-both}
 use Rattle.grammar.proofs.Refusal.{Reach, reach-step, from, contentOf, read-as}
 use Rattle.mail.specs.Mail.{Record, messageOf, turnText, transfersText, accepted}
 use Rattle.session.specs.Choices.{Shelf, answersTo}
-use Rattle.session.specs.Session.{kindDue, Awaited, awaitsSid, awaitsPrompt, awaitsTurn, awaitsAnswer, Phase, aLine, newTurn, awaitsTransfer, leaving, Memory, Session, withCounts, withSid, withPart, withAfterCr, between, Outcome, refuses, goesOn, proposing, speaking, ourTurn as speakNow, turnMarks, answering, answered, turnJudged, answerMarks, answerJudged, afterSid, sidJudged, textJudged, awaitedJudged, lineJudged, refused, settled, lineMoved, keptIn, nextTransfer, transferMoved, roomFor, lineStep, phaseStep, freeStep, step, ended, endedIn, commentJudged}
+use Rattle.session.specs.Session.{kindDue, Awaited, awaitsSid, awaitsPrompt, awaitsTurn, awaitsAnswer, Phase, aLine, newTurn, awaitsTransfer, leaving, Memory, Session, withCounts, withSid, withPart, withAfterCr, between, Outcome, refuses, goesOn, proposing, speaking, ourTurn as speakNow, turnMarks, answering, answered, turnJudged, answerMarks, answerJudged, afterSid, sidJudged, textJudged, awaitedJudged, lineJudged, refused, settled, lineMoved, keptIn, nextTransfer, transferMoved, roomFor, lineStep, phaseStep, freeStep, step, ended, endedIn, commentJudged, ourSignOn}
 use Rattle.session.specs.Session
 use Rattle.log.specs.Log.{kindOwed, ourNewTurn, weOpen, courseWith, logWith, afterTheirs, took, ourSidLine, ourAnswer, theirText, Next, weSay, theySay, theirTransfer, Course, Book, Log, isOurs, saidOn, inOrder, said, theirsOwed, placesOf, ourProposed, Effect, effect, summedEnd, checked, rawWith, theirSaid, theirTurnLine, theirAnswered, theirSidRead, theirRead, theirLine, judgedLine}
 use Rattle.log.specs.Log
@@ -169,12 +169,15 @@ module _ (E : Shelf) (S : Sound E) (part : Bytes) (a : Bool) (m : Memory) where
       go false true = quiet _ (newTurn false) k (no-line, omega arith)
       go c false = wrong-line _ _ _ refl refl refl
 
+  -- what we say at the prompt is our opening for the log
+  sign-on-spoken : spoken (E .table) (bookOf m) (at (weOpen ourSidLine) (accountOf m)) (ourSignOn m) ≡ at (ourNewTurn false) (accountOf m)
+  sign-on-spoken = sid-spoken (E .table) (bookOf m) (accountOf m)
+
   text-line : (c : Bool)
       → AfterLine awaitsPrompt (textJudged E c m) (cond c (effect (bookOf m) (accountOf m) (weOpen ourSidLine)) (effect (bookOf m) (accountOf m) (theySay theirText)))
   unfolding AfterLine
   text-line true =
-      our-turn E S (withCr (fixedText ourSid)) false m (idle (aLine awaitsPrompt) part a m) true (courseWith (weOpen ourSidLine) (accountOf m))
-      (sid-spoken (E .table) (bookOf m) (accountOf m))
+      our-turn E S (ourSignOn m) false m (idle (aLine awaitsPrompt) part a m) true (courseWith (weOpen ourSidLine) (accountOf m)) sign-on-spoken
   text-line false = quiet awaitsPrompt (aLine awaitsPrompt) m (no-line, tt)
 
   -- FF, and a whole block

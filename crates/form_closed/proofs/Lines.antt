@@ -33,7 +33,7 @@ use Rattle.session_memory.specs.Session.{Session}
 use Rattle.session_memory.specs.Setters.{withReader, withNow, withSay, withKeep, withReading}
 use Rattle.our_answer.specs.Answers.{answersOf}
 use Rattle.entries.specs.Decoded.{placeCount}
-use Rattle.line_effect.specs.Judge.{noMarks, judged, refusal, wentOn, inPhase, toTurn, toTransfer, saysFirst, saysThen, saysSigns, withMode, sends, sidRead, sidLine, textLine, turnMarks, settledKeep, wholeTurn, nextAccepted, readerFor, answered, endLine, summedLine, withProposal, proposalLine, ffLine, fqLine, lineSum, turnRead, turnLine, picked, flagged, transfersAfter, answerTaken, answerLine, commentLine, judgeOf}
+use Rattle.line_effect.specs.Judge.{noMarks, judged, refusal, wentOn, inPhase, toTurn, toTransfer, saysFirst, saysThen, saysSigns, withMode, sends, sidRead, sidLine, signOnPiece, textLine, turnMarks, settledKeep, wholeTurn, nextAccepted, readerFor, answered, endLine, summedLine, withProposal, proposalLine, ffLine, fqLine, lineSum, turnRead, turnLine, picked, flagged, transfersAfter, answerTaken, answerLine, commentLine, judgeOf}
 use Rattle.line_effect.specs.Judged.{Judged}
 use Rattle.line_effect.specs.declared.Marks.{Marks}
 use Rattle.form_test.specs.Form.{pluses, isLast}
@@ -103,10 +103,13 @@ module _ (table known inbox store : Bytes) (s : Session) (G : SessionOk inbox st
           let l = lower-than-both fs .0 in
           by-cond Ok (hasFeature letterF fs) (heard (framed fs) (levelInForce fs) (omega (arith, l)) (eqb (w .phase) phaseCallerSid)) (same noForwarding)
 
+  sign-on-byte : signOnPiece s < byteValues
+  sign-on-byte = omega arith
+
   text-ok : (ln : Bytes) → k .sending .count ≡ 0 → Ok (textLine ln s)
   unfolding textLine
   text-ok ln z =
-      by-cond Ok (isPrompt ln) (turn ourTurn refl (withSay (saysFirst pieceSid y) s) noMarks (ok-say G (says-first pieceSid y (omega arith) (G .say))) (omega arith) T z) (same 0)
+      by-cond Ok (isPrompt ln) (turn ourTurn refl (withSay (saysFirst (signOnPiece s) y) s) noMarks (ok-say G (says-first (signOnPiece s) y sign-on-byte (G .say))) (omega arith) T z) (same 0)
 
   ff-ok : Ok (ffLine s)
   unfolding ffLine

@@ -90,8 +90,12 @@ sidRead (some fs) s =
 unfoldable pub sidLine : Bytes → Session → Judged
 sidLine ln s = sidRead (readSid ln) s
 
+-- What the caller says at the prompt, before its first turn
+abbrev pub signOnPiece : Session → ℕ
+signOnPiece s = pieceSid
+
 unfoldable pub textLine : Bytes → Session → Judged
-textLine ln s = cond (isPrompt ln) (judged 0 ourTurn noMarks (withSay (saysFirst pieceSid (s .say)) s)) (wentOn s)
+textLine ln s = cond (isPrompt ln) (judged 0 ourTurn noMarks (withSay (saysFirst (signOnPiece s) (s .say)) s)) (wentOn s)
 
 -- ---------------------------------------------------------------- lines of a turn
 

@@ -13,7 +13,7 @@ use Rattle.grammar.specs.Bytes.{Bytes, byteValues}
 use Rattle.grammar.specs.Refusals.{lineNotAllowed, noForwarding, proposalCount, wrongBlockSum}
 use Rattle.grammar.specs.Fields.{formIs}
 use Rattle.grammar.specs.Sid.{hasFeature, framed, levelInForce, letterF}
-use Rattle.grammar.specs.Turns.{Proposal, TurnLine, saysFF, saysFQ, endsBlock, notAllowed, proposes, endsSummed, withCr, fixedText, ourSid, blockLimit}
+use Rattle.grammar.specs.Turns.{Proposal, TurnLine, saysFF, saysFQ, endsBlock, notAllowed, proposes, endsSummed, withCr, blockLimit}
 use Rattle.grammar.specs.Answers.{Sign, fsLine, writeSign}
 use Rattle.grammar.specs.Scan.{scanFrom}
 use Rattle.grammar.specs.Transfers.{kindOf, byteSum, sumRight}
@@ -41,7 +41,7 @@ use Rattle.session_memory.specs.Setters.{withReader, withNow, withSay, withKeep
 use Rattle.session_memory.proofs.Laws.{held-five}
 use Rattle.entries.specs.Decoded.{proposalsOf}
 use Rattle.our_answer.specs.Answers.{answersOf}
-use Rattle.line_effect.specs.Judge.{noMarks, judged, wentOn, refusal, inPhase, toTurn, toTransfer, saysFirst, saysSigns, sidRead, plusFrom, nextAccepted, readerFor, endLine, summedLine, lineSum, withProposal, proposalLine, ffLine, fqLine, turnRead}
+use Rattle.line_effect.specs.Judge.{noMarks, judged, wentOn, refusal, inPhase, toTurn, toTransfer, saysFirst, saysSigns, signOnPiece, sidRead, plusFrom, nextAccepted, readerFor, endLine, summedLine, lineSum, withProposal, proposalLine, ffLine, fqLine, turnRead}
 use Rattle.line_effect.specs.Judge as judge
 use Rattle.line_effect.specs.Judged.{Judged}
 use Rattle.line_effect.specs.declared.Marks.{Marks}
@@ -59,7 +59,7 @@ use Rattle.form_closed.specs.Facts.{FiveOk}
 use Rattle.form_closed.proofs.Laws.{five-of, signs-octets, held-length}
 use Rattle.mail.specs.Tally.{moreForwarded}
 use Rattle.sheet.specs.Sheet.{byteRange}
-use Rattle.phase.specs.Phase.{phaseCallerSid, phasePrompt, phaseTurn, phaseOver, pieceSid, ourTurn, ourTurnAfterFF, noProposal}
+use Rattle.phase.specs.Phase.{phaseCallerSid, phasePrompt, phaseTurn, phaseOver, ourTurn, ourTurnAfterFF, noProposal}
 use Rattle.places.specs.Places.{headingLen, proposalLen}
 use Rattle.represents.specs.Tallies.{countsMarked}
 
@@ -169,10 +169,14 @@ module _ (F : Fixed) (E : Shelf) (c : Cs) (m : Memory) (ready : Ready F E c m) w
       go true = subst (λ (c : Bool). Goes c (judge.afterSid w)) e (mode (eqb (w .phase) phaseCallerSid))
       go false = (refl, refl, refl)
 
-  pub text-law : w .phase ≡ phasePrompt → (c : Bool)
-      → Lead (cond c (judged 0 ourTurn noMarks (withSay (saysFirst pieceSid y) s)) (wentOn s)) (on-lists.textJudged E c m)
+  -- what we say at the prompt
+  sign-on-law : firstText (withSay (saysFirst (signOnPiece s) y) s) ≡ on-lists.ourSignOn m
   unfolding firstText
-  text-law e true = speaks false noMarks (saysFirst pieceSid y) k m (withCr (fixedText ourSid)) h refl refl (omega arith) (omega arith) refl
+  sign-on-law = refl
+
+  pub text-law : w .phase ≡ phasePrompt → (c : Bool)
+      → Lead (cond c (judged 0 ourTurn noMarks (withSay (saysFirst (signOnPiece s) y) s)) (wentOn s)) (on-lists.textJudged E c m)
+  text-law e true = speaks false noMarks (saysFirst (signOnPiece s) y) k m (on-lists.ourSignOn m) h refl refl (omega arith) (omega arith) sign-on-law
   text-law e false = went-on w k (on-lists.aLine on-lists.awaitsPrompt) m b h refl refl (e, tt)
 
   -- ---------------------------------------------------------------- FF, FQ and proposals

@@ -12,13 +12,13 @@ use Rattle.grammar.specs.Bytes.{Bytes, CR, LF, null}
 use Rattle.grammar.specs.Refusals.{lineTooLong, notSid, noForwarding, lineNotAllowed, proposalCount, badTransfer, badChecksum, storeFull, bytesWait, sessionEnded, wrongBlockSum}
 use Rattle.grammar.specs.Lines.{ends, grows, overruns, trim, isComment, isPrompt, lineLimit}
 use Rattle.grammar.specs.Sid.{readSid, hasFeature, letterF}
-use Rattle.grammar.specs.Turns.{Proposal, TurnLine, saysFF, saysFQ, endsBlock, notAllowed, proposes, endsSummed, readTurnLine, fixedText, ourSid, withCr, blockLimit}
+use Rattle.grammar.specs.Turns.{Proposal, TurnLine, saysFF, saysFQ, endsBlock, notAllowed, proposes, endsSummed, readTurnLine, withCr, blockLimit}
 use Rattle.grammar.specs.Answers.{Sign, readFs, fsNumber, fsLine}
 use Rattle.grammar.specs.Scan.{Scan, Scanned, goes, got, malformed, wrongSum, noRoom, scanByte, scanFrom}
 use Rattle.grammar.specs.Transfers.{sumRight}
 use Rattle.mail.specs.Mail.{messageOf, transfersText, accepted}
 use Rattle.session.specs.Choices.{Shelf, chosen, answersTo}
-use Rattle.session.specs.Session.{kindDue, Awaited, awaitsSid, awaitsPrompt, awaitsTurn, awaitsAnswer, Phase, aLine, newTurn, awaitsTransfer, leaving, over, Terms, Memory, Session, withTerms, withSid, withPhase, withPart, withAfterCr, between, Outcome, refuses, goesOn, proposing, speaking, ourTurn, turnMarks, answering, answered, turnJudged, answerMarks, answerJudged, afterSid, sidJudged, textJudged, awaitedJudged, lineJudged, Stepped, refused, moved, settled, lineMoved, isPlain, keptIn, nextTransfer, transferMoved, roomFor, phaseStep, freeStep, step, levelInForce, commentJudged}
+use Rattle.session.specs.Session.{kindDue, Awaited, awaitsSid, awaitsPrompt, awaitsTurn, awaitsAnswer, Phase, aLine, newTurn, awaitsTransfer, leaving, over, Terms, Memory, Session, withTerms, withSid, withPhase, withPart, withAfterCr, between, Outcome, refuses, goesOn, proposing, speaking, ourTurn, turnMarks, answering, answered, turnJudged, answerMarks, answerJudged, afterSid, sidJudged, textJudged, awaitedJudged, lineJudged, Stepped, refused, moved, settled, lineMoved, isPlain, keptIn, nextTransfer, transferMoved, roomFor, phaseStep, freeStep, step, levelInForce, commentJudged, ourSignOn}
 
 -- ---------------------------------------------------------------- what we say
 
@@ -82,7 +82,7 @@ pub data Judged (E : Shelf) (m : Memory) (ln : Bytes) : Awaited → Outcome → 
   hearsSid : (c : Bool) (fs : List ℕ) → readSid (trim ln) ≡ some fs → hasFeature letterF fs ≡ true
       → Judged E m ln (awaitsSid c) (goesOn (afterSid c) (withSid fs m) [])
   hearsText : isPrompt (trim ln) ≡ false → Judged E m ln awaitsPrompt (goesOn (aLine awaitsPrompt) m [])
-  hearsPrompt : isPrompt (trim ln) ≡ true → Judged E m ln awaitsPrompt (ourTurn E (withCr (fixedText ourSid)) false m)
+  hearsPrompt : isPrompt (trim ln) ≡ true → Judged E m ln awaitsPrompt (ourTurn E (ourSignOn m) false m)
   hearsProposal : (ff : Bool) (ps : List Proposal) {raw : Bytes} (q : Proposal) → readTurnLine (m .framed) (trim ln) ≡ proposes q
       → ltb (length ps) blockLimit ≡ true → Judged E m ln (awaitsTurn ff ps raw) (goesOn (aLine (awaitsTurn ff (ps ++ (q ∷ [])) (raw ++ withCr ln))) m [])
   hearsFF : {raw : Bytes} → readTurnLine (m .framed) (trim ln) ≡ saysFF → Judged E m ln (awaitsTurn false [] raw) (ourTurn E [] true (turnMarks m))

@@ -209,9 +209,13 @@ abbrev pub sidJudged : Bool → Memory → Option (List ℕ) → Outcome
 sidJudged caller m none = refuses notSid
 sidJudged caller m (some fs) = cond (hasFeature letterF fs) (goesOn (afterSid caller) (withSid fs m) []) (refuses noForwarding)
 
+-- What the caller says at the prompt, before its first turn
+abbrev pub ourSignOn : Memory → Bytes
+ourSignOn m = withCr (fixedText ourSid)
+
 -- "skip text lines until the prompt, then send SID and first turn"
 abbrev pub textJudged : Shelf → Bool → Memory → Outcome
-textJudged E true m = ourTurn E (withCr (fixedText ourSid)) false m
+textJudged E true m = ourTurn E (ourSignOn m) false m
 textJudged E false m = goesOn (aLine awaitsPrompt) m []
 
 -- ---------------------------------------------------------------- a whole line

@@ -14,7 +14,7 @@ use Rattle.grammar.specs.Refusals.{badChecksum}
 use Rattle.grammar.specs.Fields.{headingByte, isHeading, isBody, headingMax}
 use Rattle.grammar.specs.Lines.{LineByte, dropped, ends, grows, overruns, lineByte, trim, isComment, isPrompt}
 use Rattle.grammar.specs.Sid.{readSid, hasFeature, framed}
-use Rattle.grammar.specs.Turns.{Proposal, TurnLine, saysFF, saysFQ, endsBlock, notAllowed, proposes, readTurnLine, proposalLine, fixedText, ourSid, protocolError, checksumError, withCr}
+use Rattle.grammar.specs.Turns.{Proposal, TurnLine, saysFF, saysFQ, endsBlock, notAllowed, proposes, readTurnLine, proposalLine, fixedText, protocolError, checksumError, withCr}
 use Rattle.grammar.specs.Errors.{isSilent, errorText}
 use Rattle.grammar.specs.Answers.{Sign, readFs, fsNumber, fsLine}
 use Rattle.grammar.specs.Transfers.{TransferKind, plainKind, framedKind, kindOf, sendable, writeTransfer}
@@ -22,7 +22,7 @@ use Rattle.grammar.specs.Scan.{Scanned, goes, got, malformed, wrongSum, noRoom,
 use Rattle.grammar.proofs.Basics.{and2, no-both, not-so, by-cond, field-is}
 use Rattle.mail.specs.Mail.{Record, messageOf, headingFor, transferOf, recordAt, noRecord, proposalOf, turnText, transfersText, accepted}
 use Rattle.session.specs.Choices.{Shelf, chosen, answersTo}
-use Rattle.session.specs.Session.{kindDue, Awaited, Memory, Session, Outcome, refuses, goesOn, speaking, turnMarks, answering, Stepped, settled, isPlain, keptIn, nextTransfer, step}
+use Rattle.session.specs.Session.{kindDue, Awaited, Memory, Session, Outcome, refuses, goesOn, speaking, turnMarks, answering, Stepped, settled, isPlain, keptIn, nextTransfer, step, ourSignOn}
 use Rattle.session.proofs.Ways.{Judged, isWrong, hearsSid, hearsText, hearsPrompt, hearsProposal, hearsFF, hearsFQ, hearsEnd, hearsFs, Way, isRefused, dropsLf, growsLine, ignoresLine, hearsLine, readsOn, readsLast, way}
 use Rattle.log.specs.Log.{Event, took, gave}
 use Rattle.two_nodes.specs.Link.{gaveIn}
@@ -102,7 +102,7 @@ module _ (E : Shelf) (h : allSendable (E .table) ≡ true) where
   line-judged m ln o (isWrong n w) = tt
   line-judged m ln o (hearsSid c fs e f) = refl
   line-judged m ln o (hearsText e) = refl
-  line-judged m ln o (hearsPrompt e) = after-calm (withCr (fixedText ourSid)) (λ r. refl) false (chosen (E .table) (m .framed) (m .states) (m .deferred)) m
+  line-judged m ln o (hearsPrompt e) = after-calm (ourSignOn m) (λ r. refl) false (chosen (E .table) (m .framed) (m .states) (m .deferred)) m
   line-judged m ln o (hearsProposal ff ps q e f) = refl
   line-judged m ln o (hearsFF e) = alone-calm true (chosen (E .table) (m .framed) (turnMarks m .states) (m .deferred)) (turnMarks m)
   line-judged m ln o (hearsFQ e) = refl

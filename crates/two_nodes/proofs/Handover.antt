@@ -28,7 +28,7 @@ use Rattle.session.proofs.Choices.{Places, chosen-places, one-sign-each}
 use Rattle.log.proofs.Spoken.{Fit, AllFit}
 use Rattle.demand2.specs.Refusals.{WholeLine}
 use Rattle.demand2.specs.Marks.{isSign, withSign}
-use Rattle.demand2.specs.Events.{messageFrom, withMessage, metBy, endsWithCr, proposed, blockText, transfersSaid, turnSaid, turnAwaits, countsProposed, weSpeak, transfersOr, EndsBlock, bare, Event, sidOfCaller, sidOfCalled, prompt, proposal, ffTurn, fqTurn, blockEnd, fsLineComes}
+use Rattle.demand2.specs.Events.{messageFrom, withMessage, metBy, endsWithCr, proposed, blockText, transfersSaid, turnSaid, turnAwaits, countsProposed, weSpeak, transfersOr, signOnSaid, EndsBlock, bare, Event, sidOfCaller, sidOfCalled, prompt, proposal, ffTurn, fqTurn, blockEnd, fsLineComes}
 use Rattle.demand2.specs.Units.{lineBegun}
 use Rattle.demand2.specs.OurTurn.{rising, OurBlock}
 use Rattle.demand2.proofs.Marks.{accepted-is, answer-marks, turn-marks}
@@ -56,7 +56,7 @@ pub data Handover (E F : Shelf) (p : Phase) (m : Memory) (o : Bytes) (q : Phase)
   -- the called end greets
   greets : p ≡ aLine (awaitsSid false) → o ≡ greeting false → q ≡ aLine (awaitsSid true) → m .sending ≡ [] → n .sending ≡ [] → Handover E F p m o q n
   -- the caller's SID and first turn
-  signsOn : p ≡ turnAwaits false (proposed E m) → o ≡ withCr (fixedText ourSid) ++ turnSaid E false (proposed E m) → q ≡ aLine (awaitsSid false)
+  signsOn : p ≡ turnAwaits false (proposed E m) → o ≡ signOnSaid m ++ turnSaid E false (proposed E m) → q ≡ aLine (awaitsSid false)
       → m .framed ≡ true → m .sending ≡ [] → n .sending ≡ [] → Handover E F p m o q n
   -- a turn, after a turn that was (ff) FF: what the listener has sent, the speaker has kept
   turns : (ff : Bool) → p ≡ turnAwaits ff (proposed E m) → o ≡ turnSaid E ff (proposed E m) → q ≡ newTurn ff
@@ -417,7 +417,7 @@ module _ (E F : Shelf) (SE : Sound E) (SF : Sound F) (s t : List ℕ) (p : Phase
   same-claims n fs c = record { ours = c .ours; theirs = c .theirs }
 
   sid-heard : (n : Memory) (cr : Bool) → p ≡ turnAwaits false (proposed E m) → m .framed ≡ true → m .sending ≡ [] → n .sending ≡ [] → P n
-      → Hears F P R Q (begun (awaitsSid false) n cr []) (withCr (fixedText ourSid) ++ turnSaid E false (proposed E m))
+      → Hears F P R Q (begun (awaitsSid false) n cr []) (signOnSaid m ++ turnSaid E false (proposed E m))
   sid-heard n cr e fm sm sn c =
       let fs = sid-features in
       hears-line F P R Q (awaitsSid false) n c (fixedText ourSid) cr (turnSaid E false (proposed E m)) (good-line (fixedLine ourSid) tt) refl
@@ -434,7 +434,7 @@ module _ (E F : Shelf) (SE : Sound E) (SF : Sound F) (s t : List ℕ) (p : Phase
       (λ d w. on (begun (awaitsSid true) n d (fixedText ourSid)) (begun awaitsPrompt n′ true []) CR (withCr (fixedText ourPrompt))
       (happens F [] (begun (awaitsSid true) n d (fixedText ourSid)) CR tt _ (sidOfCalled (fixedText ourSid) w refl (fs .0) (fs .1) (fs .2)))
       (hears-line F P R Q awaitsPrompt n′ (same-claims n (fs .0) c) (fixedText ourPrompt) true [] (good-line (fixedLine ourPrompt) tt) refl
-      (λ d w. on (begun awaitsPrompt n′ d (fixedText ourPrompt)) (weSpeak F true false (withCr (fixedText ourSid)) n′) CR []
+      (λ d w. on (begun awaitsPrompt n′ d (fixedText ourPrompt)) (weSpeak F true false (signOnSaid n′) n′) CR []
       (happens F [] (begun awaitsPrompt n′ d (fixedText ourPrompt)) CR tt _ (prompt (fixedText ourPrompt) w refl prompt-read))
       (inl (record { fresh = refl; loud = refl; claims = counted-claims n′ (proposed F n′) (same-claims n (fs .0) c); kind = signsOn refl refl e (fs .3) sn sm })))))
 

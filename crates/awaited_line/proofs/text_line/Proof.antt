@@ -1,10 +1,10 @@
 -- One test, the prompt.
 use mathlib.Core.Path.{sym, ap, _∙_}
 use Rattle.line_effect.specs.declared.Marks.{Marks}
-use Rattle.phase.specs.Phase.{ourTurn, pieceSid}
+use Rattle.phase.specs.Phase.{ourTurn}
 use Rattle.session_memory.specs.Setters.{withSay}
 use Rattle.numbers.specs.Whole.{sessionOf}
-use Rattle.line_effect.specs.Judge.{judged, saysFirst, textLine}
+use Rattle.line_effect.specs.Judge.{judged, saysFirst, signOnPiece, textLine}
 use borrow.Author.Needs.{needs}
 use Rattle.awaited_line.proofs.text_line.Statement.{statement}
 use Rattle.awaited_line.proofs.text_line.Tie as tie
@@ -20,7 +20,7 @@ unfolding textLine
 returns c = λ x.
     let a = c .before .before .before .before .before .args in
     rw (sym (c .before .before .before .is-prompt .ensures) ∙ c .before .before .if1 .taken)
-    (ap (λ (m : Marks). judged 0 ourTurn m (withSay (saysFirst pieceSid (a .s .say)) (sessionOf (a .s) x))) (c .unmarked .ensures))
+    (ap (λ (m : Marks). judged 0 ourTurn m (withSay (saysFirst (signOnPiece (sessionOf (a .s) x)) (a .s .say)) (sessionOf (a .s) x))) (c .unmarked .ensures))
 
 went-requires : tie.Need-went-requires
 went-requires c κs = search needs
