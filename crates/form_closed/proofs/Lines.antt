@@ -37,7 +37,7 @@ use Rattle.line_effect.specs.Judge.{noMarks, judged, refusal, wentOn, inPhase, 
 use Rattle.line_effect.specs.Judged.{Judged}
 use Rattle.line_effect.specs.declared.Marks.{Marks}
 use Rattle.form_test.specs.Form.{pluses, isLast}
-use Rattle.phase.specs.Phase.{phaseCalledSid, phaseCallerSid, phasePrompt, phaseTurn, phaseFs, phaseOver, pieceNone, pieceSid, pieceSigns, pieceBlock, pieceTransfers, notOurTurn, ourTurn, ourTurnAfterFF, noProposal}
+use Rattle.phase.specs.Phase.{phaseCalledSid, phaseCallerSid, phasePrompt, phaseTurn, phaseFs, phaseOver, pieceNone, pieceSigns, pieceBlock, pieceTransfers, notOurTurn, ourTurn, ourTurnAfterFF, noProposal}
 use Rattle.form_closed.proofs.Laws.{octets-put, flag-octets, picked-octets, five-of, held-length, held-octets, next-found, length-flagged, picked-few}
 use Rattle.form_closed.specs.Facts.{AwaitOk, SayOk, KeepOk, Last}
 use Rattle.form_closed.proofs.Proposals.{proposal-octets}
