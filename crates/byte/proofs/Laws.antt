@@ -12,7 +12,7 @@ use lib.ListN.{length, getD, drop, drop-of-length-le}
 use lib.Seq.{drop-cons}
 use borrow.Author.Tests.{eq-eqb, ne-eqb, ltb-true, ltb-false}
 use Rattle.grammar.specs.Bytes.{Bytes, every}
-use Rattle.grammar.specs.Fields.{digit, upper, hexCapital, hexDigit, hexPair, hexBase, hexAbove, digitsEnd, hexEnd}
+use Rattle.grammar.specs.Fields.{digit, upper, hexCapital, hexDigit, hexBase, hexAbove, digitsEnd, hexEnd}
 use Rattle.byte.specs.declared.Hex.{Hex}
 use Rattle.byte.specs.Hex.{hexIs}
 use Rattle.grammar.proofs.Basics.{and2}

@@ -1,14 +1,13 @@
 -- The tests of a date and a time, one by one as the code makes them. Assumes nothing.
-use mathlib.Core.Path.{_≡_, refl, sym, ap, _∙_, subst}
+use mathlib.Core.Path.{_≡_, refl, sym, ap, _∙_}
 use mathlib.Core.Bool.{Bool, true, false, cond, _&&_}
 use mathlib.Core.List.{List, [], _∷_}
-use Prim.Native.Nat.{ℕ, suc, _+_, _-_, _%_, _≤_, _<_}
+use Prim.Native.Nat.{ℕ, _+_, _-_, _%_, _≤_, _<_}
 use native.Mathlib.Omega.{arith}
-use lib.Dec.{eqb, ltb, leb}
+use lib.Dec.{eqb}
 use lib.ListN.{getD}
-use borrow.Author.Tests.{eq-eqb, ne-eqb, le-leb, lt-leb, eqb-true}
-use Rattle.grammar.proofs.Basics.{or-second}
-use Rattle.dates.specs.Dates.{Date, Time, isDate, isTime, isLeap, daysIn, february, lastMonth, februaryDays, longFebruaryDays}
+use borrow.Author.Tests.{ne-eqb, eqb-true}
+use Rattle.dates.specs.Dates.{daysIn, february, lastMonth, februaryDays, longFebruaryDays}
 use Rattle.dates.proofs.Dates.{below, below-at}
 
 -- ---------------------------------------------------------------- months

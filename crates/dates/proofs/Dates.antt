@@ -8,7 +8,7 @@ use native.Mathlib.Nat.{mul-add-mod-self-left, mul-add-div, mod-eq-of-lt}
 use lib.Dec.{eqb, ltb, leb}
 use borrow.Author.Tests.{eq-eqb, ne-eqb, lt-ltb, le-ltb, le-leb, lt-leb, leb-true, ltb-true, ltb-false, eqb-true, eqb-false}
 use Rattle.grammar.proofs.Basics.{and2, both, or-second}
-use Rattle.dates.specs.Dates.{Date, isLeap, monthStarts, startOf, daysIn, isDate, dayNumber, monthOf, yearIn, yearStart, dateIn, dateOf, firstYear, lastYear, cycleYears, yearDays, longYearDays, lastMonth, cycleDays, longYear, thirdYear, fourthYear, allDays, allYears, mostDays}
+use Rattle.dates.specs.Dates.{Date, isLeap, startOf, daysIn, isDate, dayNumber, monthOf, yearIn, yearStart, dateIn, dateOf, firstYear, lastYear, cycleYears, yearDays, longYearDays, lastMonth, cycleDays, longYear, thirdYear, fourthYear, allDays, allYears, mostDays}
 
 -- ---------------------------------------------------------------- a test over the numbers below n
 

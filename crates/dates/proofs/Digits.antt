@@ -1,17 +1,16 @@
 -- Six digits and four digits that we write read back as given. Assumes nothing.
-use mathlib.Core.Path.{_≡_, refl, sym, ap, _∙_}
+use mathlib.Core.Path.{_≡_, refl, ap, _∙_}
 use mathlib.Core.Bool.{Bool, true, false, cond, _&&_}
-use mathlib.Core.Option.{Option, none, some}
+use mathlib.Core.Option.{some}
 use Prim.Native.Nat.{ℕ, _+_, _-_, _*_, _/_, _%_, _≤_, _<_}
 use native.Mathlib.Omega.{arith}
 use lib.Dec.{ltb, leb}
 use borrow.Author.Tests.{lt-ltb, le-ltb, ltb-true, ltb-false, leb-true}
-use Rattle.grammar.specs.Bytes.{every}
 use Rattle.grammar.specs.Fields.{digit, decimalBase, digitsEnd}
-use Rattle.grammar.proofs.Basics.{and2, both}
+use Rattle.grammar.proofs.Basics.{and2}
 use Rattle.grammar.specs.Ascii.{char}
-use Rattle.dates.specs.Dates.{Date, Time, isDate, isTime, daysIn, isLeap, monthStarts, firstYear, lastYear, lastHour, lastMinute}
-use Rattle.dates.specs.Digits.{fullYear, pairAt, digits, dateSaid, timeSaid, readDate, readTime, twoDigits, dateText, timeText, turnYear, lastCentury, thisCentury, pairValues, dateLength, timeLength}
+use Rattle.dates.specs.Dates.{Date, Time, isDate, isTime, isLeap, firstYear, lastYear, lastHour, lastMinute}
+use Rattle.dates.specs.Digits.{fullYear, digits, dateSaid, timeSaid, readDate, readTime, dateText, timeText, turnYear, lastCentury, thisCentury, pairValues, dateLength, timeLength}
 use Rattle.dates.proofs.Dates.{Valid, valid, days-most}
 
 digit-of : (d : ℕ) → d < decimalBase → digit (char "0" + d) ≡ true

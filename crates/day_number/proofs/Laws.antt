@@ -1,15 +1,15 @@
 -- Days and dates as the code reckons them. Assumes nothing.
 use mathlib.Core.Path.{_≡_, refl, sym, ap, _∙_, subst}
 use mathlib.Core.Bool.{Bool, true, false, cond}
-use mathlib.Core.List.{List, [], _∷_}
-use Prim.Native.Nat.{ℕ, zero, suc, _+_, _-_, _*_, _/_, _%_, _≤_, _<_}
+use mathlib.Core.List.{[], _∷_}
+use Prim.Native.Nat.{ℕ, suc, _+_, _-_, _*_, _/_, _%_, _≤_, _<_}
 use native.Mathlib.Omega.{arith}
 use native.Mathlib.Numerals.{add-one}
 use lib.Dec.{eqb, ltb}
 use lib.ListN.{length, getD, drop}
 use lib.Seq.{drop-cons}
 use borrow.Author.Tests.{lt-ltb, le-ltb, ltb-true, ltb-false}
-use Rattle.dates.specs.Dates.{Date, isDate, isLeap, monthStarts, startOf, daysIn, dayNumber, monthFrom, later, monthOf, yearIn, yearStart, dateIn, dateOf, firstYear, cycleYears, yearDays, longYearDays, lastMonth, cycleDays, longYear, thirdYear, fourthYear, allDays, mostDays}
+use Rattle.dates.specs.Dates.{Date, isDate, isLeap, monthStarts, startOf, dayNumber, monthFrom, monthOf, yearIn, yearStart, dateOf, firstYear, cycleYears, yearDays, longYearDays, lastMonth, cycleDays, longYear, thirdYear, fourthYear, allDays, mostDays}
 use Rattle.dates.proofs.Dates.{Valid, valid, number-back, days-most}
 use Rattle.day_number.specs.Meaning.{yearLength, MonthIs}
 

@@ -1,11 +1,9 @@
 -- The digits of a number, one by one from the last. Assumes nothing.
 use Prim.Native.Nat.{ℕ, suc, zero, _+_, _-_, _/_, _%_, _^_, _<_, _≤_}
-use mathlib.Core.Path.{_≡_, refl, sym, _∙_}
-use mathlib.Core.Bool.{Bool, true, false, cond}
+use mathlib.Core.Path.{_≡_, sym, _∙_}
 use mathlib.Core.List.{[], _∷_, _++_, append-assoc}
 use native.Mathlib.Omega.{arith}
 use native.Mathlib.Numerals.{add-one}
-use lib.Dec.{ltb}
 use lib.ListN.{length, take, drop, set, length-drop}
 use lib.Seq.{set-split, drop-at, length-take-le, take-all}
 use borrow.Author.Tests.{lt-ltb, le-ltb}

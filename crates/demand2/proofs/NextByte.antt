@@ -1,5 +1,5 @@
 -- DEMAND 2 ON ONE PAGE, of every session that is reached. Idea: each field is a theorem of this crate, at a session that is sound.
-use mathlib.Core.Path.{_≡_, sym, ap, _∙_, subst}
+use mathlib.Core.Path.{_≡_, sym, _∙_, subst}
 use mathlib.Core.List.{List, [], _∷_}
 use Prim.Native.Nat.{ℕ, _≤_}
 use native.Mathlib.Omega.{arith}
@@ -7,7 +7,7 @@ use lib.ListN.{length}
 use Rattle.grammar.specs.Bytes.{Bytes}
 use Rattle.grammar.specs.Turns.{Proposal}
 use Rattle.session.specs.Choices.{Shelf, answersTo}
-use Rattle.session.specs.Session.{leaving, over, Memory, Session}
+use Rattle.session.specs.Session.{leaving, over, Session}
 use Rattle.session.specs.Calls.{Received}
 use Rattle.demand2.specs.Limits.{blockLimit}
 use Rattle.demand2.specs.Refusals.{Over, closed, fqGiven}

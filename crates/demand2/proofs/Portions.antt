@@ -15,7 +15,7 @@ use Rattle.mail.specs.Mail.{messageOf}
 use Rattle.session.specs.Choices.{Shelf}
 use Rattle.session.specs.Session.{kindDue, withOut, Phase, leaving, over, Session, Outcome, refuses, goesOn, Stepped, settled, isPlain, keptIn, nextTransfer, step, ended, endedIn}
 use Rattle.session.proofs.Ways.{Way, isRefused, dropsLf, growsLine, ignoresLine, hearsLine, readsOn, readsLast, way}
-use Rattle.session.specs.Calls.{Received, oneMore, stoppedAt, stops, receiveOn, receive, give, handedOut}
+use Rattle.session.specs.Calls.{Received, oneMore, stoppedAt, stops, receiveOn, receive, give}
 use Rattle.demand2.specs.Refusals.{Over, closed, Live}
 use Rattle.demand2.specs.Portions.{ByteReceived, livesOn, andThen, Counted, allTaken, upTo, GivenTogether, GivenOut}
 use Rattle.demand2.proofs.Ended.{ended-over}

@@ -5,7 +5,7 @@ use lib.ListN.{length}
 use Rattle.grammar.specs.Bytes.{Bytes}
 use Rattle.grammar.specs.Turns.{Proposal}
 use Rattle.mail.specs.Mail.{Record, Message, recordLimit}
-use Rattle.layout.specs.Layout.{byteAt, entryAt, recordOf, knownOf, proposalIn, messageIn}
+use Rattle.layout.specs.Layout.{entryAt, recordOf, knownOf, proposalIn, messageIn}
 use Rattle.places.specs.Places.{entryLen, knownLen, proposalLen, recordLen}
 
 -- What f makes of n entries of this size, from entry i on.

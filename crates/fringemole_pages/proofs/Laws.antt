@@ -1,10 +1,9 @@
 -- The numbers of the C interface say what the answers say. Assumes nothing.
 use mathlib.Core.Path.{_≡_, refl, sym, ap, _∙_, subst}
-use mathlib.Core.Bool.{Bool, true, false, cond, not}
-use mathlib.Core.Option.{Option, none, some}
+use mathlib.Core.Bool.{cond}
+use mathlib.Core.Option.{none, some}
 use mathlib.Core.List.{List, [], _∷_}
 use Prim.Native.Nat.{ℕ}
-use lib.Dec.{eqb}
 use lib.ListN.{drop}
 use lib.IntN.{ℤ}
 use mir.Syntax.{w64}
@@ -27,7 +26,7 @@ use Rattle.page_time.specs.Meaning.{secondsIs, dateSaid}
 use Rattle.page_time.specs.declared.Seconds.{Seconds}
 use Rattle.page_time.specs.declared.Dated.{Dated}
 use Rattle.page_time.proofs.Laws.{seconds-fit}
-use Rattle.fringemole_pages.specs.Numbers.{toldSurvey, isUnread, bareOf, toldBy, toldLine, linesSaid, normal, LineIn, NextIs, toldSeconds, toldDate}
+use Rattle.fringemole_pages.specs.Numbers.{toldSurvey, isUnread, bareOf, toldBy, toldLine, NextIs, toldSeconds, toldDate}
 use Rattle.fringemole_pages.specs.declared.MailPages.{MailPages}
 use Rattle.fringemole_pages.specs.declared.MailPage.{MailPage}
 use Rattle.fringemole_pages.specs.declared.PageDate.{PageDate}

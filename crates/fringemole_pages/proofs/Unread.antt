@@ -1,6 +1,6 @@
 -- A mail that is left unread gives no line, at any place, to a host that hands over the mail's own survey; and with that survey the lines of any other
 -- mail are handed out whole. Assumes nothing.
-use mathlib.Core.Path.{_≡_, refl, sym, ap, _∙_}
+use mathlib.Core.Path.{_≡_, refl, ap, _∙_}
 use mathlib.Core.Bool.{Bool, true, false, cond, not}
 use mathlib.Core.List.{List, [], _∷_}
 use Prim.Native.Nat.{ℕ}

@@ -1,8 +1,7 @@
 -- The numbers of the C interface say what the answers say. Assumes nothing.
 use mathlib.Core.Path.{_≡_, refl, sym, ap, _∙_, subst}
 use mathlib.Core.Bool.{Bool, true, false, cond}
-use mathlib.Core.Option.{Option, none, some}
-use mathlib.Core.List.{List, [], _∷_}
+use mathlib.Core.List.{[], _∷_}
 use Prim.Native.Nat.{ℕ}
 use lib.Dec.{eqb}
 use lib.ListN.{drop}
@@ -10,7 +9,7 @@ use Rattle.grammar.specs.Bytes.{Bytes}
 use Rattle.span.specs.Places.{part}
 use Rattle.span.specs.declared.Span.{Span}
 use Rattle.calendar.specs.Meaning.{dateIs, timeIs}
-use Rattle.route.specs.Routes.{Header, routeOf, originOf}
+use Rattle.route.specs.Routes.{Header, routeOf}
 use Rattle.routes.specs.Meaning as routes
 use Rattle.routes.specs.declared.Hop.{Hop}
 use Rattle.routes.specs.declared.NextHeader.{NextHeader}

@@ -5,7 +5,7 @@ use mathlib.Core.List.{List, [], _∷_, _++_}
 use Prim.Native.Nat.{ℕ, zero, suc, _+_, _-_, _<_, _≤_, min}
 use native.Mathlib.Omega.{arith}
 use lib.Dec.{ltb}
-use lib.ListN.{length, getD, take, drop, length-append, length-take}
+use lib.ListN.{length, getD, drop, length-append, length-take}
 use lib.Seq.{drop-append-add}
 use borrow.Author.Tests.{lt-ltb, le-ltb, ltb-true, ltb-false}
 use Rattle.grammar.specs.Bytes.{Bytes}
@@ -25,7 +25,7 @@ use Rattle.waiting.specs.Pieces.{joined, blockPieces, piecesOf}
 use Rattle.waiting.proofs.Pieces.{pieces-more, pieces-end, block-end, piece-first, piece-FF, piece-FQ}
 use Rattle.waiting.proofs.Said.{Unnamed, first-signs, block-text, said, sent-text}
 use Rattle.give_place.specs.declared.Place.{Place}
-use Rattle.give_place.specs.Located.{At, Located}
+use Rattle.give_place.specs.Located.{Located}
 
 -- ---------------------------------------------------------------- lengths
 

@@ -1,21 +1,21 @@
 -- What is true of the bytes that we write. Idea: a field without a space ends at the space that we put after it; blocks are cut off one by one.
 -- Assumes nothing.
 use mathlib.Core.Path.{_≡_, refl, ap, _∙_}
-use mathlib.Core.Bool.{Bool, true, false, cond, not, _&&_}
+use mathlib.Core.Bool.{Bool, true, false, cond, _&&_}
 use mathlib.Core.List.{List, [], _∷_, _++_, append-assoc}
 use Prim.Native.Nat.{ℕ, zero, suc, _+_, _-_, _/_, _%_, _^_, _≤_, _<_}
 use native.Mathlib.Omega.{arith}
-use lib.Dec.{eqb, ltb, leb}
-use lib.ListN.{length, take, drop, length-append, length-take, length-drop, take-append-drop}
-use borrow.Author.Tests.{eq-eqb, ne-eqb, eqb-true, eqb-false, ltb-true, ltb-false}
+use lib.Dec.{eqb, ltb}
+use lib.ListN.{length, take, drop, length-take, length-drop, take-append-drop}
+use borrow.Author.Tests.{ne-eqb, eqb-true, eqb-false, ltb-false}
 use Rattle.grammar.specs.Bytes.{Bytes, SP, byteValues, NUL, STX, EOT}
 use Rattle.grammar.specs.Ascii.{char}
 use Rattle.grammar.specs.Fields.{Form, bidByte, callByte, decimal, digit, file, headingByte, isBody, isHeading, message, plain, readFrom, writeNum, callMax, atMax, bidMax, headingMax, decimalDigits, decimalBase}
 use Rattle.grammar.specs.Turns.{Proposal, formLetter, proposable, proposalLine, sp}
 use Rattle.grammar.specs.Transfers.{TransferKind, plainKind, framedKind, kindOf, blocksOut, checksum, sendable, writeFramed, writeTransfer, dataMax, besideLeast}
 use Rattle.grammar.specs.AsWritten.{betweenSpaces, noLeadingZero, lettersFor, ProposalWritten, InBlocks, joined, blockNumber, blocksText, FramedWritten, TransferWritten, wholeBlock, ourOffset, twoZeros}
-use Rattle.grammar.proofs.Basics.{and2, Lacks, all-lacks, field-is}
-use Rattle.grammar.proofs.Fields.{num-field, num-back, size-ok, atByte, at-field, Word, field-word, type-word, letters-word, Ours, ours, call-field, bid-field}
+use Rattle.grammar.proofs.Basics.{and2, Lacks, field-is}
+use Rattle.grammar.proofs.Fields.{num-field, num-back, size-ok, atByte, at-field, Word, field-word, type-word, letters-word, ours, call-field, bid-field}
 
 -- ---------------------------------------------------------------- a proposal
 

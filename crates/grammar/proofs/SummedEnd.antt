@@ -2,14 +2,14 @@
 use mathlib.Core.Path.{_≡_, refl, sym, ap, _∙_}
 use mathlib.Core.Bool.{Bool, true, false, cond}
 use mathlib.Core.Option.{Option, none, some}
-use mathlib.Core.List.{List, [], _∷_, _++_, map}
+use mathlib.Core.List.{[], _∷_, _++_, map}
 use Prim.Native.Nat.{ℕ, _+_, _*_}
 use lib.Dec.{eqb}
 use borrow.Author.Tests.{eqb-true}
 use Rattle.grammar.specs.Bytes.{Bytes, SP, isSome, same}
 use Rattle.grammar.specs.Ascii.{text, char}
 use Rattle.grammar.specs.Fields.{upper, after, hexDigit, hexPair, twoHex, hexBase}
-use Rattle.grammar.specs.Turns.{Proposal, TurnLine, saysFF, saysFQ, endsBlock, notAllowed, proposes, endsSummed, orNotAllowed, readProposal, readSummedEnd, summedOr, twoHexRead, readTurnLine}
+use Rattle.grammar.specs.Turns.{Proposal, saysFF, saysFQ, endsBlock, endsSummed, orNotAllowed, readProposal, readSummedEnd, summedOr, twoHexRead, readTurnLine}
 use Rattle.grammar.proofs.Basics.{no-both}
 
 -- "`F> HH`, two hexadecimal digits in either case": F in either case, `>`, one space, two digits and nothing more; h: their number

@@ -11,7 +11,7 @@ use Rattle.grammar.specs.Ascii.{text}
 use Rattle.grammar.specs.Fields.{Form, file, message, plain, sameBid}
 use Rattle.grammar.specs.Lines.{trim, isComment, isPrompt, lineByte, lineByteNumber, LineRead, line, refused, unfinished, lineSteps}
 use Rattle.grammar.specs.Sid.{framed, levelInForce, readSid, sidNumber}
-use Rattle.grammar.specs.Turns.{Proposal, TurnLine, endsBlock, endsSummed, notAllowed, ourBlock, proposes, readTurnLine, saysFF, saysFQ, turnLineNumber}
+use Rattle.grammar.specs.Turns.{TurnLine, endsBlock, endsSummed, notAllowed, ourBlock, proposes, readTurnLine, saysFF, saysFQ, turnLineNumber}
 use Rattle.grammar.specs.Answers.{Sign, accept, decline, defer, fsNumber, readFs, Level, level0}
 use Rattle.grammar.specs.Transfers.{kindOf, Content, readTransfer, writeTransfer}
 use Rattle.grammar.specs.Scan.{Scanned, goes, got, inBody, inData, inHead, malformed, noRoom, scan, wrongSum}

@@ -8,7 +8,7 @@ use Rattle.grammar.specs.Fields.{Form, formIs, formNumber}
 use Rattle.grammar.specs.Turns.{Proposal}
 use Rattle.grammar.specs.Transfers.{partOf}
 use Rattle.mail.specs.Mail.{Record, Message}
-use Rattle.places.specs.Places.{callMax, atMax, bidMax, headingMax, formAt, typeAt, fromAt, atAt, toAt, bidAt, fieldsSize, proposalSizeAt, proposalLen, recordStates, recordFields, recordTitle, recordTitleLength, recordName, recordNameLength, recordBody, recordBodyLength, recordLen, knownLen, entryHeading, entryBody, entryBodyLength, entryLen}
+use Rattle.places.specs.Places.{callMax, atMax, bidMax, headingMax, formAt, typeAt, fromAt, atAt, toAt, bidAt, fieldsSize, proposalSizeAt, recordStates, recordFields, recordTitle, recordTitleLength, recordName, recordNameLength, recordBody, recordBodyLength, recordLen, entryHeading, entryBody, entryBodyLength}
 
 -- ---------------------------------------------------------------- numbers and fields
 

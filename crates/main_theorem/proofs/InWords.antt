@@ -1,6 +1,6 @@
 -- DEMAND 3 over lent memory in the mission's words. Idea: the states after the calls are the log's, the log's are what its deeds say (Fates),
 -- and a record's state is that of the list (state-at).
-use mathlib.Core.Path.{_≡_, sym, ap, _∙_, subst}
+use mathlib.Core.Path.{_≡_, sym, _∙_, subst}
 use mathlib.Core.List.{List, [], map}
 use Prim.Native.Nat.{ℕ, _<_}
 use lib.ListN.{getD}

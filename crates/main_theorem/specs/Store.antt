@@ -3,7 +3,6 @@
 use mathlib.Core.Path.{_≡_}
 use mathlib.Core.Bool.{false, cond}
 use mathlib.Core.List.{List, [], _∷_, _++_, map}
-use Prim.Native.Nat.{ℕ}
 use lib.ListN.{length, drop}
 use Rattle.grammar.specs.Bytes.{Bytes}
 use Rattle.grammar.specs.Scan.{bodyOf}

@@ -9,7 +9,6 @@ use Rattle.log.specs.Log.{Log, unsettled}
 use Rattle.demand3.specs.Tally.{logTold}
 use Rattle.places.specs.Places.{tallyWaitingAt, tallySizesAt, tallyProposedAt, tallyForwardedAt, tallyDeclinedAt, tallyDeferredAt, tallyUnsettledAt}
 use Rattle.layout.specs.Layout.{byteAt, le4At}
-use Rattle.entries.specs.Decoded.{recordsOf}
 use Rattle.marking.specs.States.{statesOf}
 use Rattle.main_theorem.specs.Demand2.{callOf, shelfIn}
 use Rattle.main_theorem.specs.Calls.{OpenCall, isCaller, statesIn, openedBy}

@@ -25,7 +25,7 @@ use Rattle.layout.proofs.Places.{part-in}
 use Rattle.layout.proofs.Laws.{same-extent}
 use Rattle.entries.specs.Decoded.{entries, recordCount, recordsOf}
 use Rattle.entries.proofs.Laws.{entries-length, entries-at, entries-same}
-use Rattle.marking.specs.States.{InColumn, statesOf, setState, markAll, withStatesFrom, withStates, StatesOnly, Whole}
+use Rattle.marking.specs.States.{statesOf, setState, markAll, withStatesFrom, withStates, StatesOnly, Whole}
 
 -- ---------------------------------------------------------------- a byte of an entry is set: what is read beside it stays
 

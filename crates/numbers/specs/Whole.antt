@@ -1,6 +1,5 @@
 -- A session is its numbers, which the code holds, and its arrays, which stay in session memory: m is that part of it (crates/places, "the arrays of the state").
 use mathlib.Core.List.{[]}
-use Prim.Native.Nat.{ℕ}
 use lib.Dec.{eqb}
 use Rattle.grammar.specs.Bytes.{Bytes}
 use Rattle.places.specs.Places.{phaseAt, ffAt, framedAt, afterCrAt, firstAt, thenAt, keptAt, currentAt, proposalsAt, oursAt, sendingAt, signsAt, placeAt, lengthAt, headAt, offsetAt, sumAt, lineLengthAt, leftAt, bodyAt, posAt, usedAt, blockSumAt, deferredAt, deferredLen, headingAt, headingLen, lineAt, lineLen, blockAt, blockLen}

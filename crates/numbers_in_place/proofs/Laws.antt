@@ -1,15 +1,15 @@
 -- THE NUMBERS OF SESSION MEMORY WITH A FEW CHANGED: saved, they change the bytes of those few, and the flags, which are saved as 1 or 0.
 use Prim.Native.Nat.{ℕ, suc, _+_, _-_, _<_, _≤_}
-use mathlib.Core.Path.{_≡_, refl, sym, ap, _∙_}
-use mathlib.Core.List.{[], _∷_, _++_, append-nil}
+use mathlib.Core.Path.{_≡_, sym, ap, _∙_}
+use mathlib.Core.List.{[], _∷_, _++_}
 use native.Mathlib.Omega.{arith}
 use lib.Dec.{eqb}
-use lib.ListN.{length, getD, set, take, drop}
+use lib.ListN.{length, getD, set, drop}
 use lib.Seq.{sets, length-sets, getD-take, getD-drop}
 use Rattle.grammar.specs.Bytes.{Bytes, byteValues}
 use Rattle.grammar.specs.Turns.{blockLimit}
 use Rattle.buffer.specs.Put.{putBytes}
-use Rattle.places.specs.Places.{sessionLen, ffAt, framedAt, afterCrAt, firstAt, thenAt, keptAt, oursAt, sendingAt, signsAt, placeAt, lengthAt, headAt, offsetAt, sumAt, lineLengthAt, leftAt, bodyAt, posAt, usedAt, tailAt, tallySizesAt, tallyProposedAt, tailLen, numbersEnd}
+use Rattle.places.specs.Places.{sessionLen, ffAt, framedAt, afterCrAt, firstAt, keptAt, oursAt, sendingAt, signsAt, placeAt, lineLengthAt, leftAt, bodyAt, posAt, usedAt, tailAt, tallySizesAt, tallyProposedAt, tailLen, numbersEnd}
 use Rattle.places.specs.Places as places
 use Rattle.layout.specs.Layout.{byteAt, le2At, le4At, le8At, le2, le4, le8}
 use Rattle.session_memory.specs.State.{at, flag, fiveAt, fiveOut, arrayAt, smallOut, numbersOut, tailOut, loadTally}

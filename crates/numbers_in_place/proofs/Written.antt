@@ -5,7 +5,7 @@ use mathlib.Core.List.{[], _∷_, _++_, append-assoc}
 use native.Mathlib.Omega.{arith}
 use native.Mathlib.Nat.{add-zero, div-div-eq-div-mul}
 use native.Mathlib.Numerals.{add-one}
-use lib.ListN.{length, getD, set, take, drop}
+use lib.ListN.{length, set, take, drop}
 use lib.Seq.{sets, sets-eq, set-getD, getD-set-other}
 use Rattle.grammar.specs.Bytes.{Bytes, byteValues, twoByteValues, threeByteValues, fourByteValues}
 use Rattle.buffer.specs.Put.{wrote, putBytes}

@@ -5,9 +5,9 @@ use mathlib.Core.List.{List, [], _∷_, _++_, append-nil}
 use Prim.Native.Nat.{ℕ, zero, suc, _+_, _-_, _*_, _<_, _≤_}
 use native.Mathlib.Omega.{arith}
 use native.Mathlib.Numerals.{add-one}
-use lib.Dec.{ltb, leb}
-use lib.ListN.{length, getD, take, drop}
-use lib.Seq.{append-snoc, getD-drop}
+use lib.Dec.{ltb}
+use lib.ListN.{getD}
+use lib.Seq.{append-snoc}
 use borrow.Author.Tests.{lt-ltb, le-ltb}
 use Rattle.grammar.specs.Bytes.{Bytes, fourByteValues}
 use Rattle.grammar.specs.Fields.{plain, message, file}
@@ -16,7 +16,6 @@ use Rattle.mail.specs.Mail.{Record, noRecord}
 use Rattle.session.specs.Choices.{wanted, candidates, sizeAt, chosen}
 use Rattle.places.specs.Places.{recordSizeAt, recordLen}
 use Rattle.layout.specs.Layout.{le4At, entryAt, recordOf, stateFor}
-use Rattle.layout.proofs.Laws.{le4-small}
 use Rattle.session_memory.specs.State.{held, fiveOf}
 use Rattle.session_memory.specs.declared.Five.{Five}
 use Rattle.entries.specs.Decoded.{entriesFrom, entries, recordCount, recordsOf}

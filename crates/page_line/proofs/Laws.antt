@@ -1,17 +1,16 @@
 -- A line by its flag: one law for each answer. Assumes nothing.
-use mathlib.Core.Path.{_≡_, refl, sym, ap, _∙_, subst}
-use mathlib.Core.Bool.{Bool, true, false, cond, not, _&&_}
-use mathlib.Core.Option.{Option, none, some}
-use Prim.Native.Nat.{ℕ, suc, _+_, _-_, _<_, _≤_}
+use mathlib.Core.Path.{_≡_, sym, ap, _∙_, subst}
+use mathlib.Core.Bool.{Bool, true, false, not, _&&_}
+use Prim.Native.Nat.{ℕ, _+_, _-_, _<_, _≤_}
 use native.Mathlib.Omega.{arith}
 use lib.Dec.{eqb, ltb, leb}
-use lib.ListN.{length, getD, take, drop, length-drop}
+use lib.ListN.{length, getD, drop, length-drop}
 use lib.Seq.{take-all}
-use borrow.Author.Tests.{eq-eqb, ne-eqb, le-leb, lt-leb, lt-ltb, le-ltb, ltb-true, leb-true, not-true, not-false}
+use borrow.Author.Tests.{eq-eqb, ne-eqb, le-leb, lt-leb, ltb-true}
 use Rattle.grammar.specs.Bytes.{Bytes, SP, isSome}
 use Rattle.grammar.specs.Fields.{hexDigit, readSize}
-use Rattle.grammar.proofs.Basics.{told, told-not, and2, both, and-false}
-use Rattle.span.specs.Places.{upto, between}
+use Rattle.grammar.proofs.Basics.{told, told-not, and2}
+use Rattle.span.specs.Places.{between}
 use Rattle.byte.specs.Hex.{hexIs}
 use Rattle.byte.specs.declared.Hex.{Hex}
 use Rattle.size.specs.Meaning.{sizeIs}
@@ -20,10 +19,10 @@ use Rattle.pages.specs.Fields as fields
 use Rattle.pages.specs.Fields.{noRecord, badVersion, memberOf}
 use Rattle.pages.specs.Pages as pages
 use Rattle.pages.specs.Pages.{isHex, leads, flagLength, hasFlag, versionOf, versionBy, memberBy, byLetter, readPage, flagV, flagM, flagPlace, flagLimit, dataPlace, versionDigits, leadDigits}
-use Rattle.page_member.specs.Meaning.{memberIn, memberSaid, MemberLies, MemberIs, FieldsLie}
+use Rattle.page_member.specs.Meaning.{memberSaid, MemberLies, MemberIs}
 use Rattle.page_member.specs.declared.Member.{Member}
 use Rattle.page_member.specs.declared.ReadMember.{ReadMember}
-use Rattle.page_line.specs.Meaning.{PageIs, PageLies}
+use Rattle.page_line.specs.Meaning.{PageIs}
 use Rattle.page_line.specs.declared.Page.{Page}
 
 -- ---------------------------------------------------------------- two digits and a space

@@ -1,6 +1,5 @@
 -- What an answer says of its line, and that the fields of a member lie in the line, in order, behind the flag.
 use mathlib.Core.Path.{_≡_}
-use Prim.Native.Nat.{ℕ}
 use Rattle.grammar.specs.Bytes.{Bytes}
 use Rattle.pages.specs.Pages as pages
 use Rattle.pages.specs.Pages.{dataPlace}

@@ -1,5 +1,5 @@
 -- Three readings one after another, each from where the one before ended. Assumes nothing.
-use mathlib.Core.Path.{_≡_, refl, sym, ap, _∙_, subst}
+use mathlib.Core.Path.{_≡_, sym, ap, _∙_, subst}
 use Prim.Native.Nat.{ℕ, _≤_}
 use native.Mathlib.Omega.{arith}
 use lib.ListN.{length, drop}
@@ -12,7 +12,7 @@ use Rattle.page_words.specs.declared.Who.{Who}
 use Rattle.page_words.specs.declared.ReadWho.{ReadWho}
 use Rattle.page_words.specs.declared.When.{When}
 use Rattle.page_words.specs.declared.ReadWhen.{ReadWhen}
-use Rattle.page_whence.specs.Meaning.{whenceIn, whenceSaid, WhenceLies, WhenceIs}
+use Rattle.page_whence.specs.Meaning.{whenceSaid, WhenceLies, WhenceIs}
 use Rattle.page_whence.specs.declared.Whence.{Whence}
 use Rattle.page_whence.specs.declared.ReadWhence.{ReadWhence}
 use Rattle.page_member.specs.Meaning.{nineOf, memberIn, FieldsLie, MemberIs}

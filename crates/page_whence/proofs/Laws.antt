@@ -4,23 +4,21 @@ use mathlib.Core.Bool.{Bool, true, false, cond, _&&_}
 use mathlib.Core.List.{[], _∷_}
 use Prim.Native.Nat.{ℕ, zero, suc, _+_, _-_, _<_, _≤_}
 use native.Mathlib.Omega.{arith}
-use lib.Dec.{eqb, leb}
-use lib.ListN.{length, getD, take, drop, length-drop, length-take}
+use lib.Dec.{leb}
+use lib.ListN.{length, getD, drop, length-drop, length-take}
 use lib.Seq.{drop-drop}
 use borrow.Author.Tests.{eq-eqb, ne-eqb, le-leb, lt-leb, leb-true, leb-false}
 use Rattle.grammar.specs.Bytes.{Bytes, SP}
-use Rattle.grammar.proofs.Basics.{and-false, not-so}
 use Rattle.span.specs.Places.{part, upto}
 use Rattle.span.specs.declared.Span.{Span}
 use Rattle.span.proofs.Laws.{found-within}
 use Rattle.pages.specs.Fields as pages
-use Rattle.pages.specs.Fields.{QUOTE, word, past, quoted, pastQuote, begins, isName, isTown, whenceOf, badName, badZip, badTown, twoQuotes}
-use Rattle.page_cut.specs.Pieces.{Lies, behindOf, pieceTo, wordAt, quotedAt}
+use Rattle.pages.specs.Fields.{QUOTE, word, quoted, pastQuote, begins, isName, whenceOf, badName, badZip, badTown, twoQuotes}
+use Rattle.page_cut.specs.Pieces.{behindOf, pieceTo, wordAt, quotedAt}
 use Rattle.page_cut.specs.declared.Piece.{Piece}
 use Rattle.page_cut.proofs.Laws.{Cut, word-cut, word-part, word-past, quoted-cut, quoted-part, quoted-past, quoted-end, behind-byte}
 use Rattle.route_scan.proofs.Laws.{past-byte}
 use Rattle.page_whence.specs.Meaning.{whenceIn, ZipLies, ZipIs, WhenceLies, WhenceIs}
-use Rattle.page_whence.specs.declared.Whence.{Whence}
 use Rattle.page_whence.specs.declared.ReadWhence.{ReadWhence}
 
 -- ---------------------------------------------------------------- bytes

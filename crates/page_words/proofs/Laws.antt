@@ -1,7 +1,7 @@
 -- Words one after another, each judged where it lies: one law for each answer. Assumes nothing.
-use mathlib.Core.Path.{_≡_, refl, sym, ap, _∙_, subst}
-use mathlib.Core.Bool.{Bool, true, false, cond, not}
-use mathlib.Core.Option.{Option, none, some}
+use mathlib.Core.Path.{_≡_, sym, ap, _∙_}
+use mathlib.Core.Bool.{Bool, true, false, not}
+use mathlib.Core.Option.{Option, some}
 use Prim.Native.Nat.{ℕ, _≤_}
 use native.Mathlib.Omega.{arith}
 use lib.ListN.{length, drop}
@@ -16,10 +16,8 @@ use Rattle.long_number.specs.declared.Long.{Long}
 use Rattle.page_cut.specs.Pieces.{Lies, wordAt}
 use Rattle.page_cut.specs.declared.Piece.{Piece}
 use Rattle.page_cut.proofs.Laws.{Cut, word-cut, word-part, word-past}
-use Rattle.page_words.specs.Meaning.{Within, whoIn, WhoLies, whenIn, WhenLies, WhenIs, OriginIs}
-use Rattle.page_words.specs.declared.Who.{Who}
+use Rattle.page_words.specs.Meaning.{whoIn, WhoLies, whenIn, WhenLies, WhenIs, OriginIs}
 use Rattle.page_words.specs.declared.ReadWho.{ReadWho}
-use Rattle.page_words.specs.declared.When.{When}
 use Rattle.page_words.specs.declared.ReadWhen.{ReadWhen}
 
 -- ---------------------------------------------------------------- the first word

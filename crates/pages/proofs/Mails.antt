@@ -2,13 +2,13 @@
 use mathlib.Core.Path.{_≡_, refl, sym, ap, _∙_}
 use mathlib.Core.Bool.{Bool, true, false, cond, _||_}
 use mathlib.Core.List.{List, [], _∷_}
-use Prim.Native.Nat.{ℕ, suc, _+_, _<_, _≤_}
+use Prim.Native.Nat.{ℕ, _+_, _<_, _≤_}
 use native.Mathlib.Omega.{arith}
 use lib.Dec.{ltb}
 use lib.ListN.{length}
 use borrow.Author.Tests.{lt-ltb, le-ltb, ltb-true, ltb-false}
 use Rattle.grammar.specs.Bytes.{Bytes}
-use Rattle.pages.specs.Pages.{Page, version, member, skipped, dropped, Line, ourVersion, isNewer, anyNewer, isRecord, isDropped, kept, Mail, mailBy, mailOf, pagesOf, Tally, higher, tallied, tally, noTally, versionIn, newest, surveyBy, surveyOf, Survey}
+use Rattle.pages.specs.Pages.{Page, version, member, skipped, dropped, Line, ourVersion, isNewer, anyNewer, isRecord, isDropped, kept, mailBy, Tally, higher, tallied, tally, noTally, versionIn, newest, surveyBy, Survey}
 
 -- ---------------------------------------------------------------- the highest version
 

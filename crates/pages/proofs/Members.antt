@@ -1,17 +1,17 @@
 -- What is given obeys the rules, a mail that is left unread gives nothing, every line is counted once, and a member written from good fields reads
 -- back as those. Assumes nothing.
-use mathlib.Core.Path.{_≡_, refl, sym, ap, _∙_, subst}
+use mathlib.Core.Path.{_≡_, refl, ap, _∙_}
 use mathlib.Core.Bool.{Bool, true, false, cond, _&&_}
 use mathlib.Core.Option.{Option, none, some}
 use mathlib.Core.List.{List, [], _∷_, _++_, map}
 use Prim.Native.Nat.{ℕ, suc, _+_, _<_, _≤_, _-_}
 use native.Mathlib.Omega.{arith}
-use lib.Dec.{eqb, leb, ltb}
+use lib.Dec.{eqb, leb}
 use lib.ListN.{length, getD, take, drop, length-append}
 use borrow.Author.Tests.{eq-eqb, le-leb, lt-ltb, leb-true}
 use Rattle.grammar.specs.Bytes.{Bytes, SP}
 use Rattle.grammar.specs.Fields.{isCall, isAt, isBid, callByte, callMax, bidByte, bidMax, digit, readFrom, readSize}
-use Rattle.grammar.proofs.Basics.{Field, field-is, by-test, both, Lacks, all-lacks}
+use Rattle.grammar.proofs.Basics.{field-is, by-test, Lacks, all-lacks}
 use Rattle.grammar.proofs.Fields.{at-field, atByte}
 use Rattle.span.specs.Places.{upto}
 use Rattle.text_line.specs.TextLines.{bodyLines}

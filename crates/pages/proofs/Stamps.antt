@@ -1,17 +1,16 @@
 -- Dates of the older white pages there and back, for every date and every second of 1970 to 2069. The day before a date has the number before. Assumes nothing.
-use mathlib.Core.Path.{_≡_, refl, sym, ap, _∙_, subst}
+use mathlib.Core.Path.{_≡_, refl, ap, _∙_}
 use mathlib.Core.Bool.{Bool, true, false, cond, _&&_, _||_}
-use mathlib.Core.Option.{Option, none, some}
-use Prim.Native.Nat.{ℕ, zero, suc, _+_, _-_, _*_, _/_, _%_, _≤_, _<_}
+use mathlib.Core.Option.{none, some}
+use Prim.Native.Nat.{ℕ, suc, _+_, _-_, _*_, _/_, _%_, _≤_, _<_}
 use native.Mathlib.Omega.{arith}
 use lib.Dec.{eqb, ltb, leb}
 use lib.ListN.{getD}
-use lib.IntN.{ℤ, pos, negsuc, _-ℤ_}
-use borrow.Author.Tests.{eq-eqb, ne-eqb, lt-ltb, le-ltb, le-leb, lt-leb, ltb-true, ltb-false, eqb-true, eqb-false}
-use Rattle.grammar.specs.Bytes.{Bytes}
+use lib.IntN.{pos, negsuc, _-ℤ_}
+use borrow.Author.Tests.{lt-ltb, le-ltb, le-leb, lt-leb, ltb-true, ltb-false, eqb-true, eqb-false}
 use Rattle.grammar.proofs.Basics.{both, or-second}
 use Rattle.dates.specs.Dates.{Date, isDate, isLeap, monthStarts, startOf, daysIn, dayNumber, dateOf, firstYear, lastYear, cycleYears, yearDays, lastMonth, allDays}
-use Rattle.dates.specs.Digits.{readDate, dateText}
+use Rattle.dates.specs.Digits.{dateText}
 use Rattle.dates.proofs.Dates.{below, below-at, Valid, valid, number-back, date-back}
 use Rattle.dates.proofs.Digits.{date-text-back}
 use Rattle.pages.specs.Stamps.{daySeconds, endSeconds, secondsOf, secondsBy, toSeconds, dayOf, dateBy, toDate, dayBefore, decemberDays}

@@ -1,10 +1,10 @@
 -- 004's sample and the edges of each rule, computed.
 use mathlib.Core.Path.{_≡_, refl}
 use mathlib.Core.Bool.{Bool, true, false}
-use mathlib.Core.Option.{Option, none, some}
+use mathlib.Core.Option.{none, some}
 use mathlib.Core.List.{List, map, _++_}
 use Prim.Native.Nat.{ℕ}
-use lib.IntN.{ℤ, pos, negsuc}
+use lib.IntN.{pos, negsuc}
 use lib.ListN.{length}
 use Rattle.grammar.specs.Bytes.{Bytes, CR, LF, nil, cons}
 use Rattle.grammar.specs.Fields.{isCall, isAt, isBid, isSize, readFrom, hexDigit}
@@ -13,7 +13,7 @@ use Rattle.span.specs.Places.{upto}
 use Rattle.text_line.specs.TextLines.{bodyLines, textLines}
 use Rattle.dates.specs.Dates.{Date, isDate, dayNumber, dateOf}
 use Rattle.dates.specs.Digits.{readDate}
-use Rattle.pages.specs.Fields.{Member, memberOf, whoOf, whenOf, whenceOf, isLong, readLong, noRecord, badVersion, badCall, badHome, badBid, badStamp, badOrigin, badHops, badName, badZip, badTown}
+use Rattle.pages.specs.Fields.{memberOf, whoOf, whenOf, whenceOf, isLong, readLong, noRecord, badVersion, badCall, badHome, badBid, badStamp, badOrigin, badHops, badName, badZip, badTown}
 use Rattle.pages.specs.Pages.{Page, version, member, skipped, dropped, versionOf, byLetter, readPage, Line, pagesOf, Mail, mailOf}
 use Rattle.pages.specs.Stamps.{secondsOf, toSeconds, dayOf, toDate, dayBefore}
 

@@ -1,9 +1,9 @@
 -- "M gives call, home mailbox, BID, time stamp, origin, hops, quoted name, zip, quoted town, one space apart: mailboxes by 01's at rule, call and
 -- BID by its from and BID rules, numbers of 1 to 10 digits, quoted text without a quote, zip not empty and without a space". Read from the left,
 -- three fields at a time; what breaks its rule first is named.
-use mathlib.Core.Bool.{Bool, true, false, cond, _&&_}
+use mathlib.Core.Bool.{Bool, cond, _&&_}
 use mathlib.Core.Option.{Option, none, some}
-use mathlib.Core.List.{List, [], _∷_, _++_}
+use mathlib.Core.List.{[], _∷_, _++_}
 use Prim.Native.Nat.{ℕ, suc, _+_}
 use lib.Dec.{eqb, leb}
 use lib.ListN.{length, getD, take, drop}

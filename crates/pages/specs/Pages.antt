@@ -3,9 +3,9 @@
 use mathlib.Core.Bool.{Bool, true, false, cond, _&&_, _||_}
 use mathlib.Core.Option.{Option, none, some}
 use mathlib.Core.List.{List, [], _∷_, map}
-use Prim.Native.Nat.{ℕ, suc, _+_}
+use Prim.Native.Nat.{ℕ, _+_}
 use lib.Dec.{eqb, ltb, leb}
-use lib.ListN.{length, getD, take, drop}
+use lib.ListN.{length, getD, drop}
 use Rattle.grammar.specs.Bytes.{Bytes, SP, isSome}
 use Rattle.grammar.specs.Ascii.{char}
 use Rattle.grammar.specs.Fields.{hexDigit, readSize}

@@ -1,7 +1,7 @@
 -- "Convert old white-pages dates too: YYMMDD by Q-8's rules becomes the seconds of that midnight GMT less one day, as a signed number that may fall
 -- before 1970." "The way back cuts off the time of day and adds nothing". "Back is refused before 0 and from the year 2070 on."
 use mathlib.Core.Path.{_≡_, refl}
-use mathlib.Core.Bool.{Bool, cond}
+use mathlib.Core.Bool.{cond}
 use mathlib.Core.Option.{Option, none, some}
 use Prim.Native.Nat.{ℕ, _-_, _*_, _/_}
 use lib.Dec.{ltb}

@@ -9,7 +9,7 @@ use native.Mathlib.Omega.{arith}
 use native.Mathlib.Nat.{add-zero}
 use native.Mathlib.Numerals.{add-one, one-add}
 use lib.Dec.{eqb}
-use lib.ListN.{length, take, drop, set, length-drop, length-set}
+use lib.ListN.{length, take, drop, set, length-set}
 use lib.Seq.{length-take-le, take-at, drop-at}
 use borrow.Author.Tests.{eqb-true, not-true}
 use Rattle.grammar.specs.Bytes.{Bytes, LF}

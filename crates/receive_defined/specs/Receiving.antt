@@ -1,7 +1,7 @@
 -- 01, "receive (bytes from the link)": a byte at a time on the state as session memory holds it and on the lent bytes, then the call, for
 -- any memory. That this is what crates/session says, on lists, is proved in crates/represents.
 use mathlib.Core.Bool.{Bool, true, false, cond, not, _&&_, _||_}
-use mathlib.Core.List.{List, [], _∷_, _++_}
+use mathlib.Core.List.{[], _∷_, _++_}
 use Prim.Native.Nat.{ℕ, suc, _+_, _*_}
 use lib.Dec.{eqb}
 use lib.ListN.{length, set, take, drop}

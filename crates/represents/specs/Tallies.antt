@@ -2,7 +2,7 @@
 -- is a count modulo 256; that no count comes that far is proved over the log.
 use mathlib.Core.Path.{_≡_}
 use mathlib.Core.Bool.{cond}
-use Prim.Native.Nat.{ℕ, _+_, _%_}
+use Prim.Native.Nat.{_+_, _%_}
 use lib.Dec.{eqb}
 use Rattle.mail.specs.Tally.{Counts, moreForwarded, moreDeclined, moreDeferred, waits, waitingBytes}
 use Rattle.session.specs.Choices.{Shelf}

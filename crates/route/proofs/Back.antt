@@ -1,12 +1,12 @@
 -- "What we write reads back as given", for every valid time, number and mailbox and every body. Assumes nothing.
-use mathlib.Core.Path.{_≡_, refl, sym, ap, _∙_}
+use mathlib.Core.Path.{_≡_, refl, _∙_}
 use mathlib.Core.Bool.{Bool, true, false, cond, _&&_, _||_}
 use mathlib.Core.Option.{Option, none, some}
 use mathlib.Core.List.{List, [], _∷_, _++_}
 use Prim.Native.Nat.{ℕ, suc, _+_, _/_, _%_, _^_, _<_, _≤_, _-_}
 use native.Mathlib.Omega.{arith}
-use lib.Dec.{eqb, ltb, leb}
-use lib.ListN.{length, take, drop, length-append}
+use lib.Dec.{ltb, leb}
+use lib.ListN.{length, take, drop}
 use lib.Seq.{take-all, take-at, drop-at}
 use borrow.Author.Tests.{ne-eqb, le-leb, ltb-true, leb-true}
 use Rattle.grammar.specs.Bytes.{Bytes, CR, SP, every}
@@ -20,7 +20,7 @@ use Rattle.text_line.proofs.Laws.{upto-mid, take-front, drop-front, line-front}
 use Rattle.dates.specs.Dates.{Date, Time, isDate, isTime}
 use Rattle.dates.specs.Digits.{twoDigits, dateText, timeText, pairValues, dateLength, timeLength}
 use Rattle.dates.proofs.Digits.{date-text-back, time-text-back}
-use Rattle.route.specs.Routes.{Header, Station, begins, whites, untilSpace, firstForm, stationOf, isStamp, stampLength, behindTime, readHeader, routeOf, lastOf, originOf, TAB, datePlace, timePlace}
+use Rattle.route.specs.Routes.{Header, begins, whites, untilSpace, firstForm, stationOf, isStamp, stampLength, behindTime, readHeader, routeOf, originOf, TAB, datePlace, timePlace}
 use Rattle.route.specs.Written.{Ours, ours, mayWrite, numberLimit, stampText, routeLine, withRoute, written, badField, noRoom, Added, addRoute, numberDigits}
 
 -- what the test of our fields says

@@ -2,7 +2,7 @@
 use mathlib.Core.Path.{_≡_, refl}
 use mathlib.Core.Bool.{Bool, true, false}
 use mathlib.Core.Option.{Option, none, some}
-use mathlib.Core.List.{List, _++_}
+use mathlib.Core.List.{_++_}
 use Prim.Native.Nat.{ℕ}
 use Rattle.grammar.specs.Bytes.{Bytes, CR, LF, nil, cons}
 use Rattle.grammar.specs.Fields.{isAt, isCall, isSize, readFrom, writeNum}
@@ -12,7 +12,7 @@ use Rattle.text_line.specs.TextLines.{bodyLines, textLines}
 use Rattle.dates.specs.Dates.{isDate, isTime}
 use Rattle.dates.specs.Digits.{readDate, readTime, dateText, timeText}
 use Rattle.route.specs.Routes.{Header, readHeader, behindTime, stationOf, firstForm, secondForm, markEnd, whites, routeOf, originOf}
-use Rattle.route.specs.Written.{Ours, routeLine, stampText}
+use Rattle.route.specs.Written.{routeLine, stampText}
 
 -- To unfold it is to unfold all that reads a header: what an example computes with is named here alone.
 unfoldable pub headersComputed : Bool

@@ -3,9 +3,9 @@ use mathlib.Core.Path.{_≡_, refl, sym, ap, _∙_, subst}
 use mathlib.Core.Bool.{Bool, true, false, cond, not, _&&_}
 use mathlib.Core.Option.{Option, none, some}
 use mathlib.Core.List.{[], _∷_}
-use Prim.Native.Nat.{ℕ, zero, suc, _+_, _-_, _<_, _≤_}
+use Prim.Native.Nat.{ℕ, suc, _+_, _-_, _<_, _≤_}
 use native.Mathlib.Omega.{arith}
-use lib.Dec.{eqb, ltb, leb}
+use lib.Dec.{ltb}
 use lib.ListN.{length, getD, take, drop, length-drop, drop-of-length-le}
 use lib.Seq.{drop-drop, take-nil}
 use borrow.Author.Tests.{eq-eqb, ne-eqb, le-leb, lt-leb, lt-ltb, le-ltb}
@@ -26,9 +26,8 @@ use Rattle.calendar.specs.declared.Time.{Time}
 use Rattle.date_digits.specs.Meaning.{readDateIs, readTimeIs}
 use Rattle.date_digits.specs.declared.ReadDate.{ReadDate}
 use Rattle.date_digits.specs.declared.ReadTime.{ReadTime}
-use Rattle.route.specs.Routes.{begins, isWhite, whites, markEnd, station, firstForm, secondForm, stationOf, isGmt, zoneByte, pastZone, headerOf, behindTime, isStamp, readHeader, datePlace, slashPlace, timePlace, stampLength, markLength}
-use Rattle.route_scan.proofs.Laws.{begins-fits}
-use Rattle.route_read.specs.Meaning.{Lies, stationSaid, StationLies, StationIs}
+use Rattle.route.specs.Routes.{begins, isWhite, whites, markEnd, station, firstForm, secondForm, stationOf, isGmt, zoneByte, pastZone, headerOf, behindTime, readHeader, datePlace, slashPlace, timePlace, stampLength, markLength}
+use Rattle.route_read.specs.Meaning.{Lies, stationSaid, StationLies}
 use Rattle.route_read.specs.declared.Stated.{Stated}
 use Rattle.route_read.specs.declared.Station.{Station}
 

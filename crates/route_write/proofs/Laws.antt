@@ -1,17 +1,17 @@
 -- Our line's pieces, its length, and one law for each answer of the writer. Assumes nothing.
-use mathlib.Core.Path.{_≡_, refl, sym, ap, _∙_}
-use mathlib.Core.Bool.{Bool, true, false, cond, not, _&&_}
+use mathlib.Core.Path.{_≡_, ap, _∙_}
+use mathlib.Core.Bool.{Bool, true, false, not, _&&_}
 use mathlib.Core.List.{[], _∷_, _++_, append-assoc}
 use Prim.Native.Nat.{ℕ, _+_, _-_, _<_, _≤_}
 use native.Mathlib.Omega.{arith}
 use native.Mathlib.Nat.{sub-zero}
 use lib.Dec.{ltb, leb}
-use lib.ListN.{length, take, drop, length-append, length-take, length-drop}
+use lib.ListN.{length, drop, length-append, length-take, length-drop}
 use lib.Seq.{take-all}
 use borrow.Author.Tests.{lt-ltb, le-ltb, le-leb, lt-leb, ltb-true}
 use Rattle.grammar.specs.Bytes.{Bytes, CR}
 use Rattle.grammar.specs.Fields.{isAt, decimal, writeNum, bodyLimit, decimalDigits}
-use Rattle.grammar.proofs.Basics.{and2, and-false, both, told, told-not}
+use Rattle.grammar.proofs.Basics.{and2, and-false, told, told-not}
 use Rattle.grammar.proofs.Fields.{num-field, at-field}
 use Rattle.grammar.specs.Ascii.{char}
 use Rattle.buffer.specs.declared.Cursor.{Cursor}

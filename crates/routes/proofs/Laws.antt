@@ -1,17 +1,14 @@
 -- Headers by their places in the body, one law for each answer. Assumes nothing.
 use mathlib.Core.Path.{_≡_, refl, sym, ap, _∙_, subst}
-use mathlib.Core.Bool.{Bool, true, false}
 use mathlib.Core.Option.{Option, none, some}
 use mathlib.Core.List.{List, [], _∷_}
 use Prim.Native.Nat.{ℕ, zero, suc, _+_, _-_, _<_, _≤_}
 use native.Mathlib.Omega.{arith}
-use native.Mathlib.Nat.{le-of-suc-le-suc}
-use lib.ListN.{length, take, drop, length-take, length-drop}
-use lib.Seq.{drop-drop, take-take, take-nil, drop-nil}
+use lib.ListN.{length, take, drop, length-take}
+use lib.Seq.{drop-drop, take-take, take-nil}
 use Rattle.grammar.specs.Bytes.{Bytes}
 use Rattle.span.specs.Places.{between, part}
 use Rattle.span.specs.declared.Span.{Span}
-use Rattle.text_line.specs.TextLines.{bodyLines}
 use Rattle.text_line.specs.Places.{lineAt, lineBytes, linesBy}
 use Rattle.text_line.specs.declared.TextLine.{TextLine}
 use Rattle.text_line.specs.declared.NextLine.{NextLine}
@@ -22,10 +19,9 @@ use Rattle.route.proofs.Back.{elseOurs, origin-cons}
 use Rattle.route_read.specs.Meaning.{Lies, headerIn, routeSaid, RouteLies}
 use Rattle.route_read.specs.declared.Header.{Header}
 use Rattle.route_read.specs.declared.Route.{Route}
-use Rattle.routes.specs.Meaning.{headersBy, HopLies, NextIs, originSaid, OriginLies}
+use Rattle.routes.specs.Meaning.{headersBy, HopLies, NextIs}
 use Rattle.routes.specs.declared.Hop.{Hop}
 use Rattle.routes.specs.declared.NextHeader.{NextHeader}
-use Rattle.routes.specs.declared.Origin.{Origin}
 
 -- ---------------------------------------------------------------- a part of a part
 

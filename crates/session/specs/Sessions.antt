@@ -6,10 +6,10 @@ use Prim.Native.Nat.{ℕ}
 use lib.ListN.{replicate}
 use Rattle.grammar.specs.Bytes.{Bytes}
 use Rattle.grammar.specs.Ascii.{text}
-use Rattle.grammar.specs.Fields.{Form, plain, message, file}
+use Rattle.grammar.specs.Fields.{Form, plain, file}
 use Rattle.mail.specs.Mail.{Record, Message}
 use Rattle.session.specs.Choices.{Shelf, shelfWith}
-use Rattle.session.specs.Session.{Session, opened, ended}
+use Rattle.session.specs.Session.{Session, ended}
 use Rattle.session.specs.Calls.{receive, give, handedOut}
 
 -- ---------------------------------------------------------------- moves

@@ -12,7 +12,7 @@ use Rattle.grammar.specs.Turns.{blockLimit}
 use Rattle.grammar.specs.Answers.{level0}
 use Rattle.buffer.specs.Put.{putBytes}
 use Rattle.buffer.specs.declared.Cursor.{Cursor}
-use Rattle.places.specs.Places.{markAt, sizeTable, sizeTitles, sizeNames, sizeBodies, sizeKnown, sizeInbox, sizeStore, numbersStart, phaseAt, ffAt, framedAt, afterCrAt, firstAt, thenAt, keptAt, currentAt, proposalsAt, oursAt, sendingAt, signsAt, placeAt, lengthAt, headAt, offsetAt, sumAt, lineLengthAt, leftAt, bodyAt, posAt, usedAt, blockSumAt, levelAt, partnerAt, tallyWaitingAt, tallySizesAt, tallyProposedAt, tallyForwardedAt, tallyDeclinedAt, tallyDeferredAt, tallyUnsettledAt, arraysAt, deferredLen, headingLen, lineLen, blockLen, deferredAt, headingAt, lineAt, blockAt, sessionLen}
+use Rattle.places.specs.Places.{markAt, sizeTable, sizeTitles, sizeNames, sizeBodies, sizeKnown, sizeInbox, sizeStore, numbersStart, phaseAt, ffAt, framedAt, afterCrAt, firstAt, thenAt, keptAt, currentAt, proposalsAt, oursAt, sendingAt, signsAt, placeAt, lengthAt, headAt, offsetAt, sumAt, lineLengthAt, leftAt, bodyAt, posAt, usedAt, blockSumAt, levelAt, partnerAt, tallyWaitingAt, tallySizesAt, tallyProposedAt, tallyForwardedAt, tallyDeclinedAt, tallyDeferredAt, tallyUnsettledAt, arraysAt, deferredLen, headingLen, lineLen, blockLen, deferredAt, headingAt, lineAt, blockAt}
 use Rattle.phase.specs.Phase.{pieceNone, pieceSidAndPrompt, notDeferred}
 use Rattle.layout.specs.Layout.{byteAt, le2At, le4At, le8At, le2, le4, le8}
 use Rattle.transfer_step.specs.Step.{startOf}

@@ -1,6 +1,6 @@
 -- What a judged line leaves, from the numbers and the arrays.
-use mathlib.Core.Path.{_≡_, refl, sym, ap, _∙_}
-use mathlib.Core.Bool.{Bool, true, false}
+use mathlib.Core.Path.{_≡_, ap, _∙_}
+use mathlib.Core.Bool.{Bool}
 use Prim.Native.Nat.{ℕ}
 use lib.ListN.{take}
 use borrow.Author.Tests.{eq-eqb, ne-eqb}

@@ -12,7 +12,7 @@ use borrow.Author.Tests.{lt-ltb, le-ltb, leb-true}
 use Rattle.grammar.specs.Bytes.{Bytes, byteValues, fourByteValues}
 use Rattle.grammar.specs.Fields.{writeNum, decimal, formNumber, message, decimalDigits, decimalBase}
 use Rattle.grammar.specs.Turns.{withCr, proposalLine}
-use Rattle.grammar.specs.Transfers.{partOf, blocksOut, headerOut, checksum, writeFramed, writePlain, dataMax}
+use Rattle.grammar.specs.Transfers.{partOf, blocksOut, writeFramed, writePlain, dataMax}
 use Rattle.grammar.specs.Ascii.{char}
 use Rattle.mail.specs.Mail.{proposalOf, transferOf}
 use Rattle.layout.specs.Layout.{byteAt, le4At, fieldIn, entryAt, recordOf}

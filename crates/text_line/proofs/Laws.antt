@@ -4,20 +4,18 @@ use mathlib.Core.Bool.{Bool, true, false, cond, _&&_}
 use mathlib.Core.List.{List, [], _∷_, _++_}
 use Prim.Native.Nat.{ℕ, suc, _+_, _-_, _<_, _≤_}
 use native.Mathlib.Omega.{arith}
-use native.Mathlib.Numerals.{add-one}
-use native.Mathlib.Nat.{add-zero}
 use lib.Dec.{eqb, ltb, leb}
 use lib.ListN.{length, getD, take, drop, length-drop, drop-of-length-le}
 use lib.Seq.{drop-cons, drop-drop, take-all, take-at}
-use borrow.Author.Tests.{eq-eqb, ne-eqb, lt-ltb, le-ltb, le-leb, lt-leb, leb-true, leb-false, ltb-true, ltb-false}
+use borrow.Author.Tests.{eq-eqb, ne-eqb, lt-ltb, le-leb, lt-leb, leb-true, leb-false, ltb-true, ltb-false}
 use Rattle.grammar.specs.Bytes.{Bytes, CR, LF, null}
 use Rattle.grammar.specs.Fields.{toFirst}
 use Rattle.grammar.specs.Lines.{dropLf}
 use Rattle.grammar.proofs.Basics.{Lacks, suc-ltb}
-use Rattle.span.specs.Places.{upto, between}
+use Rattle.span.specs.Places.{upto}
 use Rattle.span.proofs.Laws.{upto-most}
 use Rattle.text_line.specs.TextLines.{linesFrom, textLines, withoutLast, lessEmptyEnd, bodyLines}
-use Rattle.text_line.specs.Places.{leadingLf, lineFrom, lineAt, lineBytes, linesBy}
+use Rattle.text_line.specs.Places.{leadingLf, lineFrom, lineAt, linesBy}
 use Rattle.text_line.specs.declared.NextLine.{NextLine}
 
 -- ---------------------------------------------------------------- lists

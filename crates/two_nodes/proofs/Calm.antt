@@ -1,26 +1,22 @@
 -- NOTHING THAT WE SAY BEGINS WITH AN LF: an end that has nothing waiting never gives an LF first, whatever it hears. So no LF can be dropped by an end
 -- that is still speaking, and no byte is consumed before it was given.
-use mathlib.Core.Path.{_≡_, refl, sym, ap, _∙_, subst}
+use mathlib.Core.Path.{_≡_, refl, sym, ap, _∙_}
 use mathlib.Core.Bool.{Bool, true, false, cond, _&&_}
-use mathlib.Core.Option.{Option, none, some}
 use mathlib.Core.List.{List, [], _∷_, _++_, map, append-assoc}
 use Prim.Native.Nat.{ℕ, zero, suc}
 use native.Mathlib.Omega.{arith}
-use lib.Dec.{eqb, ltb}
-use lib.ListN.{length}
+use lib.Dec.{eqb}
 use borrow.Author.Tests.{eqb-true, eq-eqb}
 use Rattle.grammar.specs.Bytes.{Bytes, CR, LF, CTRLZ, every}
 use Rattle.grammar.specs.Refusals.{badChecksum}
 use Rattle.grammar.specs.Fields.{headingByte, isHeading, isBody, headingMax}
-use Rattle.grammar.specs.Lines.{LineByte, dropped, ends, grows, overruns, lineByte, trim, isComment, isPrompt}
-use Rattle.grammar.specs.Sid.{readSid, hasFeature, framed}
-use Rattle.grammar.specs.Turns.{Proposal, TurnLine, saysFF, saysFQ, endsBlock, notAllowed, proposes, readTurnLine, proposalLine, fixedText, protocolError, checksumError, withCr}
+use Rattle.grammar.specs.Sid.{framed}
+use Rattle.grammar.specs.Turns.{Proposal, proposalLine, fixedText, protocolError, checksumError, withCr}
 use Rattle.grammar.specs.Errors.{isSilent, errorText}
-use Rattle.grammar.specs.Answers.{Sign, readFs, fsNumber, fsLine}
+use Rattle.grammar.specs.Answers.{Sign, fsLine}
 use Rattle.grammar.specs.Transfers.{TransferKind, plainKind, framedKind, kindOf, sendable, writeTransfer}
-use Rattle.grammar.specs.Scan.{Scanned, goes, got, malformed, wrongSum, noRoom, scanByte}
 use Rattle.grammar.proofs.Basics.{and2, no-both, not-so, by-cond, field-is}
-use Rattle.mail.specs.Mail.{Record, messageOf, headingFor, transferOf, recordAt, noRecord, proposalOf, turnText, transfersText, accepted}
+use Rattle.mail.specs.Mail.{Record, messageOf, headingFor, transferOf, recordAt, proposalOf, turnText, transfersText, accepted}
 use Rattle.session.specs.Choices.{Shelf, chosen, answersTo}
 use Rattle.session.specs.Session.{kindDue, Awaited, Memory, Session, Outcome, refuses, goesOn, speaking, turnMarks, answering, Stepped, settled, isPlain, keptIn, nextTransfer, step, ourSignOn}
 use Rattle.session.proofs.Ways.{Judged, isWrong, hearsSid, hearsText, hearsPrompt, hearsProposal, hearsFF, hearsFQ, hearsEnd, hearsFs, Way, isRefused, dropsLf, growsLine, ignoresLine, hearsLine, readsOn, readsLast, way}
@@ -28,7 +24,7 @@ use Rattle.log.specs.Log.{Event, took, gave}
 use Rattle.two_nodes.specs.Link.{gaveIn}
 use Rattle.two_nodes.specs.Fates.{allSendable}
 use Rattle.two_nodes.proofs.Hears.{headLf}
-use Rattle.two_nodes.proofs.Traces.{rest, Possible}
+use Rattle.two_nodes.proofs.Traces.{Possible}
 
 abbrev Calm : Outcome → Type 0
 Calm (refuses n) = Unit {0}

@@ -2,30 +2,28 @@
 -- Idea: of all that a byte can do, FQ alone is answered 0 and ends the session.
 use mathlib.Core.Path.{_≡_, refl, sym, ap, _∙_, subst}
 use mathlib.Core.Bool.{Bool, true, false, cond, not, _&&_, _||_}
-use mathlib.Core.Option.{Option, none, some}
-use mathlib.Core.List.{List, [], _∷_, _++_, map}
-use Prim.Native.Nat.{ℕ, suc}
+use mathlib.Core.Option.{Option, none}
+use mathlib.Core.List.{List, [], _∷_, _++_}
+use Prim.Native.Nat.{ℕ}
 use native.Mathlib.Omega.{arith}
-use lib.Dec.{eqb, ltb}
-use lib.ListN.{length, take, drop}
-use lib.Seq.{drop-nil}
-use Rattle.grammar.specs.Bytes.{Bytes, LF, null, isSome}
+use lib.Dec.{eqb}
+use lib.ListN.{length}
+use Rattle.grammar.specs.Bytes.{Bytes, null, isSome}
 use Rattle.grammar.specs.Ascii.{text}
 use Rattle.grammar.specs.Fields.{after}
-use Rattle.grammar.specs.Refusals.{sessionEnded, badAnswer, lineNotAllowed}
-use Rattle.grammar.specs.Lines.{LineByte, dropped, ends, grows, overruns, lineByte, trim, isComment, isPrompt}
-use Rattle.grammar.specs.Sid.{readSid, hasFeature, framed}
-use Rattle.grammar.specs.Turns.{Proposal, TurnLine, saysFF, saysFQ, endsBlock, notAllowed, proposes, readTurnLine, fixedText, ourFQ, withCr}
+use Rattle.grammar.specs.Refusals.{badAnswer, lineNotAllowed}
+use Rattle.grammar.specs.Lines.{ends, trim}
+use Rattle.grammar.specs.Sid.{framed}
+use Rattle.grammar.specs.Turns.{Proposal, fixedText, ourFQ, withCr}
 use Rattle.grammar.specs.Answers.{Sign, Level, readFs, fsNumber, fsLine}
-use Rattle.grammar.specs.Scan.{Scanned, goes, got, malformed, wrongSum, noRoom, scanByte}
-use Rattle.grammar.proofs.Basics.{no-both, by-cond, or2}
+use Rattle.grammar.proofs.Basics.{no-both, or2}
 use Rattle.mail.specs.Mail.{messageOf, accepted}
 use Rattle.session.specs.Choices.{Shelf, chosen, answersTo}
 use Rattle.session.specs.Session.{kindDue, Awaited, Phase, over, Memory, Session, Outcome, refuses, goesOn, speaking, turnMarks, answering, levelInForce, Stepped, settled, isPlain, keptIn, nextTransfer, step, ended, endedIn, opened}
 use Rattle.session.proofs.Ways.{Wrong, noSid, noF, noTurnLine, ffAfterFf, ffInBlock, fqFirst, fqInBlock, emptyBlock, emptySummed, tooMany, wrongHex, noAnswer, Judged, isWrong, hearsSid, hearsText, hearsPrompt, hearsProposal, hearsFF, hearsFQ, hearsEnd, hearsFs, why-number, Way, isRefused, dropsLf, growsLine, ignoresLine, hearsLine, readsOn, readsLast, way}
 use Rattle.demand3.specs.Demand.{Call, receiving, giving, refusedCall, run}
 use Rattle.two_nodes.specs.Session.{End, ran, FqArrives}
-use Rattle.session.specs.Calls.{Received, oneMore, stoppedAt, stops, receiveOn, receive, give, handedOut}
+use Rattle.session.specs.Calls.{Received, oneMore, stoppedAt, stops, receiveOn, receive, give}
 
 some-bytes : (o : Bytes) (x : ℕ) (y : Bytes) → null (o ++ x ∷ y) ≡ false
 some-bytes [] x y = refl

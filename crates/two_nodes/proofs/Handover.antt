@@ -2,43 +2,40 @@
 -- each leads to another, to a refusal for want of room, or to the farewell. Between two handovers the claims on the records of both ends hold at every byte.
 use mathlib.Core.Path.{_≡_, refl, sym, ap, _∙_, subst}
 use mathlib.Core.Bool.{Bool, true, false, cond, _&&_}
-use mathlib.Core.Option.{Option, none, some}
-use mathlib.Core.List.{List, [], _∷_, _++_, map, append-nil, append-assoc}
+use mathlib.Core.Option.{some}
+use mathlib.Core.List.{List, [], _∷_, _++_, append-nil, append-assoc}
 use mathlib.Core.Logic.{_⊎_, inl, inr}
 use Prim.Native.Nat.{ℕ, zero, suc, _+_, _≤_, _<_}
 use native.Mathlib.Omega.{arith}
 use native.Mathlib.Nat.{le-of-suc-le-suc, not-suc-le-zero}
-use lib.Dec.{eqb}
 use lib.ListN.{length, length-append, length-map}
 use Rattle.grammar.specs.Bytes.{Bytes, CR, null}
-use Rattle.grammar.specs.Ascii.{text}
 use Rattle.grammar.specs.Fields.{Form, plain, message, file}
 use Rattle.grammar.specs.Sid.{readSid, hasFeature, framed, letterF}
-use Rattle.grammar.specs.Turns.{Proposal, inMode, proposable, readTurnLine, proposalLine, fixedText, ourSid, ourPrompt, ourFF, ourFQ, ourEnd, withCr, blockLimit}
-use Rattle.grammar.specs.Answers.{Sign, accept, decline, defer, readFs, fsLine, fixedLine, ourProposal, OurLine}
-use Rattle.grammar.specs.Transfers.{kindOf, sendable, writeTransfer, readTransfer, Content}
+use Rattle.grammar.specs.Turns.{Proposal, inMode, readTurnLine, proposalLine, fixedText, ourSid, ourPrompt, ourFF, ourFQ, ourEnd, withCr, blockLimit}
+use Rattle.grammar.specs.Answers.{Sign, accept, readFs, fsLine, fixedLine, ourProposal, OurLine}
+use Rattle.grammar.specs.Transfers.{kindOf, sendable, writeTransfer}
 use Rattle.grammar.specs.Scan.{scanFrom}
 use Rattle.grammar.proofs.Basics.{and2, no-both}
 use Rattle.grammar.proofs.OurLines.{GoodLine, good-line, proposal-read, fs-back, ff-read, fq-read, end-read, prompt-read}
 use Rattle.grammar.proofs.TransferBack.{transfer-back}
-use Rattle.mail.specs.Mail.{Record, Message, proposalOf, headingFor, transferOf, recordAt, accepted, marked, declined}
+use Rattle.mail.specs.Mail.{Record, Message, proposalOf, headingFor, transferOf, recordAt, accepted}
 use Rattle.session.specs.Choices.{Shelf, answersTo}
 use Rattle.session.specs.Session.{kindDue, awaitsSid, awaitsPrompt, awaitsTurn, awaitsAnswer, Phase, aLine, newTurn, over, awaitsTransfer, Memory, Session, between, Stepped, moved, step, turnMarks, answerMarks, levelInForce, greeting}
 use Rattle.session.proofs.Choices.{Places, chosen-places, one-sign-each}
-use Rattle.log.proofs.Spoken.{Fit, AllFit}
+use Rattle.log.proofs.Spoken.{AllFit}
 use Rattle.demand2.specs.Refusals.{WholeLine}
 use Rattle.demand2.specs.Marks.{isSign, withSign}
-use Rattle.demand2.specs.Events.{messageFrom, withMessage, metBy, endsWithCr, proposed, blockText, transfersSaid, turnSaid, turnAwaits, countsProposed, weSpeak, transfersOr, signOnSaid, EndsBlock, bare, Event, sidOfCaller, sidOfCalled, prompt, proposal, ffTurn, fqTurn, blockEnd, fsLineComes}
+use Rattle.demand2.specs.Events.{withMessage, metBy, endsWithCr, proposed, blockText, transfersSaid, turnSaid, turnAwaits, countsProposed, weSpeak, transfersOr, signOnSaid, EndsBlock, bare, sidOfCaller, sidOfCalled, prompt, proposal, ffTurn, fqTurn, blockEnd, fsLineComes}
 use Rattle.demand2.specs.Units.{lineBegun}
-use Rattle.demand2.specs.OurTurn.{rising, OurBlock}
+use Rattle.demand2.specs.OurTurn.{rising}
 use Rattle.demand2.proofs.Marks.{accepted-is, answer-marks, turn-marks}
 use Rattle.demand2.proofs.Events.{happens}
 use Rattle.demand2.proofs.OurTurn.{block-exact}
-use Rattle.demand3.specs.Demand.{GoodTable}
 use Rattle.demand3.proofs.Choice.{proposalsAt, sound}
-use Rattle.two_nodes.specs.Fates.{messageFor, Has, Fate, Fates, allSendable, Sound}
-use Rattle.two_nodes.proofs.Fates.{has-last, fate-more, AllHas, AllHave, all-more, all-snoc, fate-marked, fate-declined}
-use Rattle.two_nodes.proofs.Hears.{Broken, Listening, Hears, Heard, headLf, begun, hears-line, hears-transfer, keptThen}
+use Rattle.two_nodes.specs.Fates.{messageFor, Fates, allSendable, Sound}
+use Rattle.two_nodes.proofs.Fates.{has-last, fate-more, AllHas, all-more, all-snoc, fate-marked, fate-declined}
+use Rattle.two_nodes.proofs.Hears.{Hears, Heard, headLf, begun, hears-line, hears-transfer}
 use Rattle.two_nodes.proofs.Answers.{declined-have}
 
 -- ---------------------------------------------------------------- the kinds

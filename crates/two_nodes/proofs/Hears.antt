@@ -1,11 +1,11 @@
 -- WHAT A LISTENER MAKES OF BYTES that come one after the other: it goes on listening with the claims P of its memory at every byte, until the last of
 -- them is there, and then Q holds; or it refuses one, and P still holds. Here for a whole line and for a whole transfer, and what follows them.
 use mathlib.Core.Path.{_≡_, refl, sym, ap, _∙_, subst}
-use mathlib.Core.Bool.{Bool, true, false, cond, _&&_}
-use mathlib.Core.Option.{Option, none, some}
+use mathlib.Core.Bool.{Bool, false, cond, _&&_}
+use mathlib.Core.Option.{none, some}
 use mathlib.Core.List.{List, [], _∷_, _++_, append-nil}
 use mathlib.Core.Logic.{_⊎_, inl, inr}
-use Prim.Native.Nat.{ℕ, suc, _+_, _≤_}
+use Prim.Native.Nat.{ℕ, _+_, _≤_}
 use native.Mathlib.Omega.{arith}
 use lib.Dec.{eqb, ltb}
 use lib.ListN.{length, length-append}
@@ -21,10 +21,10 @@ use Rattle.grammar.proofs.OurLines.{GoodLine}
 use Rattle.grammar.proofs.Refusal.{Reach, Verdict, reach-step, from, exact-at, read-as, contentOf}
 use Rattle.mail.specs.Mail.{messageOf}
 use Rattle.session.specs.Choices.{Shelf}
-use Rattle.session.specs.Session.{kindDue, Awaited, Phase, aLine, over, awaitsTransfer, Memory, Session, between}
-use Rattle.session.specs.Session.{Stepped, moved, settled, lineMoved, isPlain, keptIn, nextTransfer, transferMoved, step, ended, endedIn}
+use Rattle.session.specs.Session.{kindDue, Awaited, aLine, over, awaitsTransfer, Memory, Session, between}
+use Rattle.session.specs.Session.{Stepped, moved, lineMoved, isPlain, keptIn, transferMoved, step, ended}
 use Rattle.demand2.specs.Room.{room}
-use Rattle.demand2.specs.Refusals.{WholeLine, TransferByte}
+use Rattle.demand2.specs.Refusals.{WholeLine}
 use Rattle.demand2.specs.Events.{messageFrom, withMessage, endsWithCr, transfersOr}
 use Rattle.demand2.specs.Units.{lineBegun}
 use Rattle.demand2.proofs.Steps.{line-step, transfer-step}

@@ -2,21 +2,14 @@
 -- a transfer kept moves from the second to the first.
 use mathlib.Core.Path.{_≡_, refl, sym, ap, _∙_, subst}
 use mathlib.Core.Bool.{Bool, true, false, cond, _&&_, _||_}
-use mathlib.Core.Option.{Option, none, some}
 use mathlib.Core.List.{List, [], _∷_, _++_, append-assoc, append-nil}
 use Prim.Native.Nat.{ℕ}
-use lib.Dec.{eqb, ltb}
-use lib.ListN.{length}
-use Rattle.grammar.specs.Bytes.{Bytes, LF}
+use Rattle.grammar.specs.Bytes.{Bytes}
 use Rattle.grammar.specs.Fields.{sameBid}
-use Rattle.grammar.specs.Lines.{LineByte, dropped, ends, grows, overruns, lineByte, trim, isComment, isPrompt}
-use Rattle.grammar.specs.Sid.{readSid, hasFeature}
-use Rattle.grammar.specs.Turns.{Proposal, TurnLine, saysFF, saysFQ, endsBlock, notAllowed, proposes, readTurnLine}
-use Rattle.grammar.specs.Answers.{Sign, accept, decline, defer, readFs, fsNumber}
-use Rattle.grammar.specs.Scan.{Scanned, goes, got, malformed, wrongSum, noRoom, scanByte}
-use Rattle.grammar.proofs.Basics.{by-cond, or2}
+use Rattle.grammar.specs.Turns.{Proposal}
+use Rattle.grammar.specs.Answers.{Sign, accept, decline, defer}
 use Rattle.mail.specs.Mail.{Message, messageOf, accepted}
-use Rattle.session.specs.Choices.{Shelf, among, recordBids, messageBids, proposalBids, haveBid, noRoomFor, withAccepted, answersAfter, answersTo, chosen}
+use Rattle.session.specs.Choices.{Shelf, among, messageBids, proposalBids, haveBid, noRoomFor, withAccepted, answersAfter, answersTo, chosen}
 use Rattle.session.specs.Session.{kindDue, Awaited, Phase, aLine, awaitsTransfer, leaving, over, Memory, Session, Outcome, refuses, goesOn, speaking, turnMarks, answering, Stepped, settled, isPlain, keptIn, nextTransfer, step, opened, withOut}
 use Rattle.session.proofs.Ways.{Judged, isWrong, hearsSid, hearsText, hearsPrompt, hearsProposal, hearsFF, hearsFQ, hearsEnd, hearsFs, At, Way, isRefused, dropsLf, growsLine, ignoresLine, hearsLine, readsOn, readsLast, way}
 use Rattle.log.specs.Log.{Event, took, gave}

@@ -1,19 +1,18 @@
 -- ONE SESSION BETWEEN TWO NODES. Idea: at open the called end speaks and the caller listens; the rest is Together.
-use mathlib.Core.Path.{_≡_, refl, sym, ap, _∙_, subst}
+use mathlib.Core.Path.{_≡_, refl, sym, _∙_, subst}
 use mathlib.Core.Bool.{Bool, true, false, not}
 use mathlib.Core.List.{List, []}
 use Prim.Native.Nat.{ℕ}
 use native.Mathlib.Omega.{arith}
 use Rattle.session.specs.Choices.{Shelf}
 use Rattle.session.specs.Session.{awaitsSid, aLine, Memory, Session, greeting, opened}
-use Rattle.log.specs.Log.{Event}
 use Rattle.demand2.specs.Events.{proposed}
 use Rattle.demand2.specs.OurTurn.{mayPropose}
 use Rattle.demand2.proofs.OurTurn.{turn-exact}
 use Rattle.demand3.specs.Demand.{Call, run}
-use Rattle.two_nodes.specs.Link.{tookIn, gaveIn, Begins, Linked}
-use Rattle.two_nodes.specs.Fates.{asBefore, Fates, Sound}
-use Rattle.two_nodes.specs.Session.{End, ran, traced, NoneLeft, Left, Met, OneSession}
+use Rattle.two_nodes.specs.Link.{Linked}
+use Rattle.two_nodes.specs.Fates.{asBefore, Sound}
+use Rattle.two_nodes.specs.Session.{End, ran, NoneLeft, Left, OneSession}
 use Rattle.two_nodes.proofs.Handover.{greets, handover-heard}
 use Rattle.two_nodes.proofs.Traces.{after, run-possible}
 use Rattle.two_nodes.proofs.Ends.{fq-came}

@@ -16,12 +16,12 @@ use Rattle.grammar.proofs.Basics.{no-both, and-false, snoc-cons, Lacks, all-lac
 use Rattle.grammar.proofs.OurLines.{good-line}
 use Rattle.grammar.proofs.Errors.{isProtocol, error-read}
 use Rattle.session.specs.Choices.{Shelf}
-use Rattle.session.specs.Session.{awaitsTurn, Phase, aLine, newTurn, over, Memory, Session, withPart, withAfterCr, withOut, between, Stepped, moved, refused, freeStep, step, ended, endedIn}
+use Rattle.session.specs.Session.{awaitsTurn, Phase, newTurn, over, Memory, Session, withPart, withAfterCr, withOut, between, Stepped, moved, refused, freeStep, step, ended, endedIn}
 use Rattle.log.specs.Log.{Event, took, gave}
-use Rattle.demand2.specs.Refusals.{WholeLine, inTurn, isAllowed, no5}
+use Rattle.demand2.specs.Refusals.{inTurn, isAllowed, no5}
 use Rattle.demand2.proofs.Situations.{refuses-with}
 use Rattle.two_nodes.specs.Link.{tookIn, gaveIn, Begins}
-use Rattle.two_nodes.proofs.Hears.{begun, grown}
+use Rattle.two_nodes.proofs.Hears.{grown}
 use Rattle.two_nodes.proofs.Traces.{rest, after, Possible}
 
 -- ---------------------------------------------------------------- an end that is over

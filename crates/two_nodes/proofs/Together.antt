@@ -2,7 +2,7 @@
 -- can be put into one order in which every byte is given before it is consumed, and through that order one end speaks and the other listens (Handover).
 use mathlib.Core.Path.{_≡_, refl, sym, ap, _∙_, subst}
 use mathlib.Core.Bool.{Bool, true, false, cond, _&&_}
-use mathlib.Core.List.{List, [], _∷_, _++_, append-nil, append-assoc}
+use mathlib.Core.List.{List, [], _∷_, _++_}
 use mathlib.Core.Logic.{_⊎_, inl, inr}
 use Prim.Native.Nat.{ℕ, zero, suc, _+_, _≤_}
 use native.Mathlib.Omega.{arith}
@@ -14,16 +14,16 @@ use Rattle.grammar.specs.Errors.{errorText}
 use Rattle.grammar.proofs.Basics.{and2, no-both, snoc-cons}
 use borrow.Author.Tests.{eqb-true}
 use Rattle.session.specs.Choices.{Shelf}
-use Rattle.session.specs.Session.{Phase, newTurn, leaving, over, Memory, Session, withPhase, withPart, withAfterCr, withOut, between, Stepped, moved, refused, freeStep, step, ended, endedIn}
+use Rattle.session.specs.Session.{Phase, newTurn, over, Memory, Session, withPhase, withPart, withAfterCr, withOut, between, moved, freeStep, step, ended, endedIn}
 use Rattle.log.specs.Log.{Event, took, gave}
 use Rattle.demand2.specs.Events.{proposed}
 use Rattle.demand2.specs.Units.{lineBegun}
 use Rattle.two_nodes.specs.Link.{tookIn, gaveIn, Begins}
 use Rattle.two_nodes.specs.Fates.{Fates, Sound}
 use Rattle.two_nodes.proofs.Hears.{Broken, Listening, Hears, Heard, headLf}
-use Rattle.two_nodes.proofs.Handover.{Handover, Handed, Closed, HeardAll, speaks-on, handover-heard}
+use Rattle.two_nodes.proofs.Handover.{Handed, Closed, HeardAll, speaks-on, handover-heard}
 use Rattle.two_nodes.proofs.Traces.{rest, after, Possible}
-use Rattle.two_nodes.proofs.Reasons.{OnlyGave, only-gave, tail-begins, begins-twice, Spared, hears-why, line-whole}
+use Rattle.two_nodes.proofs.Reasons.{only-gave, tail-begins, begins-twice, Spared, hears-why, line-whole}
 use Rattle.two_nodes.proofs.Calm.{no-lf-first}
 
 -- ---------------------------------------------------------------- what is claimed of two sessions

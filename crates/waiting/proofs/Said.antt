@@ -12,7 +12,6 @@ use Rattle.layout.specs.Layout.{byteAt, entryAt, recordOf}
 use Rattle.places.specs.Places.{recordLen, oursAt, sendingAt}
 use Rattle.our_line.specs.Lines.{fsText}
 use Rattle.session_memory.specs.State.{held, fiveAt, loadOf, loadKeep}
-use Rattle.session_memory.specs.declared.Five.{Five}
 use Rattle.session_memory.specs.Session.{Session}
 use Rattle.session_memory.proofs.Laws.{array-length}
 use Rattle.phase.specs.Phase.{pieceNone, pieceSidAndPrompt, pieceSid, pieceProtocolError, pieceChecksumError, blockLimit, pieceFF, pieceFQ, pieceBlock}

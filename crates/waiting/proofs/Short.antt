@@ -1,18 +1,15 @@
 -- All that waits is short: at most five lines or five transfers (`waiting-short`). A transfer is short where open has looked at its record's
 -- texts, or, of any table of bytes, since the lengths of a heading and of a body stand in one and in two bytes (`record-short`).
-use mathlib.Core.Path.{_≡_, refl}
-use mathlib.Core.Bool.{Bool, true, false}
+use mathlib.Core.Path.{_≡_}
 use mathlib.Core.List.{List, [], _∷_, map}
 use Prim.Native.Nat.{ℕ, zero, suc, _+_, _-_, _*_, _≤_, _<_, min}
 use native.Mathlib.Omega.{arith}
-use lib.Dec.{eqb, leb, ltb}
-use lib.ListN.{length, take, drop, length-append, length-take, length-drop, List·getD-eq-default}
-use lib.Seq.{getD-take, getD-drop}
-use borrow.Author.Tests.{ltb-true, ltb-false}
+use lib.Dec.{eqb}
+use lib.ListN.{length, drop, length-append, length-take, length-drop}
 use Rattle.grammar.specs.Bytes.{Bytes, byteValues}
 use Rattle.grammar.specs.Fields.{Form, plain, message, file, bodyLimit, decimalDigits}
 use Rattle.grammar.specs.Turns.{proposalLine, withCr}
-use Rattle.grammar.specs.Transfers.{TransferKind, plainKind, framedKind, kindOf, partOf, writeTransfer, blocksOut, dataMax}
+use Rattle.grammar.specs.Transfers.{TransferKind, plainKind, framedKind, kindOf, writeTransfer, blocksOut, dataMax}
 use Rattle.grammar.proofs.Basics.{by-cond}
 use Rattle.grammar.proofs.Fields.{num-field}
 use Rattle.mail.specs.Mail.{Record, headingFor, transferOf, proposalLines, turnText}

@@ -1,14 +1,13 @@
 -- A mail line by line, and what it comes to. Assumes nothing.
 use mathlib.Core.Path.{_≡_, refl, sym, ap, _∙_, subst}
 use mathlib.Core.Bool.{Bool, true, false, cond}
-use mathlib.Core.List.{List, [], _∷_, map}
+use mathlib.Core.List.{[], _∷_, map}
 use Prim.Native.Nat.{ℕ, _+_, _-_, _<_, _≤_}
 use native.Mathlib.Omega.{arith}
 use lib.Dec.{ltb}
 use lib.ListN.{length, drop}
 use borrow.Author.Tests.{lt-ltb, le-ltb}
-use Rattle.grammar.specs.Bytes.{Bytes, wordValues}
-use Rattle.text_line.specs.TextLines.{bodyLines}
+use Rattle.grammar.specs.Bytes.{Bytes}
 use Rattle.text_line.specs.Places.{lineAt, lineBytes, linesBy}
 use Rattle.text_line.specs.declared.NextLine.{NextLine}
 use Rattle.text_line.specs.declared.TextLine.{TextLine}
@@ -16,10 +15,10 @@ use Rattle.text_line.proofs.Laws as lines
 use Rattle.pages.specs.Pages as pages
 use Rattle.pages.specs.Pages.{pagesOf, lineOf, readPage, tallied, tally, noTally, higher, ourVersion, surveyOf, mailOf}
 use Rattle.pages.proofs.Mails.{tally-mail}
-use Rattle.page_line.specs.Meaning.{pageSaid, PageLies, PageIs}
+use Rattle.page_line.specs.Meaning.{pageSaid, PageIs}
 use Rattle.page_line.specs.declared.Page.{Page}
 use Rattle.page_member.specs.declared.Member.{Member}
-use Rattle.white_pages.specs.Meaning.{bytesIn, pageLineIn, pagesBy, LineLies, NextLies, NextIs, tallyIs, countedOf, toldOf, surveyIs}
+use Rattle.white_pages.specs.Meaning.{bytesIn, pagesBy, LineLies, NextLies, NextIs, tallyIs, countedOf, toldOf, surveyIs}
 use Rattle.white_pages.specs.declared.Line.{Line}
 use Rattle.white_pages.specs.declared.NextPage.{NextPage}
 use Rattle.white_pages.specs.declared.Tally.{Tally}

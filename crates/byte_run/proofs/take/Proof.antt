@@ -1,6 +1,5 @@
 -- No LF is dropped and nothing waits; then the transfer's run or the line's.
 use mathlib.Core.Path.{_≡_, sym, _∙_}
-use Rattle.byte_run.specs.Taking.{Quiet}
 use borrow.Author.Needs.{needs}
 use Rattle.byte_run.proofs.take.Statement.{statement}
 use Rattle.byte_run.proofs.take.Tie as tie

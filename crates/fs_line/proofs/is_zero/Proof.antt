@@ -1,5 +1,5 @@
 -- The first i digits are 0; the digits left grow fewer.
-use mathlib.Core.Path.{_≡_, refl, sym, _∙_}
+use mathlib.Core.Path.{_≡_, refl, _∙_}
 use Prim.Native.Nat.{_+_, _≤_, _-_}
 use lib.ListN.{length, drop}
 use borrow.Author.Needs.{needs}

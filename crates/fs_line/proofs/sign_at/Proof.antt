@@ -1,6 +1,5 @@
 -- No byte; a sign of one byte; at level 0 nothing else; no offset; an offset and its digits.
 use mathlib.Core.Path.{sym, _∙_}
-use native.Mathlib.Omega.{arith}
 use borrow.Author.Needs.{needs}
 use borrow.Author.Tests.{not-true, not-false}
 use Rattle.fs_line.proofs.Laws.{nothing-there, one-byte, no-sign-low, no-offset, part-digits, offset-here, within}

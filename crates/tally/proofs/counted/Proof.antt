@@ -6,7 +6,6 @@ use native.Mathlib.Omega.{arith}
 use borrow.Author.Needs.{needs}
 use Rattle.places.specs.Places.{recordSizeAt}
 use Rattle.mail.specs.Mail.{recordLimit}
-use Rattle.entries.specs.Decoded.{recordCount}
 use Rattle.entries.proofs.Laws.{size-small}
 use Rattle.tally.proofs.Laws.{Counting, counting-none, counting-pass, counting-add, counted-all, few-records}
 use Rattle.tally.proofs.counted.Statement.{statement}

@@ -1,5 +1,5 @@
 -- By the form, where there is a record.
-use mathlib.Core.Path.{_≡_, sym, _∙_}
+use mathlib.Core.Path.{_≡_, _∙_}
 use native.Mathlib.Omega.{arith}
 use Rattle.text_length.proofs.Laws.{entry-whole, none-length, message-length, file-length, other-length}
 use borrow.Author.Needs.{needs}

@@ -1,7 +1,7 @@
 -- By what is said: the first piece, a fixed line, a piece of our block, a transfer.
 use native.Mathlib.Omega.{arith}
 use Rattle.buffer.proofs.Laws.{puts-as}
-use Rattle.session_memory.specs.State.{loadOf, loadAwait, loadSay, loadKeep}
+use Rattle.session_memory.specs.State.{loadOf, loadSay}
 use Rattle.waiting.proofs.Pieces.{piece-FF, piece-FQ, piece-block, bound-block}
 use Rattle.waiting.proofs.Said.{zero-text, sent-text}
 use borrow.Author.Needs.{needs}
