@@ -23,7 +23,7 @@ use Rattle.open.proofs.Accepted.{Before, open-passed, sizes-told}
 use Rattle.open.proofs.Begun.{Begun, begun-left}
 use Rattle.receive_defined.specs.Receiving.{Cs, cs}
 use Rattle.form_closed.specs.Fixed.{Fixed}
-use Rattle.represents.specs.Represents.{Says, Awaits, Represents, messagesOf}
+use Rattle.represents.specs.Represents.{StillToGive, Awaits, Represents, messagesOf}
 use Rattle.represents.specs.Frame.{Spared}
 use Rattle.main_theorem.specs.Calls.{Lent, OpenCall, lendingOf, fixedIn, lentIn, openedBy, isCaller, statesIn, sizesOf, withSession, Buffer}
 use Rattle.main_theorem.specs.Demand2.{shelfIn}
@@ -88,7 +88,7 @@ unfolding freshOf
 fresh-partner M = refl
 
 module _ (M : OpenCall) (a : Accepted M) where
-  greeting-says : (caller : Bool) → Says (F M) (cs (begins M caller) (M .table .bytes) (M .inbox .bytes) (M .store .bytes)) (on-lists.greeting caller)
+  greeting-says : (caller : Bool) → StillToGive (F M) (cs (begins M caller) (M .table .bytes) (M .inbox .bytes) (M .store .bytes)) (on-lists.greeting caller)
   unfolding freshOf waits waitingOf firstText thenText
   greeting-says true = refl
   greeting-says false = refl

@@ -12,7 +12,7 @@ use Rattle.grammar.specs.Bytes.{Bytes, byteValues}
 use Rattle.grammar.specs.Turns.{isType, proposable, sizeValues}
 use Rattle.grammar.proofs.Basics.{and2}
 use Rattle.mail.specs.Mail.{Record, recordLimit, proposalOf}
-use Rattle.mail.specs.Tally.{Counts, waits, waitingBytes}
+use Rattle.mail.specs.Tally.{Counts, waitingCount, waitingBytes}
 use Rattle.session.specs.Session as on-lists
 use Rattle.log.specs.Log.{unsettled}
 use Rattle.demand3.specs.Demand as on-lists-run
@@ -132,7 +132,7 @@ module _ (M : OpenCall) (e : openedBy M .reply .answer ≡ 0) (cs : CallsOn M) w
       let l = on-lists-tallied in
       let n = numbers in
       record {
-        waiting = tallies .waiting ∙ ap waits (l .states);
+        waiting = tallies .waiting ∙ ap waitingCount (l .states);
         sizes = tallies .sizes ∙ sizes-fit ∙ ap (waitingBytes (E M e cs .table)) (l .states);
         column = states-held M e cs ∙ l .states;
         proposed = n .proposed ∙ l .proposed;

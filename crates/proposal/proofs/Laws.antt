@@ -63,14 +63,14 @@ map-snoc l [] s r = refl
 map-snoc l (x ∷ ss) s r = ap (λ (t : List Bytes). part l x ∷ t) (map-snoc l ss s r)
 
 -- the first i words are those of the first i spans, which lie in the line, and the others come from a place on
-pub record Read (l : Bytes) (ss : List Span) (at i : ℕ) : Type 0 where
+pub record WordsRead (l : Bytes) (ss : List Span) (at i : ℕ) : Type 0 where
   pub places : length ss ≡ fieldCount
   pub count : i ≤ fieldCount
   pub said : words l ≡ map (part l) (take i ss) ++ words (drop at l)
   pub lie : AllLie l (take i ss)
 
-module _ (l : Bytes) (ss : List Span) (at i : ℕ) (h : Read l ss at i) (s : Span) (f : words (drop at l) ≡ wordsBy l s) where
-  pub read-more : i < fieldCount → s .start < s .end → s .end ≤ length l → Read l (set ss i s) (s .end) (i + 1)
+module _ (l : Bytes) (ss : List Span) (at i : ℕ) (h : WordsRead l ss at i) (s : Span) (f : words (drop at l) ≡ wordsBy l s) where
+  pub read-more : i < fieldCount → s .start < s .end → s .end ≤ length l → WordsRead l (set ss i s) (s .end) (i + 1)
   read-more k e b =
       let p = h .places in
       let t : take (i + 1) (set ss i s) ≡ take i ss ++ (s ∷ []) = rw (add-one i) (take-suc-set ss i s (omega arith)) in
@@ -105,10 +105,10 @@ seven-named l (a ∷ b ∷ c ∷ d ∷ e ∷ f ∷ g ∷ []) n h =
     (refl, record { letters = h .0; kind = h .1 .0; from = h .1 .1 .0; at = h .1 .1 .1 .0; to = h .1 .1 .1 .1 .0; bid = h .1 .1 .1 .1 .1 .0; size = h .1 .1 .1 .1 .1 .1 .0 })
 seven-named l (a ∷ b ∷ c ∷ d ∷ e ∷ f ∷ g ∷ x ∷ ss) n h = let z : ⊥ = omega arith in absurd z
 
-pub read-start : (l : Bytes) (ss : List Span) → length ss ≡ fieldCount → Read l ss 0 0
-read-start l ss n = record { places = n; count = omega arith; said = refl; lie = tt }
+pub words-read-start : (l : Bytes) (ss : List Span) → length ss ≡ fieldCount → WordsRead l ss 0 0
+words-read-start l ss n = record { places = n; count = omega arith; said = refl; lie = tt }
 
-pub read-seven : (l : Bytes) (ss : List Span) (at i : ℕ) → Read l ss at i → (s : Span) → words (drop at l) ≡ wordsBy l s → s .end ≤ s .start → fieldCount ≤ i → SplitIs l (Split.Words (sevenOf ss))
+pub read-seven : (l : Bytes) (ss : List Span) (at i : ℕ) → WordsRead l ss at i → (s : Span) → words (drop at l) ≡ wordsBy l s → s .end ≤ s .start → fieldCount ≤ i → SplitIs l (Split.Words (sevenOf ss))
 read-seven l ss at i h s f e k =
     let p = h .places in
     let t : take i ss ≡ ss = take-all i ss (omega arith) in

@@ -11,14 +11,14 @@ use borrow.Author.Tests.{lt-ltb, le-ltb}
 use Rattle.grammar.specs.Bytes.{Bytes, isSome}
 use Rattle.grammar.specs.Ascii.{text}
 use Rattle.grammar.specs.Refusals.{badAnswer, lineNotAllowed}
-use Rattle.grammar.specs.Fields.{after}
+use Rattle.grammar.specs.Fields.{afterCapitals}
 use Rattle.grammar.specs.Answers.{Sign, readFs, fsNumber, writeSign, plusSign, minusSign, equalSign}
 use Rattle.grammar.specs.Turns.{blockLimit}
 use Rattle.mail.specs.Mail.{Record, accepted, transfersText}
 use Rattle.session.specs.Choices.{Shelf}
 use Rattle.session.specs.Session as on-lists
 use Rattle.session.specs.Session.{Memory, Outcome, goesOn}
-use Rattle.fs_line.specs.Answers.{answered, answerSigns, signBytes, zeroed}
+use Rattle.fs_line.specs.Answers.{answersRead, answerSigns, signBytes, zeroed}
 use Rattle.fs_line.proofs.Laws.{answer-number}
 use Rattle.phase.specs.Phase.{pieceTransfers, stateDeclined}
 use Rattle.session_memory.specs.State.{held, fiveOf}
@@ -49,7 +49,7 @@ use Rattle.form_closed.proofs.Laws.{held-length}
 
 -- the signs of the line
 read-signs : (v n : ℕ) (ln : Bytes) → n ≤ blockLimit → answerSigns v n ln ≡ zeroed (signBytes (readFs v n ln))
-unfolding answerSigns answered
+unfolding answerSigns answersRead
 read-signs v n ln few = ap (λ (c : Bool). zeroed (signBytes (cond c none (readFs v n ln)))) (le-ltb blockLimit n few)
 
 module _ (F : Fixed) (E : Shelf) (c : Cs) (m : Memory) (ready : Ready F E c m) where
@@ -134,7 +134,7 @@ module _ (F : Fixed) (E : Shelf) (c : Cs) (m : Memory) (ready : Ready F E c m) w
       subst (λ (l : ℕ). Lead (answerLine ln s) (on-lists.answerJudged E (held (w .ours)) m (fsNumber v l ln) (readFs v l ln))) (sym many)
       (subst (λ (x : ℕ). As x (answerSigns v n ln) (fsNumber v n ln) (readFs v n ln)) (sym (answer-number v n ln few))
       (subst (λ (x : Bytes). As (fsNumber v n ln) x (fsNumber v n ln) (readFs v n ln)) (sym (read-signs v n ln few))
-      (go (isSome (after (text "FS") ln)) (readFs v n ln))))
+      (go (isSome (afterCapitals (text "FS") ln)) (readFs v n ln))))
     where
       v : ℕ
       v = k .terms .level

@@ -4,7 +4,7 @@ use mathlib.Core.Path.{_≡_}
 use mathlib.Core.Bool.{cond}
 use Prim.Native.Nat.{_+_, _%_}
 use lib.Dec.{eqb}
-use Rattle.mail.specs.Tally.{Counts, moreForwarded, moreDeclined, moreDeferred, waits, waitingBytes}
+use Rattle.mail.specs.Tally.{Counts, moreForwarded, moreDeclined, moreDeferred, waitingCount, waitingBytes}
 use Rattle.session.specs.Choices.{Shelf}
 use Rattle.session.specs.Session.{Memory}
 use Rattle.phase.specs.Phase.{stateForwarded, stateDeclined}
@@ -24,7 +24,7 @@ pub record SheetIs (h : Sheet) (c : Counts) : Type 0 where
 
 -- What waits for the partner, by the session's states, and the sheet.
 pub record Tallies (E : Shelf) (t : Tally) (m : Memory) : Type 0 where
-  pub waiting : t .waiting ≡ waits (m .states)
+  pub waiting : t .waiting ≡ waitingCount (m .states)
   pub sizes : t .sizes ≡ waitingBytes (E .table) (m .states) % sizesRange
   pub sheet : SheetIs (t .sheet) (m .counts)
 

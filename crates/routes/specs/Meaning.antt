@@ -21,8 +21,8 @@ abbrev pub HopLies : Bytes → ℕ → NextHeader → Type 0
 HopLies body at NextHeader.End = Unit {0}
 HopLies body at (NextHeader.Is h) = Lies body (h .header .mailbox) × (at < h .next) × (h .next ≤ length body)
 
-abbrev pub NextIs : Bytes → ℕ → NextHeader → Type 0
-NextIs body at r = (headersBy body r ≡ routeOf (drop at body)) × HopLies body at r
+abbrev pub NextHeaderIs : Bytes → ℕ → NextHeader → Type 0
+NextHeaderIs body at r = (headersBy body r ≡ routeOf (drop at body)) × HopLies body at r
 
 abbrev pub originSaid : Bytes → Origin → Option Bytes
 originSaid body Origin.Nowhere = none

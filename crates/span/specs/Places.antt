@@ -9,11 +9,11 @@ use Rattle.grammar.specs.Fields.{words}
 use Rattle.span.specs.declared.Span.{Span}
 
 -- The bytes of a line from a to e.
-abbrev pub between : Bytes → ℕ → ℕ → Bytes
-between l a e = take (e - a) (drop a l)
+abbrev pub bytesBetween : Bytes → ℕ → ℕ → Bytes
+bytesBetween l a e = take (e - a) (drop a l)
 
 abbrev pub part : Bytes → Span → Bytes
-part l s = between l (s .start) (s .end)
+part l s = bytesBetween l (s .start) (s .end)
 
 -- How many bytes stand before the first c.
 unfoldable pub upto : ℕ → Bytes → ℕ

@@ -10,7 +10,7 @@ use lib.ListN.{length, drop}
 use borrow.Author.Tests.{eq-eqb, ne-eqb}
 use Rattle.grammar.specs.Bytes.{Bytes}
 use Rattle.mail.specs.Mail.{Record, recordLimit}
-use Rattle.mail.specs.Tally.{waits, waitingBytes}
+use Rattle.mail.specs.Tally.{waitingCount, waitingBytes}
 use Rattle.places.specs.Places.{recordSizeAt, recordLen}
 use Rattle.phase.specs.Phase.{stateWaiting}
 use Rattle.layout.specs.Layout.{le4At, entryAt, recordOf, stateFor}
@@ -40,7 +40,7 @@ module _ (p : ℕ) (table : Bytes) (n : ℕ) where
   -- w records wait before record i, with sizes of z in all; of what was added no number is too large for the code
   pub record Counting (w z i : ℕ) : Type 0 where
     pub count : n ≡ recordCount table
-    pub records : w + waits (statesFrom i) ≡ waits (statesFrom 0)
+    pub records : w + waitingCount (statesFrom i) ≡ waitingCount (statesFrom 0)
     pub sizes : z + waitingBytes (recordsFrom i) (statesFrom i) ≡ waitingBytes (recordsFrom 0) (statesFrom 0)
     pub few : w ≤ i
     pub small : z ≤ i * sizesRange
@@ -52,7 +52,7 @@ module _ (p : ℕ) (table : Bytes) (n : ℕ) where
   counting-pass {w} {z} {i} c h e =
       record {
         count = c .count;
-        records = ap (λ (x : ℕ). w + x) (sym (ap waits states ∙ rw (ne-eqb (stateAt i) 0 e))) ∙ c .records;
+        records = ap (λ (x : ℕ). w + x) (sym (ap waitingCount states ∙ rw (ne-eqb (stateAt i) 0 e))) ∙ c .records;
         sizes = ap (λ (x : ℕ). z + x) (sym (both ∙ rw (ne-eqb (stateAt i) 0 e))) ∙ c .sizes;
         few = omega (arith, c .few);
         small = omega (arith, c .small);
@@ -66,7 +66,7 @@ module _ (p : ℕ) (table : Bytes) (n : ℕ) where
 
   pub counting-add : {w z i : ℕ} → Counting w z i → i < n → stateAt i ≡ stateWaiting → sizeAt i < sizesRange → Counting (w + 1) (z + sizeAt i) (i + 1)
   counting-add {w} {z} {i} c h e l =
-      let f : waits (statesFrom i) ≡ suc (waits (statesFrom (i + 1))) = ap waits states ∙ rw (eq-eqb (stateAt i) 0 e) in
+      let f : waitingCount (statesFrom i) ≡ suc (waitingCount (statesFrom (i + 1))) = ap waitingCount states ∙ rw (eq-eqb (stateAt i) 0 e) in
       let g : waitingBytes (recordsFrom i) (statesFrom i) ≡ sizeAt i + waitingBytes (recordsFrom (i + 1)) (statesFrom (i + 1)) = both ∙ rw (eq-eqb (stateAt i) 0 e) in
       record {
         count = c .count;
@@ -84,9 +84,9 @@ module _ (p : ℕ) (table : Bytes) (n : ℕ) where
 
   -- past the last record all is counted
   module _ {w z i : ℕ} (c : Counting w z i) (l : n ≤ i) where
-    pub records-all : w ≡ waits (statesOf p table)
+    pub records-all : w ≡ waitingCount (statesOf p table)
     records-all =
-        let e : waits (statesFrom i) ≡ 0 = ap waits (states-end p table i (subst (λ (m : ℕ). m ≤ i) (c .count) l)) in
+        let e : waitingCount (statesFrom i) ≡ 0 = ap waitingCount (states-end p table i (subst (λ (m : ℕ). m ≤ i) (c .count) l)) in
         omega (arith, c .records, e)
 
     pub sizes-all : z ≡ waitingBytes (entries (recordOf [] [] []) recordLen table n) (statesOf p table)
@@ -104,11 +104,11 @@ pub few-records : (table : Bytes) {n : ℕ} → n ≡ recordCount table → n �
 few-records table e = rw e (min-le-left recordLimit (length table / recordLen))
 
 -- no more wait than there are records
-waits-most : (st : List ℕ) → waits st ≤ length st
+waits-most : (st : List ℕ) → waitingCount st ≤ length st
 waits-most [] = omega arith
 waits-most (x ∷ st) = go (eqb x 0) (waits-most st)
   where
-    go : (b : Bool) → waits st ≤ length st → cond b (suc (waits st)) (waits st) ≤ suc (length st)
+    go : (b : Bool) → waitingCount st ≤ length st → cond b (suc (waitingCount st)) (waitingCount st) ≤ suc (length st)
     go true h = omega arith
     go false h = omega arith
 

@@ -2,7 +2,7 @@
 use mathlib.Core.List.{[]}
 use Prim.Native.Nat.{ℕ, _%_}
 use Rattle.grammar.specs.Bytes.{Bytes, fourByteValues}
-use Rattle.mail.specs.Tally.{waits, waitingBytes}
+use Rattle.mail.specs.Tally.{waitingCount, waitingBytes}
 use Rattle.entries.specs.Decoded.{recordsOf}
 use Rattle.marking.specs.States.{statesOf}
 use Rattle.sheet.specs.declared.Sheet.{Sheet}
@@ -13,7 +13,7 @@ abbrev pub sizesRange : ℕ
 sizesRange = fourByteValues
 
 unfoldable pub waitingIn : ℕ → Bytes → ℕ
-waitingIn partner table = waits (statesOf partner table)
+waitingIn partner table = waitingCount (statesOf partner table)
 
 unfoldable pub sizesIn : ℕ → Bytes → ℕ
 sizesIn partner table = waitingBytes (recordsOf [] [] [] table) (statesOf partner table) % sizesRange

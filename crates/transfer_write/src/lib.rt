@@ -151,7 +151,7 @@ pub fn write_framed(buf: &mut [u8], c: Cursor, heading: &[u8], body: &[u8]) -> C
 }
 
 // The heading of a record's transfer, where it lies: the file name for a file (form 2), else the title.
-pub fn heading<'a>(
+pub fn write_heading<'a>(
     titles: &'a [u8],
     names: &'a [u8],
     form: u8,

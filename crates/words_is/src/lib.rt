@@ -43,9 +43,9 @@ const SIZE_RULE: u8 = 4;
 const BODY_RULE: u8 = 5;
 
 // The forms whose bodies these rules are about.
-const PLAIN: u8 = phase::FORM_PLAIN;
+const FORM_PLAIN: u8 = phase::FORM_PLAIN;
 
-const MESSAGE: u8 = phase::FORM_MESSAGE;
+const FORM_MESSAGE: u8 = phase::FORM_MESSAGE;
 
 // The class with this number.
 fn class_of(k: u8) -> Class
@@ -90,8 +90,8 @@ fn is_field(kind: u8, s: &[u8]) -> bool
         BID_RULE => field::is_bid(s),
         HEADING_RULE => field::is_heading(s),
         SIZE_RULE => is_size(s),
-        BODY_RULE => field::is_body(PLAIN, s),
-        _ => field::is_body(MESSAGE, s),
+        BODY_RULE => field::is_body(FORM_PLAIN, s),
+        _ => field::is_body(FORM_MESSAGE, s),
     }
 }
 
