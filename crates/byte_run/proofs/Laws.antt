@@ -10,6 +10,7 @@ use lib.Dec.{eqb}
 use lib.ListN.{length, getD, set, take, drop, length-drop, take-append-drop, drop-of-length-le}
 use lib.Seq.{sets, length-sets, drop-length, drop-cons}
 use borrow.Author.Tests.{eq-eqb, ne-eqb, lt-ltb}
+use Rattle.buffer.proofs.Laws.{wrote-sets}
 use Rattle.grammar.specs.Bytes.{Bytes, CR, LF}
 use Rattle.grammar.proofs.Basics.{to-end}
 use Rattle.phase.specs.Phase.{phaseTransfer}
@@ -24,7 +25,6 @@ use Rattle.buffer.specs.Put.{wrote, putBytes}
 use Rattle.session_memory.specs.State.{cursorAt, loadOf, saveOf}
 use Rattle.give.specs.Giving.{reply}
 use Rattle.numbers_in_place.specs.Changed.{withLineLength, withReadSoFar}
-use Rattle.numbers_in_place.proofs.Written.{wrote-sets}
 use Rattle.numbers_in_place.proofs.Arrays.{line-set, arraysPart, arrays-part-length, load-arrays, numbers-lent, saved-lent, saved-numbers}
 use Rattle.layout.specs.Layout.{byteAt}
 use Rattle.transfer_step.specs.declared.Reader.{Reader}

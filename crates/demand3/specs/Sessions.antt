@@ -3,6 +3,7 @@
 use mathlib.Core.Bool.{Bool, true, false}
 use mathlib.Core.List.{List, [], _∷_, _++_}
 use Prim.Native.Nat.{ℕ}
+use Rattle.session.specs.Sessions.{greeted}
 use Rattle.grammar.specs.Bytes.{Bytes}
 use Rattle.grammar.specs.Ascii.{text}
 use Rattle.grammar.specs.Fields.{Form, plain, message}
@@ -111,9 +112,6 @@ theirs f =
       heading = text "U";
       body = text "\nyo";
     }
-
-abbrev pub greeted : Bytes
-greeted = text "[NOD-1-B1FH$]\r>\r"
 
 -- what we say in a plain session up to F>, and in a framed one; and the framed transfer
 abbrev pub ourPlainBlock : Bytes

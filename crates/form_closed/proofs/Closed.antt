@@ -8,7 +8,7 @@ use native.Mathlib.Omega.{arith}
 use lib.Dec.{eqb, ltb}
 use lib.ListN.{length-replicate, length}
 use borrow.Author.Tests.{ltb-true}
-use Rattle.grammar.specs.Bytes.{Bytes, byteValues, wordValues}
+use Rattle.grammar.specs.Bytes.{Bytes, byteValues, wordValues, flag}
 use Rattle.grammar.specs.Refusals.{badMemory, sessionEnded, noPlace}
 use Rattle.grammar.proofs.Basics.{no-both, by-test}
 use Rattle.buffer.specs.Put.{cut}
@@ -17,7 +17,7 @@ use Rattle.places.specs.Places.{numbersStart, partners, deferredLen, headingLen
 use Rattle.layout.specs.Layout.{le8}
 use Rattle.layout.proofs.Laws.{octets}
 use Rattle.transfer_step.specs.Names.{titlePlace}
-use Rattle.session_memory.specs.State.{cursorAt, flag, loadOf, loadSizes, sizesOut, saveSizes, freshOf}
+use Rattle.session_memory.specs.State.{cursorAt, loadOf, loadSizes, sizesOut, saveSizes, freshOf}
 use Rattle.session_memory.specs.Session.{Session}
 use Rattle.session_memory.specs.declared.Sizes.{Sizes}
 use Rattle.session_memory.proofs.Laws.{sizes-length, Sized, sizes-saved, load-sizes}

@@ -7,7 +7,7 @@ use native.Mathlib.Omega.{arith}
 use lib.Dec.{eqb, ltb, leb}
 use lib.ListN.{length, getD, drop, replicate}
 use borrow.Author.Tests.{eq-eqb, eqb-true, eqb-false, ltb-true, ltb-false, lt-ltb, leb-true, le-leb}
-use Rattle.grammar.specs.Bytes.{Bytes, byteValues, wordValues}
+use Rattle.grammar.specs.Bytes.{Bytes, byteValues, wordValues, flag}
 use Rattle.grammar.specs.Transfers.{partOf}
 use Rattle.grammar.specs.Fields.{bodyMax}
 use Rattle.grammar.specs.Turns.{blockLimit}
@@ -16,7 +16,7 @@ use Rattle.grammar.proofs.Basics.{and2, both, or-second}
 use Rattle.places.specs.Places.{arraysAt, blockAt, blockLen, blockSumAt, currentAt, deferredAt, deferredLen, firstAt, headingAt, headingLen, lengthAt, lineAt, lineLen, offsetAt, oursAt, partners, phaseAt, placeAt, sendingAt, signsAt, sumAt, thenAt, tallyWaitingAt, tallyProposedAt, tallyForwardedAt, tallyDeclinedAt, tallyDeferredAt, tallyUnsettledAt}
 use Rattle.layout.specs.Layout.{byteAt, le2, le4, le8}
 use Rattle.layout.proofs.Laws.{octets}
-use Rattle.session_memory.specs.State.{cursorAt, flag, held, fiveAt, arrayAt, fiveOut, loadAwait, loadSay, loadKeep, loadReading, loadLine, loadOf, smallOut, numbersOut, tailOut, arraysOut, numberPart, loadTally}
+use Rattle.session_memory.specs.State.{cursorAt, held, fiveAt, arrayAt, fiveOut, loadAwait, loadSay, loadKeep, loadReading, loadLine, loadOf, smallOut, numbersOut, tailOut, arraysOut, numberPart, loadTally}
 use Rattle.session_memory.specs.declared.Five.{Five}
 use Rattle.session_memory.specs.Session.{Session}
 use Rattle.session_memory.proofs.Laws.{Shaped, load-shaped}

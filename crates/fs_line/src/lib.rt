@@ -42,7 +42,7 @@ const NO_SIGN: u8 = 0;
 const LETTERS: u8 = 1;
 
 // The most digits of an offset.
-const OFFSET_DIGITS: usize = 6;
+const OFFSET_DIGITS: usize = transfer_step::OFFSET_DIGITS as usize;
 
 // What a byte says as the answer to a proposal; any other byte than `+`, `-`, `=` says nothing.
 pub enum Sign {

@@ -14,9 +14,9 @@ use Rattle.layout.specs.Layout.{byteAt, le8At}
 use Rattle.places.specs.Places.{sessionLen, firstAt, thenAt, posAt, oursAt, sendingAt, signsAt}
 use Rattle.places.specs.Places as places
 use Rattle.phase.specs.Phase.{blockLimit}
-use Rattle.buffer.specs.Put.{Puts, cut, wrote, putBytes}
+use Rattle.buffer.specs.Put.{Puts, cut, wrote, putBytes, cursor}
 use Rattle.buffer.specs.declared.Cursor.{Cursor}
-use Rattle.buffer.proofs.Laws.{cursor, cursor-at, cut-length}
+use Rattle.buffer.proofs.Laws.{cursor-at, cut-length}
 use Rattle.session_memory.specs.State.{cursorAt, loadOf, loadAwait, loadSay, loadKeep, saveOf}
 use Rattle.session_memory.specs.Setters as setters
 use Rattle.session_memory.specs.Session.{Session}

@@ -15,8 +15,7 @@ use Rattle.grammar.specs.Transfers.{partOf}
 use Rattle.grammar.proofs.Basics.{and2, octet}
 use Rattle.mail.specs.Mail.{Message}
 use Rattle.mail.specs.Mail as mail
-use Rattle.buffer.specs.Put.{putBytes}
-use Rattle.buffer.proofs.Laws.{cursor}
+use Rattle.buffer.specs.Put.{putBytes, cursor}
 use Rattle.places.specs.Places.{callMax, atMax, bidMax, headingMax, formAt, typeAt, fromAt, atAt, toAt, bidAt, fieldsSize, proposalSizeAt, proposalLen, partners, statesLen, recordFields, recordTitle, recordTitleLength, recordName, recordNameLength, recordBody, recordBodyLength, recordLen, entryHeading, entryBody, entryBodyLength, entryLen, blockLen}
 use Rattle.layout.specs.Layout.{Extent, Fields, extent, textIn, headingExtentOut, bodyExtentOut, byteAt, le2At, le4At, le8At, le2, le4, le8, fieldIn, fieldOut, entryAt, fieldsAt, fieldsOut, proposalWith, proposalAt, proposalOut, proposalBytes, proposalIn, recordWith, titleExtent, nameExtent, bodyExtent, recordOf, recordOut, stateFor, messageWith, messageIn, keptExtent, messageKept, bodyStart, bodyLength, entryWith, entryOut, messageBytes}
 use Rattle.layout.proofs.Writing.{field-padded}

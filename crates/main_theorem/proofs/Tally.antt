@@ -8,7 +8,7 @@ use native.Mathlib.Omega.{arith}
 use lib.Dec.{eqb, ltb}
 use lib.ListN.{length}
 use borrow.Author.Tests.{leb-true, ltb-true}
-use Rattle.grammar.specs.Bytes.{Bytes, byteValues}
+use Rattle.grammar.specs.Bytes.{Bytes, byteValues, fourByteValues}
 use Rattle.grammar.specs.Turns.{isType, proposable, sizeValues}
 use Rattle.grammar.proofs.Basics.{and2}
 use Rattle.mail.specs.Mail.{Record, recordLimit, proposalOf}
@@ -26,7 +26,6 @@ use Rattle.marking.specs.States.{statesOf}
 use Rattle.marking.proofs.States.{states-length}
 use Rattle.session_memory.specs.State.{loadOf, loadTally}
 use Rattle.sheet.specs.declared.Sheet.{Sheet}
-use Rattle.tally.specs.Tally.{sizesRange}
 use Rattle.represents.specs.Tallies.{Tallies}
 use Rattle.form_closed.specs.Facts.{TallyOk}
 use Rattle.main_theorem.specs.Demand2.{callOf}
@@ -108,7 +107,7 @@ module _ (M : OpenCall) (e : openedBy M .reply .answer ≡ 0) (cs : CallsOn M) w
   unfolding loadOf
   good = in-order M e cs .tally
 
-  sizes-fit : waitingBytes (E M e cs .table) (after .memory .states) % sizesRange ≡ waitingBytes (E M e cs .table) (after .memory .states)
+  sizes-fit : waitingBytes (E M e cs .table) (after .memory .states) % fourByteValues ≡ waitingBytes (E M e cs .table) (after .memory .states)
   sizes-fit =
       let z = sizes-small (E M e cs .table) (after .memory .states) (open-as M e cs .good .fields) in
       let n = leb-true (length (E M e cs .table)) recordLimit (open-as M e cs .good .few) in

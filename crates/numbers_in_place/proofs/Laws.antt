@@ -6,13 +6,13 @@ use native.Mathlib.Omega.{arith}
 use lib.Dec.{eqb}
 use lib.ListN.{length, getD, set, drop}
 use lib.Seq.{sets, length-sets, getD-take, getD-drop}
-use Rattle.grammar.specs.Bytes.{Bytes, byteValues}
+use Rattle.grammar.specs.Bytes.{Bytes, byteValues, flag}
 use Rattle.grammar.specs.Turns.{blockLimit}
 use Rattle.buffer.specs.Put.{putBytes}
 use Rattle.places.specs.Places.{sessionLen, ffAt, framedAt, afterCrAt, firstAt, keptAt, oursAt, sendingAt, signsAt, placeAt, lineLengthAt, leftAt, bodyAt, posAt, usedAt, tailAt, tallySizesAt, tallyProposedAt, tailLen, numbersEnd}
 use Rattle.places.specs.Places as places
 use Rattle.layout.specs.Layout.{byteAt, le2At, le4At, le8At, le2, le4, le8}
-use Rattle.session_memory.specs.State.{cursorAt, flag, fiveAt, fiveOut, arrayAt, smallOut, numbersOut, tailOut, loadTally}
+use Rattle.session_memory.specs.State.{cursorAt, fiveAt, fiveOut, arrayAt, smallOut, numbersOut, tailOut, loadTally}
 use Rattle.session_memory.proofs.Laws.{array-in}
 use Rattle.transfer_step.specs.declared.Reader.{Reader}
 use Rattle.numbers.specs.declared.Numbers.{Numbers}

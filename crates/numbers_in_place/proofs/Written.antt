@@ -1,12 +1,13 @@
 -- Bytes written one after the other: where they are those that stand there, nothing is written.
 use Prim.Native.Nat.{ℕ, zero, suc, _+_, _*_, _/_, _%_, _<_, _≤_}
 use mathlib.Core.Path.{_≡_, refl, sym, ap, _∙_}
-use mathlib.Core.List.{[], _∷_, _++_, append-assoc}
+use mathlib.Core.List.{[], _∷_, _++_}
 use native.Mathlib.Omega.{arith}
 use native.Mathlib.Nat.{add-zero, div-div-eq-div-mul}
 use native.Mathlib.Numerals.{add-one}
-use lib.ListN.{length, set, take, drop}
-use lib.Seq.{sets, sets-eq, set-getD, getD-set-other}
+use lib.ListN.{length, set}
+use lib.Seq.{sets, set-getD, getD-set-other}
+use Rattle.buffer.proofs.Laws.{wrote-sets}
 use Rattle.grammar.specs.Bytes.{Bytes, byteValues, twoByteValues, threeByteValues, fourByteValues}
 use Rattle.buffer.specs.Put.{wrote, putBytes}
 use Rattle.layout.specs.Layout.{byteAt, le2At, le4At, le8At, le2, le4, le8}
@@ -41,9 +42,6 @@ skipped (suc k) i m m₀ l a =
     ap (λ (x : ℕ). sets (set m i x) (suc i) (bytesFrom m₀ (suc i) k ++ l)) (sym (a i (omega arith)))
     ∙ ap (λ (x : Bytes). sets x (suc i) (bytesFrom m₀ (suc i) k ++ l)) (set-getD m i 0)
     ∙ skipped k (suc i) m m₀ l (λ j h. a j (omega arith)) ∙ ap (λ (j : ℕ). sets m j l) (omega arith)
-
-pub wrote-sets : (m : Bytes) (i : ℕ) (l : Bytes) → i + length l ≤ length m → wrote m i l ≡ sets m i l
-wrote-sets m i l h = sym (append-assoc (take i m) l (drop (i + length l) m)) ∙ sym (sets-eq l m i h)
 
 pub put-sets : (m : Bytes) (i : ℕ) (l : Bytes) → i + length l ≤ length m → putBytes m (cursorAt i) l ≡ sets m i l
 put-sets m i l h = put-fits m i l h ∙ wrote-sets m i l h

@@ -6,10 +6,11 @@ use transfer_step::Reader;
 ghost use mathlib.Core.Path.{_≡_};
 ghost use lib.Dec.{eqb};
 ghost use lib.ListN.{length};
+ghost use Rattle.grammar.specs.Bytes.{flag};
 ghost use Rattle.buffer.specs.Put.{putBytes};
 ghost use Rattle.places.specs.Places.{sessionLen};
 ghost use Rattle.places.specs.Places as places;
-ghost use Rattle.session_memory.specs.State.{cursorAt, flag};
+ghost use Rattle.session_memory.specs.State.{cursorAt};
 ghost use Rattle.numbers.specs.Whole.{numbersAt, numberBytes};
 ghost use Rattle.numbers_in_place.specs.Changed.{withLineLength, withReadSoFar, withPieces};
 

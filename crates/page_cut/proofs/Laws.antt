@@ -8,10 +8,10 @@ use lib.ListN.{length, take, drop, drop-of-length-le}
 use lib.Seq.{drop-drop}
 use borrow.Author.Tests.{le-leb, lt-leb, leb-true, leb-false}
 use Rattle.grammar.specs.Bytes.{Bytes, SP}
-use Rattle.span.specs.Places.{part, upto}
+use Rattle.span.specs.Places.{part, upto, Lies}
 use Rattle.span.proofs.Laws.{found-within}
 use Rattle.pages.specs.Fields.{QUOTE, word, past, quoted, pastQuote}
-use Rattle.page_cut.specs.Pieces.{Lies, behindOf, pieceTo, wordAt, quotedAt}
+use Rattle.page_cut.specs.Pieces.{behindOf, pieceTo, wordAt, quotedAt}
 use Rattle.page_cut.specs.declared.Piece.{Piece}
 
 -- ---------------------------------------------------------------- behind a byte

@@ -8,12 +8,12 @@ use lib.ListN.{length, drop}
 use Rattle.grammar.specs.Bytes.{Bytes}
 use Rattle.grammar.specs.Fields.{isCall, isAt, isBid}
 use Rattle.grammar.proofs.Basics.{not-told, told-not}
-use Rattle.span.specs.Places.{part}
+use Rattle.span.specs.Places.{part, Lies}
 use Rattle.pages.specs.Fields as pages
 use Rattle.pages.specs.Fields.{word, past, whoOf, whenOf, readLong, badCall, badHome, badBid, badStamp, badOrigin, badHops}
 use Rattle.long_number.specs.Meaning.{longIs}
 use Rattle.long_number.specs.declared.Long.{Long}
-use Rattle.page_cut.specs.Pieces.{Lies, wordAt}
+use Rattle.page_cut.specs.Pieces.{wordAt}
 use Rattle.page_cut.specs.declared.Piece.{Piece}
 use Rattle.page_cut.proofs.Laws.{PieceLies, word-cut, word-part, word-past}
 use Rattle.page_words.specs.Meaning.{whoIn, WhoLies, whenIn, WhenLies, WhenIs, StampIs}

@@ -18,12 +18,12 @@ use Rattle.byte.specs.declared.Hex.{Hex}
 use Rattle.byte.specs.Hex.{hexIs}
 use Rattle.span.specs.declared.Span.{Span}
 use Rattle.size.specs.declared.Size.{Size}
-use Rattle.span.specs.Places.{part, wordsBy}
+use Rattle.span.specs.Places.{part, wordsBy, Lies}
 use Rattle.size.specs.Meaning.{sizeIs}
 use Rattle.proposal.specs.declared.TurnLine.{TurnLine}
 use Rattle.proposal.specs.declared.Seven.{Seven}
 use Rattle.proposal.specs.declared.Split.{Split}
-use Rattle.proposal.specs.Meaning.{isWord, turnLineIs, LiesIn, Within, SevenLie, wordsOf, SplitIs, formBy, typeBy, fieldsHold, sevenBy, fieldCount, endLength, summedLength, noForm}
+use Rattle.proposal.specs.Meaning.{isWord, turnLineIs, LiesIn, SevenLie, wordsOf, SplitIs, formBy, typeBy, fieldsHold, sevenBy, fieldCount, endLength, summedLength, noForm}
 
 -- ---------------------------------------------------------------- a word in either case
 
@@ -52,9 +52,9 @@ word-end s w i h k = rw (drop-of-length-le s {i = i} h, drop-of-length-le w {i =
 -- every span lies in the line
 abbrev pub AllLie : Bytes → List Span → Type 0
 AllLie l [] = Unit {0}
-AllLie l (s ∷ ss) = Within l s × AllLie l ss
+AllLie l (s ∷ ss) = Lies l s × AllLie l ss
 
-lie-snoc : (l : Bytes) (ss : List Span) (s : Span) → AllLie l ss → Within l s → AllLie l (ss ++ (s ∷ []))
+lie-snoc : (l : Bytes) (ss : List Span) (s : Span) → AllLie l ss → Lies l s → AllLie l (ss ++ (s ∷ []))
 lie-snoc l [] s a w = (w, tt)
 lie-snoc l (x ∷ ss) s a w = (a .0, lie-snoc l ss s (a .1) w)
 

@@ -8,7 +8,7 @@ use native.Mathlib.Omega.{arith}
 use native.Mathlib.Nat.{zero-add}
 use lib.ListN.{length, take, drop}
 use lib.Seq.{take-all, take-append-seam}
-use Rattle.grammar.specs.Bytes.{Bytes, every, isByte, wordValues}
+use Rattle.grammar.specs.Bytes.{Bytes, every, isByte, wordValues, joined}
 use Rattle.grammar.proofs.Basics.{no-both}
 use Rattle.session.specs.Choices.{Shelf}
 use Rattle.session.specs.Session.{Session, opened}
@@ -29,7 +29,7 @@ use Rattle.refusal_line.proofs.Laws.{line-short}
 use Rattle.called_station.specs.Station.{Station, firstPartner, opens, withSession, openedOf}
 use Rattle.capture.specs.Playing.{Playing, unplayed, playStartOf, playOf}
 use Rattle.replayed.specs.Replayed.{emptyShelf, CaptureFed, waitingTaken, started, fedOne, sentFirst, captureFed, Replayed, replayed, programWrites}
-use Rattle.replayed.specs.Program.{bytesCounted, portionsPlayed, programRan, Lends, mostWaiting, PortionsFit, joined, lastLine, Claim}
+use Rattle.replayed.specs.Program.{bytesCounted, portionsPlayed, programRan, Lends, mostWaiting, PortionsFit, lastLine, Claim}
 use Rattle.replayed.proofs.Portions.{then, fed-portions}
 use Rattle.replayed.proofs.Station.{GoesOnSilent, start-live, nothing, lentOf, Stands, PlayedAs, taken-law, play-law}
 

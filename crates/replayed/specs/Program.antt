@@ -6,7 +6,7 @@ use mathlib.Core.Bool.{true, cond}
 use mathlib.Core.List.{List, [], _∷_, _++_}
 use Prim.Native.Nat.{ℕ, _*_, _≤_}
 use lib.ListN.{length, take}
-use Rattle.grammar.specs.Bytes.{Bytes, every, isByte}
+use Rattle.grammar.specs.Bytes.{Bytes, every, isByte, joined}
 use Rattle.buffer.specs.Put.{putBytes, putCursor}
 use Rattle.refusal_line.specs.Line.{refusalLine}
 use Rattle.places.specs.Places.{sessionLen, entryLen}
@@ -43,11 +43,6 @@ mostWaiting = 32
 abbrev pub PortionsFit : ℕ → List Bytes → Type 0
 PortionsFit n [] = Unit {0}
 PortionsFit n (bs ∷ portions) = (every isByte bs ≡ true) × (mostWaiting * length bs ≤ n) × PortionsFit n portions
-
--- The capture that they are.
-abbrev pub joined : List Bytes → Bytes
-joined [] = []
-joined (bs ∷ portions) = bs ++ joined portions
 
 -- The last line, as it is written into a buffer (crates/refusal_line).
 abbrev pub lastLine : ℕ → Bytes → Bytes

@@ -8,7 +8,7 @@ use native.Mathlib.Omega.{arith}
 use lib.Dec.{eqb}
 use lib.ListN.{length}
 use borrow.Author.Tests.{lt-ltb, le-ltb}
-use Rattle.grammar.specs.Bytes.{Bytes, isSome}
+use Rattle.grammar.specs.Bytes.{Bytes, isSome, byteValues}
 use Rattle.grammar.specs.Ascii.{text}
 use Rattle.grammar.specs.Refusals.{badAnswer, lineNotAllowed}
 use Rattle.grammar.specs.Fields.{afterCapitals}
@@ -37,15 +37,14 @@ use Rattle.marking.specs.States.{markAll}
 use Rattle.form_closed.specs.Fixed.{Fixed}
 use Rattle.represents.specs.Represents.{Standing, Holds}
 use Rattle.mail.specs.Tally.{declinedOnes, deferredOnes, moreDeclined, moreDeferred}
-use Rattle.sheet.specs.Sheet.{byteRange}
 use Rattle.represents.proofs.Tallied.{none-more}
-use Rattle.represents.proofs.Table.{picked-accepted, picked-declined, picked-deferred, picked-few, zerosAfter}
+use Rattle.represents.proofs.Table.{picked-accepted, picked-declined, picked-deferred, zerosAfter}
 use Rattle.represents.proofs.Says.{first-nothing, then-nothing, sending-text}
 use Rattle.represents.proofs.Parts.{Ready, no-entries}
 use Rattle.represents.proofs.Settle.{holds-answer}
 use Rattle.represents.proofs.Leads.{Leads}
 use Rattle.represents.proofs.Proposals.{no-proposals}
-use Rattle.form_closed.proofs.Laws.{held-length}
+use Rattle.form_closed.proofs.Laws.{held-length, picked-few}
 
 -- the signs of the line
 read-signs : (v n : ℕ) (ln : Bytes) → n ≤ blockLimit → answerSigns v n ln ≡ zeroed (signBytes (readFs v n ln))
@@ -122,7 +121,7 @@ module _ (F : Fixed) (E : Shelf) (c : Cs) (m : Memory) (ready : Ready F E c m) w
           ap (λ (l : List ℕ). moreDeferred (length l) (moreDeclined (length (declinedOnes ss is)) (m .counts))) (sym (picked-deferred is ss z))
           ∙ ap (λ (l : List ℕ). moreDeferred (length (picked equalSign is (zerosAfter ss z))) (moreDeclined (length l) (m .counts))) (sym (picked-declined is ss z))
 
-      few : (c : ℕ) (zs : List ℕ) → length (picked c (held (w .ours)) zs) ≤ byteRange
+      few : (c : ℕ) (zs : List ℕ) → length (picked c (held (w .ours)) zs) ≤ byteValues
       few c zs = omega (arith, picked-few c (held (w .ours)) zs, held-length (w .ours) (ready .now .ours), ready .now .ours .few)
 
   -- THE FS LINE, to as many proposals as we made

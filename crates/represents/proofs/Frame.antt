@@ -7,8 +7,8 @@ use native.Mathlib.Omega.{arith}
 use lib.ListN.{length, take, drop, length-append, take-append-drop}
 use lib.Seq.{drop-drop, take-add, take-at, take-append-add, drop-append-add, drop-append-seam, length-take-le}
 use Rattle.grammar.specs.Bytes.{Bytes}
-use Rattle.buffer.specs.Put.{putBytes}
-use Rattle.buffer.proofs.Laws.{cursor, put-length}
+use Rattle.buffer.specs.Put.{putBytes, cursor}
+use Rattle.buffer.proofs.Laws.{put-length}
 use Rattle.layout.proofs.Places.{put-fits}
 use Rattle.transfer_read.specs.Meaning.{SameOutside}
 

@@ -5,7 +5,7 @@ use mathlib.Core.Bool.{Bool, true, false, cond}
 use mathlib.Core.List.{_++_, append-nil}
 use Prim.Native.Nat.{ℕ, _≤_}
 use lib.Dec.{eqb}
-use Rattle.grammar.specs.Bytes.{Bytes}
+use Rattle.grammar.specs.Bytes.{Bytes, byteValues}
 use Rattle.mail.specs.Tally.{Counts}
 use Rattle.session.specs.Choices.{Shelf}
 use Rattle.session.specs.Session as on-lists
@@ -21,7 +21,6 @@ use Rattle.line_effect.specs.declared.Marks.{Marks}
 use Rattle.receive_defined.specs.Receiving.{Cs, cs, afterLine, spokenOf, LineDone, lineDone, markedBy, countedOf, settleOf, refusedOf}
 use Rattle.receive_defined.specs.Tallied.{talliedOf}
 use Rattle.waiting.specs.Waiting.{waitingOf, firstText, thenText}
-use Rattle.sheet.specs.Sheet.{byteRange}
 use Rattle.session_memory.specs.declared.Tally.{Tally}
 use Rattle.session_memory.specs.Setters.{withTally}
 use Rattle.marking.specs.States.{statesOf, markAll}
@@ -93,7 +92,7 @@ module _ (F : Fixed) (E : Shelf) (c : Cs) (a : Bool) (m₀ : Memory) where
   -- s: that state, before our turn if it is; o: what it says first
   module _ (mk : Marks) (s : Session) (m : Memory) (o : Bytes) (b : BlockWritten (s .now .block) (s .now .proposals))
       (h : Holds F E (s .keep) (marking (s .keep) mk (c .table)) (c .inbox) (c .store) m) (same : carried s ≡ carried (c .session))
-      (counts : m .counts ≡ countsMarked mk (m₀ .counts)) (few : mk .places .count ≤ byteRange) (less : mk .deferred ≤ byteRange)
+      (counts : m .counts ≡ countsMarked mk (m₀ .counts)) (few : mk .places .count ≤ byteValues) (less : mk .deferred ≤ byteValues)
       (said : firstText s ≡ o) where
     abbrev u : Bytes
     u = marking (s .keep) mk (c .table)

@@ -58,7 +58,6 @@ use Rattle.represents.proofs.Leads.{carried, marking, Leads, goes-leads
 use Rattle.form_closed.specs.Facts.{FiveOk}
 use Rattle.form_closed.proofs.Laws.{five-of, signs-octets, held-length}
 use Rattle.mail.specs.Tally.{moreForwarded}
-use Rattle.sheet.specs.Sheet.{byteRange}
 use Rattle.phase.specs.Phase.{phaseCallerSid, phasePrompt, phaseTurn, phaseOver, ourTurnNow, ourTurnAfterFF, noProposal}
 use Rattle.places.specs.Places.{headingLen, proposalLen}
 use Rattle.represents.specs.Tallies.{countsMarked}
@@ -131,14 +130,14 @@ module _ (F : Fixed) (E : Shelf) (c : Cs) (m : Memory) (ready : Ready F E c m) w
 
   -- our turn, after o
   speaks : (ff : Bool) (mk : Marks) (y′ : Say) (k′ : Keep) (m′ : Memory) (o : Bytes) → Holds F E k′ (marking k′ mk t) i st m′
-      → carried (withKeep k′ s) ≡ carried s → m′ .counts ≡ countsMarked mk (m .counts) → mk .places .count ≤ byteRange → mk .deferred ≤ byteRange
+      → carried (withKeep k′ s) ≡ carried s → m′ .counts ≡ countsMarked mk (m .counts) → mk .places .count ≤ byteValues → mk .deferred ≤ byteValues
       → firstText (withSay y′ (withKeep k′ s)) ≡ o → Lead (judged 0 (turnAfter ff) mk (withSay y′ (withKeep k′ s))) (on-lists.ourTurn E o ff m′)
   speaks ff mk y′ k′ m′ o h′ same counts few less said =
       let s′ = withSay y′ (withKeep k′ s) in
       goes-leads F E c true m (judged 0 (turnAfter ff) mk s′) (on-lists.ourTurn E o ff m′) (goes-speaking F E c true m mk s′ m′ o b h′ same counts few less said ff)
 
   -- what was being sent is counted as forwarded
-  few : k .sending .count ≤ byteRange
+  few : k .sending .count ≤ byteValues
   few = omega (arith, ready .keep .sending .few)
 
   turn-counts : on-lists.turnMarks m .counts ≡ countsMarked (judge.turnMarks k) (m .counts)

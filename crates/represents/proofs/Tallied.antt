@@ -8,7 +8,7 @@ use native.Mathlib.Nat.{add-zero}
 use lib.Dec.{eqb}
 use lib.ListN.{take}
 use borrow.Author.Tests.{eqb-true}
-use Rattle.grammar.specs.Bytes.{Bytes}
+use Rattle.grammar.specs.Bytes.{Bytes, byteValues, fourByteValues}
 use Rattle.mail.specs.Mail.{Record}
 use Rattle.mail.specs.Tally.{Counts, moreProposed, moreForwarded, moreDeclined, moreDeferred, waitingCount, waitingBytes}
 use Rattle.session.specs.Choices.{Shelf}
@@ -16,12 +16,12 @@ use Rattle.session.specs.Session.{Memory}
 use Rattle.layout.specs.Layout.{entryAt, recordOf}
 use Rattle.entries.specs.Decoded.{entriesFrom, recordCount, recordsOf}
 use Rattle.sheet.specs.declared.Sheet.{Sheet}
-use Rattle.sheet.specs.Sheet.{byteRange, countProposed, countForwarded, countDeclined, countDeferred}
+use Rattle.sheet.specs.Sheet.{countProposed, countForwarded, countDeclined, countDeferred}
 use Rattle.session_memory.specs.State.{held}
 use Rattle.session_memory.specs.declared.Tally.{Tally}
 use Rattle.session_memory.specs.declared.Five.{Five}
 use Rattle.session_memory.specs.Session.{Await, Keep}
-use Rattle.tally.specs.Tally.{sizesRange, waitingIn, sizesIn, counted}
+use Rattle.tally.specs.Tally.{waitingIn, sizesIn, counted}
 use Rattle.line_effect.specs.declared.Marks.{Marks}
 use Rattle.line_effect.specs.Judged.{Judged}
 use Rattle.marking.specs.States.{statesOf, markAll}
@@ -44,19 +44,19 @@ module _ (h : Sheet) (c : Counts) (k : SheetIs h c) (n : ℕ) where
   sheet-proposed =
       record { proposed = omega (arith, k .proposed); forwarded = k .forwarded; declined = k .declined; deferred = k .deferred; balance = omega (arith, k .balance) }
 
-  sheet-forwarded : n ≤ byteRange → SheetIs (countForwarded h n) (moreForwarded n c)
+  sheet-forwarded : n ≤ byteValues → SheetIs (countForwarded h n) (moreForwarded n c)
   sheet-forwarded l =
       record { proposed = k .proposed; forwarded = omega (arith, k .forwarded); declined = k .declined; deferred = k .deferred; balance = omega (arith, k .balance, l) }
 
-  sheet-declined : n ≤ byteRange → SheetIs (countDeclined h n) (moreDeclined n c)
+  sheet-declined : n ≤ byteValues → SheetIs (countDeclined h n) (moreDeclined n c)
   sheet-declined l =
       record { proposed = k .proposed; forwarded = k .forwarded; declined = omega (arith, k .declined); deferred = k .deferred; balance = omega (arith, k .balance, l) }
 
-  sheet-deferred : n ≤ byteRange → SheetIs (countDeferred h n) (moreDeferred n c)
+  sheet-deferred : n ≤ byteValues → SheetIs (countDeferred h n) (moreDeferred n c)
   sheet-deferred l =
       record { proposed = k .proposed; forwarded = k .forwarded; declined = k .declined; deferred = omega (arith, k .deferred); balance = omega (arith, k .balance, l) }
 
-sheet-marked : (h : Sheet) (c : Counts) (m : Marks) → m .places .count ≤ byteRange → m .deferred ≤ byteRange → SheetIs h c → SheetIs (sheetMarked h m) (countsMarked m c)
+sheet-marked : (h : Sheet) (c : Counts) (m : Marks) → m .places .count ≤ byteValues → m .deferred ≤ byteValues → SheetIs h c → SheetIs (sheetMarked h m) (countsMarked m c)
 sheet-marked h c m few less k = go (eqb (m .state) stateForwarded) (eqb (m .state) stateDeclined)
   where
     n : ℕ
@@ -86,8 +86,8 @@ sizes-law ti na bo t st = sizes-from ti na bo t st 0 (recordCount t)
 -- What was judged, from the memory m₀ before it and m after it: its marks and our turn, of which w awaits the answer, are the counts.
 pub record Counting (m₀ m : Memory) (j : Judged) (w : Await) : Type 0 where
   pub counts : m .counts ≡ moreProposed (proposesOf (j .speaks) w) (countsMarked (j .marks) (m₀ .counts))
-  pub few : j .marks .places .count ≤ byteRange
-  pub less : j .marks .deferred ≤ byteRange
+  pub few : j .marks .places .count ≤ byteValues
+  pub less : j .marks .deferred ≤ byteValues
 
 no-places : (f : Five) → f .count ≡ 0 → held f ≡ []
 no-places f e = ap (λ (n : ℕ). take n (f .items)) e
@@ -126,13 +126,13 @@ module _ (F : Fixed) (E : Shelf) (t : Bytes) (m₀ m : Memory) (j : Judged) (w :
           sym states ∙ ap (λ (is : List ℕ). statesOf q (markAll q is (j .marks .state) t)) (sym (no-places (j .marks .places) (eqb-true _ 0 z))) ∙ column in
           record {
             waiting = before .waiting ∙ ap waitingCount same;
-            sizes = before .sizes ∙ ap (λ (l : List ℕ). waitingBytes (E .table) l % sizesRange) same;
+            sizes = before .sizes ∙ ap (λ (l : List ℕ). waitingBytes (E .table) l % fourByteValues) same;
             sheet = sheet-is;
           }
       go false z =
           record {
             waiting = ap waitingCount column;
-            sizes = ap (λ (n : ℕ). n % sizesRange)
+            sizes = ap (λ (n : ℕ). n % fourByteValues)
                 (sizes-law (F .titles) (F .names) (F .bodies) u (statesOf q u) ∙ ap (λ (R : List Record). waitingBytes R (statesOf q u)) (h .shelved .records) ∙ ap (waitingBytes (E .table)) column);
             sheet = sheet-is;
           }

@@ -13,7 +13,7 @@ use Rattle.grammar.specs.Bytes.{Bytes, SP}
 use Rattle.grammar.specs.Fields.{isAt, isCall, readSize}
 use Rattle.grammar.proofs.Basics.{not-told, told-not}
 use Rattle.grammar.specs.Ascii.{char}
-use Rattle.span.specs.Places.{bytesBetween, part, upto}
+use Rattle.span.specs.Places.{bytesBetween, part, upto, Lies}
 use Rattle.span.specs.declared.Span.{Span}
 use Rattle.span.proofs.Laws.{found-within}
 use Rattle.size.specs.Meaning.{sizeIs}
@@ -27,7 +27,7 @@ use Rattle.date_digits.specs.Meaning.{readDateIs, readTimeIs}
 use Rattle.date_digits.specs.declared.ReadDate.{ReadDate}
 use Rattle.date_digits.specs.declared.ReadTime.{ReadTime}
 use Rattle.route.specs.Routes.{beginsWithTwo, isWhite, whites, markEnd, headerStation, firstForm, secondForm, stationOf, isGmt, zoneByte, pastZone, headerOf, behindTime, readHeader, datePlace, slashPlace, timePlace, stampLength, markLength}
-use Rattle.route_read.specs.Meaning.{Lies, stationSaid, StationLies}
+use Rattle.route_read.specs.Meaning.{stationSaid, StationLies}
 use Rattle.route_read.specs.declared.Stated.{Stated}
 use Rattle.route_read.specs.declared.Station.{Station}
 

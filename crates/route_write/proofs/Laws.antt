@@ -15,8 +15,8 @@ use Rattle.grammar.proofs.Basics.{and2, and-false, not-told, told-not}
 use Rattle.grammar.proofs.Fields.{num-field, at-field}
 use Rattle.grammar.specs.Ascii.{char}
 use Rattle.buffer.specs.declared.Cursor.{Cursor}
-use Rattle.buffer.specs.Put.{Puts, putBytes}
-use Rattle.buffer.proofs.Laws.{cursor, puts-as, puts-then}
+use Rattle.buffer.specs.Put.{Puts, putBytes, cursor}
+use Rattle.buffer.proofs.Laws.{puts-as, puts-then}
 use Rattle.dates.specs.Dates.{isDate, isTime}
 use Rattle.dates.specs.Digits.{dateText, timeText}
 use Rattle.decimal.proofs.Laws.{nine-digits}

@@ -7,7 +7,7 @@ use native.Mathlib.Omega.{arith}
 use lib.ListN.{length, take, drop, length-take}
 use lib.Seq.{drop-drop, take-take, take-nil}
 use Rattle.grammar.specs.Bytes.{Bytes}
-use Rattle.span.specs.Places.{bytesBetween, part}
+use Rattle.span.specs.Places.{bytesBetween, part, Lies}
 use Rattle.span.specs.declared.Span.{Span}
 use Rattle.text_line.specs.Places.{textLineAt, lineBytes, linesBy}
 use Rattle.text_line.specs.declared.TextLine.{TextLine}
@@ -16,7 +16,7 @@ use Rattle.text_line.proofs.Laws as lines
 use Rattle.route.specs.Routes as routes
 use Rattle.route.specs.Routes.{readHeader, headersOf, routeOf, originOf}
 use Rattle.route.proofs.Back.{elseOurs, origin-cons}
-use Rattle.route_read.specs.Meaning.{Lies, headerIn, routeSaid, RouteLies}
+use Rattle.route_read.specs.Meaning.{headerIn, routeSaid, RouteLies}
 use Rattle.route_read.specs.declared.Header.{Header}
 use Rattle.route_read.specs.declared.Route.{Route}
 use Rattle.routes.specs.Meaning.{headersBy, HopLies, NextHeaderIs}

@@ -5,9 +5,9 @@ use mathlib.Core.List.{List, [], _∷_}
 use Prim.Native.Nat.{ℕ, _<_, _≤_}
 use lib.ListN.{length, drop}
 use Rattle.grammar.specs.Bytes.{Bytes}
-use Rattle.span.specs.Places.{part}
+use Rattle.span.specs.Places.{part, Lies}
 use Rattle.route.specs.Routes.{Header, routeOf, originOf}
-use Rattle.route_read.specs.Meaning.{Lies, headerIn}
+use Rattle.route_read.specs.Meaning.{headerIn}
 use Rattle.routes.specs.declared.NextHeader.{NextHeader}
 use Rattle.routes.specs.declared.Origin.{Origin}
 

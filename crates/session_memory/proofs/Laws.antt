@@ -9,7 +9,7 @@ use native.Mathlib.Nat.{add-assoc}
 use lib.Dec.{eqb}
 use lib.ListN.{length, take, drop, getD, replicate, length-append, length-drop, length-replicate, drop-of-length-le}
 use lib.Seq.{take-append-seam, take-append-add, take-at, take-all, drop-append-add, drop-drop, length-take-le}
-use Rattle.grammar.specs.Bytes.{Bytes, wordValues, every, twoByteValues, fourByteValues}
+use Rattle.grammar.specs.Bytes.{Bytes, wordValues, every, twoByteValues, fourByteValues, flag}
 use Rattle.grammar.specs.Transfers.{partOf}
 use Rattle.grammar.proofs.Basics.{octet}
 use Rattle.grammar.specs.Turns.{blockLimit}
@@ -29,7 +29,7 @@ use Rattle.session_memory.specs.Session.{Reading}
 use Rattle.session_memory.specs.Session.{Line}
 use Rattle.session_memory.specs.Session.{Session}
 use Rattle.session_memory.specs.declared.Sizes.{Sizes}
-use Rattle.session_memory.specs.State.{cursorAt, held, fiveOf, flag, fiveAt, arrayAt, loadAwait, loadSay, loadKeep, loadReading, loadLine, loadTally, loadOf, loadSizes, smallOut, numbersOut, tailOut, arraysTail, arraysOut, numberPart, saveOf, sizesOut, saveSizes}
+use Rattle.session_memory.specs.State.{cursorAt, held, fiveOf, fiveAt, arrayAt, loadAwait, loadSay, loadKeep, loadReading, loadLine, loadTally, loadOf, loadSizes, smallOut, numbersOut, tailOut, arraysTail, arraysOut, numberPart, saveOf, sizesOut, saveSizes}
 
 -- ---------------------------------------------------------------- a state in shape: arrays of their sizes, numbers that fit their bytes
 

@@ -1,11 +1,11 @@
 -- 01, "Session memory: bytes of one fixed size, written in docs/". The mark FM01 and the sizes that open kept, the numbers of the state, its
 -- arrays; bytes behind the numbers and behind the arrays are free, nobody reads or writes them. docs/MEMORY.md has the places as a table.
-use mathlib.Core.Bool.{Bool, true, false, cond}
+use mathlib.Core.Bool.{Bool, false, cond}
 use mathlib.Core.List.{List, [], _∷_, _++_}
 use Prim.Native.Nat.{ℕ, _+_, _-_}
 use lib.Dec.{eqb}
 use lib.ListN.{length, getD, take, replicate}
-use Rattle.grammar.specs.Bytes.{Bytes}
+use Rattle.grammar.specs.Bytes.{Bytes, flag}
 use Rattle.grammar.specs.Ascii.{text}
 use Rattle.grammar.specs.Transfers.{partOf}
 use Rattle.grammar.specs.Turns.{blockLimit}
@@ -31,10 +31,6 @@ use Rattle.session_memory.specs.declared.Sizes.{Sizes}
 
 abbrev pub cursorAt : ℕ → Cursor
 cursorAt n = record { at = n; skip = 0 }
-
-abbrev pub flag : Bool → ℕ
-flag true = 1
-flag false = 0
 
 -- ---------------------------------------------------------------- up to five numbers
 

@@ -8,15 +8,11 @@ use Rattle.sheet.specs.declared.Sheet.{Sheet}
 abbrev pub noSheet : Sheet
 noSheet = record { proposed = 0; forwarded = 0; declined = 0; deferred = 0; unsettled = 0 }
 
--- How many numbers a byte has: the grammar's number, by this name for the sheet.
-abbrev pub byteRange : ℕ
-byteRange = byteValues
-
 abbrev pub more : ℕ → ℕ → ℕ
-more x n = (x + n) % byteRange
+more x n = (x + n) % byteValues
 
 abbrev pub less : ℕ → ℕ → ℕ
-less x n = (x + byteRange - n) % byteRange
+less x n = (x + byteValues - n) % byteValues
 
 -- n records were proposed: their FS line hasn't come.
 abbrev pub countProposed : Sheet → ℕ → Sheet

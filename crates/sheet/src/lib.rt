@@ -12,8 +12,7 @@ pub struct Sheet {
     pub unsettled: u8,
 }
 
-// How many numbers a byte has.
-const BYTE_VALUES: u16 = 256;
+const BYTE_VALUES: u16 = byte::BYTE_VALUES as u16;
 
 // n more; what doesn't fit begins again at 0.
 fn added(x: u8, n: u8) -> u8

@@ -8,7 +8,7 @@ use native.Mathlib.Nat.{min-le-left}
 use lib.Dec.{eqb}
 use lib.ListN.{length, drop}
 use borrow.Author.Tests.{eq-eqb, ne-eqb}
-use Rattle.grammar.specs.Bytes.{Bytes}
+use Rattle.grammar.specs.Bytes.{Bytes, fourByteValues}
 use Rattle.mail.specs.Mail.{Record, recordLimit}
 use Rattle.mail.specs.Tally.{waitingCount, waitingBytes}
 use Rattle.places.specs.Places.{recordSizeAt, recordLen}
@@ -21,7 +21,7 @@ use Rattle.marking.proofs.States.{states-length, states-next, states-end}
 use Rattle.sheet.specs.declared.Sheet.{Sheet}
 use Rattle.session_memory.specs.declared.Tally.{Tally}
 use Rattle.session_memory.proofs.Laws.{same-tally}
-use Rattle.tally.specs.Tally.{sizesRange, waitingIn, sizesIn, counted}
+use Rattle.tally.specs.Tally.{waitingIn, sizesIn, counted}
 
 module _ (p : ℕ) (table : Bytes) (n : ℕ) where
   -- the records from i on, and their states
@@ -43,7 +43,7 @@ module _ (p : ℕ) (table : Bytes) (n : ℕ) where
     pub records : w + waitingCount (statesFrom i) ≡ waitingCount (statesFrom 0)
     pub sizes : z + waitingBytes (recordsFrom i) (statesFrom i) ≡ waitingBytes (recordsFrom 0) (statesFrom 0)
     pub few : w ≤ i
-    pub small : z ≤ i * sizesRange
+    pub small : z ≤ i * fourByteValues
 
   pub counting-none : n ≡ recordCount table → Counting 0 0 0
   counting-none e = record { count = e; records = omega arith; sizes = omega arith; few = omega arith; small = omega arith }
@@ -64,7 +64,7 @@ module _ (p : ℕ) (table : Bytes) (n : ℕ) where
       both : waitingBytes (recordsFrom i) (statesFrom i) ≡ waitingBytes (recordOf [] [] [] (entryAt recordLen table i) ∷ recordsFrom (i + 1)) (stateAt i ∷ statesFrom (i + 1))
       both = ap (λ (l : List ℕ). waitingBytes (recordsFrom i) l) states ∙ ap (λ (T : List Record). waitingBytes T (stateAt i ∷ statesFrom (i + 1))) (entries-more (recordOf [] [] []) recordLen table i n h)
 
-  pub counting-add : {w z i : ℕ} → Counting w z i → i < n → stateAt i ≡ stateWaiting → sizeAt i < sizesRange → Counting (w + 1) (z + sizeAt i) (i + 1)
+  pub counting-add : {w z i : ℕ} → Counting w z i → i < n → stateAt i ≡ stateWaiting → sizeAt i < fourByteValues → Counting (w + 1) (z + sizeAt i) (i + 1)
   counting-add {w} {z} {i} c h e l =
       let f : waitingCount (statesFrom i) ≡ suc (waitingCount (statesFrom (i + 1))) = ap waitingCount states ∙ rw (eq-eqb (stateAt i) 0 e) in
       let g : waitingBytes (recordsFrom i) (statesFrom i) ≡ sizeAt i + waitingBytes (recordsFrom (i + 1)) (statesFrom (i + 1)) = both ∙ rw (eq-eqb (stateAt i) 0 e) in
@@ -96,9 +96,9 @@ module _ (p : ℕ) (table : Bytes) (n : ℕ) where
         f ∙ ap (λ (T : List Record). waitingBytes T (statesOf p table)) (sym (entries-all (recordOf [] [] []) recordLen table n))
 
 pub counted-all : (p : ℕ) (table : Bytes) {n w z i : ℕ} → Counting p table n w z i → n ≤ i → (h : Sheet)
-    → _≡_ {A = Tally} (record { waiting = w; sizes = z % sizesRange; sheet = h }) (counted p table h)
+    → _≡_ {A = Tally} (record { waiting = w; sizes = z % fourByteValues; sheet = h }) (counted p table h)
 unfolding waitingIn sizesIn recordsOf
-counted-all p table {n} c l h = rw (← c .count) (same-tally (records-all p table n c l) (ap (λ (x : ℕ). x % sizesRange) (sizes-all p table n c l)) refl)
+counted-all p table {n} c l h = rw (← c .count) (same-tally (records-all p table n c l) (ap (λ (x : ℕ). x % fourByteValues) (sizes-all p table n c l)) refl)
 
 pub few-records : (table : Bytes) {n : ℕ} → n ≡ recordCount table → n ≤ recordLimit
 few-records table e = rw e (min-le-left recordLimit (length table / recordLen))

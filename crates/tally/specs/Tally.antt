@@ -8,15 +8,12 @@ use Rattle.marking.specs.States.{statesOf}
 use Rattle.sheet.specs.declared.Sheet.{Sheet}
 use Rattle.session_memory.specs.declared.Tally.{Tally}
 
--- How many numbers four bytes have: 64 sizes of 999,999 at most, as open demands, stay far below.
-abbrev pub sizesRange : ℕ
-sizesRange = fourByteValues
-
 unfoldable pub waitingIn : ℕ → Bytes → ℕ
 waitingIn partner table = waitingCount (statesOf partner table)
 
+-- In four bytes: 64 sizes of 999,999 at most, as open demands, stay far below.
 unfoldable pub sizesIn : ℕ → Bytes → ℕ
-sizesIn partner table = waitingBytes (recordsOf [] [] [] table) (statesOf partner table) % sizesRange
+sizesIn partner table = waitingBytes (recordsOf [] [] [] table) (statesOf partner table) % fourByteValues
 
 -- Both numbers, beside this sheet.
 abbrev pub counted : ℕ → Bytes → Sheet → Tally

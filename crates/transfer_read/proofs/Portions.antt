@@ -3,11 +3,11 @@ use mathlib.Core.Path.{_≡_, refl, sym, ap, _∙_}
 use mathlib.Core.Bool.{Bool, true, false, cond}
 use mathlib.Core.List.{List, [], _∷_, _++_, append-assoc, append-nil}
 use Prim.Native.Nat.{ℕ, _+_}
-use Rattle.grammar.specs.Bytes.{Bytes}
+use Rattle.grammar.specs.Bytes.{Bytes, joined}
 use Rattle.transfer_step.specs.declared.Reader.{Reader}
 use Rattle.transfer_step.specs.Step.{goesOn, stepOf}
 use Rattle.transfer_read.specs.Feed.{PortionRead, portionRead, afterBytes, headingPut, storePut, feedOf}
-use Rattle.transfer_read.specs.Meaning.{thenFeed, feedEach, joined}
+use Rattle.transfer_read.specs.Meaning.{thenFeed, feedEach}
 use Rattle.transfer_read.proofs.Laws.{after-zero, after-after}
 
 -- one byte first, then a portion, then another

@@ -2,18 +2,17 @@
 -- One byte is one step (data-one, body-one); then induction on the bytes; then the number that `straight` gives leaves only such bytes.
 use mathlib.Core.Path.{_≡_, refl, sym, ap, _∙_, subst}
 use mathlib.Core.Bool.{Bool, true, false, cond}
-use mathlib.Core.List.{[], _∷_, _++_, append-assoc}
+use mathlib.Core.List.{[], _∷_, _++_}
 use Prim.Native.Nat.{ℕ, suc, _+_, _-_, _%_, _≤_, _<_, min}
 use native.Mathlib.Omega.{arith}
 use native.Mathlib.Numerals.{add-one}
 use lib.Dec.{eqb, ltb}
 use lib.ListN.{length, getD, take, drop, set, length-take, length-drop, take-append-drop, drop-of-length-le}
-use lib.Seq.{sets, sets-eq, take-all, take-take, drop-drop, drop-cons, length-take-le}
+use lib.Seq.{sets, take-all, take-take, drop-drop, drop-cons, length-take-le}
 use borrow.Author.Tests.{eq-eqb, ne-eqb, lt-ltb, eqb-true, ltb-true}
 use Rattle.grammar.specs.Bytes.{Bytes, CTRLZ, byteValues}
 use Rattle.grammar.specs.Transfers.{byteSum}
 use Rattle.grammar.proofs.Basics.{Lacks}
-use Rattle.buffer.specs.Put.{wrote}
 use Rattle.transfer_step.specs.declared.Reader.{Reader}
 use Rattle.transfer_step.specs.declared.ReadOutcome.the-variants.{More}
 use Rattle.transfer_step.specs.Step.{reader, bodyStep, dataStep, stepAt, stepOf}
@@ -209,10 +208,6 @@ unfolding beforeMark
 before-mark-end s i h = rw (drop-of-length-le s h) (omega arith)
 
 -- ---------------------------------------------------------------- for `carry`
-
--- what the buffer's writer leaves
-pub wrote-sets : (d : Bytes) (at : ℕ) (p : Bytes) → at + length p ≤ length d → wrote d at p ≡ sets d at p
-wrote-sets d at p h = sym (sets-eq p d at h ∙ append-assoc (take at d) p (drop (at + length p) d))
 
 -- the wrapping sums
 pub block-along : (r : Reader) (w : Bytes) (k s : ℕ) → r .place ≡ dataPlace → k ≡ byteSum w % byteValues → s ≡ (r .sum + k) % byteValues

@@ -8,7 +8,7 @@ use Prim.Native.Nat.{ℕ, _≤_}
 use native.Mathlib.Omega.{arith}
 use lib.ListN.{length, take, length-append}
 use lib.Seq.{take-append-add}
-use Rattle.grammar.specs.Bytes.{Bytes}
+use Rattle.grammar.specs.Bytes.{Bytes, joined}
 use Rattle.grammar.specs.Fields.{Form, plain, message, file, formNumber}
 use Rattle.grammar.specs.Transfers.{TransferKind, kindOf, Parsed, parse}
 use Rattle.grammar.specs.Scan.{Scan, Scanned, goes, got, malformed, wrongSum, noRoom, scan, scanFrom, scannedNumber}
@@ -18,7 +18,7 @@ use Rattle.transfer_step.specs.declared.ReadOutcome.{ReadOutcome}
 use Rattle.transfer_step.specs.declared.ReadOutcome.the-variants.{More, Whole, Malformed, WrongSum, NoRoom}
 use Rattle.transfer_step.specs.Step.{outcomeNumber, startOf}
 use Rattle.transfer_read.specs.Feed.{PortionRead, roomOf, feedOf}
-use Rattle.transfer_read.specs.Meaning.{Stands, Ended, ReceivedWhole, contents, FedAs, feedEach, joined}
+use Rattle.transfer_read.specs.Meaning.{Stands, Ended, ReceivedWhole, contents, FedAs, feedEach}
 use Rattle.transfer_read.proofs.Portions.{feed-each}
 use Rattle.transfer_read.proofs.Follows.{feed-stands}
 use Rattle.places.specs.Places.{headingMax}

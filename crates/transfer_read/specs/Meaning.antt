@@ -145,8 +145,3 @@ thenFeed room u ys = cond (goesOn (u .fed .outcome)) (afterBytes (u .fed .count)
 abbrev pub feedEach : ℕ → PortionRead → List Bytes → PortionRead
 feedEach room u [] = u
 feedEach room u (p ∷ ps) = feedEach room (thenFeed room u p) ps
-
--- All bytes of the portions.
-abbrev pub joined : List Bytes → Bytes
-joined [] = []
-joined (p ∷ ps) = p ++ joined ps

@@ -1,8 +1,8 @@
 // A transfer read byte by byte, in any portions, into lent memory: its heading into an array of 80 bytes, its body into a store.
 use part::at_most;
 use transfer_step::ReadOutcome;
-use transfer_step::Reader;
 use transfer_step::ReadStep;
+use transfer_step::Reader;
 use transfer_step::step;
 ghost use mathlib.Core.Path.{_≡_};
 ghost use mathlib.Core.List.{[], _∷_};

@@ -26,7 +26,7 @@ const SIZE_PLACE: u8 = 8;
 const CHECKSUM_PLACE: u8 = 9;
 
 // The bytes that a plain transfer is marked by, and those of a framed one.
-const CR: u8 = b'\r';
+const CR: u8 = line::CR;
 
 const SPACE: u8 = b' ';
 
@@ -44,7 +44,7 @@ pub const EOT: u8 = 4;
 const HEADING_MAX: u8 = places::HEADING_MAX;
 
 // The most digits of an offset.
-const OFFSET_DIGITS: u32 = 6;
+pub const OFFSET_DIGITS: u32 = 6;
 
 // The NULs after heading and offset.
 const HEADER_NULS: u32 = 2;

@@ -11,8 +11,8 @@ use borrow.Author.Tests.{leb-true, leb-false}
 use Rattle.grammar.specs.Bytes.{Bytes, CR, CTRLZ, byteValues, STX, EOT}
 use Rattle.grammar.specs.Transfers.{blocksOut, checksum, headerOut, writeFramed, writePlain, besideLeast, dataMax}
 use Rattle.buffer.specs.declared.Cursor.{Cursor}
-use Rattle.buffer.specs.Put.{putBytes, putCursor, Puts}
-use Rattle.buffer.proofs.Laws.{cursor, puts-as, puts-then, puts-full, puts-past, puts-none, after-cursor, after-bytes}
+use Rattle.buffer.specs.Put.{putBytes, putCursor, Puts, cursor}
+use Rattle.buffer.proofs.Laws.{puts-as, puts-then, puts-full, puts-past, puts-none, after-cursor, after-bytes}
 use Rattle.transfer_step.specs.Names.{blockBytes}
 
 -- one block, and the blocks of a body

@@ -18,8 +18,7 @@ const WHOLE_BLOCK: usize = BLOCK_HEAD + BLOCK_DATA;
 // What L counts beside the heading: the offset `0`, and the NULs.
 const BESIDE_HEADING: usize = transfer_step::OFFSET_LEAST as usize;
 
-// How many values a byte has.
-const BYTE_VALUES: usize = 256;
+const BYTE_VALUES: usize = byte::BYTE_VALUES;
 
 // A plain transfer: title, CR, body, 0x1A, CR.
 pub fn write_plain(buf: &mut [u8], c: Cursor, title: &[u8], body: &[u8]) -> Cursor

@@ -2,6 +2,7 @@
 -- end, since two sessions in one statement run into the checker's limit of steps.
 use mathlib.Core.Path.{_≡_, refl, sym, ap, subst}
 use mathlib.Core.List.{List, [], _∷_, _++_}
+use Rattle.session.specs.Sessions.{greeted}
 use Rattle.grammar.specs.Ascii.{text}
 use Rattle.grammar.specs.Fields.{isAt, isBid, isCall, isSize, sameBid}
 use Rattle.two_nodes.specs.Link.{Begins}
@@ -9,7 +10,7 @@ use Rattle.two_nodes.specs.Fates.{SoundShelf}
 use Rattle.two_nodes.specs.Session.{ran}
 use Rattle.two_nodes.specs.Series.{Node, Meeting, here, there, nodeShelf, afterward, AllLinked, TwoNodes}
 use Rattle.two_nodes.proofs.Series.{two-nodes}
-use Rattle.two_nodes.specs.Examples.{Seen, seen, see, greeted, accepts, proposes, proposesBack, packed}
+use Rattle.two_nodes.specs.Examples.{Seen, seen, see, accepts, proposes, proposesBack, packed}
 use Rattle.two_nodes.specs.Meetings.{nothingToSend, ourSidLine, sender, twoProposed, twoTransfers, packetsGo, packetsKept, oneToSend, short, roomy, longerThanSaid, longTransfer, overrun, overrunTook, saysWhy, overrunCut, twin, bothHave, smallTwin, bothHaveIt, holder, calledSends, yoKept, cutInAnswer, cutInBody, threeMeetings, hiKept}
 use Rattle.session.specs.Computing.{sessionsComputed}
 

@@ -5,6 +5,7 @@ use mathlib.Core.Bool.{Bool, true, false}
 use mathlib.Core.List.{List, [], _∷_, _++_}
 use Prim.Native.Nat.{ℕ, _+_}
 use lib.ListN.{length}
+use Rattle.session.specs.Sessions.{greeted}
 use Rattle.grammar.specs.Bytes.{Bytes}
 use Rattle.grammar.specs.Ascii.{text}
 use Rattle.grammar.specs.Fields.{Form, message, file}
@@ -12,7 +13,7 @@ use Rattle.mail.specs.Mail.{Record, Message}
 use Rattle.demand3.specs.Demand.{Call, receiving, giving}
 use Rattle.two_nodes.specs.Fates.{messageFor}
 use Rattle.two_nodes.specs.Series.{Node, Meeting}
-use Rattle.two_nodes.specs.Examples.{nodeLetter, greeted, accepts, proposes, proposesBack, packed}
+use Rattle.two_nodes.specs.Examples.{nodeLetter, accepts, proposes, proposesBack, packed}
 
 -- a record of this form, BID, announced size and body
 abbrev pub mail : Form → Bytes → ℕ → Bytes → Record

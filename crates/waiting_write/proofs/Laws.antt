@@ -11,9 +11,9 @@ use Rattle.mail.specs.Mail.{transferOf}
 use Rattle.layout.specs.Layout.{byteAt, entryAt, recordOf}
 use Rattle.places.specs.Places.{recordLen, recordForm, signsAt}
 use Rattle.phase.specs.Phase.{blockLimit}
-use Rattle.buffer.specs.Put.{Puts, putBytes, putCursor}
+use Rattle.buffer.specs.Put.{Puts, putBytes, putCursor, cursor}
 use Rattle.buffer.specs.declared.Cursor.{Cursor}
-use Rattle.buffer.proofs.Laws.{cursor, after-cursor, after-bytes, puts-as, puts-full}
+use Rattle.buffer.proofs.Laws.{after-cursor, after-bytes, puts-as, puts-full}
 use Rattle.record_text.specs.Texts.{headingPart, bodyIn}
 use Rattle.record_text.proofs.Laws.{of-message, of-file, of-plain, of-none}
 use Rattle.text_length.proofs.Laws.{entry-none}

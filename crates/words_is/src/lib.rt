@@ -3,10 +3,11 @@
 use byte::Class;
 use size::Size;
 ghost use mathlib.Core.Path.{_≡_};
+ghost use Rattle.grammar.specs.Bytes.{flag};
 ghost use Rattle.grammar.specs.Fields.{isSize, sameBid};
 ghost use Rattle.grammar.specs.Lines.{isComment, isPrompt};
 ghost use Rattle.byte.specs.Classes.{classOf};
-ghost use Rattle.words_is.specs.Numbers.{flag, classBy, fieldIs};
+ghost use Rattle.words_is.specs.Numbers.{classBy, fieldIs};
 
 // A test's answer as a number: 1 where it holds.
 fn flag_of(b: bool) -> u8

@@ -13,10 +13,9 @@ use Rattle.grammar.specs.Sid.{noFeatures}
 use Rattle.grammar.specs.Turns.{Proposal, TurnLine, saysFF, saysFQ, endsBlock, notAllowed, proposes, endsSummed, turnLineNumber}
 use Rattle.byte.specs.declared.Hex.{Hex}
 use Rattle.span.specs.declared.Span.{Span}
-use Rattle.span.specs.Places.{part}
+use Rattle.span.specs.Places.{part, Lies}
 use Rattle.proposal.specs.declared.Proposal as code
 use Rattle.proposal.specs.declared.TurnLine as told
-use Rattle.proposal.specs.Meaning.{Within}
 
 -- A flag that is lent: any number but 0 says that it holds.
 abbrev pub holds : ℕ → Bool
@@ -77,7 +76,7 @@ eleven form type from at to bid size =
 
 -- The field w lies in the line l from a start to an end.
 abbrev pub FieldLies : Bytes → Bytes → Span → Type 0
-FieldLies l w s = (part l s ≡ w) × Within l s
+FieldLies l w s = (part l s ≡ w) × Lies l s
 
 -- The eleven numbers are those of the proposal p in the line l: its form, type and size, and where its fields lie.
 pub record ProposalNumbers (l : Bytes) (p : Proposal) (out : List ℕ) : Type 0 where

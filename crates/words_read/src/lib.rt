@@ -148,7 +148,11 @@ fn told_code(told: TurnLine) -> u8
 
 // What a line, its spaces at the end removed, says in a turn, and a proposal's numbers or a block's checksum. framed: 0 plain mode, else framed mode.
 #[no_mangle]
-pub extern "C" fn words_read_turn_line(line: &[u8], framed: u8, out: &mut [u64; PROPOSAL_NUMBERS]) -> u8
+pub extern "C" fn words_read_turn_line(
+    line: &[u8],
+    framed: u8,
+    out: &mut [u64; PROPOSAL_NUMBERS],
+) -> u8
     ensures { λ r. ⌜ (r ≡ turnLineCode (readTurnLine (holds framed) (now (line .entry)))) × NumbersOf (now (line .entry)) (readTurnLine (holds framed) (now (line .entry))) (now (out .exit)) ⌝ }
 {
     let told = proposal::read_turn_line(line, framed != 0);

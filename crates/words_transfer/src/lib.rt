@@ -28,7 +28,7 @@ const LEFT_NUMBER: usize = 5;
 const SUM_NUMBER: usize = 6;
 
 // How many values a byte has, and numbers of two and four bytes.
-const BYTE_VALUES: u64 = 256;
+const BYTE_VALUES: u64 = byte::BYTE_VALUES as u64;
 
 const TWO_BYTE_VALUES: u64 = BYTE_VALUES * BYTE_VALUES;
 

@@ -8,9 +8,9 @@ use borrow.Author.Tests.{lt-ltb, le-ltb}
 use Rattle.grammar.specs.Bytes.{Bytes}
 use Rattle.grammar.specs.Turns.{FixedLine, fixedText, withCr}
 use Rattle.buffer.specs.declared.Cursor.{Cursor}
-use Rattle.buffer.specs.Put.{Puts, cut}
+use Rattle.buffer.specs.Put.{Puts, cut, cursor}
 use Rattle.buffer.proofs.Laws.{cursor-at, cut-past, put-past}
-use Rattle.words_write.specs.Written.{cursor, Writes, fixedBy, fixedBytes, endLineNumber}
+use Rattle.words_write.specs.Written.{Writes, fixedBy, fixedBytes, endLineNumber}
 
 -- where the cursor stands afterwards
 stands : (d : Bytes) (c : Cursor) (p : Bytes) {r : Cursor} {e : Bytes} → Puts d c p r e → r .at ≡ c .at + length (cut (length d - c .at) (c .skip) p)

@@ -7,12 +7,7 @@ use lib.Dec.{eqb, ltb}
 use lib.ListN.{length}
 use Rattle.grammar.specs.Bytes.{Bytes}
 use Rattle.grammar.specs.Turns.{FixedLine, ourSid, ourPrompt, ourFF, ourFQ, ourEnd, fixedText, withCr}
-use Rattle.buffer.specs.declared.Cursor.{Cursor}
-use Rattle.buffer.specs.Put.{putBytes, cut}
-
--- The place where the next byte goes, and how many bytes of the text are passed over.
-abbrev pub cursor : ℕ → ℕ → Cursor
-cursor place skip = record { at = place; skip = skip }
+use Rattle.buffer.specs.Put.{putBytes, cut, cursor}
 
 -- The contract of every writer: of the text p, put into the buffer d from place on with skip bytes passed over, n bytes fit and leave e.
 abbrev pub Writes : Bytes → ℕ → ℕ → Bytes → ℕ → Bytes → Type 0
